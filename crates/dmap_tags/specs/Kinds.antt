@@ -1,0 +1,23 @@
+-- The kinds of values and the numbers by which /content-codes tells them.
+use Rattle.std.specs.Prelude.{◌≡◌, ◌<◌, ◌⊎◌, ℕ, Option, Some, None}
+use Rattle.dmap_tags.specs.declared.kinds.Kind.{Kind}
+use Rattle.dmap_tags.specs.declared.kinds.Kind.TheVariants.{U8, I8, U16, I16, U32, I32, U64, I64, Text, Date, Version, List, Opaque}
+
+abbrev pub kind_number : Kind → Option ℕ
+kind_number U8 = Some 1
+kind_number I8 = Some 2
+kind_number U16 = Some 3
+kind_number I16 = Some 4
+kind_number U32 = Some 5
+kind_number I32 = Some 6
+kind_number U64 = Some 7
+kind_number I64 = Some 8
+kind_number Text = Some 9
+kind_number Date = Some 10
+kind_number Version = Some 11
+kind_number List = Some 12
+kind_number Opaque = None
+
+-- the kind of that number, and opaque where no kind has it
+abbrev pub IsKindOf : ℕ → Kind → Type 0
+IsKindOf n kind = (kind_number kind ≡ Some n) ⊎ ((kind ≡ Opaque) × ((n ≡ 0) ⊎ (12 < n)))

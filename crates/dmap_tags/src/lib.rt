@@ -1,0 +1,13 @@
+//! DMAP tags: a tag is a content code with a value or with further tags, and has one spelling in bytes.
+//! Contracts see a tag as a plain tree (`specs/Tree.antt`), and its bytes by `specs/Spelling.antt`.
+#![tactic(auto)]
+
+mod content_code;
+mod kinds;
+mod payload;
+mod tree;
+
+pub use content_code::Code;
+pub use kinds::Kind;
+pub use payload::{Bytes, Text};
+pub use tree::{Tag, Tags, Value};

@@ -1,0 +1,91 @@
+//! Texts and byte strings, as payloads carry them.
+
+ghost use Rattle.std.specs.Prelude.{◌≡◌, ℕ, List, IfOk, string_bytes};
+
+use std::alloc::{AllocError, Global};
+use std::marker::Model;
+
+/// A text in UTF-8, which contracts see as its bytes.
+#[derive(Debug, Drop)]
+pub struct Text {
+    text: String,
+}
+
+impl Model for Text {
+    ghost Value = { List ℕ };
+
+    ghost view = { λ a. string_bytes a.text };
+}
+
+impl Text {
+    /// The text that is handed in.
+    pub fn of(alloc: Global, text: &str) -> Result<Text, AllocError>
+        ensures { IfOk result (λ t. t ≡ text.now) }
+    {
+        Ok(Text {
+            text: String::from_str(alloc, text)?,
+        })
+    }
+
+    pub fn as_str(&self) -> &str
+        ensures { result.now ≡ self.now }
+    {
+        self.text.as_str()
+    }
+
+    /// A text of its own with the same bytes.
+    pub fn copy(&self) -> Result<Text, AllocError>
+        ensures { IfOk result (λ t. t ≡ self.now) }
+    {
+        Ok(Text {
+            text: self.text.clone()?,
+        })
+    }
+}
+
+/// Bytes without a meaning of their own.
+#[derive(Debug, Drop)]
+pub struct Bytes {
+    bytes: Vec<u8>,
+}
+
+impl Model for Bytes {
+    ghost Value = { List ℕ };
+
+    ghost view = { λ a. a.bytes.items };
+}
+
+impl Bytes {
+    /// The bytes that are handed in.
+    pub fn of(alloc: Global, bytes: &[u8]) -> Result<Bytes, AllocError>
+        ensures { IfOk result (λ b. b ≡ bytes.now) }
+    {
+        Ok(Bytes {
+            bytes: Vec::from_slice(alloc, bytes)?,
+        })
+    }
+
+    pub fn as_slice(&self) -> &[u8]
+        ensures { result.now ≡ self.now }
+    {
+        self.bytes.as_slice()
+    }
+
+    /// The same bytes in room of their own.
+    pub fn copy(&self) -> Result<Bytes, AllocError>
+        ensures { IfOk result (λ b. b ≡ self.now) }
+    {
+        Ok(Bytes {
+            bytes: self.bytes.clone()?,
+        })
+    }
+}
+
+/// Takes the vector over as it is.
+impl From<Vec<u8>> for Bytes {
+    ghost from_gives = { λ v b. b ≡ v.items };
+
+    fn from(bytes: Vec<u8>) -> Bytes {
+        Bytes { bytes }
+    }
+}

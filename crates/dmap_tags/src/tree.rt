@@ -1,0 +1,123 @@
+//! Tags and their values.
+
+ghost use Rattle.std.specs.Prelude.{◌≡◌, ◌++◌, ◌∷◌, [], OnOk, OnErr};
+
+use crate::content_code::Code;
+use crate::payload::{Bytes, Text};
+use std::alloc::{AllocError, Global};
+use std::marker::Model;
+
+/// What a tag holds: a number, a text, a date in seconds since 1970, a version, further tags, or bytes of
+/// which no kind is known.
+#[cycle(tag)]
+#[derive(Debug, Drop)]
+pub enum Value {
+    U8(u8),
+    I8(i8),
+    U16(u16),
+    I16(i16),
+    U32(u32),
+    I32(i32),
+    U64(u64),
+    I64(i64),
+    Text(Text),
+    Date(u32),
+    /// Its upper 16 bits are the major version, the next 8 the minor one.
+    Version(u32),
+    List(Tags),
+    Opaque(Bytes),
+}
+
+/// A content code with its value, as DMAP sends them.
+#[cycle(tag)]
+#[derive(Debug, Drop)]
+pub struct Tag {
+    pub code: Code,
+    pub value: Value,
+}
+
+/// The tags of a list, in order.
+#[cycle(tag)]
+#[derive(Debug, Drop)]
+pub struct Tags {
+    items: Vec<Tag>,
+}
+
+impl Model for Tag {
+    ghost use Rattle.dmap_tags.specs.Tree.{Tree, size_of};
+    ghost use Rattle.dmap_tags.specs.Cells.{tree_coded};
+
+    ghost Value = { Tree };
+
+    ghost coded = { tree_coded };
+
+    ghost use Rattle.dmap_tags.specs.Seen.{tree_with};
+
+    ghost view = { λ a. tree_with a.code a.value };
+
+    ghost size = { size_of };
+
+    ghost use Rattle.dmap_tags.specs.Falls.{value_falls};
+
+    ghost size_decreases = { λ a h. value_falls a.code a.value };
+}
+
+impl Model for Tags {
+    ghost use Rattle.std.specs.Prelude.{List};
+    ghost use Rattle.std.specs.Coded.{coded_list};
+    ghost use Rattle.dmap_tags.specs.Tree.{Tree, trees_of, sizes_of};
+    ghost use Rattle.dmap_tags.specs.Cells.{tree_coded};
+
+    ghost Value = { List Tree };
+
+    ghost coded = { coded_list tree_coded };
+
+    ghost view = { λ a. a.items.items };
+
+    ghost size = { λ ts. sizes_of (trees_of ts) };
+
+    ghost use Rattle.dmap_tags.specs.Falls.{most_within};
+    ghost use Rattle.std.proofs.Common.{arith};
+
+    ghost size_decreases = { λ a h. omega (arith, most_within a.items.items) };
+}
+
+impl Tags {
+    /// No tags, without memory.
+    pub fn new(alloc: Global) -> Tags
+        ensures { result ≡ [] }
+    {
+        Tags {
+            items: Vec::new(alloc),
+        }
+    }
+
+    /// The tags of the vector, which is taken over as it is.
+    pub fn of(items: Vec<Tag>) -> Tags
+        ensures { result ≡ items.items }
+    {
+        Tags { items }
+    }
+
+    pub fn as_slice(&self) -> &[Tag]
+        ensures { result.now ≡ self.now }
+    {
+        self.items.as_slice()
+    }
+
+    /// The tags as a vector, without memory.
+    pub fn into_vec(self) -> Vec<Tag>
+        ensures { result.items ≡ self }
+    {
+        self.items
+    }
+
+    /// Adds a tag at the end. An `Err` changes nothing.
+    pub fn push(&mut self, tag: Tag) -> Result<(), AllocError>
+        ensures ok { OnOk result (self.new ≡ self.old ++ tag ∷ []) }
+        ensures err { OnErr result (self.new ≡ self.old) }
+    {
+        self.items.push(tag)?;
+        Ok(())
+    }
+}
