@@ -2,6 +2,8 @@ pub mod Codes
 pub mod CodeSeen
 pub mod Kinds
 pub mod Tree
+pub mod Spelling
+pub mod Begins
 pub mod Cells
 pub mod Seen
 pub mod Falls

@@ -5,9 +5,11 @@
 mod content_code;
 mod kinds;
 mod payload;
+mod spelling;
 mod tree;
 
 pub use content_code::Code;
 pub use kinds::Kind;
 pub use payload::{Bytes, Text};
+pub use spelling::{TagError, encode_into, encoded_len};
 pub use tree::{Tag, Tags, Value};
