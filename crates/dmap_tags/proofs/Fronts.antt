@@ -12,6 +12,7 @@ begins_more (x ∷ xs) (y ∷ ys) (z ∷ zs) h k =
     let g : take (length ys) zs ≡ ys = cc in
     let rest : take (length xs) zs ≡ xs = begins_more xs ys zs f g in
     cc
+
 -- a row begins with itself, and with what it was before something was added
 pub begins_append : (xs ys : List ℕ) → Begins xs (xs ++ ys)
 begins_append [] ys = refl

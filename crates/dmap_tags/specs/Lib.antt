@@ -6,4 +6,5 @@ pub mod Spelling
 pub mod Begins
 pub mod Cells
 pub mod Seen
+pub mod Typed
 pub mod Falls

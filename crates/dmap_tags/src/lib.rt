@@ -6,10 +6,14 @@ mod content_code;
 mod kinds;
 mod payload;
 mod spelling;
+#[cfg(test)]
+mod tests;
 mod tree;
+mod typed;
 
 pub use content_code::Code;
 pub use kinds::Kind;
 pub use payload::{Bytes, Text};
 pub use spelling::{TagError, encode_into, encoded_len};
 pub use tree::{Tag, Tags, Value};
+pub use typed::{is_text, leaf, leaf_from};

@@ -1,6 +1,7 @@
 //! Texts and byte strings, as payloads carry them.
 
-ghost use Rattle.std.specs.Prelude.{◌≡◌, ℕ, List, IfOk, string_bytes};
+ghost use Rattle.std.specs.Prelude.{◌≡◌, ℕ, List, IfOk, MatchResult, string_bytes, true, false};
+ghost use Rattle.std.specs.Str.{is_utf8};
 
 use std::alloc::{AllocError, Global};
 use std::marker::Model;
@@ -25,6 +26,18 @@ impl Text {
         Ok(Text {
             text: String::from_str(alloc, text)?,
         })
+    }
+
+    /// Takes the bytes over as they are; gives them back where they aren't UTF-8.
+    pub fn from_utf8(bytes: Vec<u8>) -> Result<Text, Bytes>
+        ensures { MatchResult result (λ t. (t ≡ bytes.items) × (is_utf8 bytes.items ≡ true)) (λ b. (b ≡ bytes.items) × (is_utf8 bytes.items ≡ false)) }
+    {
+        match String::from_utf8(bytes) {
+            Ok(text) => Ok(Text { text }),
+            Err(error) => Err(Bytes {
+                bytes: error.into_bytes(),
+            }),
+        }
     }
 
     pub fn as_str(&self) -> &str

@@ -6,10 +6,9 @@ ghost use Rattle.dmap_tags.specs.Tree.{trees_of};
 ghost use Rattle.dmap_tags.specs.Begins.{Begins};
 ghost use Rattle.dmap_tags.specs.Spelling.{payload, spellings, spelling, longest, is_spellable, are_spellable, spelling_length};
 
+use crate::tree::{Tag, Value};
 use std::alloc::AllocError;
 use thiserror::Error;
-
-use crate::tree::{Tag, Value};
 
 /// Why a tag was not spelled.
 #[derive(Debug, Drop, Error)]

@@ -1,6 +1,6 @@
 //! Tags and their values.
 
-ghost use Rattle.std.specs.Prelude.{◌≡◌, ◌++◌, ◌∷◌, [], OnOk, OnErr};
+ghost use Rattle.std.specs.Prelude.{◌≡◌, ◌++◌, ◌∷◌, [], IfOk, OnOk, OnErr};
 
 use crate::content_code::Code;
 use crate::payload::{Bytes, Text};
@@ -82,7 +82,56 @@ impl Model for Tags {
     ghost size_decreases = { λ a h. omega (arith, most_within a.items.items) };
 }
 
+impl Tag {
+    /// A tag of its own with the same contents.
+    #[cycle(copy)]
+    pub fn copy(&self) -> Result<Tag, AllocError>
+        ensures { IfOk result (λ t. t ≡ self.now) }
+    {
+        let value = match &self.value {
+            Value::U8(n) => Value::U8(*n),
+            Value::I8(n) => Value::I8(*n),
+            Value::U16(n) => Value::U16(*n),
+            Value::I16(n) => Value::I16(*n),
+            Value::U32(n) => Value::U32(*n),
+            Value::I32(n) => Value::I32(*n),
+            Value::U64(n) => Value::U64(*n),
+            Value::I64(n) => Value::I64(*n),
+            Value::Text(text) => Value::Text(text.copy()?),
+            Value::Date(n) => Value::Date(*n),
+            Value::Version(n) => Value::Version(*n),
+            Value::List(tags) => Value::List(tags.copy()?),
+            Value::Opaque(bytes) => Value::Opaque(bytes.copy()?),
+        };
+        Ok(Tag {
+            code: self.code,
+            value,
+        })
+    }
+}
+
+/// Copies of tags, in order.
+#[cycle(copy)]
+fn copies(alloc: Global, tags: &[Tag]) -> Result<Vec<Tag>, AllocError>
+    ensures { IfOk result (λ v. v.items ≡ tags.now) }
+{
+    let mut copies = Vec::with_capacity(alloc, tags.len())?;
+    for tag in tags {
+        copies.push(tag.copy()?)?;
+    }
+    Ok(copies)
+}
+
 impl Tags {
+    /// Tags of their own with the same contents.
+    #[cycle(copy)]
+    pub fn copy(&self) -> Result<Tags, AllocError>
+        ensures { IfOk result (λ ts. ts ≡ self.now) }
+    {
+        let items = copies(*self.items.allocator(), self.items.as_slice())?;
+        Ok(Tags { items })
+    }
+
     /// No tags, without memory.
     pub fn new(alloc: Global) -> Tags
         ensures { result ≡ [] }
