@@ -1,0 +1,168 @@
+//! Edits of a share, batches of them, and the entries of its history.
+
+ghost use Rattle.std.specs.Prelude.{◌≡◌, ◌++◌, ◌∷◌, [], OnOk, OnErr, IfOk};
+
+use crate::item::Row;
+use crate::query::Query;
+use dmap_tags::Text;
+use std::alloc::{AllocError, Global};
+use std::marker::Model;
+
+/// One change of the library or of its lists. Ids of items and members begin at 1, ids of lists at 2.
+#[derive(Debug, Drop)]
+pub enum Edit {
+    PutItem { row: Row },
+    DropItem { id: u32 },
+    PutList { list: u32, name: Text },
+    PutRule { list: u32, name: Text, rule: Query },
+    /// Drops a plain list or a rule list.
+    DropList { list: u32 },
+    PutMember { list: u32, member: u32, item: u32 },
+    DropMember { list: u32, member: u32 },
+}
+
+/// Edits in order.
+#[derive(Debug, Drop)]
+pub struct Edits {
+    items: Vec<Edit>,
+}
+
+impl Model for Edits {
+    ghost use Rattle.std.specs.Prelude.{List};
+    ghost use Rattle.std.specs.Coded.{codes};
+    ghost use Rattle.item_model.specs.QueryCells.{query_coded};
+    ghost use Rattle.item_model.specs.declared.changes.Edit.{Edit};
+
+    ghost Value = { List Edit };
+
+    ghost coded = { Prim.hlevel (codes, query_coded) };
+
+    ghost view = { λ a. a.items.items };
+}
+
+impl Edits {
+    /// No edits, without memory.
+    pub fn new(alloc: Global) -> Edits
+        ensures { result ≡ [] }
+    {
+        Edits {
+            items: Vec::new(alloc),
+        }
+    }
+
+    /// The edits of the vector, which is taken over as it is.
+    pub fn of(items: Vec<Edit>) -> Edits
+        ensures { result ≡ items.items }
+    {
+        Edits { items }
+    }
+
+    pub fn as_slice(&self) -> &[Edit]
+        ensures { result.now ≡ self.now }
+    {
+        self.items.as_slice()
+    }
+
+    /// The edits as a vector, without memory.
+    pub fn into_vec(self) -> Vec<Edit>
+        ensures { result.items ≡ self }
+    {
+        self.items
+    }
+
+    /// Adds an edit at the end. An `Err` changes nothing.
+    pub fn push(&mut self, edit: Edit) -> Result<(), AllocError>
+        ensures ok { OnOk result (self.new ≡ self.old ++ edit ∷ []) }
+        ensures err { OnErr result (self.new ≡ self.old) }
+    {
+        self.items.push(edit)?;
+        Ok(())
+    }
+}
+
+/// The edits that are made together or not at all.
+#[derive(Debug, Drop)]
+pub struct Batch {
+    pub edits: Edits,
+}
+
+impl Model for Batch {
+    ghost use Rattle.std.specs.Prelude.{List};
+    ghost use Rattle.std.specs.Coded.{codes};
+    ghost use Rattle.item_model.specs.QueryCells.{query_coded};
+    ghost use Rattle.item_model.specs.declared.changes.Edit.{Edit};
+
+    ghost Value = { List Edit };
+
+    ghost coded = { Prim.hlevel (codes, query_coded) };
+
+    ghost view = { λ a. a.edits };
+}
+
+/// What a share's history has of one pass or connection, whose number is `by`.
+#[derive(Debug, Drop)]
+pub enum Entry {
+    Edits { by: u32, batch: Batch },
+    Login { by: u32, id: u32 },
+    Logout { by: u32, id: u32 },
+    Stop { by: u32 },
+}
+
+/// The entries of a history, in order.
+#[derive(Debug, Drop)]
+pub struct Entries {
+    items: Vec<Entry>,
+}
+
+impl Model for Entries {
+    ghost use Rattle.std.specs.Prelude.{List};
+    ghost use Rattle.std.specs.Coded.{codes};
+    ghost use Rattle.item_model.specs.QueryCells.{query_coded};
+    ghost use Rattle.item_model.specs.declared.changes.Entry.{Entry};
+
+    ghost Value = { List Entry };
+
+    ghost coded = { Prim.hlevel (codes, query_coded) };
+
+    ghost view = { λ a. a.items.items };
+}
+
+impl Entries {
+    /// No entries, without memory.
+    pub fn new(alloc: Global) -> Entries
+        ensures { result ≡ [] }
+    {
+        Entries {
+            items: Vec::new(alloc),
+        }
+    }
+
+    /// The entries of the vector, which is taken over as it is.
+    pub fn of(items: Vec<Entry>) -> Entries
+        ensures { result ≡ items.items }
+    {
+        Entries { items }
+    }
+
+    pub fn as_slice(&self) -> &[Entry]
+        ensures { result.now ≡ self.now }
+    {
+        self.items.as_slice()
+    }
+
+    /// The entries as a vector, without memory.
+    pub fn into_vec(self) -> Vec<Entry>
+        ensures { result.items ≡ self }
+    {
+        self.items
+    }
+
+    /// Adds an entry at the end. An `Err` changes nothing.
+    pub fn push(&mut self, entry: Entry) -> Result<(), AllocError>
+        ensures ok { OnOk result (self.new ≡ self.old ++ entry ∷ []) }
+        ensures err { OnErr result (self.new ≡ self.old) }
+    {
+        self.items.push(entry)?;
+        Ok(())
+    }
+}

@@ -1,0 +1,24 @@
+//! Items and their properties, queries, edits and what a request asks for, as plain data, and the tag that
+//! lists an item. Contracts see an item as its list of properties and values, a query as a tree, and the
+//! listed tag as the list of what was asked and is there.
+#![tactic(auto)]
+
+mod changes;
+mod condition;
+mod item;
+mod properties;
+mod property;
+mod query;
+mod refusal;
+mod request;
+mod texts;
+
+pub use changes::{Batch, Edit, Edits, Entries, Entry};
+pub use condition::{Cond, Op, Pattern};
+pub use item::{Item, ItemError, PropValue, Row, TEXT_BYTES};
+pub use properties::Properties;
+pub use property::{DEFAULT_PROJECTION, PROPERTIES, Property};
+pub use query::{Queries, Query};
+pub use refusal::{QueryError, QueryWhy, RecordWhy};
+pub use request::{Browse, Look, META_NAMES, Meta, Range, Target};
+pub use texts::Texts;

@@ -1,0 +1,143 @@
+//! The properties that an item may have.
+
+ghost use Rattle.std.specs.Prelude.{◌≡◌};
+
+use dmap_tags::{Code, Kind};
+
+/// A property of an item, named for its content code.
+#[derive(Clone, Copy, Debug, PartialEq, Eq)]
+pub enum Property {
+    Minm,
+    Mikd,
+    Mper,
+    Asar,
+    Asal,
+    Asaa,
+    Asgn,
+    Ascp,
+    Ascm,
+    Agrp,
+    Asfm,
+    Asyr,
+    Astn,
+    Astc,
+    Asdn,
+    Asdc,
+    Asbr,
+    Asbt,
+    Astm,
+    Assr,
+    Assz,
+    Asur,
+    Asco,
+    Aemk,
+    Asda,
+    Asdm,
+}
+
+/// The properties in the order of listings.
+pub const PROPERTIES: [Property; 26] = [
+    Property::Minm,
+    Property::Mikd,
+    Property::Mper,
+    Property::Asar,
+    Property::Asal,
+    Property::Asaa,
+    Property::Asgn,
+    Property::Ascp,
+    Property::Ascm,
+    Property::Agrp,
+    Property::Asfm,
+    Property::Asyr,
+    Property::Astn,
+    Property::Astc,
+    Property::Asdn,
+    Property::Asdc,
+    Property::Asbr,
+    Property::Asbt,
+    Property::Astm,
+    Property::Assr,
+    Property::Assz,
+    Property::Asur,
+    Property::Asco,
+    Property::Aemk,
+    Property::Asda,
+    Property::Asdm,
+];
+
+/// The properties that a listing shows where nothing else is asked, in order.
+pub const DEFAULT_PROJECTION: [Property; 6] = [
+    Property::Mikd,
+    Property::Minm,
+    Property::Asar,
+    Property::Asal,
+    Property::Astn,
+    Property::Astm,
+];
+
+impl Property {
+    ghost use Rattle.std.specs.Str.{bytes_eq};
+    ghost use Rattle.item_model.specs.Properties.{rank_of, property_row, property_code, property_name, property_kind};
+
+    /// The place in the order of listings, from 0.
+    pub fn rank(self) -> usize
+        ensures { result ≡ rank_of self }
+    {
+        self as usize
+    }
+
+    // The content code, the name and the kind.
+    fn row(self) -> (Code, &'static str, Kind)
+        ensures { (result.0, result.1.now, result.2) ≡ property_row self }
+    {
+        match self {
+            Property::Minm => (Code(*b"minm"), "dmap.itemname", Kind::Text),
+            Property::Mikd => (Code(*b"mikd"), "dmap.itemkind", Kind::U8),
+            Property::Mper => (Code(*b"mper"), "dmap.persistentid", Kind::U64),
+            Property::Asar => (Code(*b"asar"), "daap.songartist", Kind::Text),
+            Property::Asal => (Code(*b"asal"), "daap.songalbum", Kind::Text),
+            Property::Asaa => (Code(*b"asaa"), "daap.songalbumartist", Kind::Text),
+            Property::Asgn => (Code(*b"asgn"), "daap.songgenre", Kind::Text),
+            Property::Ascp => (Code(*b"ascp"), "daap.songcomposer", Kind::Text),
+            Property::Ascm => (Code(*b"ascm"), "daap.songcomment", Kind::Text),
+            Property::Agrp => (Code(*b"agrp"), "daap.songgrouping", Kind::Text),
+            Property::Asfm => (Code(*b"asfm"), "daap.songformat", Kind::Text),
+            Property::Asyr => (Code(*b"asyr"), "daap.songyear", Kind::U16),
+            Property::Astn => (Code(*b"astn"), "daap.songtracknumber", Kind::U16),
+            Property::Astc => (Code(*b"astc"), "daap.songtrackcount", Kind::U16),
+            Property::Asdn => (Code(*b"asdn"), "daap.songdiscnumber", Kind::U16),
+            Property::Asdc => (Code(*b"asdc"), "daap.songdisccount", Kind::U16),
+            Property::Asbr => (Code(*b"asbr"), "daap.songbitrate", Kind::U16),
+            Property::Asbt => (Code(*b"asbt"), "daap.songbeatsperminute", Kind::U16),
+            Property::Astm => (Code(*b"astm"), "daap.songtime", Kind::U32),
+            Property::Assr => (Code(*b"assr"), "daap.songsamplerate", Kind::U32),
+            Property::Assz => (Code(*b"assz"), "daap.songsize", Kind::U32),
+            Property::Asur => (Code(*b"asur"), "daap.songuserrating", Kind::U8),
+            Property::Asco => (Code(*b"asco"), "daap.songcompilation", Kind::U8),
+            Property::Aemk => (Code(*b"aeMK"), "com.apple.itunes.mediakind", Kind::U8),
+            Property::Asda => (Code(*b"asda"), "daap.songdateadded", Kind::Date),
+            Property::Asdm => (Code(*b"asdm"), "daap.songdatemodified", Kind::Date),
+        }
+    }
+
+    /// The content code of its tags.
+    pub fn code(self) -> Code
+        ensures { result ≡ property_code self }
+    {
+        self.row().0
+    }
+
+    /// The name in queries, records and the `meta` parameter.
+    pub fn name(self) -> &'static str
+        ensures { result.now ≡ property_name self }
+    {
+        self.row().1
+    }
+
+    /// The kind of its values.
+    pub fn kind(self) -> Kind
+        ensures { result ≡ property_kind self }
+    {
+        self.row().2
+    }
+}

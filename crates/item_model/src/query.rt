@@ -1,0 +1,87 @@
+//! Queries.
+
+ghost use Rattle.std.specs.Prelude.{◌≡◌, ◌++◌, ◌∷◌, [], OnOk, OnErr, IfOk, map};
+
+use crate::condition::Cond;
+use std::alloc::{AllocError, Global};
+use std::marker::Model;
+
+/// Which rows are asked for. The members of `And` and of `Or` are two or more.
+#[cycle(query)]
+#[derive(Debug, Drop)]
+pub enum Query {
+    Cond(Cond),
+    And(Queries),
+    Or(Queries),
+}
+
+/// The members of a query, in order.
+#[cycle(query)]
+#[derive(Debug, Drop)]
+pub struct Queries {
+    items: Vec<Query>,
+}
+
+impl Model for Queries {
+    ghost use Rattle.std.specs.Prelude.{List, map};
+    ghost use Rattle.std.specs.Coded.{coded_list};
+    ghost use Rattle.item_model.specs.QueryTree.{QueryTree, queries_of, query_sizes};
+    ghost use Rattle.item_model.specs.QueryCells.{query_coded};
+
+    ghost Value = { List QueryTree };
+
+    ghost coded = { coded_list query_coded };
+
+    ghost use Rattle.item_model.specs.QuerySeen.{tree_of};
+
+    ghost view = { λ a. map tree_of a.items.items };
+
+    ghost size = { λ qs. query_sizes (queries_of qs) };
+
+    ghost use Rattle.item_model.specs.QueryFalls.{most_within};
+    ghost use Rattle.std.proofs.Common.{arith};
+
+    ghost size_decreases = { λ a h. omega (arith, most_within a.items.items) };
+}
+
+impl Queries {
+    ghost use Rattle.item_model.specs.QuerySeen.{tree_of};
+
+    /// No queries, without memory.
+    pub fn new(alloc: Global) -> Queries
+        ensures { result ≡ [] }
+    {
+        Queries {
+            items: Vec::new(alloc),
+        }
+    }
+
+    /// The queries of the vector, which is taken over as it is.
+    pub fn of(items: Vec<Query>) -> Queries
+        ensures { result ≡ map tree_of items.items }
+    {
+        Queries { items }
+    }
+
+    pub fn as_slice(&self) -> &[Query]
+        ensures { map tree_of result.now ≡ self.now }
+    {
+        self.items.as_slice()
+    }
+
+    /// The queries as a vector, without memory.
+    pub fn into_vec(self) -> Vec<Query>
+        ensures { map tree_of result.items ≡ self }
+    {
+        self.items
+    }
+
+    /// Adds a query at the end. An `Err` changes nothing.
+    pub fn push(&mut self, query: Query) -> Result<(), AllocError>
+        ensures ok { OnOk result (self.new ≡ self.old ++ tree_of query ∷ []) }
+        ensures err { OnErr result (self.new ≡ self.old) }
+    {
+        self.items.push(query)?;
+        Ok(())
+    }
+}

@@ -1,0 +1,54 @@
+//! What a request asks for.
+
+use crate::properties::Properties;
+use crate::query::Query;
+
+/// How many names the `meta` parameter has at most.
+pub const META_NAMES: usize = 256;
+
+/// Which properties a listing shows.
+#[derive(Debug, Drop)]
+pub enum Meta {
+    /// Those of the default projection.
+    Default,
+    All,
+    /// Those named, in this order.
+    Names(Properties),
+}
+
+/// What is listed: the items of the library, or the members of a container.
+#[derive(Clone, Copy, Debug, PartialEq, Eq)]
+pub enum Target {
+    Items,
+    Container(u32),
+}
+
+/// Which rows of a full listing are shown. Places are counted from 0.
+#[derive(Clone, Copy, Debug, PartialEq, Eq)]
+pub enum Range {
+    All,
+    One { at: u32 },
+    From { at: u32 },
+    /// From one place to another, both included.
+    Span { from: u32, to: u32 },
+    /// The last rows.
+    Last { count: u32 },
+}
+
+/// What a listing is asked with. A base is a revision, 0 where the whole is asked for.
+#[derive(Debug, Drop)]
+pub struct Look {
+    pub query: Option<Query>,
+    pub meta: Meta,
+    pub base: u32,
+    pub range: Range,
+}
+
+/// What the values of a property are browsed by.
+#[derive(Clone, Copy, Debug, PartialEq, Eq)]
+pub enum Browse {
+    Artists,
+    Albums,
+    Genres,
+    Composers,
+}

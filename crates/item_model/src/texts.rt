@@ -1,0 +1,61 @@
+//! Lists of texts.
+
+ghost use Rattle.std.specs.Prelude.{◌≡◌, ◌++◌, ◌∷◌, [], OnOk, OnErr, IfOk};
+
+use dmap_tags::Text;
+use std::alloc::{AllocError, Global};
+use std::marker::Model;
+
+/// Texts in order.
+#[derive(Debug, Drop)]
+pub struct Texts {
+    items: Vec<Text>,
+}
+
+impl Model for Texts {
+    ghost use Rattle.std.specs.Prelude.{ℕ, List};
+
+    ghost Value = { List (List ℕ) };
+
+    ghost view = { λ a. a.items.items };
+}
+
+impl Texts {
+    /// No texts, without memory.
+    pub fn new(alloc: Global) -> Texts
+        ensures { result ≡ [] }
+    {
+        Texts {
+            items: Vec::new(alloc),
+        }
+    }
+
+    /// The texts of the vector, which is taken over as it is.
+    pub fn of(items: Vec<Text>) -> Texts
+        ensures { result ≡ items.items }
+    {
+        Texts { items }
+    }
+
+    pub fn as_slice(&self) -> &[Text]
+        ensures { result.now ≡ self.now }
+    {
+        self.items.as_slice()
+    }
+
+    /// The texts as a vector, without memory.
+    pub fn into_vec(self) -> Vec<Text>
+        ensures { result.items ≡ self }
+    {
+        self.items
+    }
+
+    /// Adds a text at the end. An `Err` changes nothing.
+    pub fn push(&mut self, text: Text) -> Result<(), AllocError>
+        ensures ok { OnOk result (self.new ≡ self.old ++ text ∷ []) }
+        ensures err { OnErr result (self.new ≡ self.old) }
+    {
+        self.items.push(text)?;
+        Ok(())
+    }
+}
