@@ -1,0 +1,5 @@
+mod Cells
+mod Digits
+pub mod ReadBack
+mod Rows
+mod Written
