@@ -1,2 +1,1 @@
 mod Moving
-pub mod GivenBack

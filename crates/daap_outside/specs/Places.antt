@@ -1,5 +1,5 @@
 -- What the calls of doors, nets and files do to the lists that these tell.
-use Rattle.std.specs.Prelude.{◌≡◌, ℕ, Bool, nat_lt, List, [], ◌∷◌, map, length, take, drop, ◌≤◌, ⊤, Some, None, Option, option_map, unwrap_or}
+use Rattle.std.specs.Prelude.{◌≡◌, ℕ, Bool, nat_lt, List, [], ◌∷◌, map, length, take, drop, ⊤, Some, None, Option, option_map, unwrap_or}
 use Rattle.std.specs.FinMap as map
 use Rattle.std.specs.Cmp.Lexicographic.{slice_cmp}
 use Rattle.std.specs.Ordering.{nat_cmp}

@@ -1,4 +1,4 @@
-use Rattle.std.proofs.Common.{◌∙◌, length-drop, ap, length, arith}
+use Rattle.std.proofs.Common.{◌∙◌, arith}
 use Rattle.daap_outside.proofs.Moving.{Appends-next}
 use Rattle.daap_outside.proofs.sink.put_all.Goals as goal
 
