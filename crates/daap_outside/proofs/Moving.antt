@@ -1,0 +1,22 @@
+-- Bytes that move in pieces: into a room, and from one to the next.
+use Rattle.std.proofs.Common.{◌≡◌, ℕ, ◌+◌, ◌≤◌, List, ◌++◌, length, take, drop, sym, ap, subst, ◌∙◌}
+use Rattle.std.specs.Prelude.{Option}
+use Rattle.std.proofs.lemmas.List.{take-append-drop, take_at, drop-drop, length-take-le}
+use Rattle.std.proofs.Math.Seq.{take-add}
+use Rattle.std.proofs.KnownBytes.{Appends-trans}
+use Rattle.std.specs.Io.KnownBytes.{Appends}
+
+-- the bytes that were copied to the front of a room, and those that are left behind them, are what was left
+pub moved_front : (bytes copied rest : List ℕ) (given n : ℕ) → n ≤ length (drop given bytes) → copied ≡ take n (drop given bytes)
+    → drop given bytes ≡ take n (copied ++ rest) ++ drop (given + n) bytes
+moved_front bytes copied rest given n within is =
+    let front : take n (copied ++ rest) ≡ copied = take_at copied rest n (ap length is ∙ length-take-le n (drop given bytes) within) in
+    sym (take-append-drop n (drop given bytes)) ∙ ap (λ xs. xs ++ drop n (drop given bytes)) (sym (front ∙ is))
+    ∙ ap (λ xs. take n (copied ++ rest) ++ xs) (drop-drop n given bytes)
+
+-- the first n bytes were taken, and then m of those behind them: the first n + m were taken
+pub Appends-next : (before mid now : Option (List ℕ)) (bytes rest : List ℕ) (n m : ℕ) → rest ≡ drop n bytes
+    → Appends before mid (take n bytes) → Appends mid now (take m rest) → Appends before now (take (n + m) bytes)
+Appends-next before mid now bytes rest n m is first next =
+    subst (Appends before now) (sym (take-add n m bytes))
+    (Appends-trans before mid now _ _ first (subst (λ xs. Appends mid now (take m xs)) is next))

@@ -1,0 +1,14 @@
+use Rattle.std.proofs.Common.{◌≡◌, ◌-◌, ◌≤◌, length, take}
+use Rattle.std.specs.Io.KnownBytes.{Appends}
+use Rattle.daap_outside.proofs.sink.put_all.Given as goal
+
+-- the bytes that are done were taken, and no fault was counted
+abbrev pub invariant-loop-done : goal.invariant-loop-done
+invariant-loop-done g l =
+    (l.done ≤ length l.bytes)
+    × Appends (g.W.Sink.taken l.initial.sink) (g.W.Sink.taken l.sink) (take l.done l.bytes)
+    × (g.W.Sink.beside_taken l.sink ≡ g.W.Sink.beside_taken l.initial.sink)
+    × (g.W.Faulted.faults l.sink ≡ g.W.Faulted.faults l.initial.sink)
+
+abbrev pub decreases-loop-done : goal.decreases-loop-done
+decreases-loop-done g l = length l.bytes - l.done

@@ -1,0 +1,29 @@
+//! Everything that the program reads from and writes to: byte streams, network places and files.
+//! Each object has a count of its faults, which rises where a call answers `Failed`, and may tell its bytes to contracts.
+//! The forms in memory tell them, the forms over std's readers and writers as far as these do.
+#![tactic(auto)]
+
+mod adapters;
+mod faulted;
+mod files;
+mod link;
+mod memory;
+mod net;
+mod reading;
+mod sink;
+mod source;
+#[cfg(test)]
+mod tests;
+
+pub use adapters::{Reading, Writing};
+pub use faulted::{Failed, Faulted};
+pub use files::{Disk, Files};
+pub use link::Link;
+pub use memory::files::{MemDisk, MemFiles};
+pub use memory::net::{MemDoor, MemLink, MemNet};
+pub use memory::sink::MemSink;
+pub use memory::source::MemSource;
+pub use net::{Door, Net, NetError};
+pub use reading::{ReadError, read_within};
+pub use sink::{Sink, put_all};
+pub use source::Source;

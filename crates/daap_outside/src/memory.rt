@@ -1,0 +1,18 @@
+// The forms in memory, for tests and for commands that use no net and no files.
+ghost use Rattle.std.specs.Prelude.{◌≡◌, IfOk};
+
+pub mod files;
+pub mod net;
+pub mod sink;
+pub mod source;
+
+use std::alloc::{AllocError, Global};
+
+// A copy of plain numbers.
+fn copied<T: Copy>(alloc: Global, items: &[T]) -> Result<Vec<T>, AllocError>
+    ensures { IfOk result (λ copy. copy.items ≡ items.now) }
+{
+    let mut copy = Vec::with_capacity(alloc, items.len())?;
+    copy.extend_from_slice(items)?;
+    Ok(copy)
+}

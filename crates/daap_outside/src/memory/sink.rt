@@ -1,0 +1,101 @@
+// A sink over room in memory.
+ghost use Rattle.std.specs.Prelude.{◌≡◌, ◌↔◌, ◌⊎◌, ◌<◌, ◌≤◌, ◌+◌, ℕ, min, [], Some, None, IfOk, IsErr, Contains, length, vec_len, vec_capacity};
+ghost use Rattle.std.specs.Io.KnownBytes.{WriteAppends};
+ghost use Rattle.daap_outside.specs.Counts.{CountsFaults};
+
+use crate::faulted::{Failed, Faulted, counted};
+use crate::memory::copied;
+use crate::sink::Sink;
+use std::alloc::{AllocError, Global};
+
+/// Takes bytes into room that was taken when it was made, and tells them.
+/// Some of its calls may be set to fail; the first call has the number 1.
+#[derive(Drop)]
+pub struct MemSink {
+    taken: Vec<u8>,
+    room: usize,
+    per_call: usize,
+    failing: Vec<u64>,
+    calls: u64,
+    faults: u64,
+    ghost fits: { vec_len taken ≤ room },
+    ghost has_room: { room ≤ vec_capacity taken },
+    ghost moves: { 0 < per_call },
+}
+
+impl MemSink {
+    ghost use Rattle.daap_outside.specs.MemSink.{room_left, per_call as pieces_of, failing_calls, next_call};
+
+    /// A sink with room for so many bytes. One write takes at most `per_call` of them, and the
+    /// calls with the numbers `failing` fail.
+    pub fn new(
+        alloc: Global,
+        room: usize,
+        per_call: usize,
+        failing: &[u64],
+    ) -> Result<MemSink, AllocError>
+        requires { 0 < per_call }
+        ensures taken { IfOk result (λ sink. ⟦<MemSink as Sink>⟧.taken sink ≡ Some []) }
+        ensures faults { IfOk result (λ sink. ⟦<MemSink as Faulted>⟧.faults sink ≡ 0) }
+        ensures room { IfOk result (λ sink. room_left sink ≡ room) }
+        ensures pieces { IfOk result (λ sink. pieces_of sink ≡ per_call) }
+        ensures failing_calls { IfOk result (λ sink. failing_calls sink ≡ failing.now) }
+        ensures first_call { IfOk result (λ sink. next_call sink ≡ 1) }
+    {
+        Ok(MemSink {
+            taken: Vec::with_capacity(alloc, room)?,
+            room,
+            per_call,
+            failing: copied(alloc, failing)?,
+            calls: 0,
+            faults: 0,
+        })
+    }
+
+    /// The bytes that it has taken.
+    pub fn taken(&self) -> &[u8]
+        ensures { Some result.now ≡ ⟦<MemSink as Sink>⟧.taken self.now }
+    {
+        self.taken.as_slice()
+    }
+}
+
+impl Faulted for MemSink {
+    ghost faults = { λ sink. sink.faults };
+}
+
+impl Sink for MemSink {
+    ghost use Rattle.daap_outside.specs.MemSink.{taken_of, room_left, per_call as pieces_of, failing_calls, next_call, CountsCall};
+
+    ghost taken = { λ sink. Some (taken_of sink) };
+
+    ghost beside_taken = { λ _. None };
+
+    fn write(&mut self, piece: &[u8]) -> Result<usize, Failed>
+        requires { 0 < length piece.now }
+        ensures some { IfOk result (λ n. 0 < n) }
+        ensures within { IfOk result (λ n. n ≤ length piece.now) }
+        ensures taken_grows { WriteAppends (Some (taken_of self.old)) (Some (taken_of self.new)) result piece.now }
+        ensures count { CountsFaults self.old.faults self.new.faults result }
+        ensures amount { IfOk result (λ n.
+            n ≡ min (min (length piece.now) (pieces_of self.old)) (room_left self.old)) }
+        ensures room_shrinks { IfOk result (λ n. room_left self.new + n ≡ room_left self.old) }
+        ensures called { CountsCall self.old self.new }
+        ensures fails { IsErr result
+            ↔ (Contains (failing_calls self.old) (next_call self.old) ⊎ (room_left self.old ≡ 0)) }
+    {
+        self.calls = self.calls.saturating_add(1);
+        if self.failing.contains(&self.calls) {
+            return Err(counted(&mut self.faults));
+        }
+        let n = piece
+            .len()
+            .min(self.per_call)
+            .min(self.room - self.taken.len());
+        if n == 0 {
+            return Err(counted(&mut self.faults));
+        }
+        self.taken.extend_from_slice(&piece[..n]).unwrap();
+        Ok(n)
+    }
+}

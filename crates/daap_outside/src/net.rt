@@ -1,0 +1,115 @@
+// What links come from.
+ghost use Rattle.std.specs.Prelude.{◌≡◌, ℕ, Bool, List, [], ◌∷◌, map, length, All, IfOk, IfSome, OnOk, OnErr, Option};
+ghost use Rattle.daap_outside.specs.Counts.{CountsFaults, Rose, RisesWith};
+ghost use Rattle.daap_outside.specs.Told.{BeginsEmpty, Grows, GrowsByTold};
+ghost use Rattle.daap_outside.specs.Places.{Accepts, OpensDoors, Returned, returned};
+ghost use Rattle.daap_outside.specs.NetCounts.{CountsNetFaults};
+
+use crate::faulted::{Failed, Faulted};
+use crate::link::Link;
+use thiserror::Error;
+
+/// A place to wait for links at. Several doors may stand at one place.
+pub trait Door: Faulted {
+    type L: Link + Drop;
+
+    // The inputs of the links that will come, in order, where they are told.
+    ghost coming: { Self → Option (List (List ℕ)) };
+
+    // The links given back so far, in order, where they are told.
+    ghost written: { Self → Option (List (List ℕ × Bool)) };
+
+    /// Waits for the next link. `None` says that no further one will come.
+    fn accept(&mut self) -> Result<Option<Self::L>, Failed>
+        ensures next { IfOk result (Accepts Self.L.left Self.L.taken (coming self.old) (coming self.new)) }
+        ensures fresh { IfOk result (λ link. IfSome link (λ l. Self.L.faults l ≡ 0)) }
+        ensures unwritten { IfOk result (λ link. IfSome link (λ l.
+            BeginsEmpty (written self.old) (Self.L.taken l))) }
+        ensures failed { OnErr result (coming self.new ≡ coming self.old) }
+        ensures written_stays { written self.new ≡ written self.old }
+        ensures count { CountsFaults (Self.faults self.old) (Self.faults self.new) result };
+
+    /// Tries to wake another worker that waits at this place, and one at each place at which
+    /// the same net listened before. It is not promised that anybody wakes.
+    fn nudge(&mut self)
+        ensures coming_stays { coming self.new ≡ coming self.old }
+        ensures written_stays { written self.new ≡ written self.old }
+        ensures count { Self.faults self.new ≡ Self.faults self.old };
+
+    /// Takes an accepted link back and ends it. It takes no memory.
+    fn done(&mut self, link: Self::L)
+        ensures coming_stays { coming self.new ≡ coming self.old }
+        ensures written_grows { GrowsByTold (written self.old) (written self.new)
+            (returned (Self.L.taken link) (Self.L.faults link)) }
+        ensures count { Self.faults self.new ≡ Self.faults self.old };
+}
+
+/// Why a net opened no doors.
+#[derive(Debug, Drop, Error)]
+pub enum NetError {
+    #[error("the place could not be listened at")]
+    Failed,
+    #[error("out of memory")]
+    Memory,
+}
+
+/// What opens doors and connects links.
+pub trait Net: Faulted {
+    type L: Link + Drop;
+
+    type D: Door<L = Self::L> + Drop;
+
+    // The places asked for so far, each with its number of doors, or 0 for a connection, where they are told.
+    ghost asked: { Self → Option (List (List ℕ × ℕ)) };
+
+    // The links of doors and connections given back so far, in order, where they are told.
+    ghost written: { Self → Option (List (List ℕ × Bool)) };
+
+    // For each door to be opened, in order, the inputs of its links, where they are told.
+    ghost door_links: { Self → Option (List (List (List ℕ))) };
+
+    // The input of the link that is connected next, where it is told.
+    ghost next_input: { Self → Option (List ℕ) };
+
+    /// Opens so many doors to one place.
+    fn listen(&mut self, place: &str, doors: u32) -> Result<Vec<Self::D>, NetError>
+        ensures number { IfOk result (λ ds. length ds.items ≡ doors) }
+        ensures fresh { IfOk result (λ ds. All (λ d. Self.D.faults d ≡ 0) ds.items) }
+        ensures unwritten { IfOk result (λ ds. All (λ d.
+            BeginsEmpty (written self.old) (Self.D.written d)) ds.items) }
+        ensures links { IfOk result (λ ds. OpensDoors (door_links self.old) (door_links self.new)
+            (map Self.D.coming ds.items)) }
+        ensures failed { OnErr result (door_links self.new ≡ door_links self.old) }
+        ensures asks { Grows (asked self.old) (asked self.new) ((place.now, doors) ∷ []) }
+        ensures written_stays { written self.new ≡ written self.old }
+        ensures next_stays { next_input self.new ≡ next_input self.old }
+        ensures count { CountsNetFaults (Self.faults self.old) (Self.faults self.new) result };
+
+    /// Connects to a place.
+    fn connect(&mut self, place: &str) -> Result<Self::L, Failed>
+        ensures fresh { IfOk result (λ link. Self.L.faults link ≡ 0) }
+        ensures unwritten { IfOk result (λ link. BeginsEmpty (written self.old) (Self.L.taken link)) }
+        ensures input { IfOk result (λ link. IfSome (next_input self.old)
+            (λ input. Self.L.left link ≡ Some input)) }
+        ensures asks { Grows (asked self.old) (asked self.new) ((place.now, 0) ∷ []) }
+        ensures written_stays { written self.new ≡ written self.old }
+        ensures links_stay { door_links self.new ≡ door_links self.old }
+        ensures count { CountsFaults (Self.faults self.old) (Self.faults self.new) result };
+
+    /// Takes a door back. It takes no memory.
+    fn shut(&mut self, door: Self::D)
+        ensures asked_stays { asked self.new ≡ asked self.old }
+        ensures written_grows { GrowsByTold (written self.old) (written self.new) (Self.D.written door) }
+        ensures links_stay { door_links self.new ≡ door_links self.old }
+        ensures next_stays { next_input self.new ≡ next_input self.old }
+        ensures count { RisesWith (Self.faults self.old) (Self.faults self.new) (Self.D.faults door) };
+
+    /// Takes a connected link back and ends it. It takes no memory.
+    fn hang_up(&mut self, link: Self::L)
+        ensures asked_stays { asked self.new ≡ asked self.old }
+        ensures written_grows { GrowsByTold (written self.old) (written self.new)
+            (returned (Self.L.taken link) (Self.L.faults link)) }
+        ensures links_stay { door_links self.new ≡ door_links self.old }
+        ensures next_stays { next_input self.new ≡ next_input self.old }
+        ensures count { RisesWith (Self.faults self.old) (Self.faults self.new) (Self.L.faults link) };
+}

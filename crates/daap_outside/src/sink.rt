@@ -1,0 +1,42 @@
+// What bytes are written to.
+ghost use Rattle.std.specs.Prelude.{◌≡◌, ℕ, ◌<◌, ◌≤◌, List, length, IfOk, OnOk, OnErr, Option};
+ghost use Rattle.std.specs.Io.KnownBytes.{Appends, WriteAppends};
+ghost use Rattle.daap_outside.specs.Counts.{CountsFaults};
+ghost use Rattle.daap_outside.specs.Told.{AppendsPrefix};
+
+use crate::faulted::{Failed, Faulted};
+
+/// A stream of bytes to write.
+pub trait Sink: Faulted {
+    // The bytes taken so far, where they are told.
+    ghost taken: { Self → Option (List ℕ) };
+
+    // Told bytes that a write leaves alone: of a link, those that are left to read.
+    ghost beside_taken: { Self → Option (List ℕ) };
+
+    /// Writes from the front of the piece, and answers how many bytes: one or more.
+    /// Where nothing can be taken, a fault is counted.
+    fn write(&mut self, piece: &[u8]) -> Result<usize, Failed>
+        requires { 0 < length piece.now }
+        ensures some { IfOk result (λ n. 0 < n) }
+        ensures within { IfOk result (λ n. n ≤ length piece.now) }
+        ensures taken_grows { WriteAppends (taken self.old) (taken self.new) result piece.now }
+        ensures beside { beside_taken self.new ≡ beside_taken self.old }
+        ensures count { CountsFaults (Self.faults self.old) (Self.faults self.new) result };
+}
+
+/// Writes all the bytes, in as many calls as the sink needs. It takes no memory.
+/// After `Failed` some of the first bytes may have been taken.
+pub fn put_all<W: Sink>(sink: &mut W, bytes: &[u8]) -> Result<(), Failed>
+    ensures all { OnOk result (Appends (W.taken sink.old) (W.taken sink.new) bytes.now) }
+    ensures part { OnErr result (AppendsPrefix (W.taken sink.old) (W.taken sink.new) bytes.now) }
+    ensures beside { W.beside_taken sink.new ≡ W.beside_taken sink.old }
+    ensures count { CountsFaults (W.faults sink.old) (W.faults sink.new) result }
+{
+    let mut done = 0;
+    while done < bytes.len() {
+        let (_, rest) = bytes.split_at(done);
+        done += sink.write(rest)?;
+    }
+    Ok(())
+}

@@ -1,0 +1,26 @@
+// What bytes are read from.
+ghost use Rattle.std.specs.Prelude.{◌≡◌, ℕ, ◌<◌, List, length, IfOk, Option};
+ghost use Rattle.std.specs.Io.{ReadsAtMost};
+ghost use Rattle.std.specs.Io.KnownBytes.{ReadConsumes};
+ghost use Rattle.daap_outside.specs.Counts.{CountsFaults};
+ghost use Rattle.daap_outside.specs.Told.{AnswersEnd};
+
+use crate::faulted::{Failed, Faulted};
+
+/// A stream of bytes to read.
+pub trait Source: Faulted {
+    // The bytes that reads will give from here on, where they are told.
+    ghost left: { Self → Option (List ℕ) };
+
+    // Told bytes that a read leaves alone: of a link, those that it has taken.
+    ghost beside_left: { Self → Option (List ℕ) };
+
+    /// Reads into the front of the room, and answers how many bytes. None is the end of the input.
+    fn read(&mut self, room: &mut [u8]) -> Result<usize, Failed>
+        requires { 0 < length room.old }
+        ensures within { ReadsAtMost result room.new }
+        ensures moved { ReadConsumes (left self.old) (left self.new) result room.new }
+        ensures end { IfOk result (λ n. AnswersEnd (left self.old) n) }
+        ensures beside { beside_left self.new ≡ beside_left self.old }
+        ensures count { CountsFaults (Self.faults self.old) (Self.faults self.new) result };
+}
