@@ -1,58 +1,59 @@
 -- An item: properties with their values, in the order of listings, each property at most once.
-use Rattle.std.specs.Prelude.{ℕ, List, [], ◌∷◌, ◌+◌, ◌^◌, Option, Some, None, Bool, true, ◌&&◌, nat_lt, nat_le, ◌==◌, length, if◌then◌else◌}
+use Rattle.std.specs.Prelude.{◌≡◌, ◌<◌, ◌≤◌, slice_set, suc, false, ℕ, List, [], ◌∷◌, ◌+◌, ◌^◌, Option, Some, None, Bool, true, ◌&&◌, nat_lt, nat_le, ◌==◌, length, if◌then◌else◌}
+use Rattle.std.specs.List.{insert}
 use Rattle.dmap_tags.specs.declared.kinds.Kind.{Kind}
 use Rattle.dmap_tags.specs.declared.kinds.Kind.TheVariants.{U8, I8, U16, I16, U32, I32, U64, I64, Text, Date, Version, List as Members, Opaque}
 use Rattle.item_model.specs.declared.property.Property.{Property}
 use Rattle.item_model.specs.declared.item.PropValue.{PropValue}
 use Rattle.item_model.specs.declared.item.PropValue.TheVariants.{Number, Text as Words}
 use Rattle.item_model.specs.declared.item.TheConstants.{TEXT_BYTES}
-use Rattle.item_model.specs.Properties.{rank_of, property_kind}
+use Rattle.item_model.specs.Properties.{rank_of, is_same, property_kind}
 
--- the numbers of a kind are those below its limit; a kind that is no number has none
-abbrev pub number_limit : Kind → ℕ
-number_limit U8 = 2 ^ 8
-number_limit U16 = 2 ^ 16
-number_limit U32 = 2 ^ 32
-number_limit U64 = 2 ^ 64
-number_limit Date = 2 ^ 32
-number_limit I8 = 0
-number_limit I16 = 0
-number_limit I32 = 0
-number_limit I64 = 0
-number_limit Text = 0
-number_limit Version = 0
-number_limit Members = 0
-number_limit Opaque = 0
+-- how many numbers there are of a kind, from 0 on; a kind that is no number has none
+abbrev pub numbers_of : Kind → ℕ
+numbers_of U8 = 2 ^ 8
+numbers_of U16 = 2 ^ 16
+numbers_of U32 = 2 ^ 32
+numbers_of U64 = 2 ^ 64
+numbers_of Date = 2 ^ 32
+numbers_of I8 = 0
+numbers_of I16 = 0
+numbers_of I32 = 0
+numbers_of I64 = 0
+numbers_of Text = 0
+numbers_of Version = 0
+numbers_of Members = 0
+numbers_of Opaque = 0
 
--- the bytes of a text of a kind are at most as many as this; a kind that is no text has none
-abbrev pub text_limit : Kind → ℕ
-text_limit Text = TEXT_BYTES
-text_limit U8 = 0
-text_limit U16 = 0
-text_limit U32 = 0
-text_limit U64 = 0
-text_limit Date = 0
-text_limit I8 = 0
-text_limit I16 = 0
-text_limit I32 = 0
-text_limit I64 = 0
-text_limit Version = 0
-text_limit Members = 0
-text_limit Opaque = 0
+-- a text that is not empty and not too long, where the kind is text
+abbrev pub is_text_of : Kind → List ℕ → Bool
+is_text_of Text bytes = nat_lt 0 (length bytes) && nat_le (length bytes) TEXT_BYTES
+is_text_of U8 bytes = false
+is_text_of U16 bytes = false
+is_text_of U32 bytes = false
+is_text_of U64 bytes = false
+is_text_of Date bytes = false
+is_text_of I8 bytes = false
+is_text_of I16 bytes = false
+is_text_of I32 bytes = false
+is_text_of I64 bytes = false
+is_text_of Version bytes = false
+is_text_of Members bytes = false
+is_text_of Opaque bytes = false
 
--- a number of the kind, or a text that is not empty and not too long
-abbrev pub fits : Kind → PropValue → Bool
-fits kind (Number n) = nat_lt n (number_limit kind)
-fits kind (Words bytes) = nat_lt 0 (length bytes) && nat_le (length bytes) (text_limit kind)
+-- a number or a text of the kind
+abbrev pub is_of_kind : Kind → PropValue → Bool
+is_of_kind kind (Number n) = nat_lt n (numbers_of kind)
+is_of_kind kind (Words bytes) = is_text_of kind bytes
 
 -- the value is of the property's kind and range
 abbrev pub is_value_of : Property → PropValue → Bool
-is_value_of p v = fits (property_kind p) v
+is_value_of p v = is_of_kind (property_kind p) v
 
 -- the ranks rise from the given one on, and each value is its property's
 abbrev pub rises_from : ℕ → List (Property × PropValue) → Bool
 rises_from n [] = true
-rises_from n ((p, v) ∷ entries) = nat_le n (rank_of p) && (is_value_of p v && rises_from (rank_of p + 1) entries)
+rises_from n (e ∷ entries) = nat_le n (rank_of e.0) && (is_value_of e.0 e.1 && rises_from (rank_of e.0 + 1) entries)
 
 abbrev pub is_item : List (Property × PropValue) → Bool
 is_item entries = rises_from 0 entries
@@ -60,12 +61,22 @@ is_item entries = rises_from 0 entries
 -- the value of a property, and none where the item lacks it
 abbrev pub value_of : Property → List (Property × PropValue) → Option PropValue
 value_of p [] = None
-value_of p ((q, v) ∷ entries) = if rank_of q == rank_of p then Some v else value_of p entries
+value_of p (e ∷ entries) = if is_same e.0 p then Some e.1 else value_of p entries
 
 -- the item with the property set
 abbrev pub with_value : Property → PropValue → List (Property × PropValue) → List (Property × PropValue)
 with_value p v [] = (p, v) ∷ []
-with_value p v ((q, w) ∷ entries) =
-    if nat_lt (rank_of q) (rank_of p) then (q, w) ∷ with_value p v entries
-    else if rank_of q == rank_of p then (p, v) ∷ entries
-    else (p, v) ∷ (q, w) ∷ entries
+with_value p v (e ∷ entries) =
+    if nat_lt (rank_of e.0) (rank_of p) then e ∷ with_value p v entries
+    else if is_same e.0 p then (p, v) ∷ entries
+    else (p, v) ∷ e ∷ entries
+
+-- the property has the entry there, which a new value replaces
+pub record Replaces (p : Property) (entries : List (Property × PropValue)) (place : ℕ) : Type 0 where
+  pub within : place < length entries
+  pub set : (v : PropValue) → slice_set entries place (p, v) ≡ with_value p v entries
+
+-- no entry is the property's, and it comes in there
+pub record ComesIn (p : Property) (entries : List (Property × PropValue)) (place : ℕ) : Type 0 where
+  pub within : place ≤ length entries
+  pub set : (v : PropValue) → insert entries place (p, v) ≡ with_value p v entries

@@ -6,3 +6,5 @@ pub mod QueryCells
 pub mod QueryFalls
 pub mod Proper
 pub mod Valid
+pub mod Projection
+pub mod Names

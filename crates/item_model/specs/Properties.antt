@@ -1,9 +1,9 @@
 -- The properties of an item, as DAAP names them: each has a content code, a name, a kind of values and a
 -- place in the order of listings.
-use Rattle.std.specs.Prelude.{ℕ, List, Option, codes}
+use Rattle.std.specs.Prelude.{Bool, ◌==◌, ℕ, List, Option, codes}
 use Rattle.std.specs.List.{find}
 use Rattle.std.specs.Str.{bytes_eq}
-use Rattle.dmap_tags.specs.Codes.{Four, code}
+use Rattle.dmap_tags.specs.Codes.{Four, code, code_bytes}
 use Rattle.dmap_tags.specs.declared.kinds.Kind.{Kind}
 use Rattle.dmap_tags.specs.declared.kinds.Kind.TheVariants.{U8, U16, U32, U64, Text, Date}
 use Rattle.item_model.specs.declared.property.Property.{Property}
@@ -78,6 +78,13 @@ rank_of Aemk = 23
 rank_of Asda = 24
 rank_of Asdm = 25
 
+abbrev pub is_same : Property → Property → Bool
+is_same p q = rank_of p == rank_of q
+
 -- the property of a name, and none where no property has it
-abbrev pub property_named : List ℕ → Option Property
+unfoldable pub property_named : List ℕ → Option Property
 property_named name = find (λ p. bytes_eq (property_name p) name) PROPERTIES
+
+-- the property of a content code, and none where no property has it
+unfoldable pub property_coded : Four → Option Property
+property_coded c = find (λ p. bytes_eq (code_bytes (property_code p)) (code_bytes c)) PROPERTIES

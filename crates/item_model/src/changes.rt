@@ -21,6 +21,37 @@ pub enum Edit {
     DropMember { list: u32, member: u32 },
 }
 
+impl Edit {
+    /// An edit of its own with the same contents.
+    pub fn copy(&self) -> Result<Edit, AllocError>
+        ensures { IfOk result (λ c. c ≡ self.now) }
+    {
+        Ok(match self {
+            Edit::PutItem { row } => Edit::PutItem { row: row.copy()? },
+            Edit::DropItem { id } => Edit::DropItem { id: *id },
+            Edit::PutList { list, name } => Edit::PutList {
+                list: *list,
+                name: name.copy()?,
+            },
+            Edit::PutRule { list, name, rule } => Edit::PutRule {
+                list: *list,
+                name: name.copy()?,
+                rule: rule.copy()?,
+            },
+            Edit::DropList { list } => Edit::DropList { list: *list },
+            Edit::PutMember { list, member, item } => Edit::PutMember {
+                list: *list,
+                member: *member,
+                item: *item,
+            },
+            Edit::DropMember { list, member } => Edit::DropMember {
+                list: *list,
+                member: *member,
+            },
+        })
+    }
+}
+
 /// Edits in order.
 #[derive(Debug, Drop)]
 pub struct Edits {
@@ -78,6 +109,25 @@ impl Edits {
         self.items.push(edit)?;
         Ok(())
     }
+
+    /// Edits of their own with the same contents.
+    pub fn copy(&self) -> Result<Edits, AllocError>
+        ensures { IfOk result (λ c. c ≡ self.now) }
+    {
+        let items = copies(*self.items.allocator(), self.items.as_slice())?;
+        Ok(Edits { items })
+    }
+}
+
+// Copies of edits, in order.
+fn copies(alloc: Global, edits: &[Edit]) -> Result<Vec<Edit>, AllocError>
+    ensures { IfOk result (λ v. v.items ≡ edits.now) }
+{
+    let mut copies = Vec::with_capacity(alloc, edits.len())?;
+    for edit in edits {
+        copies.push(edit.copy()?)?;
+    }
+    Ok(copies)
 }
 
 /// The edits that are made together or not at all.
@@ -97,6 +147,17 @@ impl Model for Batch {
     ghost coded = { Prim.hlevel (codes, query_coded) };
 
     ghost view = { λ a. a.edits };
+}
+
+impl Batch {
+    /// A batch of its own with the same edits.
+    pub fn copy(&self) -> Result<Batch, AllocError>
+        ensures { IfOk result (λ c. c ≡ self.now) }
+    {
+        Ok(Batch {
+            edits: self.edits.copy()?,
+        })
+    }
 }
 
 /// What a share's history has of one pass or connection, whose number is `by`.

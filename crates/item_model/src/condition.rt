@@ -1,7 +1,10 @@
 //! Conditions on one property.
 
+ghost use Rattle.std.specs.Prelude.{◌≡◌, IfOk};
+
 use crate::texts::Texts;
 use dmap_tags::Text;
+use std::alloc::AllocError;
 
 /// Whether a condition asks for a match or for none.
 #[derive(Clone, Copy, Debug, PartialEq, Eq)]
@@ -22,4 +25,28 @@ pub struct Cond {
     pub name: Text,
     pub op: Op,
     pub pattern: Pattern,
+}
+
+impl Pattern {
+    /// A pattern of its own with the same pieces.
+    pub fn copy(&self) -> Result<Pattern, AllocError>
+        ensures { IfOk result (λ c. c ≡ self.now) }
+    {
+        Ok(Pattern {
+            pieces: self.pieces.copy()?,
+        })
+    }
+}
+
+impl Cond {
+    /// A condition of its own with the same contents.
+    pub fn copy(&self) -> Result<Cond, AllocError>
+        ensures { IfOk result (λ c. c ≡ self.now) }
+    {
+        Ok(Cond {
+            name: self.name.copy()?,
+            op: self.op,
+            pattern: self.pattern.copy()?,
+        })
+    }
 }

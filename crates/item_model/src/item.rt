@@ -1,9 +1,10 @@
 //! Items and rows.
 
-ghost use Rattle.std.specs.Prelude.{◌≡◌, ◌++◌, ◌∷◌, [], OnOk, OnErr, IfOk};
+ghost use Rattle.std.specs.Prelude.{◌≡◌, ◌↔◌, [], OnOk, OnErr, IfOk, IfSome, MatchResult, option_copied, nat_lt, true, false};
+ghost use Rattle.item_model.specs.Items.{is_value_of, numbers_of, is_text_of, value_of, with_value, Replaces, ComesIn};
 
 use crate::property::Property;
-use dmap_tags::Text;
+use dmap_tags::{Kind, Text};
 use std::alloc::{AllocError, AllocFailed, Global};
 use std::marker::Model;
 use thiserror::Error;
@@ -75,6 +76,49 @@ impl<T: Drop> From<AllocFailed<T>> for ItemError {
     }
 }
 
+impl PropValue {
+    /// Whether the value is of the property's kind and range.
+    pub fn is_value_of(&self, property: Property) -> bool
+        ensures { result ≡ is_value_of property self.now }
+    {
+        match self {
+            PropValue::Number(n) => is_number_of(property.kind(), *n),
+            PropValue::Text(text) => is_text_of(property.kind(), text.as_str()),
+        }
+    }
+
+    /// A value of its own with the same contents.
+    pub fn copy(&self) -> Result<PropValue, AllocError>
+        ensures { IfOk result (λ v. v ≡ self.now) }
+    {
+        match self {
+            PropValue::Number(n) => Ok(PropValue::Number(*n)),
+            PropValue::Text(text) => Ok(PropValue::Text(text.copy()?)),
+        }
+    }
+}
+
+fn is_number_of(kind: Kind, n: u64) -> bool
+    ensures { result ≡ nat_lt n (numbers_of kind) }
+{
+    match kind {
+        Kind::U8 => n <= u64::from(u8::MAX),
+        Kind::U16 => n <= u64::from(u16::MAX),
+        Kind::U32 | Kind::Date => n <= u64::from(u32::MAX),
+        Kind::U64 => true,
+        _ => false,
+    }
+}
+
+fn is_text_of(kind: Kind, text: &str) -> bool
+    ensures { result ≡ is_text_of kind text.now }
+{
+    match kind {
+        Kind::Text => 0 < text.len() && text.len() <= TEXT_BYTES,
+        _ => false,
+    }
+}
+
 impl Item {
     /// An item without properties, without memory.
     pub fn new(alloc: Global) -> Item
@@ -84,4 +128,105 @@ impl Item {
             entries: Vec::new(alloc),
         }
     }
+
+    /// The value of the property, without memory.
+    pub fn get(&self, property: Property) -> Option<&PropValue>
+        ensures value { option_copied result ≡ value_of property self.now }
+        ensures fits { IfSome result (λ v. is_value_of property v.now ≡ true) }
+    {
+        find_value(self.entries.as_slice(), property)
+    }
+
+    /// Sets the property. After an `Err` the item is as before.
+    pub fn put(&mut self, property: Property, value: PropValue) -> Result<(), ItemError>
+        ensures put { OnOk result (self.new ≡ with_value property value self.old) }
+        ensures range { (result ≡ Err ItemError.Range) ↔ (is_value_of property value ≡ false) }
+        ensures unchanged { OnErr result (self.new ≡ self.old) }
+    {
+        if !value.is_value_of(property) {
+            return Err(ItemError::Range);
+        }
+        set(&mut self.entries, property, value)?;
+        Ok(())
+    }
+
+    /// An item of its own with the same properties.
+    pub fn copy(&self) -> Result<Item, AllocError>
+        ensures { IfOk result (λ item. item ≡ self.now) }
+    {
+        let entries = copies(*self.entries.allocator(), self.entries.as_slice())?;
+        Ok(Item { entries })
+    }
+}
+
+impl Row {
+    /// A row of its own with the same contents.
+    pub fn copy(&self) -> Result<Row, AllocError>
+        ensures { IfOk result (λ row. row ≡ self.now) }
+    {
+        Ok(Row {
+            id: self.id,
+            item: self.item.copy()?,
+        })
+    }
+}
+
+fn find_value(entries: &[(Property, PropValue)], property: Property) -> Option<&PropValue>
+    ensures { option_copied result ≡ value_of property entries.now }
+{
+    for entry in entries {
+        if entry.0.rank() == property.rank() {
+            return Some(&entry.1);
+        }
+    }
+    None
+}
+
+// Where the property's entry is, or where it comes in.
+fn place_of(entries: &[(Property, PropValue)], property: Property) -> Result<usize, usize>
+    ensures { MatchResult result (Replaces property entries.now) (ComesIn property entries.now) }
+{
+    for (i, entry) in entries.iter().enumerate() {
+        let rank = entry.0.rank();
+        if rank == property.rank() {
+            return Ok(i);
+        }
+        if property.rank() < rank {
+            return Err(i);
+        }
+    }
+    Err(entries.len())
+}
+
+fn set(
+    entries: &mut Vec<(Property, PropValue)>,
+    property: Property,
+    value: PropValue,
+) -> Result<(), AllocError>
+    ensures set { OnOk result (entries.new.items ≡ with_value property value entries.old.items) }
+    ensures unchanged { OnErr result (entries.new.items ≡ entries.old.items) }
+{
+    match place_of(entries.as_slice(), property) {
+        Ok(place) => {
+            entries[place] = (property, value);
+            Ok(())
+        }
+        Err(place) => {
+            entries.insert(place, (property, value))?;
+            Ok(())
+        }
+    }
+}
+
+fn copies(
+    alloc: Global,
+    entries: &[(Property, PropValue)],
+) -> Result<Vec<(Property, PropValue)>, AllocError>
+    ensures { IfOk result (λ v. v.items ≡ entries.now) }
+{
+    let mut copies = Vec::with_capacity(alloc, entries.len())?;
+    for entry in entries {
+        copies.push((entry.0, entry.1.copy()?))?;
+    }
+    Ok(copies)
 }

@@ -6,6 +6,8 @@
 mod changes;
 mod condition;
 mod item;
+mod names;
+mod projection;
 mod properties;
 mod property;
 mod query;
@@ -16,6 +18,8 @@ mod texts;
 pub use changes::{Batch, Edit, Edits, Entries, Entry};
 pub use condition::{Cond, Op, Pattern};
 pub use item::{Item, ItemError, PropValue, Row, TEXT_BYTES};
+pub use names::MetaError;
+pub use projection::project;
 pub use properties::Properties;
 pub use property::{DEFAULT_PROJECTION, PROPERTIES, Property};
 pub use query::{Queries, Query};

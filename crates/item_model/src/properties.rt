@@ -59,4 +59,13 @@ impl Properties {
         self.items.push(property)?;
         Ok(())
     }
+
+    /// Properties of their own, the same in order.
+    pub fn copy(&self) -> Result<Properties, AllocError>
+        ensures { IfOk result (λ c. c ≡ self.now) }
+    {
+        Ok(Properties {
+            items: self.items.clone()?,
+        })
+    }
 }

@@ -1,6 +1,10 @@
 //! The properties that an item may have.
 
 ghost use Rattle.std.specs.Prelude.{◌≡◌};
+ghost use Rattle.std.specs.List.{find};
+ghost use Rattle.std.specs.Str.{bytes_eq};
+ghost use Rattle.dmap_tags.specs.Codes.{code_bytes};
+ghost use Rattle.item_model.specs.Properties.{rank_of, property_row, property_code, property_name, property_kind, property_named, property_coded};
 
 use dmap_tags::{Code, Kind};
 
@@ -76,9 +80,6 @@ pub const DEFAULT_PROJECTION: [Property; 6] = [
 ];
 
 impl Property {
-    ghost use Rattle.std.specs.Str.{bytes_eq};
-    ghost use Rattle.item_model.specs.Properties.{rank_of, property_row, property_code, property_name, property_kind};
-
     /// The place in the order of listings, from 0.
     pub fn rank(self) -> usize
         ensures { result ≡ rank_of self }
@@ -140,4 +141,39 @@ impl Property {
     {
         self.row().2
     }
+
+    /// The property of that name.
+    pub fn by_name(name: &str) -> Option<Property>
+        ensures { result ≡ property_named name.now }
+    {
+        property_of_name(name.as_bytes())
+    }
+
+    /// The property with that content code.
+    pub fn by_code(code: Code) -> Option<Property>
+        ensures { result ≡ property_coded code }
+    {
+        first_coded(&PROPERTIES, code)
+    }
+}
+
+pub(crate) fn property_of_name(name: &[u8]) -> Option<Property>
+    ensures { result ≡ property_named name.now }
+{
+    first_named(&PROPERTIES, name)
+}
+
+fn first_named(properties: &[Property], name: &[u8]) -> Option<Property>
+    ensures { result ≡ find (λ p. bytes_eq (property_name p) name.now) properties.now }
+{
+    properties
+        .iter()
+        .copied()
+        .find(|p| p.name().as_bytes() == name)
+}
+
+fn first_coded(properties: &[Property], code: Code) -> Option<Property>
+    ensures { result ≡ find (λ p. bytes_eq (code_bytes (property_code p)) (code_bytes code)) properties.now }
+{
+    properties.iter().copied().find(|p| p.code() == code)
 }

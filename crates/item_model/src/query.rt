@@ -84,4 +84,39 @@ impl Queries {
         self.items.push(query)?;
         Ok(())
     }
+
+    /// Queries of their own with the same contents.
+    #[cycle(copy)]
+    pub fn copy(&self) -> Result<Queries, AllocError>
+        ensures { IfOk result (λ c. c ≡ self.now) }
+    {
+        let items = copies(*self.items.allocator(), self.items.as_slice())?;
+        Ok(Queries { items })
+    }
+}
+
+impl Query {
+    /// A query of its own with the same contents.
+    #[cycle(copy)]
+    pub fn copy(&self) -> Result<Query, AllocError>
+        ensures { IfOk result (λ c. c ≡ self.now) }
+    {
+        match self {
+            Query::Cond(cond) => Ok(Query::Cond(cond.copy()?)),
+            Query::And(queries) => Ok(Query::And(queries.copy()?)),
+            Query::Or(queries) => Ok(Query::Or(queries.copy()?)),
+        }
+    }
+}
+
+/// Copies of queries, in order.
+#[cycle(copy)]
+fn copies(alloc: Global, queries: &[Query]) -> Result<Vec<Query>, AllocError>
+    ensures { IfOk result (λ v. v.items ≡ queries.now) }
+{
+    let mut copies = Vec::with_capacity(alloc, queries.len())?;
+    for query in queries {
+        copies.push(query.copy()?)?;
+    }
+    Ok(copies)
 }

@@ -1,7 +1,10 @@
 //! What a request asks for.
 
+ghost use Rattle.std.specs.Prelude.{◌≡◌, IfOk};
+
 use crate::properties::Properties;
 use crate::query::Query;
+use std::alloc::AllocError;
 
 /// How many names the `meta` parameter has at most.
 pub const META_NAMES: usize = 256;
@@ -51,4 +54,35 @@ pub enum Browse {
     Albums,
     Genres,
     Composers,
+}
+
+impl Meta {
+    /// A value of its own with the same properties.
+    pub fn copy(&self) -> Result<Meta, AllocError>
+        ensures { IfOk result (λ c. c ≡ self.now) }
+    {
+        match self {
+            Meta::Default => Ok(Meta::Default),
+            Meta::All => Ok(Meta::All),
+            Meta::Names(properties) => Ok(Meta::Names(properties.copy()?)),
+        }
+    }
+}
+
+impl Look {
+    /// A look of its own with the same contents.
+    pub fn copy(&self) -> Result<Look, AllocError>
+        ensures { IfOk result (λ c. c ≡ self.now) }
+    {
+        let query = match &self.query {
+            Some(query) => Some(query.copy()?),
+            None => None,
+        };
+        Ok(Look {
+            query,
+            meta: self.meta.copy()?,
+            base: self.base,
+            range: self.range,
+        })
+    }
 }

@@ -58,4 +58,23 @@ impl Texts {
         self.items.push(text)?;
         Ok(())
     }
+
+    /// Texts of their own with the same contents.
+    pub fn copy(&self) -> Result<Texts, AllocError>
+        ensures { IfOk result (λ c. c ≡ self.now) }
+    {
+        let items = copies(*self.items.allocator(), self.items.as_slice())?;
+        Ok(Texts { items })
+    }
+}
+
+// Copies of texts, in order.
+fn copies(alloc: Global, texts: &[Text]) -> Result<Vec<Text>, AllocError>
+    ensures { IfOk result (λ v. v.items ≡ texts.now) }
+{
+    let mut copies = Vec::with_capacity(alloc, texts.len())?;
+    for text in texts {
+        copies.push(text.copy()?)?;
+    }
+    Ok(copies)
 }

@@ -1,0 +1,6 @@
+pub mod Ranks
+pub mod Places
+pub mod Mentions
+pub mod Parts
+pub mod Distinct
+pub mod ReadsBack

@@ -1,0 +1,45 @@
+-- A property is known by its place in the order of listings.
+use Rattle.std.proofs.Common.{◌≡◌, ℕ, Bool, true, ◌==◌, slice_index_or, refl, sym, ap, ◌∙◌}
+use Rattle.std.proofs.lemmas.Bool.{eqb-true}
+use Rattle.item_model.specs.declared.property.Property.{Property}
+use Rattle.item_model.specs.declared.property.Property.TheVariants.{Minm, Mikd, Mper, Asar, Asal, Asaa, Asgn, Ascp, Ascm, Agrp, Asfm, Asyr, Astn, Astc, Asdn, Asdc, Asbr, Asbt, Astm, Assr, Assz, Asur, Asco, Aemk, Asda, Asdm}
+use Rattle.item_model.specs.declared.property.TheConstants.{PROPERTIES}
+use Rattle.item_model.specs.Properties.{rank_of, is_same}
+
+abbrev pub property_at : ℕ → Property
+property_at n = slice_index_or PROPERTIES n Minm
+
+-- the table has each property at its place
+pub at_rank : (p : Property) → property_at (rank_of p) ≡ p
+at_rank Minm = refl
+at_rank Mikd = refl
+at_rank Mper = refl
+at_rank Asar = refl
+at_rank Asal = refl
+at_rank Asaa = refl
+at_rank Asgn = refl
+at_rank Ascp = refl
+at_rank Ascm = refl
+at_rank Agrp = refl
+at_rank Asfm = refl
+at_rank Asyr = refl
+at_rank Astn = refl
+at_rank Astc = refl
+at_rank Asdn = refl
+at_rank Asdc = refl
+at_rank Asbr = refl
+at_rank Asbt = refl
+at_rank Astm = refl
+at_rank Assr = refl
+at_rank Assz = refl
+at_rank Asur = refl
+at_rank Asco = refl
+at_rank Aemk = refl
+at_rank Asda = refl
+at_rank Asdm = refl
+
+-- two properties with one place are one
+pub same_property : (p q : Property) → is_same p q ≡ true → p ≡ q
+same_property p q h =
+    let e : rank_of p ≡ rank_of q = eqb-true _ _ h in
+    sym (at_rank p) ∙ ap property_at e ∙ at_rank q
