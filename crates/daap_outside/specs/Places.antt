@@ -32,13 +32,13 @@ OpensDoors (Some links) now coming =
 abbrev pub Contents : Type 0
 Contents = map.FinMap (slice_cmp nat_cmp) (List ℕ)
 
--- an opened disk has the bytes of its name, and none where the name has no entry
+-- an opened disk has the bytes that are kept under its name, or no bytes
 abbrev pub OpensFile : Option Contents → List ℕ → Option (List ℕ) → Option (List ℕ) → Type 0
 OpensFile None name opened_as bytes = ⊤
 OpensFile (Some contents) name opened_as bytes =
     (opened_as ≡ Some name) × (bytes ≡ Some (unwrap_or (map.get contents name) []))
 
--- the name by which a closed disk was opened has the disk's bytes from then on, and all other names stay
+-- a closed disk leaves its bytes under the name that was opened, and the bytes of other names as they were
 abbrev pub ClosesFile : Option Contents → Option Contents → Option (List ℕ) → Option (List ℕ) → Type 0
 ClosesFile (Some contents) now (Some name) (Some bytes) = now ≡ Some (map.insert contents name bytes)
 ClosesFile contents now opened_as bytes = ⊤

@@ -13,7 +13,7 @@ pub trait Disk: Faulted {
     // The bytes, where they are told.
     ghost bytes: { Self → Option (List ℕ) };
 
-    // The name by which the disk was opened, where it is told.
+    // The name that was opened, where it is told.
     ghost opened_as: { Self → Option (List ℕ) };
 
     /// The number of bytes.
@@ -22,12 +22,12 @@ pub trait Disk: Faulted {
         ensures count { CountsFaults (Self.faults self.old) (Self.faults self.new) result };
 
     /// Reads bytes from a place on into the front of the room, and answers how many.
-    fn read_at(&mut self, at: u64, room: &mut [u8]) -> Result<usize, Failed>
+    fn read_at(&mut self, from: u64, room: &mut [u8]) -> Result<usize, Failed>
         ensures name_stays { opened_as self.new ≡ opened_as self.old }
         ensures count { CountsFaults (Self.faults self.old) (Self.faults self.new) result };
 
     /// Writes the whole piece from a place on.
-    fn write_at(&mut self, at: u64, piece: &[u8]) -> Result<(), Failed>
+    fn write_at(&mut self, from: u64, piece: &[u8]) -> Result<(), Failed>
         ensures name_stays { opened_as self.new ≡ opened_as self.old }
         ensures count { CountsFaults (Self.faults self.old) (Self.faults self.new) result };
 
@@ -61,7 +61,7 @@ pub trait Files: Faulted {
         ensures contents_stay { contents self.new ≡ contents self.old }
         ensures count { CountsFaults (Self.faults self.old) (Self.faults self.new) result };
 
-    /// Takes a disk back. It takes no memory.
+    /// Ends a disk that was opened here. It needs no memory.
     fn close(&mut self, disk: Self::D)
         ensures asked_stays { asked self.new ≡ asked self.old }
         ensures closed { ClosesFile (contents self.old) (contents self.new)

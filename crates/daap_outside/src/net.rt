@@ -29,14 +29,14 @@ pub trait Door: Faulted {
         ensures written_stays { written self.new ≡ written self.old }
         ensures count { CountsFaults (Self.faults self.old) (Self.faults self.new) result };
 
-    /// Tries to wake another worker that waits at this place, and one at each place at which
-    /// the same net listened before. It is not promised that anybody wakes.
+    /// Lets others stop waiting, where that can be done: one more worker here, and one at every
+    /// other place for which this net has opened doors. Nobody is sure to be woken.
     fn nudge(&mut self)
         ensures coming_stays { coming self.new ≡ coming self.old }
         ensures written_stays { written self.new ≡ written self.old }
         ensures count { Self.faults self.new ≡ Self.faults self.old };
 
-    /// Takes an accepted link back and ends it. It takes no memory.
+    /// Ends a link that was accepted here. It needs no memory.
     fn done(&mut self, link: Self::L)
         ensures coming_stays { coming self.new ≡ coming self.old }
         ensures written_grows { GrowsByTold (written self.old) (written self.new)
@@ -71,16 +71,16 @@ pub trait Net: Faulted {
     // The input of the link that is connected next, where it is told.
     ghost next_input: { Self → Option (List ℕ) };
 
-    /// Opens so many doors to one place.
-    fn listen(&mut self, place: &str, doors: u32) -> Result<Vec<Self::D>, NetError>
-        ensures number { IfOk result (λ ds. length ds.items ≡ doors) }
+    /// Opens a number of doors to one place.
+    fn listen(&mut self, place: &str, number: u32) -> Result<Vec<Self::D>, NetError>
+        ensures as_many { IfOk result (λ ds. length ds.items ≡ number) }
         ensures fresh { IfOk result (λ ds. All (λ d. Self.D.faults d ≡ 0) ds.items) }
         ensures unwritten { IfOk result (λ ds. All (λ d.
             BeginsEmpty (written self.old) (Self.D.written d)) ds.items) }
         ensures links { IfOk result (λ ds. OpensDoors (door_links self.old) (door_links self.new)
             (map Self.D.coming ds.items)) }
         ensures failed { OnErr result (door_links self.new ≡ door_links self.old) }
-        ensures asks { Grows (asked self.old) (asked self.new) ((place.now, doors) ∷ []) }
+        ensures asks { Grows (asked self.old) (asked self.new) ((place.now, number) ∷ []) }
         ensures written_stays { written self.new ≡ written self.old }
         ensures next_stays { next_input self.new ≡ next_input self.old }
         ensures count { CountsNetFaults (Self.faults self.old) (Self.faults self.new) result };
@@ -96,7 +96,7 @@ pub trait Net: Faulted {
         ensures links_stay { door_links self.new ≡ door_links self.old }
         ensures count { CountsFaults (Self.faults self.old) (Self.faults self.new) result };
 
-    /// Takes a door back. It takes no memory.
+    /// Ends a door that this net opened. It needs no memory.
     fn shut(&mut self, door: Self::D)
         ensures asked_stays { asked self.new ≡ asked self.old }
         ensures written_grows { GrowsByTold (written self.old) (written self.new) (Self.D.written door) }
@@ -104,7 +104,7 @@ pub trait Net: Faulted {
         ensures next_stays { next_input self.new ≡ next_input self.old }
         ensures count { RisesWith (Self.faults self.old) (Self.faults self.new) (Self.D.faults door) };
 
-    /// Takes a connected link back and ends it. It takes no memory.
+    /// Ends a link that this net connected. It needs no memory.
     fn hang_up(&mut self, link: Self::L)
         ensures asked_stays { asked self.new ≡ asked self.old }
         ensures written_grows { GrowsByTold (written self.old) (written self.new)

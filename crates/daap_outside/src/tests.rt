@@ -1,5 +1,5 @@
 // What the forms in memory and over std do when they run, and callers that know the traits alone.
-ghost use Rattle.std.specs.Prelude.{◌≡◌, ◌<◌, ◌++◌, ◌∷◌, [], IfOk, IfSome, IfErr, OnOk, OnErr, length, false};
+ghost use Rattle.std.specs.Prelude.{◌≡◌, ◌<◌, ◌++◌, ◌∷◌, [], IfOk, IfSome, OnOk, OnErr, length, drop, false, true, Some};
 ghost use Rattle.std.specs.Io.KnownBytes.{Appends};
 ghost use Rattle.daap_outside.specs.Counts.{Rose};
 ghost use Rattle.daap_outside.specs.Told.{Grows};
@@ -55,6 +55,21 @@ fn sent<N: Net>(net: &mut N, place: &str, bytes: &[u8]) -> Result<(), Failed>
             Err(fault)
         }
     }
+}
+
+// Sends bytes on the next link that comes, if one does, and gives the link back.
+fn greeted<D: Door>(door: &mut D, bytes: &[u8]) -> Result<bool, Failed>
+    ensures count { OnErr result (Rose (D.faults door.old) (D.faults door.new)) }
+    ensures none { IfOk result (λ some. IfSome (D.coming door.old) (λ coming. some ≡ false → coming ≡ [])) }
+    ensures next { IfOk result (λ some. IfSome (D.coming door.old) (λ coming.
+        some ≡ true → D.coming door.new ≡ Some (drop 1 coming))) }
+{
+    let Some(mut link) = door.accept()? else {
+        return Ok(false);
+    };
+    let _sent = put_all(&mut link, bytes);
+    door.done(link);
+    Ok(true)
 }
 
 #[test]
@@ -168,5 +183,6 @@ fn nothing_is_reached_where_nothing_is_held(rt: HostRuntime) {
     let mut net = MemNet::new();
     assert!(rt; matches!(net.listen("127.0.0.1:3689", 2), Err(NetError::Failed)));
     assert!(rt; matches!(sent(&mut net, "127.0.0.1:3689", b"hello"), Err(Failed)));
+    assert!(rt; net.connect("127.0.0.1:3689").is_err());
     assert!(rt; matches!(MemFiles::new().open("edits"), Err(Failed)));
 }

@@ -27,14 +27,14 @@ impl Disk for MemDisk {
         Err(counted(&mut self.faults))
     }
 
-    fn read_at(&mut self, _at: u64, _room: &mut [u8]) -> Result<usize, Failed>
+    fn read_at(&mut self, _from: u64, _room: &mut [u8]) -> Result<usize, Failed>
         ensures fails { IsErr result }
         ensures count { Rose self.old.faults self.new.faults }
     {
         Err(counted(&mut self.faults))
     }
 
-    fn write_at(&mut self, _at: u64, _piece: &[u8]) -> Result<(), Failed>
+    fn write_at(&mut self, _from: u64, _piece: &[u8]) -> Result<(), Failed>
         ensures fails { IsErr result }
         ensures count { Rose self.old.faults self.new.faults }
     {

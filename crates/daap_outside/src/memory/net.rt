@@ -111,7 +111,7 @@ impl Net for MemNet {
 
     ghost next_input = { λ _. None };
 
-    fn listen(&mut self, _place: &str, _doors: u32) -> Result<Vec<MemDoor>, NetError>
+    fn listen(&mut self, _place: &str, _number: u32) -> Result<Vec<MemDoor>, NetError>
         ensures fails { IsErrOf result NetError.Failed }
         ensures count { Rose self.old.faults self.new.faults }
     {

@@ -1,5 +1,5 @@
 // A sink over room in memory.
-ghost use Rattle.std.specs.Prelude.{◌≡◌, ◌↔◌, ◌⊎◌, ◌<◌, ◌≤◌, ◌+◌, ℕ, min, [], Some, None, IfOk, IsErr, Contains, length, vec_len, vec_capacity};
+ghost use Rattle.std.specs.Prelude.{◌≡◌, ◌↔◌, ◌⊎◌, ◌<◌, ◌≤◌, ◌+◌, ℕ, min, [], Some, None, IfOk, IsErr, MatchResult, Contains, length, vec_len, vec_capacity};
 ghost use Rattle.std.specs.Io.KnownBytes.{WriteAppends};
 ghost use Rattle.daap_outside.specs.Counts.{CountsFaults};
 
@@ -79,7 +79,8 @@ impl Sink for MemSink {
         ensures count { CountsFaults self.old.faults self.new.faults result }
         ensures amount { IfOk result (λ n.
             n ≡ min (min (length piece.now) (pieces_of self.old)) (room_left self.old)) }
-        ensures room_shrinks { IfOk result (λ n. room_left self.new + n ≡ room_left self.old) }
+        ensures room_shrinks { MatchResult result
+            (λ n. room_left self.new + n ≡ room_left self.old) (λ _. room_left self.new ≡ room_left self.old) }
         ensures called { CountsCall self.old self.new }
         ensures fails { IsErr result
             ↔ (Contains (failing_calls self.old) (next_call self.old) ⊎ (room_left self.old ≡ 0)) }

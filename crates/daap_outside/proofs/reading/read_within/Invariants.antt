@@ -4,11 +4,12 @@ use Rattle.daap_outside.proofs.reading.read_within.Given as goal
 
 -- what is held was read, within the limit, and no fault was counted
 abbrev pub invariant-loop-all : goal.invariant-loop-all
-invariant-loop-all g l =
-    (vec_len l.all ≤ l.most)
-    × Consumes (g.I.Source.left l.initial.source) (g.I.Source.left l.source) l.all.items
-    × (g.I.Source.beside_left l.source ≡ g.I.Source.beside_left l.initial.source)
-    × (g.I.Faulted.faults l.source ≡ g.I.Faulted.faults l.initial.source)
+invariant-loop-all g l = record {
+  within : vec_len l.all ≤ l.most;
+  read : Consumes (g.I.Source.left l.initial.source) (g.I.Source.left l.source) l.all.items;
+  beside : g.I.Source.beside_left l.source ≡ g.I.Source.beside_left l.initial.source;
+  count : g.I.Faulted.faults l.source ≡ g.I.Faulted.faults l.initial.source;
+}
 
 abbrev pub decreases-loop-all : goal.decreases-loop-all
 decreases-loop-all g l = l.most - vec_len l.all

@@ -4,11 +4,12 @@ use Rattle.daap_outside.proofs.sink.put_all.Given as goal
 
 -- the bytes that are done were taken, and no fault was counted
 abbrev pub invariant-loop-done : goal.invariant-loop-done
-invariant-loop-done g l =
-    (l.done ≤ length l.bytes)
-    × Appends (g.W.Sink.taken l.initial.sink) (g.W.Sink.taken l.sink) (take l.done l.bytes)
-    × (g.W.Sink.beside_taken l.sink ≡ g.W.Sink.beside_taken l.initial.sink)
-    × (g.W.Faulted.faults l.sink ≡ g.W.Faulted.faults l.initial.sink)
+invariant-loop-done g l = record {
+  within : l.done ≤ length l.bytes;
+  taken : Appends (g.W.Sink.taken l.initial.sink) (g.W.Sink.taken l.sink) (take l.done l.bytes);
+  beside : g.W.Sink.beside_taken l.sink ≡ g.W.Sink.beside_taken l.initial.sink;
+  count : g.W.Faulted.faults l.sink ≡ g.W.Faulted.faults l.initial.sink;
+}
 
 abbrev pub decreases-loop-done : goal.decreases-loop-done
 decreases-loop-done g l = length l.bytes - l.done
