@@ -1,0 +1,47 @@
+// Rows of cells, read from comma separated text and written to it.
+
+ghost use Rattle.std.specs.Prelude.{◌≡◌, [], IfOk, get_or, length, map, take};
+ghost use Rattle.csv.specs.Records.{fields_of};
+ghost use Rattle.records_import.specs.Table.{table_of};
+
+use csv::{ByteRecord, ReaderBuilder};
+use std::alloc::{AllocError, Global};
+
+/// The first `most` rows of a text, which are all of them where it has no more.
+///
+/// The text is read once, in the default form of `csv`, and not past the last row that is given.
+pub fn rows_of(alloc: Global, text: &[u8], most: usize) -> Result<Vec<ByteRecord>, AllocError>
+    ensures { IfOk result (λ v. map fields_of v.items ≡ take most (table_of text.now)) }
+{
+    let mut reader = ReaderBuilder::new()
+        .has_headers(false)
+        .flexible(true)
+        .from_reader(alloc, text);
+    let mut row = ByteRecord::new(alloc);
+    let mut rows = Vec::new(alloc);
+    'rows: for _ in 0..most {
+        match reader.read_byte_record(&mut row) {
+            Ok(true) => rows.push(row.clone()?)?,
+            Ok(false) => return Ok(rows),
+            Err(_) => return Err(AllocError),
+        }
+    }
+    Ok(rows)
+}
+
+/// The cell at this place of a row, from 0, and the empty cell past its end.
+pub fn cell(row: &ByteRecord, place: usize) -> &[u8]
+    ensures { result.now ≡ get_or (fields_of row.now) place [] }
+{
+    match row.get(place) {
+        Some(bytes) => bytes,
+        None => b"",
+    }
+}
+
+/// How many cells a row has.
+pub fn width(row: &ByteRecord) -> usize
+    ensures { result ≡ length (fields_of row.now) }
+{
+    row.len()
+}
