@@ -1,5 +1,6 @@
 mod Cells
 mod Digits
 pub mod ReadBack
+mod OneForm
 mod Rows
 mod Written

@@ -1,3 +1,4 @@
 pub mod Number
+pub mod OneForm
 pub mod Table
 pub mod Writing

@@ -1,5 +1,9 @@
-use crate::{cell, read_number, rows_of, table_writer, width, write_row, write_rows, written_text};
+use crate::{
+    cell, read_batch, read_number, rows_of, table_writer, width, write_row, write_rows,
+    written_text,
+};
 use csv::ByteRecord;
+use item_model::{Batch, Edit, PropValue, Property};
 use std::test::Fail;
 
 // The marks that the default form knows: a byte order mark, three ends of line, a blank line, quotes, and a last row with no end.
@@ -54,5 +58,26 @@ fn rows_are_written_a_line_each(rt: HostRuntime) -> Result<(), Fail> {
     }
     let want = b"drop,\nop,kind,id\nput,\"a,\"\"b\",7,\n".as_slice();
     assert!(rt; written_text(writer)?.as_slice() == want);
+    Ok(())
+}
+
+fn named(batch: &Batch, place: usize) -> Option<(u32, Option<&str>)> {
+    match batch.edits.as_slice().get(place)? {
+        Edit::PutItem { row } => match row.item.get(Property::Minm) {
+            Some(PropValue::Text(name)) => Some((row.id, Some(name.as_str()))),
+            _ => Some((row.id, None)),
+        },
+        _ => None,
+    }
+}
+
+#[test]
+fn each_record_puts_an_item(rt: HostRuntime) -> Result<(), Fail> {
+    let text = b"op,kind,id,dmap.itemname\nput,item,7,A\nput,item,4294967295,\n".as_slice();
+    let batch = read_batch(rt.alloc(), text)?;
+    assert!(rt; batch.edits.as_slice().len() == 2);
+    assert!(rt; named(&batch, 0) == Some((7, Some("A"))));
+    assert!(rt; named(&batch, 1) == Some((4_294_967_295, None)));
+    assert!(rt; read_batch(rt.alloc(), b"")?.edits.as_slice().is_empty());
     Ok(())
 }
