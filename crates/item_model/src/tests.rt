@@ -73,23 +73,31 @@ fn a_named_item_is_listed_by_id_and_name(rt: HostRuntime) -> Result<(), Fail> {
     Ok(())
 }
 
+/// The tag of the song with the day of its change and then its name.
+const CHANGED_AND_NAMED: [u8; 41] =
+    *b"mlit\0\0\0\x21miid\0\0\0\x04\0\0\0\x07asdm\0\0\0\x04\xff\xff\xff\xffminm\0\0\0\x01A";
+
+/// The tag of the song with all that it has.
+const WHOLE_SONG: [u8; 76] =
+    *b"mlit\0\0\0\x44miid\0\0\0\x04\0\0\0\x07minm\0\0\0\x01Amikd\0\0\0\x01\x02mper\0\0\0\x08\0\0\0\0\0\0\0\x01asyr\0\0\0\x02\x07\xbfasdm\0\0\0\x04\xff\xff\xff\xff";
+
 #[test]
 fn properties_come_as_asked_and_once(rt: HostRuntime) -> Result<(), Fail> {
-    let row = song(rt.alloc())?.copy()?;
+    let row = song(rt.alloc())?;
     let meta = read(
         rt.alloc(),
         "daap.songdatemodified,dmap.itemname,daap.songalbum,daap.songdatemodified",
     )?;
     let asked = spelled(rt.alloc(), &row, None, &meta)?;
-    assert_eq!(rt;
-        asked.as_slice(),
-        b"mlit\0\0\0\x21miid\0\0\0\x04\0\0\0\x07asdm\0\0\0\x04\xff\xff\xff\xffminm\0\0\0\x01A".as_slice()
-    );
+    assert!(rt; asked.as_slice() == CHANGED_AND_NAMED.as_slice());
+    Ok(())
+}
+
+#[test]
+fn all_properties_come_in_their_order(rt: HostRuntime) -> Result<(), Fail> {
+    let row = song(rt.alloc())?;
     let all = spelled(rt.alloc(), &row, None, &Meta::All)?;
-    assert_eq!(rt;
-        all.as_slice(),
-        b"mlit\0\0\0\x44miid\0\0\0\x04\0\0\0\x07minm\0\0\0\x01Amikd\0\0\0\x01\x02mper\0\0\0\x08\0\0\0\0\0\0\0\x01asyr\0\0\0\x02\x07\xbfasdm\0\0\0\x04\xff\xff\xff\xff".as_slice()
-    );
+    assert!(rt; all.as_slice() == WHOLE_SONG.as_slice());
     Ok(())
 }
 
@@ -165,42 +173,54 @@ fn condition(alloc: Global, name: &str, piece: &str) -> Result<Query, AllocError
     }))
 }
 
-#[test]
-fn copies_have_the_same_contents(rt: HostRuntime) -> Result<(), Fail> {
-    let alloc = rt.alloc();
+fn copied_query(alloc: Global) -> Result<Query, AllocError> {
     let mut queries = Queries::new(alloc);
     queries.push(condition(alloc, "daap.songalbum", "")?)?;
     queries.push(condition(alloc, "daap.songartist", "Ann")?)?;
+    Query::Or(queries).copy()
+}
+
+fn copied_look(alloc: Global) -> Result<Look, AllocError> {
     let mut properties = Properties::new(alloc);
     properties.push(Property::Minm)?;
     let look = Look {
-        query: Some(Query::Or(queries)),
+        query: Some(copied_query(alloc)?),
         meta: Meta::Names(properties),
         base: 3,
         range: Range::Last { count: 2 },
     };
-    let copy = look.copy()?;
-    match &copy.query {
-        Some(Query::Or(members)) => assert_eq!(rt; members.as_slice().len(), 2),
-        _ => assert!(rt; false, "the query is an `Or`"),
-    }
-    assert_eq!(rt; copy.range, Range::Last { count: 2 });
+    look.copy()
+}
+
+#[test]
+fn a_copied_look_asks_for_the_same(rt: HostRuntime) -> Result<(), Fail> {
+    let look = copied_look(rt.alloc())?;
+    assert_eq!(rt; look.base, 3);
+    assert_eq!(rt; look.range, Range::Last { count: 2 });
+    assert!(rt; matches!(look.query, Some(Query::Or(_))));
+    assert!(rt; matches!(look.meta, Meta::Names(_)));
+    Ok(())
+}
+
+fn copied_batch(alloc: Global) -> Result<Batch, ItemError> {
     let mut edits = Edits::new(alloc);
-    edits.push(Edit::PutItem { row: song(alloc)? })?;
+    edits.push(Edit::PutItem {
+        row: song(alloc)?.copy()?,
+    })?;
     edits.push(Edit::PutRule {
         list: 2,
         name: Text::of(alloc, "Mix")?,
         rule: condition(alloc, "daap.songgenre", "x")?,
     })?;
-    let batch = Batch { edits }.copy()?;
-    let mut entries = Entries::new(alloc);
+    Ok(Batch { edits }.copy()?)
+}
+
+#[test]
+fn a_copied_batch_has_the_same_edits(rt: HostRuntime) -> Result<(), Fail> {
+    let batch = copied_batch(rt.alloc())?;
+    assert_eq!(rt; batch.edits.as_slice().len(), 2);
+    let mut entries = Entries::new(rt.alloc());
     entries.push(Entry::Edits { by: 1, batch })?;
-    match entries.as_slice() {
-        [Entry::Edits { by, batch }] => {
-            assert_eq!(rt; *by, 1);
-            assert_eq!(rt; batch.edits.as_slice().len(), 2);
-        }
-        _ => assert!(rt; false, "the history has one entry"),
-    }
+    assert_eq!(rt; entries.as_slice().len(), 1);
     Ok(())
 }
