@@ -4,3 +4,4 @@ pub mod Mentions
 pub mod Parts
 pub mod Distinct
 pub mod ReadsBack
+pub mod QuerySizes

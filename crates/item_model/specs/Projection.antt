@@ -36,7 +36,7 @@ asked Default = DEFAULT_PROJECTION
 asked All = PROPERTIES
 asked (Names ps) = first_mentions ps
 
--- a number of that kind
+-- a number of that kind; no item has a number of a kind that isn't named first
 abbrev pub number_leaf : Kind → ℕ → Leaf
 number_leaf U8 n = tree.U8 n
 number_leaf U16 n = tree.U16 n

@@ -13,6 +13,8 @@ mod property;
 mod query;
 mod refusal;
 mod request;
+#[cfg(test)]
+mod tests;
 mod texts;
 
 pub use changes::{Batch, Edit, Edits, Entries, Entry};

@@ -1,6 +1,6 @@
 //! Queries.
 
-ghost use Rattle.std.specs.Prelude.{◌≡◌, ◌++◌, ◌∷◌, [], OnOk, OnErr, IfOk, map};
+ghost use Rattle.std.specs.Prelude.{◌≡◌, ◌++◌, ◌∷◌, [], OnOk, OnErr, IfOk, MatchResult, map, length, ◌≢◌};
 
 use crate::condition::Cond;
 use std::alloc::{AllocError, Global};
@@ -83,6 +83,20 @@ impl Queries {
     {
         self.items.push(query)?;
         Ok(())
+    }
+
+    /// The only query, or the queries as they are where they are none or several.
+    pub fn single(self) -> Result<Query, Queries>
+        ensures { MatchResult result (λ query. self ≡ tree_of query ∷ []) (λ queries. (queries ≡ self) × (length self ≢ 1)) }
+    {
+        let mut items = self.items;
+        if items.len() != 1 {
+            return Err(Queries { items });
+        }
+        match items.pop() {
+            Some(query) => Ok(query),
+            None => Err(Queries { items }),
+        }
     }
 
     /// Queries of their own with the same contents.
