@@ -27,7 +27,7 @@ property_value None entries = Text []
 property_value (Some p) entries = unwrap_or (value_of p entries) (absent (property_kind p))
 
 -- what a name stands for in a row: the id, the value of the property with that name, or an empty text
-abbrev pub named_value : List ℕ → Row → PropValue
+unfoldable pub named_value : List ℕ → Row → PropValue
 named_value name row =
     if bytes_eq name (codes "dmap.itemid") then Number row.id else property_value (property_named name) row.item
 
@@ -40,20 +40,25 @@ abbrev pub are_digits : List ℕ → Bool
 are_digits [] = true
 are_digits (c ∷ cs) = is_ascii_digit c && are_digits cs
 
--- one or more digits of a number that 64 bits hold, and the number is n
-abbrev pub spells : List ℕ → ℕ → Bool
-spells [] n = false
-spells (c ∷ cs) n = are_digits (c ∷ cs) && (nat_lt (number_from 0 (c ∷ cs)) (2 ^ 64) && (number_from 0 (c ∷ cs) == n))
+-- the number that one or more digits spell, where 64 bits hold it
+abbrev pub number_of : List ℕ → Option ℕ
+number_of [] = None
+number_of (c ∷ cs) =
+    if are_digits (c ∷ cs) && nat_lt (number_from 0 (c ∷ cs)) (2 ^ 64) then Some (number_from 0 (c ∷ cs)) else None
+
+abbrev pub is_same_number : Option ℕ → ℕ → Bool
+is_same_number None n = false
+is_same_number (Some m) n = m == n
 
 -- a number is asked for without a wildcard
-abbrev pub is_number : List (List ℕ) → ℕ → Bool
-is_number [] n = false
-is_number (p ∷ []) n = spells p n
-is_number (p ∷ q ∷ ps) n = false
+abbrev pub asks_number : List (List ℕ) → ℕ → Bool
+asks_number [] n = false
+asks_number (p ∷ []) n = is_same_number (number_of p) n
+asks_number (p ∷ q ∷ ps) n = false
 
-abbrev pub matches_value : List (List ℕ) → PropValue → Bool
+unfoldable pub matches_value : List (List ℕ) → PropValue → Bool
 matches_value pieces (Text bytes) = glob pieces bytes
-matches_value pieces (Number n) = is_number pieces n
+matches_value pieces (Number n) = asks_number pieces n
 
 abbrev pub asked : Op → Bool → Bool
 asked Is b = b

@@ -2,6 +2,10 @@
 //! where no query goes on, `print` writes the shortest text of a query, and `matches` tells where it holds.
 #![tactic(auto)]
 
+mod globs;
+mod matching;
 mod steps;
 
+pub use globs::is_glob;
+pub use matching::matches;
 pub use steps::Steps;
