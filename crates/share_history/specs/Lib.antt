@@ -1,0 +1,10 @@
+pub mod Awaited
+pub mod Keyed
+pub mod Histories
+pub mod LastSaid
+pub mod Named
+pub mod Rows
+pub mod Kept
+pub mod Ranges
+pub mod Listings
+pub mod Bodies

@@ -1,0 +1,10 @@
+//! What is true at a point of a share's history: its items and lists, the rows of a listing, which bases of a
+//! listing are kept and what a mirror of it has to hold. The definitions stand in `specs/`; the functions here
+//! compute them the slow way, by looking through the whole history for each question.
+#![tactic(auto)]
+
+mod revisions;
+mod rows;
+
+pub use revisions::FIRST_REVISION;
+pub use rows::BASE_LIST;
