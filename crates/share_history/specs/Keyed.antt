@@ -1,5 +1,5 @@
 -- Values by their keys, as listings and mirrors have them: pairs in ascending order of the key, each key once.
-use Rattle.std.specs.Prelude.{ℕ, List, [], ◌∷◌, Option, Some, None, fold}
+use Rattle.std.specs.Prelude.{ℕ, List, [], ◌∷◌, Option, fold, filter_map, option_map}
 use Rattle.std.specs.Ordering.{nat_cmp}
 use Rattle.std.specs.List.Sorted.{IsStrictlySortedBy}
 use Rattle.std.specs.Map.{keys_of, lookup, remove_entry}
@@ -29,11 +29,6 @@ AreAscending keys = IsStrictlySortedBy nat_cmp keys
 abbrev pub ascending : List ℕ → List ℕ
 ascending keys = fold (insert_key nat_cmp) [] keys
 
--- the keys of those that have a value, each with it
+-- the keys that have a value, each with it
 abbrev pub pairs_at : {A : Type 0} → (ℕ → Option A) → List ℕ → List (ℕ × A)
-pairs_at value [] = []
-pairs_at value (key ∷ keys) = with_pair key (value key) (pairs_at value keys)
-  where
-    with_pair : {A : Type 0} → ℕ → Option A → List (ℕ × A) → List (ℕ × A)
-    with_pair key None pairs = pairs
-    with_pair key (Some x) pairs = (key, x) ∷ pairs
+pairs_at value keys = filter_map (λ key. option_map (λ x. (key, x)) (value key)) keys

@@ -1,0 +1,168 @@
+-- The last edit that speaks: what edits that do not name a key leave as it was.
+use Rattle.std.proofs.Common.{◌≡◌, ℕ, Bool, true, false, ◌||◌, ◌&&◌, ◌==◌, List, [], ◌∷◌, ◌++◌, flat_map, refl, sym, ap, ◌∙◌, Option, Some, None, unwrap_or, nat_cmp, append-nil}
+use Rattle.std.specs.BTreeMap.{is_at}
+use Rattle.std.specs.Option.{option_or}
+use Rattle.std.specs.List.{list_any}
+use Rattle.std.proofs.lemmas.List.Folds.{list_any-append}
+use Rattle.item_model.specs.declared.item.Row.{Row}
+use Rattle.item_model.specs.declared.changes.Edit.{Edit}
+use Rattle.item_model.specs.declared.changes.Edit.TheVariants.{PutItem, DropItem, PutList, PutRule, DropList, PutMember, DropMember}
+use Rattle.share_history.specs.LastSaid.{last_said, only_if, says_item, says_list, says_member, item_at, list_at, member_at, Playlist, Plain, Ruled}
+use Rattle.share_history.specs.Named.{names_item, names_list, names_member, keys_in, named_keys, lists_in, named_lists}
+use Rattle.share_history.specs.Histories.{edits, batches, opening}
+use Rattle.share_history.proofs.KeyedFacts.{has, is_eq-cmp}
+
+-- ---- tests
+
+pub first_false : (a b : Bool) → (a || b) ≡ false → a ≡ false
+first_false true b h = h
+first_false false b h = refl
+
+pub second_false : (a b : Bool) → (a || b) ≡ false → b ≡ false
+second_false true b h = absurd (cc)
+second_false false b h = h
+
+pub both_false : (a b : Bool) → a ≡ false → b ≡ false → (a || b) ≡ false
+both_false a b p q = ap (λ x. x || b) p ∙ q
+
+and_second_false : (a b : Bool) → b ≡ false → (a && b) ≡ false
+and_second_false true b h = h
+and_second_false false b h = refl
+
+-- a key among joined keys
+pub has-append : (k : ℕ) (ks js : List ℕ) → has k (ks ++ js) ≡ (has k ks || has k js)
+has-append k ks js = list_any-append (is_at (nat_cmp k)) ks js
+
+-- the only key of an edit is another
+pub other_key : (k key : ℕ) → has k (key ∷ []) ≡ false → (key == k) ≡ false
+other_key k key h = sym (is_eq-cmp k key) ∙ first_false _ false h
+
+-- ---- what the last edit says
+
+pub last_said-append : {A : Type 0} (says : Edit → Option A) (es ds : List Edit) → last_said says (es ++ ds) ≡ option_or (last_said says ds) (last_said says es)
+last_said-append says [] ds = or_none (last_said says ds)
+  where
+    or_none : {A : Type 0} (o : Option A) → o ≡ option_or o None
+    or_none None = refl
+    or_none (Some x) = refl
+last_said-append says (e ∷ es) ds = ap (λ o. option_or o (says e)) (last_said-append says es ds) ∙ or_or (last_said says ds) (last_said says es) (says e)
+  where
+    or_or : {A : Type 0} (a b c : Option A) → option_or (option_or a b) c ≡ option_or a (option_or b c)
+    or_or None b c = refl
+    or_or (Some x) b c = refl
+
+-- edits of which none speaks say nothing
+pub silent : {A : Type 0} (says : Edit → Option A) (names : Edit → Bool) → ((e : Edit) → names e ≡ false → says e ≡ None) → (es : List Edit) → list_any names es ≡ false → last_said says es ≡ None
+silent says names quiet [] h = refl
+silent says names quiet (e ∷ es) h =
+    ap (λ o. option_or o (says e)) (silent says names quiet es (second_false (names e) (list_any names es) h)) ∙ quiet e (first_false (names e) (list_any names es) h)
+
+-- and leave what was said before them
+pub stays : {A : Type 0} (says : Edit → Option (Option A)) (es ds : List Edit) → last_said says ds ≡ None → unwrap_or (last_said says (es ++ ds)) None ≡ unwrap_or (last_said says es) None
+stays says es ds h = ap (λ o. unwrap_or o None) (last_said-append says es ds ∙ ap (λ o. option_or o (last_said says es)) h)
+
+quiet_item : (id : ℕ) (e : Edit) → names_item id e ≡ false → says_item id e ≡ None
+quiet_item id (PutItem row) h = ap (λ b. only_if b (Some row)) h
+quiet_item id (DropItem dropped) h = ap (λ b. only_if {A = Option Row} b None) h
+quiet_item id (PutList list name) h = refl
+quiet_item id (PutRule list name rule) h = refl
+quiet_item id (DropList list) h = refl
+quiet_item id (PutMember list member item) h = refl
+quiet_item id (DropMember list member) h = refl
+
+quiet_list : (c : ℕ) (e : Edit) → names_list c e ≡ false → says_list c e ≡ None
+quiet_list c (PutItem row) h = refl
+quiet_list c (DropItem id) h = refl
+quiet_list c (PutList list name) h = ap (λ b. only_if b (Some (Plain name))) h
+quiet_list c (PutRule list name rule) h = ap (λ b. only_if b (Some (Ruled name rule))) h
+quiet_list c (DropList list) h = ap (λ b. only_if {A = Option Playlist} b None) h
+quiet_list c (PutMember list member item) h = refl
+quiet_list c (DropMember list member) h = refl
+
+quiet_member : (c m : ℕ) (e : Edit) → (names_list c e || names_member c m e) ≡ false → says_member c m e ≡ None
+quiet_member c m (PutItem row) h = refl
+quiet_member c m (DropItem id) h = refl
+quiet_member c m (PutList list name) h = ap (λ b. only_if {A = Option ℕ} b None) (first_false _ false h)
+quiet_member c m (PutRule list name rule) h = ap (λ b. only_if {A = Option ℕ} b None) (first_false _ false h)
+quiet_member c m (DropList list) h = ap (λ b. only_if {A = Option ℕ} b None) (first_false _ false h)
+quiet_member c m (PutMember list member item) h = ap (λ b. only_if b (Some item)) h
+quiet_member c m (DropMember list member) h = ap (λ b. only_if {A = Option ℕ} b None) h
+
+any_or : (p q : Edit → Bool) (es : List Edit) → list_any p es ≡ false → list_any q es ≡ false → list_any (λ e. p e || q e) es ≡ false
+any_or p q [] h k = refl
+any_or p q (e ∷ es) h k =
+    both_false (p e || q e) (list_any (λ d. p d || q d) es)
+    (both_false (p e) (q e) (first_false (p e) (list_any p es) h) (first_false (q e) (list_any q es) k))
+    (any_or p q es (second_false (p e) (list_any p es) h) (second_false (q e) (list_any q es) k))
+
+-- an item, a list and a member stay as they are under edits that do not name them
+pub item_stays : (es ds : List Edit) (id : ℕ) → list_any (names_item id) ds ≡ false → item_at (es ++ ds) id ≡ item_at es id
+item_stays es ds id h = stays (says_item id) es ds (silent (says_item id) (names_item id) (quiet_item id) ds h)
+
+pub list_stays : (es ds : List Edit) (c : ℕ) → list_any (names_list c) ds ≡ false → list_at (es ++ ds) c ≡ list_at es c
+list_stays es ds c h = stays (says_list c) es ds (silent (says_list c) (names_list c) (quiet_list c) ds h)
+
+pub member_stays : (es ds : List Edit) (c m : ℕ) → list_any (names_list c) ds ≡ false → list_any (names_member c m) ds ≡ false → member_at (es ++ ds) c m ≡ member_at es c m
+member_stays es ds c m h k =
+    stays (says_member c m) es ds (silent (says_member c m) (λ e. names_list c e || names_member c m e) (quiet_member c m) ds (any_or (names_list c) (names_member c m) ds h k))
+
+-- ---- keys that no edit names
+
+pub said_none : {A : Type 0} (last said : Option (Option A)) → unwrap_or last None ≡ None → unwrap_or said None ≡ None → unwrap_or (option_or last said) None ≡ None
+said_none None said p q = q
+said_none (Some x) said p q = p
+
+unsaid : {A : Type 0} (says : Edit → Option (Option A)) (keys : Edit → List ℕ) (k : ℕ) → ((e : Edit) → has k (keys e) ≡ false → unwrap_or (says e) None ≡ None)
+    → (es : List Edit) → has k (flat_map keys es) ≡ false → unwrap_or (last_said says es) None ≡ None
+unsaid says keys k quiet [] h = refl
+unsaid says keys k quiet (e ∷ es) h =
+    let parts = sym (has-append k (keys e) (flat_map keys es)) ∙ h in
+    said_none (last_said says es) (says e) (unsaid says keys k quiet es (second_false (has k (keys e)) (has k (flat_map keys es)) parts))
+    (quiet e (first_false (has k (keys e)) (has k (flat_map keys es)) parts))
+
+nothing_either_way : {A : Type 0} (b : Bool) → unwrap_or (only_if {A = Option A} b None) None ≡ None
+nothing_either_way true = refl
+nothing_either_way false = refl
+
+no_item_of : (k : ℕ) (e : Edit) → has k (keys_in e) ≡ false → unwrap_or (says_item k e) None ≡ None
+no_item_of k (PutItem row) h = ap (λ b. unwrap_or (only_if b (Some row)) None) (other_key k row.id h)
+no_item_of k (DropItem id) h = nothing_either_way (id == k)
+no_item_of k (PutList list name) h = refl
+no_item_of k (PutRule list name rule) h = refl
+no_item_of k (DropList list) h = refl
+no_item_of k (PutMember list member item) h = refl
+no_item_of k (DropMember list member) h = refl
+
+no_member_of : (c k : ℕ) (e : Edit) → has k (keys_in e) ≡ false → unwrap_or (says_member c k e) None ≡ None
+no_member_of c k (PutItem row) h = refl
+no_member_of c k (DropItem id) h = refl
+no_member_of c k (PutList list name) h = nothing_either_way (list == c)
+no_member_of c k (PutRule list name rule) h = nothing_either_way (list == c)
+no_member_of c k (DropList list) h = nothing_either_way (list == c)
+no_member_of c k (PutMember list member item) h = ap (λ b. unwrap_or (only_if b (Some item)) None) (and_second_false (list == c) (member == k) (other_key k member h))
+no_member_of c k (DropMember list member) h = nothing_either_way ((list == c) && (member == k))
+
+no_list_of : (c : ℕ) (e : Edit) → has c (lists_in e) ≡ false → unwrap_or (says_list c e) None ≡ None
+no_list_of c (PutItem row) h = refl
+no_list_of c (DropItem id) h = refl
+no_list_of c (PutList list name) h = ap (λ b. unwrap_or (only_if b (Some (Plain name))) None) (other_key c list h)
+no_list_of c (PutRule list name rule) h = ap (λ b. unwrap_or (only_if b (Some (Ruled name rule))) None) (other_key c list h)
+no_list_of c (DropList list) h = nothing_either_way (list == c)
+no_list_of c (PutMember list member item) h = refl
+no_list_of c (DropMember list member) h = refl
+
+pub item_unnamed : (es : List Edit) (k : ℕ) → has k (named_keys es) ≡ false → item_at es k ≡ None
+item_unnamed es k h = unsaid (says_item k) keys_in k (no_item_of k) es h
+
+pub member_unnamed : (es : List Edit) (c k : ℕ) → has k (named_keys es) ≡ false → member_at es c k ≡ None
+member_unnamed es c k h = unsaid (says_member c k) keys_in k (no_member_of c k) es h
+
+pub list_unnamed : (es : List Edit) (c : ℕ) → has c (named_lists es) ≡ false → list_at es c ≡ None
+list_unnamed es c h = unsaid (says_list c) lists_in c (no_list_of c) es h
+
+-- ---- a history that a batch opens
+
+-- has the edits of the batch
+pub edits-opening : (es : List Edit) → edits (batches (opening es)) ≡ es
+edits-opening [] = refl
+edits-opening (e ∷ es) = append-nil (e ∷ es)

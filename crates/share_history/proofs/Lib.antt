@@ -1,0 +1,3 @@
+pub mod KeyedFacts
+pub mod EditFacts
+pub mod RowFacts

@@ -1,0 +1,83 @@
+-- The rows of a listing are the one ascending list that is right at each key.
+use Rattle.std.proofs.Common.{◌≡◌, ℕ, Bool, true, false, cond, ◌==◌, List, refl, sym, ap, ◌∙◌, Option, Some, None, is_some}
+use Rattle.std.specs.Option.{option_and_then}
+use Rattle.std.specs.Map.{keys_of}
+use Rattle.std.proofs.lemmas.Bool.{cond_both}
+use Rattle.item_model.specs.declared.item.Row.{Row}
+use Rattle.item_model.specs.declared.query.Query.{Query}
+use Rattle.item_model.specs.declared.changes.Edit.{Edit}
+use Rattle.item_model.specs.declared.request.Target.{Target}
+use Rattle.item_model.specs.declared.request.Target.TheVariants.{Items, Container}
+use Rattle.share_history.specs.declared.rows.TheConstants.{BASE_LIST}
+use Rattle.share_history.specs.Keyed.{at, IsAscending, AreAscending, ascending, pairs_at}
+use Rattle.share_history.specs.LastSaid.{Playlist, Plain, Ruled, item_at, list_at, member_at}
+use Rattle.share_history.specs.Named.{named_keys, named_lists}
+use Rattle.share_history.specs.Rows.{if_asked, in_list, in_target, row_at, rows, library, lists}
+use Rattle.share_history.proofs.KeyedFacts.{has, same_pairs, same_keys_same, sorted-ascending, has-ascending, ascending-pairs_at, at-pairs_at, has-keys_of}
+use Rattle.share_history.proofs.EditFacts.{item_unnamed, member_unnamed, list_unnamed}
+
+-- a value that is there only under the keys of some list is under each key what the list's pairs have there
+at_all : {A : Type 0} (k : ℕ) (value : ℕ → Option A) (keys : List ℕ) → (has k keys ≡ false → value k ≡ None) → at k (pairs_at value (ascending keys)) ≡ value k
+at_all k value keys h =
+    at-pairs_at k value (ascending keys) ∙ ap (λ b. cond b (value k) None) (has-ascending k keys)
+    ∙ cond_both (has k keys) (value k) None (λ w. w ≡ value k) (λ _. refl) (λ b. sym (h b))
+
+list_row_unnamed : (list : Option Playlist) (es : List Edit) (c k : ℕ) → has k (named_keys es) ≡ false → in_list list es c k ≡ None
+list_row_unnamed None es c k h = refl
+list_row_unnamed (Some (Plain name)) es c k h = ap (option_and_then (item_at es)) (member_unnamed es c k h)
+list_row_unnamed (Some (Ruled name rule)) es c k h = ap (option_and_then (if_asked (Some rule))) (item_unnamed es k h)
+
+target_unnamed : (es : List Edit) (t : Target) (k : ℕ) → has k (named_keys es) ≡ false → in_target es t k ≡ None
+target_unnamed es Items k h = item_unnamed es k h
+target_unnamed es (Container c) k h =
+    cond_both (c == BASE_LIST) (item_at es k) (in_list (list_at es c) es c k) (λ w. w ≡ None) (λ _. item_unnamed es k h) (λ _. list_row_unnamed (list_at es c) es c k h)
+
+-- under a key that no edit names there is no row
+pub row_unnamed : (es : List Edit) (t : Target) (q : Option Query) (k : ℕ) → has k (named_keys es) ≡ false → row_at es t q k ≡ None
+row_unnamed es t q k h = ap (option_and_then (if_asked q)) (target_unnamed es t k h)
+
+pub at-rows : (es : List Edit) (t : Target) (q : Option Query) (k : ℕ) → at k (rows es t q) ≡ row_at es t q k
+at-rows es t q k = at_all k (row_at es t q) (named_keys es) (row_unnamed es t q k)
+
+pub ascending-rows : (es : List Edit) (t : Target) (q : Option Query) → IsAscending (rows es t q)
+ascending-rows es t q = ascending-pairs_at (row_at es t q) (ascending (named_keys es)) (sorted-ascending (named_keys es))
+
+-- ascending rows that are right under each key are the rows
+pub rows_are : (es : List Edit) (t : Target) (q : Option Query) (rs : List (ℕ × Row)) → IsAscending rs → ((k : ℕ) → at k rs ≡ row_at es t q k) → rs ≡ rows es t q
+rows_are es t q rs s h = same_pairs rs (rows es t q) s (ascending-rows es t q) (λ k. h k ∙ sym (at-rows es t q k))
+
+found_itself : {A : Type 0} (o : Option A) → option_and_then (λ (x : A). Some x) o ≡ o
+found_itself None = refl
+found_itself (Some x) = refl
+
+-- the row of an item without a query is the item
+pub row_at-item : (es : List Edit) (k : ℕ) → row_at es Items None k ≡ item_at es k
+row_at-item es k = found_itself (item_at es k)
+
+-- ascending items that are right under each id are the library
+pub library_is : (es : List Edit) (rs : List (ℕ × Row)) → IsAscending rs → ((id : ℕ) → at id rs ≡ item_at es id) → rs ≡ library es
+library_is es rs s h = rows_are es Items None rs s (λ k. h k ∙ sym (row_at-item es k))
+
+pub at-library : (es : List Edit) (id : ℕ) → at id (library es) ≡ item_at es id
+at-library es id = at-rows es Items None id ∙ row_at-item es id
+
+pub ascending-library : (es : List Edit) → IsAscending (library es)
+ascending-library es = ascending-rows es Items None
+
+-- ascending keys that are those of rows are the keys of the rows
+pub row_keys_are : (es : List Edit) (t : Target) (q : Option Query) (ks : List ℕ) → AreAscending ks → ((k : ℕ) → has k ks ≡ is_some (row_at es t q k)) → ks ≡ keys_of (rows es t q)
+row_keys_are es t q ks s h =
+    same_keys_same ks (keys_of (rows es t q)) s (ascending-rows es t q) (λ k. h k ∙ sym (has-keys_of k (rows es t q) ∙ ap is_some (at-rows es t q k)))
+
+pub ids_are : (es : List Edit) (ks : List ℕ) → AreAscending ks → ((id : ℕ) → has id ks ≡ is_some (item_at es id)) → ks ≡ keys_of (library es)
+ids_are es ks s h = row_keys_are es Items None ks s (λ k. h k ∙ ap is_some (sym (row_at-item es k)))
+
+-- the same for the lists that are there
+pub at-lists : (es : List Edit) (c : ℕ) → at c (lists es) ≡ list_at es c
+at-lists es c = at_all c (list_at es) (named_lists es) (list_unnamed es c)
+
+pub ascending-lists : (es : List Edit) → IsAscending (lists es)
+ascending-lists es = ascending-pairs_at (list_at es) (ascending (named_lists es)) (sorted-ascending (named_lists es))
+
+pub lists_are : (es : List Edit) (ls : List (ℕ × Playlist)) → IsAscending ls → ((c : ℕ) → at c ls ≡ list_at es c) → ls ≡ lists es
+lists_are es ls s h = same_pairs ls (lists es) s (ascending-lists es) (λ c. h c ∙ sym (at-lists es c))
