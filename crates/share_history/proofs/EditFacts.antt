@@ -51,6 +51,23 @@ last_said-append says (e ∷ es) ds = ap (λ o. option_or o (says e)) (last_said
     or_or None b c = refl
     or_or (Some x) b c = refl
 
+-- the last of more edits is the one more, if it speaks
+pub said_more : {A : Type 0} (says : Edit → Option (Option A)) (es : List Edit) (e : Edit) → unwrap_or (last_said says (es ++ e ∷ [])) None ≡ unwrap_or (says e) (unwrap_or (last_said says es) None)
+said_more says es e = ap (λ o. unwrap_or o None) (last_said-append says es (e ∷ [])) ∙ told (says e) (last_said says es)
+  where
+    told : {A : Type 0} (said last : Option (Option A)) → unwrap_or (option_or said last) None ≡ unwrap_or said (unwrap_or last None)
+    told None last = refl
+    told (Some x) last = refl
+
+pub item_more : (es : List Edit) (e : Edit) (id : ℕ) → item_at (es ++ e ∷ []) id ≡ unwrap_or (says_item id e) (item_at es id)
+item_more es e id = said_more (says_item id) es e
+
+pub list_more : (es : List Edit) (e : Edit) (c : ℕ) → list_at (es ++ e ∷ []) c ≡ unwrap_or (says_list c e) (list_at es c)
+list_more es e c = said_more (says_list c) es e
+
+pub member_more : (es : List Edit) (e : Edit) (c m : ℕ) → member_at (es ++ e ∷ []) c m ≡ unwrap_or (says_member c m e) (member_at es c m)
+member_more es e c m = said_more (says_member c m) es e
+
 -- edits of which none speaks say nothing
 pub silent : {A : Type 0} (says : Edit → Option A) (names : Edit → Bool) → ((e : Edit) → names e ≡ false → says e ≡ None) → (es : List Edit) → list_any names es ≡ false → last_said says es ≡ None
 silent says names quiet [] h = refl

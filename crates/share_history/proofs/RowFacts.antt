@@ -1,20 +1,21 @@
 -- The rows of a listing are the one ascending list that is right at each key.
-use Rattle.std.proofs.Common.{◌≡◌, ℕ, Bool, true, false, cond, ◌==◌, List, refl, sym, ap, ◌∙◌, Option, Some, None, is_some}
+use Rattle.std.proofs.Common.{◌≡◌, ℕ, Bool, true, false, cond, ◌==◌, List, [], ◌∷◌, ◌++◌, unwrap_or, refl, sym, ap, ◌∙◌, Option, Some, None, is_some}
 use Rattle.std.specs.Option.{option_and_then}
 use Rattle.std.specs.Map.{keys_of}
 use Rattle.std.proofs.lemmas.Bool.{cond_both}
 use Rattle.item_model.specs.declared.item.Row.{Row}
 use Rattle.item_model.specs.declared.query.Query.{Query}
 use Rattle.item_model.specs.declared.changes.Edit.{Edit}
+use Rattle.item_model.specs.declared.changes.Edit.TheVariants.{PutItem, DropItem, PutList, PutRule, DropList, PutMember, DropMember}
 use Rattle.item_model.specs.declared.request.Target.{Target}
 use Rattle.item_model.specs.declared.request.Target.TheVariants.{Items, Container}
 use Rattle.share_history.specs.declared.rows.TheConstants.{BASE_LIST}
-use Rattle.share_history.specs.Keyed.{at, IsAscending, AreAscending, ascending, pairs_at}
-use Rattle.share_history.specs.LastSaid.{Playlist, Plain, Ruled, item_at, list_at, member_at}
+use Rattle.share_history.specs.Keyed.{at, put_in, taken_out, IsAscending, AreAscending, ascending, pairs_at}
+use Rattle.share_history.specs.LastSaid.{Playlist, Plain, Ruled, only_if, says_item, item_at, list_at, member_at}
 use Rattle.share_history.specs.Named.{named_keys, named_lists}
 use Rattle.share_history.specs.Rows.{if_asked, in_list, in_target, row_at, rows, library, lists}
-use Rattle.share_history.proofs.KeyedFacts.{has, same_pairs, same_keys_same, sorted-ascending, has-ascending, ascending-pairs_at, at-pairs_at, has-keys_of}
-use Rattle.share_history.proofs.EditFacts.{item_unnamed, member_unnamed, list_unnamed}
+use Rattle.share_history.proofs.KeyedFacts.{has, is_eq-cmp, at-put, ascending-put, at-out, ascending-out, same_pairs, same_keys_same, sorted-ascending, has-ascending, ascending-pairs_at, at-pairs_at, has-keys_of}
+use Rattle.share_history.proofs.EditFacts.{item_more, item_unnamed, member_unnamed, list_unnamed}
 
 -- a value that is there only under the keys of some list is under each key what the list's pairs have there
 at_all : {A : Type 0} (k : ℕ) (value : ℕ → Option A) (keys : List ℕ) → (has k keys ≡ false → value k ≡ None) → at k (pairs_at value (ascending keys)) ≡ value k
@@ -63,6 +64,47 @@ at-library es id = at-rows es Items None id ∙ row_at-item es id
 
 pub ascending-library : (es : List Edit) → IsAscending (library es)
 ascending-library es = ascending-rows es Items None
+
+-- the library after one more edit: a put takes the place of the item's row, a drop takes it out
+abbrev pub with_edit : List (ℕ × Row) → Edit → List (ℕ × Row)
+with_edit rs (PutItem row) = put_in rs (row.id, row)
+with_edit rs (DropItem id) = taken_out rs id
+with_edit rs (PutList list name) = rs
+with_edit rs (PutRule list name rule) = rs
+with_edit rs (DropList list) = rs
+with_edit rs (PutMember list member item) = rs
+with_edit rs (DropMember list member) = rs
+
+ascending-with_edit : (rs : List (ℕ × Row)) (e : Edit) → IsAscending rs → IsAscending (with_edit rs e)
+ascending-with_edit rs (PutItem row) s = ascending-put (row.id, row) rs s
+ascending-with_edit rs (DropItem id) s = ascending-out id rs s
+ascending-with_edit rs (PutList list name) s = s
+ascending-with_edit rs (PutRule list name rule) s = s
+ascending-with_edit rs (DropList list) s = s
+ascending-with_edit rs (PutMember list member item) s = s
+ascending-with_edit rs (DropMember list member) s = s
+
+put_or_old : (b : Bool) (row : Row) (old : Option Row) → cond b (Some row) old ≡ unwrap_or (only_if b (Some row)) old
+put_or_old true row old = refl
+put_or_old false row old = refl
+
+out_or_old : (b : Bool) (old : Option Row) → cond b None old ≡ unwrap_or (only_if b None) old
+out_or_old true old = refl
+out_or_old false old = refl
+
+at-with_edit : (id : ℕ) (rs : List (ℕ × Row)) (e : Edit) → IsAscending rs → at id (with_edit rs e) ≡ unwrap_or (says_item id e) (at id rs)
+at-with_edit id rs (PutItem row) s = at-put id (row.id, row) rs ∙ ap (λ b. cond b (Some row) (at id rs)) (is_eq-cmp id row.id) ∙ put_or_old (row.id == id) row (at id rs)
+at-with_edit id rs (DropItem gone) s = at-out id gone rs s ∙ ap (λ b. cond b None (at id rs)) (is_eq-cmp id gone) ∙ out_or_old (gone == id) (at id rs)
+at-with_edit id rs (PutList list name) s = refl
+at-with_edit id rs (PutRule list name rule) s = refl
+at-with_edit id rs (DropList list) s = refl
+at-with_edit id rs (PutMember list member item) s = refl
+at-with_edit id rs (DropMember list member) s = refl
+
+pub library_more : (es : List Edit) (e : Edit) → with_edit (library es) e ≡ library (es ++ e ∷ [])
+library_more es e =
+    library_is (es ++ e ∷ []) (with_edit (library es) e) (ascending-with_edit (library es) e (ascending-library es))
+    (λ id. at-with_edit id (library es) e (ascending-library es) ∙ ap (unwrap_or (says_item id e)) (at-library es id) ∙ sym (item_more es e id))
 
 -- ascending keys that are those of rows are the keys of the rows
 pub row_keys_are : (es : List Edit) (t : Target) (q : Option Query) (ks : List ℕ) → AreAscending ks → ((k : ℕ) → has k ks ≡ is_some (row_at es t q k)) → ks ≡ keys_of (rows es t q)

@@ -8,3 +8,7 @@ pub mod Kept
 pub mod Ranges
 pub mod Listings
 pub mod Bodies
+pub mod Sessions
+pub mod Mirror
+pub mod Databases
+pub mod BrowseListings

@@ -5,6 +5,8 @@
 
 mod revisions;
 mod rows;
+mod sessions;
 
 pub use revisions::FIRST_REVISION;
 pub use rows::BASE_LIST;
+pub use sessions::LIVE_SESSIONS;
