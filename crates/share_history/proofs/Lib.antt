@@ -1,3 +1,5 @@
 pub mod KeyedFacts
 pub mod EditFacts
 pub mod RowFacts
+pub mod TouchFacts
+pub mod MirrorFacts

@@ -4,10 +4,6 @@ use Rattle.dmap_tags.specs.Codes.{code}
 use Rattle.dmap_tags.specs.Tree.{Tree, leaf, list, U32, trees_of}
 use Rattle.item_model.specs.declared.item.Row.{Row}
 use Rattle.item_model.specs.declared.request.Meta.{Meta}
-use Rattle.item_model.specs.QueryTree.{QueryTree}
-
-unfoldable pub holds : QueryTree → Row → Bool
-holds q row = true
 
 unfoldable pub projection : Row → Option ℕ → Meta → Tree
 projection row None meta = list (code "mlit") (trees_of (leaf (code "miid") (U32 row.id) ∷ []))

@@ -12,3 +12,4 @@ pub mod Sessions
 pub mod Mirror
 pub mod Databases
 pub mod BrowseListings
+pub mod Laws
