@@ -3,3 +3,4 @@ pub mod EditFacts
 pub mod RowFacts
 pub mod TouchFacts
 pub mod MirrorFacts
+pub mod LawFacts

@@ -3,6 +3,7 @@
 //! compute them the slow way, by looking through the whole history for each question.
 #![tactic(auto)]
 
+pub mod laws;
 mod revisions;
 mod rows;
 mod sessions;
