@@ -1,15 +1,19 @@
 -- The last edit that speaks: what edits that do not name a key leave as it was.
-use Rattle.std.proofs.Common.{◌≡◌, ℕ, Bool, true, false, ◌||◌, ◌&&◌, ◌==◌, List, [], ◌∷◌, ◌++◌, flat_map, refl, sym, ap, ◌∙◌, Option, Some, None, unwrap_or, nat_cmp, append-nil}
+use Rattle.std.proofs.Common.{◌≡◌, ℕ, suc, add-one, drop-cons, length-append, ◌+◌, ◌<◌, drop, take, length, get_or, Bool, true, false, ◌||◌, ◌&&◌, ◌==◌, List, [], ◌∷◌, ◌++◌, flat_map, refl, sym, ap, ◌∙◌, Option, Some, None, unwrap_or, nat_cmp, append-nil}
 use Rattle.std.specs.BTreeMap.{is_at}
 use Rattle.std.specs.Option.{option_or}
 use Rattle.std.specs.List.{list_any}
 use Rattle.std.proofs.lemmas.List.Folds.{list_any-append}
+use Rattle.std.proofs.lemmas.List.{take_more}
+use Rattle.std.proofs.lemmas.Grind.{flat_map-append}
 use Rattle.item_model.specs.declared.item.Row.{Row}
 use Rattle.item_model.specs.declared.changes.Edit.{Edit}
+use Rattle.item_model.specs.declared.changes.Entry.{Entry}
+use Rattle.item_model.specs.declared.changes.Entry.TheVariants.{Edits, Login, Logout, Stop}
 use Rattle.item_model.specs.declared.changes.Edit.TheVariants.{PutItem, DropItem, PutList, PutRule, DropList, PutMember, DropMember}
 use Rattle.share_history.specs.LastSaid.{last_said, only_if, says_item, says_list, says_member, item_at, list_at, member_at, Playlist, Plain, Ruled}
 use Rattle.share_history.specs.Named.{names_item, names_list, names_member, keys_in, named_keys, lists_in, named_lists}
-use Rattle.share_history.specs.Histories.{edits, batches, opening}
+use Rattle.share_history.specs.Histories.{edits, batches, edits_in, all_edits, opening}
 use Rattle.share_history.proofs.KeyedFacts.{has, is_eq-cmp}
 
 -- ---- tests
@@ -183,3 +187,70 @@ list_unnamed es c h = unsaid (says_list c) lists_in c (no_list_of c) es h
 pub edits-opening : (es : List Edit) → edits (batches (opening es)) ≡ es
 edits-opening [] = refl
 edits-opening (e ∷ es) = append-nil (e ∷ es)
+
+-- the items that are left of a list are the next and those behind it
+pub drop_more : {A : Type 0} (xs : List A) (i : ℕ) (x : A) → i < length xs → x ≡ get_or xs i x → drop i xs ≡ x ∷ drop (i + 1) xs
+drop_more xs i x lt is = drop-cons xs i x lt ∙ ap (λ y. y ∷ drop (suc i) xs) (sym is) ∙ ap (λ n. x ∷ drop n xs) (sym (add-one i))
+
+-- ---- histories entry by entry
+
+pub batches-append : (h later : List Entry) → batches (h ++ later) ≡ batches h ++ batches later
+batches-append [] later = refl
+batches-append (Edits by batch ∷ h) later = ap (λ bs. batch ∷ bs) (batches-append h later)
+batches-append (Login by id ∷ h) later = batches-append h later
+batches-append (Logout by id ∷ h) later = batches-append h later
+batches-append (Stop by ∷ h) later = batches-append h later
+
+edits-entry : (e : Entry) → edits (batches (e ∷ [])) ≡ edits_in e
+edits-entry (Edits by batch) = append-nil batch
+edits-entry (Login by id) = refl
+edits-entry (Logout by id) = refl
+edits-entry (Stop by) = refl
+
+pub all_edits-append : (h later : List Entry) → all_edits (h ++ later) ≡ all_edits h ++ all_edits later
+all_edits-append h later = ap edits (batches-append h later) ∙ flat_map-append (λ b. b) (batches h) (batches later)
+
+-- one more entry adds its edits
+pub all_edits_more : (h : List Entry) (e : Entry) → all_edits (h ++ e ∷ []) ≡ all_edits h ++ edits_in e
+all_edits_more h e = all_edits-append h (e ∷ []) ∙ ap (λ es. all_edits h ++ es) (edits-entry e)
+
+-- what is said before and after one edit, and before and after more
+told_on : {A : Type 0} (later now : Option A) (before : A) → unwrap_or (option_or later now) before ≡ unwrap_or later (unwrap_or now before)
+told_on None now before = refl
+told_on (Some x) now before = refl
+
+pub said_first : {A : Type 0} (says : Edit → Option A) (e : Edit) (es : List Edit) (before : A)
+    → unwrap_or (last_said says (e ∷ es)) before ≡ unwrap_or (last_said says es) (unwrap_or (says e) before)
+said_first says e es before = told_on (last_said says es) (says e) before
+
+pub said_on : {A : Type 0} (says : Edit → Option A) (es ds : List Edit) (before : A)
+    → unwrap_or (last_said says (es ++ ds)) before ≡ unwrap_or (last_said says ds) (unwrap_or (last_said says es) before)
+said_on says es ds before = ap (λ o. unwrap_or o before) (last_said-append says es ds) ∙ told_on (last_said says ds) (last_said says es) before
+
+-- how many revisions the entries make that are left
+pub revisions_left : (h : List Entry) (i : ℕ) (e : Entry) → i < length h → e ≡ get_or h i e
+    → length (batches (drop i h)) ≡ length (batches (e ∷ [])) + length (batches (drop (i + 1) h))
+revisions_left h i e lt is =
+    ap (λ xs. length (batches xs)) (drop_more h i e lt is) ∙ ap length (batches-append (e ∷ []) (drop (i + 1) h))
+    ∙ length-append (batches (e ∷ [])) (batches (drop (i + 1) h))
+
+-- the edits of a history that begins with an entry
+pub all_edits-cons : (e : Entry) (h : List Entry) → all_edits (e ∷ h) ≡ edits_in e ++ all_edits h
+all_edits-cons (Edits by batch) h = refl
+all_edits-cons (Login by id) h = refl
+all_edits-cons (Logout by id) h = refl
+all_edits-cons (Stop by) h = refl
+
+-- the loop over edits: what the first of those that are left says comes before what the others say
+pub said_left : {A : Type 0} (says : Edit → Option A) (es : List Edit) (i : ℕ) (e : Edit) (before : A) → i < length es → e ≡ get_or es i e
+    → unwrap_or (last_said says (drop (i + 1) es)) (unwrap_or (says e) before) ≡ unwrap_or (last_said says (drop i es)) before
+said_left says es i e before lt is =
+    sym (ap (λ xs. unwrap_or (last_said says xs) before) (drop_more es i e lt is) ∙ said_first says e (drop (i + 1) es) before)
+
+-- the loop over entries
+pub said_entries_left : {A : Type 0} (says : Edit → Option A) (h : List Entry) (i : ℕ) (e : Entry) (before : A) → i < length h → e ≡ get_or h i e
+    → unwrap_or (last_said says (all_edits (drop (i + 1) h))) (unwrap_or (last_said says (edits_in e)) before) ≡ unwrap_or (last_said says (all_edits (drop i h))) before
+said_entries_left says h i e before lt is =
+    sym
+    (ap (λ xs. unwrap_or (last_said says (all_edits xs)) before) (drop_more h i e lt is) ∙ ap (λ es. unwrap_or (last_said says es) before) (all_edits-cons e (drop (i + 1) h))
+     ∙ said_on says (edits_in e) (all_edits (drop (i + 1) h)) before)

@@ -18,6 +18,17 @@ batches (Stop by ∷ h) = batches h
 abbrev pub edits : List (List Edit) → List Edit
 edits bs = flat_map (λ b. b) bs
 
+-- the edits that an entry brings
+abbrev pub edits_in : Entry → List Edit
+edits_in (Edits by batch) = batch
+edits_in (Login by id) = []
+edits_in (Logout by id) = []
+edits_in (Stop by) = []
+
+-- all edits of a history, in order
+abbrev pub all_edits : List Entry → List Edit
+all_edits h = edits (batches h)
+
 -- the revision that some batches make
 abbrev pub revision : List (List Edit) → ℕ
 revision bs = length bs + FIRST_REVISION

@@ -3,11 +3,13 @@
 //! compute them the slow way, by looking through the whole history for each question.
 #![tactic(auto)]
 
+mod items;
 pub mod laws;
 mod revisions;
 mod rows;
 mod sessions;
 
-pub use revisions::FIRST_REVISION;
+pub use items::item;
+pub use revisions::{FIRST_REVISION, revision};
 pub use rows::BASE_LIST;
 pub use sessions::LIVE_SESSIONS;
