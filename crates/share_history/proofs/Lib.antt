@@ -4,3 +4,4 @@ pub mod RowFacts
 pub mod TouchFacts
 pub mod MirrorFacts
 pub mod LawFacts
+pub mod FoldFacts

@@ -13,3 +13,4 @@ pub mod Mirror
 pub mod Databases
 pub mod BrowseListings
 pub mod Laws
+pub mod PlaylistSeen

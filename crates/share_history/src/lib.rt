@@ -4,12 +4,15 @@
 #![tactic(auto)]
 
 mod items;
+mod keys;
 pub mod laws;
+mod lists;
 mod revisions;
 mod rows;
 mod sessions;
 
 pub use items::item;
+pub use lists::{PlaylistRef, list, member};
 pub use revisions::{FIRST_REVISION, revision};
 pub use rows::BASE_LIST;
 pub use sessions::LIVE_SESSIONS;
