@@ -14,3 +14,4 @@ pub mod Databases
 pub mod BrowseListings
 pub mod Laws
 pub mod PlaylistSeen
+pub mod NamedBy

@@ -4,15 +4,19 @@
 #![tactic(auto)]
 
 mod items;
+mod kept;
 mod keys;
 pub mod laws;
 mod lists;
+mod names;
 mod revisions;
 mod rows;
 mod sessions;
 
 pub use items::item;
+pub use kept::{after, is_kept, is_touched, touched};
 pub use lists::{PlaylistRef, list, member};
+pub use names::{Named, is_named};
 pub use revisions::{FIRST_REVISION, revision};
 pub use rows::BASE_LIST;
 pub use sessions::LIVE_SESSIONS;
