@@ -1,11 +1,13 @@
 -- The last edit that speaks: what edits that do not name a key leave as it was.
-use Rattle.std.proofs.Common.{◌≡◌, ℕ, suc, add-one, drop-cons, length-append, ◌+◌, ◌<◌, drop, take, length, get_or, Bool, true, false, ◌||◌, ◌&&◌, ◌==◌, List, [], ◌∷◌, ◌++◌, flat_map, refl, sym, ap, ◌∙◌, Option, Some, None, unwrap_or, nat_cmp, append-nil}
+use Rattle.std.proofs.Common.{◌≡◌, ℕ, zero, suc, ◌-◌, arith, take-append-drop, add-one, drop-cons, length-append, ◌+◌, ◌<◌, drop, take, length, get_or, Bool, true, false, ◌||◌, ◌&&◌, ◌==◌, List, [], ◌∷◌, ◌++◌, flat_map, refl, sym, ap, ◌∙◌, Option, Some, None, unwrap_or, nat_cmp, append-nil}
 use Rattle.std.specs.BTreeMap.{is_at}
 use Rattle.std.specs.Option.{option_or}
 use Rattle.std.specs.List.{list_any}
 use Rattle.std.proofs.lemmas.List.Folds.{list_any-append}
 use Rattle.std.proofs.lemmas.List.{take_more}
 use Rattle.std.proofs.lemmas.Grind.{flat_map-append}
+use Rattle.std.proofs.Math.Seq.{take-append_seam}
+use Rattle.share_history.specs.declared.revisions.TheConstants.{FIRST_REVISION}
 use Rattle.item_model.specs.declared.item.Row.{Row}
 use Rattle.item_model.specs.declared.changes.Edit.{Edit}
 use Rattle.item_model.specs.declared.changes.Entry.{Entry}
@@ -13,7 +15,7 @@ use Rattle.item_model.specs.declared.changes.Entry.TheVariants.{Edits, Login, Lo
 use Rattle.item_model.specs.declared.changes.Edit.TheVariants.{PutItem, DropItem, PutList, PutRule, DropList, PutMember, DropMember}
 use Rattle.share_history.specs.LastSaid.{last_said, only_if, says_item, says_list, says_member, item_at, list_at, member_at, Playlist, Plain, Ruled}
 use Rattle.share_history.specs.Named.{names_item, names_list, names_member, keys_in, named_keys, lists_in, named_lists}
-use Rattle.share_history.specs.Histories.{edits, batches, edits_in, all_edits, opening}
+use Rattle.share_history.specs.Histories.{edits, batches, edits_in, all_edits, revision, up_to, later, until_edits, at_revision, opening}
 use Rattle.share_history.proofs.KeyedFacts.{has, is_eq-cmp}
 
 -- ---- tests
@@ -254,3 +256,33 @@ said_entries_left says h i e before lt is =
     sym
     (ap (λ xs. unwrap_or (last_said says (all_edits xs)) before) (drop_more h i e lt is) ∙ ap (λ es. unwrap_or (last_said says es) before) (all_edits-cons e (drop (i + 1) h))
      ∙ said_on says (edits_in e) (all_edits (drop (i + 1) h)) before)
+
+-- ---- revisions
+
+-- the edits up to a revision and those after it are all edits
+pub edits-split : (bs : List (List Edit)) (v : ℕ) → edits bs ≡ edits (up_to bs v) ++ later bs v
+edits-split bs v = ap edits (sym (take-append-drop (v - FIRST_REVISION) bs)) ∙ flat_map-append (λ b. b) (up_to bs v) (drop (v - FIRST_REVISION) bs)
+
+-- the batches up to the revision that they make are they
+pub up_to-revision : (bs cs : List (List Edit)) → up_to (bs ++ cs) (revision bs) ≡ bs
+up_to-revision bs cs =
+    let e : length bs + FIRST_REVISION - FIRST_REVISION ≡ length bs = omega arith in ap (λ n. take n (bs ++ cs)) e ∙ take-append_seam bs cs
+
+-- one more batch makes one more revision
+pub revision_more : (bs : List (List Edit)) (b : List Edit) → revision (bs ++ b ∷ []) ≡ revision bs + 1
+revision_more bs b = let e = length-append bs (b ∷ []) in omega (arith, e)
+
+pub edits_more : (bs : List (List Edit)) (b : List Edit) → edits (bs ++ b ∷ []) ≡ edits bs ++ b
+edits_more bs b = flat_map-append (λ es. es) bs (b ∷ []) ∙ ap (λ es. edits bs ++ es) (append-nil b)
+
+-- the batches of the history at a revision are those up to the revision
+batches-until : (n : ℕ) (h : List Entry) → batches (until_edits n h) ≡ take n (batches h)
+batches-until zero h = refl
+batches-until (suc n) [] = refl
+batches-until (suc n) (Edits by batch ∷ h) = ap (λ bs. batch ∷ bs) (batches-until n h)
+batches-until (suc n) (Login by id ∷ h) = batches-until (suc n) h
+batches-until (suc n) (Logout by id ∷ h) = batches-until (suc n) h
+batches-until (suc n) (Stop by ∷ h) = batches-until (suc n) h
+
+pub batches-at_revision : (h : List Entry) (v : ℕ) → batches (at_revision h v) ≡ up_to (batches h) v
+batches-at_revision h v = batches-until (v - FIRST_REVISION) h

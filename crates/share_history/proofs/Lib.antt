@@ -5,3 +5,4 @@ pub mod TouchFacts
 pub mod MirrorFacts
 pub mod LawFacts
 pub mod FoldFacts
+pub mod SessionFacts

@@ -21,7 +21,7 @@ use Rattle.share_history.specs.Listings.{member_of, shown, shown_rows, full_list
 use Rattle.share_history.specs.Mirror.{Held, mirror_after, mirrored, mirror_look}
 use Rattle.share_history.specs.Laws.{MirrorsFollow, MirrorsCatchUp, FullListingsSuffice}
 use Rattle.share_history.proofs.KeyedFacts.{has, same_pairs, sorted-ascending, at-puts, ascending-puts, at-outs, ascending-outs, at-filter, ascending-filter, at-map, ascending-map, has-filter, has-ascending}
-use Rattle.share_history.proofs.EditFacts.{first_false, second_false, has-append}
+use Rattle.share_history.proofs.EditFacts.{edits-split, up_to-revision, second_false, has-append}
 use Rattle.share_history.proofs.RowFacts.{at-rows, ascending-rows}
 use Rattle.share_history.proofs.TouchFacts.{row_stays, unnamed_untouched}
 
@@ -118,10 +118,6 @@ fourth_true true true false d h = absurd (true≢false (sym h))
 fourth_true true false c d h = absurd (true≢false (sym h))
 fourth_true false b c d h = absurd (true≢false (sym h))
 
--- the edits up to a revision and those after it are all edits
-pub edits-split : (bs : List (List Edit)) (v : ℕ) → edits bs ≡ edits (up_to bs v) ++ later bs v
-edits-split bs v = ap edits (sym (take-append-drop (v - FIRST_REVISION) bs)) ∙ flat_map-append (λ b. b) (up_to bs v) (drop (v - FIRST_REVISION) bs)
-
 pub mirrors_follow : MirrorsFollow
 mirrors_follow keep bs t q meta base =
     elim (is_kept keep bs t base) as (λ b. is_kept keep bs t base ≡ b
@@ -131,11 +127,6 @@ mirrors_follow keep bs t q meta base =
           rows = delta_applied (edits (up_to bs base)) (edits bs) (later bs base) (edits-split bs base) t q meta (fourth_true (nat_le FIRST_REVISION base) (nat_le base (revision bs)) (nat_le (revision bs) (base + keep)) (is_left t (later bs base)) kept) i }
       | false ↦ λ _. full_listings_suffice (mirrored (up_to bs base) t q meta) bs t q meta base
     ] refl
-
--- the batches up to the revision that they make are they
-up_to-revision : (bs cs : List (List Edit)) → up_to (bs ++ cs) (revision bs) ≡ bs
-up_to-revision bs cs =
-    let e : length bs + FIRST_REVISION - FIRST_REVISION ≡ length bs = omega arith in ap (λ n. take n (bs ++ cs)) e ∙ take-append_seam bs cs
 
 pub mirrors_catch_up : MirrorsCatchUp
 mirrors_catch_up keep bs cs t q meta =

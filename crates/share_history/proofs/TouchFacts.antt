@@ -3,6 +3,7 @@ use Rattle.std.proofs.Common.{◌≡◌, ℕ, Bool, true, false, cond, ◌||◌,
 use Rattle.std.specs.Option.{option_and_then}
 use Rattle.std.specs.List.{list_any}
 use Rattle.std.proofs.lemmas.Bool.{cond_both}
+use Rattle.std.proofs.lemmas.Grind.{flat_map-append}
 use Rattle.item_model.specs.declared.item.Row.{Row}
 use Rattle.item_model.specs.declared.query.Query.{Query}
 use Rattle.item_model.specs.declared.changes.Edit.{Edit}
@@ -11,13 +12,13 @@ use Rattle.item_model.specs.declared.request.Target.{Target}
 use Rattle.item_model.specs.declared.request.Target.TheVariants.{Items, Container}
 use Rattle.share_history.specs.declared.rows.TheConstants.{BASE_LIST}
 use Rattle.share_history.specs.Keyed.{AreAscending, ascending}
-use Rattle.share_history.specs.Histories.{edits, later}
+use Rattle.share_history.specs.Histories.{edits, later, up_to}
 use Rattle.share_history.specs.LastSaid.{Playlist, Plain, Ruled, item_at, list_at, member_at}
 use Rattle.share_history.specs.Named.{names_item, names_list, names_member, keys_in, named_keys}
 use Rattle.share_history.specs.Rows.{if_asked, in_list, in_target, row_at}
 use Rattle.share_history.specs.Kept.{is_left, names_its_item, touches_in, touches, touched}
 use Rattle.share_history.proofs.KeyedFacts.{has, same_keys_same, sorted-ascending, has-ascending, has-filter, sorted-filter}
-use Rattle.share_history.proofs.EditFacts.{first_false, second_false, both_false, has-append, other_key, item_stays, list_stays, member_stays, member_unnamed}
+use Rattle.share_history.proofs.EditFacts.{edits-split, first_false, second_false, both_false, has-append, other_key, item_stays, list_stays, member_stays, member_unnamed}
 
 -- ---- rows that stay
 
@@ -113,3 +114,27 @@ untouched all (Container c) k = cond_both (c == BASE_LIST) false (touches_in (li
     by_none None = refl
     by_none (Some (Plain name)) = by_item (member_at all c k)
     by_none (Some (Ruled name rule)) = refl
+
+-- ---- the touched keys
+
+pub has-touched : (bs : List (List Edit)) (t : Target) (base k : ℕ) → has k (touched bs t base) ≡ touches (edits bs) t (later bs base) k
+has-touched bs t base k =
+    has-filter k (touches (edits bs) t (later bs base)) (ascending (named_keys (edits bs)))
+    ∙ ap (λ b. touches (edits bs) t (later bs base) k && b) (has-ascending k (named_keys (edits bs)))
+    ∙ and_named (touches (edits bs) t (later bs base) k) (has k (named_keys (edits bs))) (λ h. unnamed_untouched (edits bs) (later bs base) t k h (later_unnamed bs base k h))
+  where
+    and_named : (a b : Bool) → (b ≡ false → a ≡ false) → (a && b) ≡ a
+    and_named true true h = refl
+    and_named true false h = absurd (true≢false (h refl))
+    and_named false b h = refl
+
+    later_unnamed : (bs : List (List Edit)) (base k : ℕ) → has k (named_keys (edits bs)) ≡ false → has k (named_keys (later bs base)) ≡ false
+    later_unnamed bs base k h =
+        second_false (has k (named_keys (edits (up_to bs base)))) (has k (named_keys (later bs base)))
+        (sym (ap (has k) (ap named_keys (edits-split bs base) ∙ flat_map-append keys_in (edits (up_to bs base)) (later bs base)) ∙ has-append k (named_keys (edits (up_to bs base))) (named_keys (later bs base))) ∙ h)
+
+-- ascending keys that are those that were touched are the touched keys
+pub touched_are : (bs : List (List Edit)) (t : Target) (base : ℕ) (ks : List ℕ) → AreAscending ks → ((k : ℕ) → has k ks ≡ touches (edits bs) t (later bs base) k) → ks ≡ touched bs t base
+touched_are bs t base ks s h =
+    same_keys_same ks (touched bs t base) s (sorted-filter (touches (edits bs) t (later bs base)) (ascending (named_keys (edits bs))) (sorted-ascending (named_keys (edits bs))))
+    (λ k. h k ∙ sym (has-touched bs t base k))

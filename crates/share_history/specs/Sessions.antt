@@ -25,13 +25,16 @@ is_stop (Login by id) = false
 is_stop (Logout by id) = false
 is_stop (Stop by) = true
 
+abbrev pub is_login_of : ℕ → Entry → Bool
+is_login_of id (Edits by batch) = false
+is_login_of id (Login by other) = other == id
+is_login_of id (Logout by other) = false
+is_login_of id (Stop by) = false
+
 -- what came after the login of a session, if it logged in
 abbrev pub after_login : ℕ → List Entry → Option (List Entry)
 after_login id [] = None
-after_login id (Edits by batch ∷ h) = after_login id h
-after_login id (Login by other ∷ h) = if other == id then Some h else after_login id h
-after_login id (Logout by other ∷ h) = after_login id h
-after_login id (Stop by ∷ h) = after_login id h
+after_login id (e ∷ h) = if is_login_of id e then Some h else after_login id h
 
 abbrev pub is_live : List Entry → ℕ → Bool
 is_live h id = option_map_or (λ rest. nat_lt (count_by is_login rest) LIVE_SESSIONS) (after_login id h) false && not (list_any (logs_out id) h)

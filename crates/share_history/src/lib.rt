@@ -19,4 +19,4 @@ pub use lists::{PlaylistRef, list, member};
 pub use names::{Named, is_named};
 pub use revisions::{FIRST_REVISION, revision};
 pub use rows::BASE_LIST;
-pub use sessions::LIVE_SESSIONS;
+pub use sessions::{LIVE_SESSIONS, is_live, is_stopped, next_session};
