@@ -10,7 +10,7 @@ use Rattle.item_model.specs.declared.query.Query.{Query}
 use Rattle.item_model.specs.declared.changes.Edit.{Edit}
 use Rattle.item_model.specs.declared.request.Meta.{Meta}
 use Rattle.item_model.specs.declared.request.Target.{Target}
-use Rattle.share_history.specs.Awaited.{projection}
+use Rattle.item_model.specs.Projection.{projection}
 use Rattle.share_history.specs.declared.revisions.TheConstants.{FIRST_REVISION}
 use Rattle.share_history.specs.Keyed.{at, put_in, taken_out, IsAscending, ascending}
 use Rattle.share_history.specs.Histories.{edits, later, revision, up_to}

@@ -1,4 +1,3 @@
-pub mod Awaited
 pub mod Keyed
 pub mod Histories
 pub mod LastSaid

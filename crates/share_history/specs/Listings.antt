@@ -8,7 +8,7 @@ use Rattle.item_model.specs.declared.request.Meta.{Meta}
 use Rattle.item_model.specs.declared.request.Look.{Look}
 use Rattle.item_model.specs.declared.request.Target.{Target}
 use Rattle.item_model.specs.declared.request.Target.TheVariants.{Items, Container}
-use Rattle.share_history.specs.Awaited.{projection}
+use Rattle.item_model.specs.Projection.{projection}
 use Rattle.share_history.specs.Histories.{revision, edits, later}
 use Rattle.share_history.specs.Rows.{row_at, rows}
 use Rattle.share_history.specs.Ranges.{in_range}

@@ -39,10 +39,22 @@ fn is_logout_of(entry: &Entry, session: u32) -> bool
     }
 }
 
+fn count_with(count: usize, entry: &Entry) -> usize
+    requires { count < usize.MAX }
+    ensures { result ≡ count + (if is_login entry.now then 1 else 0) }
+{
+    if is_login(entry) { count + 1 } else { count }
+}
+
+#[tactic(auto, using(crate::proofs::SessionFacts::logins_more))]
 fn logins(entries: &[Entry]) -> usize
     ensures { result ≡ count_by is_login entries.now }
 {
-    entries.iter().filter(|entry| is_login(entry)).count()
+    let mut count = 0;
+    for entry in entries {
+        count = count_with(count, entry);
+    }
+    count
 }
 
 // The entries behind a session's login.
