@@ -1,6 +1,7 @@
 -- Keys that a loop over edits, or over entries, puts into a set one after the other.
-use Rattle.std.proofs.Common.{◌≡◌, ℕ, zero, suc, ◌+◌, ◌-◌, ◌<◌, Bool, ◌||◌, arith, List, [], ◌∷◌, ◌++◌, length, get_or, drop, fold, flat_map, refl, sym, ap, ◌∙◌}
-use Rattle.std.specs.List.{list_any}
+use Rattle.std.proofs.Common.{◌≡◌, ℕ, zero, suc, ◌+◌, ◌-◌, ◌<◌, Bool, true, false, ◌||◌, cond, map, filter, arith, Option, Some, None, append-nil, append_assoc, List, [], ◌∷◌, ◌++◌, length, get_or, drop, fold, flat_map, refl, sym, ap, ◌∙◌}
+use Rattle.std.specs.Option.{option_to_list}
+use Rattle.std.specs.List.{list_any, cons_option}
 use Rattle.std.proofs.lemmas.List.Folds.{list_any-append}
 use Rattle.std.proofs.lemmas.Grind.{flat_map-append}
 use Rattle.item_model.specs.declared.changes.Edit.{Edit}
@@ -48,3 +49,22 @@ passed_one (suc n) (Stop by) h lt = ap (λ m. drop m (batches h)) (let same : su
 pub batches_left : (n : ℕ) (h : List Entry) (i : ℕ) (e : Entry) → 0 < n → i < length h → e ≡ get_or h i e
     → drop (n - length (batches (e ∷ []))) (batches (drop (i + 1) h)) ≡ drop n (batches (drop i h))
 batches_left n h i e pos lt is = sym (ap (λ xs. drop n (batches xs)) (drop_more h i e lt is) ∙ passed_one n e (drop (i + 1) h) pos)
+
+-- one more that may be there, before the others
+pub found_next : {A : Type 0} (xs : List A) (found : Option A) (ys : List A) → (xs ++ option_to_list found) ++ ys ≡ xs ++ cons_option found ys
+found_next xs None ys = ap (λ zs. zs ++ ys) (append-nil xs)
+found_next xs (Some x) ys = append_assoc xs (x ∷ []) ys
+
+-- one more of a map's values, before those of the items that are left
+pub shown_next : {A B : Type 0} (f : A → B) (done : List B) (xs : List A) (i : ℕ) (x : A) → i < length xs → x ≡ get_or xs i x
+    → (done ++ f x ∷ []) ++ map f (drop (i + 1) xs) ≡ done ++ map f (drop i xs)
+shown_next f done xs i x lt is = append_assoc done (f x ∷ []) (map f (drop (i + 1) xs)) ∙ ap (λ ys. done ++ map f ys) (sym (drop_more xs i x lt is))
+
+-- one more that passes a test or not, before those of the items that are left
+pub filtered_next : {A : Type 0} (p : A → Bool) (done : List A) (xs : List A) (i : ℕ) (x : A) → i < length xs → x ≡ get_or xs i x
+    → (done ++ cond (p x) (x ∷ []) []) ++ filter p (drop (i + 1) xs) ≡ done ++ filter p (drop i xs)
+filtered_next p done xs i x lt is = kept_or_not (p x) done x (filter p (drop (i + 1) xs)) ∙ ap (λ ys. done ++ filter p ys) (sym (drop_more xs i x lt is))
+  where
+    kept_or_not : {A : Type 0} (b : Bool) (done : List A) (x : A) (rest : List A) → (done ++ cond b (x ∷ []) []) ++ rest ≡ done ++ cond b (x ∷ rest) rest
+    kept_or_not true done x rest = append_assoc done (x ∷ []) rest
+    kept_or_not false done x rest = ap (λ ys. ys ++ rest) (append-nil done)

@@ -12,7 +12,7 @@ use Rattle.item_model.specs.declared.request.Target.{Target}
 use Rattle.item_model.specs.declared.request.Target.TheVariants.{Container}
 use Rattle.item_model.specs.declared.request.Look.{Look}
 use Rattle.share_history.specs.declared.revisions.TheConstants.{FIRST_REVISION}
-use Rattle.share_history.specs.declared.rows.TheConstants.{BASE_LIST}
+use Rattle.share_history.specs.declared.selection.TheConstants.{BASE_LIST}
 use Rattle.share_history.specs.Keyed.{ascending}
 use Rattle.share_history.specs.Histories.{edits, later, revision}
 use Rattle.share_history.specs.LastSaid.{Playlist, Plain, Ruled, only_if, says_list, says_member, item_at, list_at, member_at}

@@ -6,3 +6,4 @@ pub mod MirrorFacts
 pub mod LawFacts
 pub mod FoldFacts
 pub mod SessionFacts
+pub mod RangeFacts

@@ -1,18 +1,22 @@
 -- The rows of a listing are the one ascending list that is right at each key.
-use Rattle.std.proofs.Common.{◌≡◌, ℕ, Bool, true, false, cond, ◌==◌, List, [], ◌∷◌, ◌++◌, unwrap_or, refl, sym, ap, ◌∙◌, Option, Some, None, is_some}
-use Rattle.std.specs.Option.{option_and_then}
+use Rattle.std.proofs.Common.{◌≡◌, ℕ, map, ◌+◌, ◌≤◌, length, length-append, fold, nat_cmp, Less, Equal, Greater, arith, Bool, true, false, cond, ◌==◌, List, [], ◌∷◌, ◌++◌, unwrap_or, refl, sym, ap, ◌∙◌, Option, Some, None, is_some}
+use Rattle.std.specs.Option.{option_and_then, option_map}
+use Rattle.std.specs.List.{cons_option}
+use Rattle.std.specs.Ordering.{match_ordering}
+use Rattle.std.specs.BTreeSet.{insert_key}
 use Rattle.std.specs.Map.{keys_of}
 use Rattle.std.proofs.lemmas.Bool.{cond_both}
+use Rattle.std.proofs.lemmas.List.{length-map}
 use Rattle.item_model.specs.declared.item.Row.{Row}
 use Rattle.item_model.specs.declared.query.Query.{Query}
 use Rattle.item_model.specs.declared.changes.Edit.{Edit}
 use Rattle.item_model.specs.declared.changes.Edit.TheVariants.{PutItem, DropItem, PutList, PutRule, DropList, PutMember, DropMember}
 use Rattle.item_model.specs.declared.request.Target.{Target}
 use Rattle.item_model.specs.declared.request.Target.TheVariants.{Items, Container}
-use Rattle.share_history.specs.declared.rows.TheConstants.{BASE_LIST}
+use Rattle.share_history.specs.declared.selection.TheConstants.{BASE_LIST}
 use Rattle.share_history.specs.Keyed.{at, put_in, taken_out, IsAscending, AreAscending, ascending, pairs_at}
 use Rattle.share_history.specs.LastSaid.{Playlist, Plain, Ruled, only_if, says_item, item_at, list_at, member_at}
-use Rattle.share_history.specs.Named.{named_keys, named_lists}
+use Rattle.share_history.specs.Named.{keys_in, named_keys, named_lists}
 use Rattle.share_history.specs.Rows.{if_asked, in_list, in_target, row_at, rows, library, lists}
 use Rattle.share_history.proofs.KeyedFacts.{has, is_eq-cmp, at-put, ascending-put, at-out, ascending-out, same_pairs, same_keys_same, sorted-ascending, has-ascending, ascending-pairs_at, at-pairs_at, has-keys_of}
 use Rattle.share_history.proofs.EditFacts.{item_more, item_unnamed, member_unnamed, list_unnamed}
@@ -123,3 +127,45 @@ ascending-lists es = ascending-pairs_at (list_at es) (ascending (named_lists es)
 
 pub lists_are : (es : List Edit) (ls : List (ℕ × Playlist)) → IsAscending ls → ((c : ℕ) → at c ls ≡ list_at es c) → ls ≡ lists es
 lists_are es ls s h = same_pairs ls (lists es) s (ascending-lists es) (λ c. h c ∙ sym (at-lists es c))
+
+-- ---- how many rows there are
+
+insert_key-longer : (ks : List ℕ) (k : ℕ) → length (insert_key nat_cmp ks k) ≤ length ks + 1
+insert_key-longer [] k = omega arith
+insert_key-longer (x ∷ xs) k = elim (nat_cmp k x) as (λ r. length (match_ordering r (k ∷ x ∷ xs) (x ∷ xs) (x ∷ insert_key nat_cmp xs k)) ≤ length (x ∷ xs) + 1) [
+  | Less ↦ omega arith
+  | Equal ↦ omega arith
+  | Greater ↦ omega (arith, insert_key-longer xs k)
+]
+
+folded-longer : (acc ks : List ℕ) → length (fold (insert_key nat_cmp) acc ks) ≤ length acc + length ks
+folded-longer acc [] = omega arith
+folded-longer acc (k ∷ ks) = omega (arith, folded-longer (insert_key nat_cmp acc k) ks, insert_key-longer acc k)
+
+one_key : (e : Edit) → length (keys_in e) ≤ 1
+one_key (PutItem row) = omega arith
+one_key (DropItem id) = omega arith
+one_key (PutList list name) = omega arith
+one_key (PutRule list name rule) = omega arith
+one_key (DropList list) = omega arith
+one_key (PutMember list member item) = omega arith
+one_key (DropMember list member) = omega arith
+
+few_keys : (es : List Edit) → length (named_keys es) ≤ length es
+few_keys [] = omega arith
+few_keys (e ∷ es) = omega (arith, length-append (keys_in e) (named_keys es), one_key e, few_keys es)
+
+few_pairs : {A : Type 0} (value : ℕ → Option A) (ks : List ℕ) → length (pairs_at value ks) ≤ length ks
+few_pairs value [] = omega arith
+few_pairs value (k ∷ ks) = elim (value k) as (λ v. length (cons_option (option_map (λ x. (k, x)) v) (pairs_at value ks)) ≤ length (k ∷ ks)) [
+  | None ↦ omega (arith, few_pairs value ks)
+  | Some x ↦ omega (arith, few_pairs value ks)
+]
+
+-- no more rows than edits
+pub length-rows : (es : List Edit) (t : Target) (q : Option Query) → length (rows es t q) ≤ length es
+length-rows es t q = omega (arith, few_pairs (row_at es t q) (ascending (named_keys es)), folded-longer [] (named_keys es), few_keys es)
+
+-- the same of what a loop found, before its keys and items are read
+pub few_rows : {A : Type 0} (f : A → ℕ × Row) (found : List A) (es : List Edit) (t : Target) (q : Option Query) → map f found ≡ rows es t q → length found ≤ length es
+few_rows f found es t q h = omega (arith, length-map found f, ap length h, length-rows es t q)

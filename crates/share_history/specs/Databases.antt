@@ -6,7 +6,7 @@ use Rattle.dmap_tags.specs.Tree.{Tree, leaf, list, trees_of, U8, U32, Text}
 use Rattle.item_model.specs.declared.changes.Edit.{Edit}
 use Rattle.item_model.specs.declared.changes.Entry.{Entry}
 use Rattle.item_model.specs.declared.request.Target.TheVariants.{Container}
-use Rattle.share_history.specs.declared.rows.TheConstants.{BASE_LIST}
+use Rattle.share_history.specs.declared.selection.TheConstants.{BASE_LIST}
 use Rattle.share_history.specs.Histories.{batches, edits, revision}
 use Rattle.share_history.specs.LastSaid.{Playlist, Plain, Ruled}
 use Rattle.share_history.specs.Rows.{rows, library, lists}

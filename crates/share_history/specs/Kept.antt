@@ -5,7 +5,7 @@ use Rattle.item_model.specs.declared.changes.Edit.{Edit}
 use Rattle.item_model.specs.declared.request.Target.{Target}
 use Rattle.item_model.specs.declared.request.Target.TheVariants.{Items, Container}
 use Rattle.share_history.specs.declared.revisions.TheConstants.{FIRST_REVISION}
-use Rattle.share_history.specs.declared.rows.TheConstants.{BASE_LIST}
+use Rattle.share_history.specs.declared.selection.TheConstants.{BASE_LIST}
 use Rattle.share_history.specs.Keyed.{ascending}
 use Rattle.share_history.specs.Histories.{revision, edits, later}
 use Rattle.share_history.specs.LastSaid.{Playlist, Plain, Ruled, list_at, member_at}

@@ -14,3 +14,5 @@ pub mod BrowseListings
 pub mod Laws
 pub mod PlaylistSeen
 pub mod NamedBy
+pub mod RowSeen
+pub mod ListingSeen

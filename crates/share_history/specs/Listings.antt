@@ -35,27 +35,23 @@ shown target meta row = (row.0, projection row.1 (member_of target row.0) meta)
 abbrev pub shown_rows : Target → Meta → List (ℕ × Row) → List (ℕ × Tree)
 shown_rows target meta all = map (shown target meta) all
 
+-- the full listing that has these rows before the range
+abbrev pub full_of : ℕ → Target → Look → List (ℕ × Row) → Listing
+full_of revision target look all =
+    record { is_delta = false; revision = revision; total = length all; rows = shown_rows target look.meta (in_range look.range all); gone = [] }
+
+-- the delta that lists these rows and deletes these keys, whatever the range
+abbrev pub delta_of : ℕ → Target → Look → List (ℕ × Row) → List ℕ → Listing
+delta_of revision target look listed gone =
+    record { is_delta = true; revision = revision; total = length listed; rows = shown_rows target look.meta listed; gone = gone }
+
 abbrev pub full_listing : List (List Edit) → Target → Look → Listing
-full_listing bs target look =
-    let all = rows (edits bs) target look.query in
-    record {
-      is_delta = false;
-      revision = revision bs;
-      total = length all;
-      rows = shown_rows target look.meta (in_range look.range all);
-      gone = [];
-    }
+full_listing bs target look = full_of (revision bs) target look (rows (edits bs) target look.query)
 
 abbrev pub delta_listing : List (List Edit) → Target → Look → ℕ → Listing
 delta_listing bs target look base =
-    let listed = filter (λ row. touches (edits bs) target (later bs base) row.0) (rows (edits bs) target look.query) in
-    record {
-      is_delta = true;
-      revision = revision bs;
-      total = length listed;
-      rows = shown_rows target look.meta listed;
-      gone = filter (λ key. is_none (row_at (edits bs) target look.query key)) (touched bs target base);
-    }
+    delta_of (revision bs) target look (filter (λ row. touches (edits bs) target (later bs base) row.0) (rows (edits bs) target look.query))
+    (filter (λ key. is_none (row_at (edits bs) target look.query key)) (touched bs target base))
 
 -- a kept base is answered by a delta, and every other one by a full listing
 abbrev pub listing : ℕ → List (List Edit) → Target → Look → Listing

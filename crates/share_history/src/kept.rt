@@ -9,7 +9,7 @@ use crate::keys::keys;
 use crate::lists::{PlaylistRef, list, member};
 use crate::names::{Named, is_named};
 use crate::revisions::{FIRST_REVISION, revision};
-use crate::rows::BASE_LIST;
+use crate::selection::BASE_LIST;
 use item_model::{Entry, Target};
 use std::alloc::{AllocError, Global};
 
