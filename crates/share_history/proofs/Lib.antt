@@ -7,3 +7,5 @@ pub mod LawFacts
 pub mod FoldFacts
 pub mod SessionFacts
 pub mod RangeFacts
+pub mod TextFacts
+pub mod ContainerFacts

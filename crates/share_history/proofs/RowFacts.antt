@@ -1,5 +1,5 @@
 -- The rows of a listing are the one ascending list that is right at each key.
-use Rattle.std.proofs.Common.{◌≡◌, ℕ, map, ◌+◌, ◌≤◌, length, length-append, fold, nat_cmp, Less, Equal, Greater, arith, Bool, true, false, cond, ◌==◌, List, [], ◌∷◌, ◌++◌, unwrap_or, refl, sym, ap, ◌∙◌, Option, Some, None, is_some}
+use Rattle.std.proofs.Common.{◌≡◌, ℕ, map, ◌+◌, ◌≤◌, length, length-append, fold, nat_cmp, Ordering, Less, Equal, Greater, arith, Bool, true, false, cond, ◌==◌, List, [], ◌∷◌, ◌++◌, unwrap_or, refl, sym, ap, ◌∙◌, Option, Some, None, is_some}
 use Rattle.std.specs.Option.{option_and_then, option_map}
 use Rattle.std.specs.List.{cons_option}
 use Rattle.std.specs.Ordering.{match_ordering}
@@ -16,7 +16,7 @@ use Rattle.item_model.specs.declared.request.Target.TheVariants.{Items, Containe
 use Rattle.share_history.specs.declared.selection.TheConstants.{BASE_LIST}
 use Rattle.share_history.specs.Keyed.{at, put_in, taken_out, IsAscending, AreAscending, ascending, pairs_at}
 use Rattle.share_history.specs.LastSaid.{Playlist, Plain, Ruled, only_if, says_item, item_at, list_at, member_at}
-use Rattle.share_history.specs.Named.{keys_in, named_keys, named_lists}
+use Rattle.share_history.specs.Named.{keys_in, named_keys, lists_in, named_lists}
 use Rattle.share_history.specs.Rows.{if_asked, in_list, in_target, row_at, rows, library, lists}
 use Rattle.share_history.proofs.KeyedFacts.{has, is_eq-cmp, at-put, ascending-put, at-out, ascending-out, same_pairs, same_keys_same, sorted-ascending, has-ascending, ascending-pairs_at, at-pairs_at, has-keys_of}
 use Rattle.share_history.proofs.EditFacts.{item_more, item_unnamed, member_unnamed, list_unnamed}
@@ -130,17 +130,17 @@ lists_are es ls s h = same_pairs ls (lists es) s (ascending-lists es) (λ c. h c
 
 -- ---- how many rows there are
 
-insert_key-longer : (ks : List ℕ) (k : ℕ) → length (insert_key nat_cmp ks k) ≤ length ks + 1
-insert_key-longer [] k = omega arith
-insert_key-longer (x ∷ xs) k = elim (nat_cmp k x) as (λ r. length (match_ordering r (k ∷ x ∷ xs) (x ∷ xs) (x ∷ insert_key nat_cmp xs k)) ≤ length (x ∷ xs) + 1) [
+insert_key-longer : {K : Type 0} (R : K → K → Ordering) (ks : List K) (k : K) → length (insert_key R ks k) ≤ length ks + 1
+insert_key-longer R [] k = omega arith
+insert_key-longer R (x ∷ xs) k = elim (R k x) as (λ r. length (match_ordering r (k ∷ x ∷ xs) (x ∷ xs) (x ∷ insert_key R xs k)) ≤ length (x ∷ xs) + 1) [
   | Less ↦ omega arith
   | Equal ↦ omega arith
-  | Greater ↦ omega (arith, insert_key-longer xs k)
+  | Greater ↦ omega (arith, insert_key-longer R xs k)
 ]
 
-folded-longer : (acc ks : List ℕ) → length (fold (insert_key nat_cmp) acc ks) ≤ length acc + length ks
-folded-longer acc [] = omega arith
-folded-longer acc (k ∷ ks) = omega (arith, folded-longer (insert_key nat_cmp acc k) ks, insert_key-longer acc k)
+pub folded-longer : {K : Type 0} (R : K → K → Ordering) (acc ks : List K) → length (fold (insert_key R) acc ks) ≤ length acc + length ks
+folded-longer R acc [] = omega arith
+folded-longer R acc (k ∷ ks) = omega (arith, folded-longer R (insert_key R acc k) ks, insert_key-longer R acc k)
 
 one_key : (e : Edit) → length (keys_in e) ≤ 1
 one_key (PutItem row) = omega arith
@@ -164,8 +164,34 @@ few_pairs value (k ∷ ks) = elim (value k) as (λ v. length (cons_option (optio
 
 -- no more rows than edits
 pub length-rows : (es : List Edit) (t : Target) (q : Option Query) → length (rows es t q) ≤ length es
-length-rows es t q = omega (arith, few_pairs (row_at es t q) (ascending (named_keys es)), folded-longer [] (named_keys es), few_keys es)
+length-rows es t q = omega (arith, few_pairs (row_at es t q) (ascending (named_keys es)), folded-longer nat_cmp [] (named_keys es), few_keys es)
 
 -- the same of what a loop found, before its keys and items are read
 pub few_rows : {A : Type 0} (f : A → ℕ × Row) (found : List A) (es : List Edit) (t : Target) (q : Option Query) → map f found ≡ rows es t q → length found ≤ length es
 few_rows f found es t q h = omega (arith, length-map found f, ap length h, length-rows es t q)
+
+pub counted_rows : {A : Type 0} (f : A → ℕ × Row) (found : List A) (es : List Edit) (t : Target) (q : Option Query) → map f found ≡ rows es t q → length found ≡ length (rows es t q)
+counted_rows f found es t q h = sym (length-map found f) ∙ ap length h
+
+-- no more lists than edits
+one_list : (e : Edit) → length (lists_in e) ≤ 1
+one_list (PutItem row) = omega arith
+one_list (DropItem id) = omega arith
+one_list (PutList list name) = omega arith
+one_list (PutRule list name rule) = omega arith
+one_list (DropList list) = omega arith
+one_list (PutMember list member item) = omega arith
+one_list (DropMember list member) = omega arith
+
+few_lists_named : (es : List Edit) → length (named_lists es) ≤ length es
+few_lists_named [] = omega arith
+few_lists_named (e ∷ es) = omega (arith, length-append (lists_in e) (named_lists es), one_list e, few_lists_named es)
+
+pub length-lists : (es : List Edit) → length (lists es) ≤ length es
+length-lists es = omega (arith, few_pairs (list_at es) (ascending (named_lists es)), folded-longer nat_cmp [] (named_lists es), few_lists_named es)
+
+pub counted_lists : {A : Type 0} (f : A → ℕ × Playlist) (found : List A) (es : List Edit) → map f found ≡ lists es → length found ≡ length (lists es)
+counted_lists f found es h = sym (length-map found f) ∙ ap length h
+
+pub few_lists : {A : Type 0} (f : A → ℕ × Playlist) (found : List A) (es : List Edit) → map f found ≡ lists es → length found ≤ length es
+few_lists f found es h = omega (arith, counted_lists f found es h, length-lists es)

@@ -3,6 +3,9 @@
 //! compute them the slow way, by looking through the whole history for each question.
 #![tactic(auto)]
 
+mod bodies;
+mod browse;
+mod databases;
 mod items;
 mod kept;
 mod keys;
@@ -15,6 +18,9 @@ mod revisions;
 mod selection;
 mod sessions;
 
+pub use browse::{browse_body, browse_values};
+pub use databases::{containers_body, databases_body, playlists};
+pub use bodies::{body, full_body, listing_body};
 pub use items::item;
 pub use kept::{after, is_kept, is_touched, touched};
 pub use listings::{Listing, delta_listing, full_listing, listing_for};
