@@ -1,0 +1,70 @@
+-- Keys that a loop over edits, or over entries, puts into a set one after the other.
+use Rattle.std.proofs.Common.{◌≡◌, ℕ, zero, suc, ◌+◌, ◌-◌, ◌<◌, Bool, true, false, ◌||◌, cond, map, filter, arith, Option, Some, None, append-nil, append_assoc, List, [], ◌∷◌, ◌++◌, length, get_or, drop, fold, flat_map, refl, sym, ap, ◌∙◌}
+use Rattle.std.specs.Option.{option_to_list}
+use Rattle.std.specs.List.{list_any, cons_option}
+use Rattle.std.proofs.lemmas.List.Folds.{list_any-append}
+use Rattle.std.proofs.lemmas.Grind.{flat_map-append}
+use Rattle.item_model.specs.declared.changes.Edit.{Edit}
+use Rattle.item_model.specs.declared.changes.Entry.{Entry}
+use Rattle.item_model.specs.declared.changes.Entry.TheVariants.{Edits, Login, Logout, Stop}
+use Rattle.share_history.specs.Histories.{batches, edits_in, all_edits}
+use Rattle.share_history.proofs.EditFacts.{drop_more, all_edits-cons}
+
+pub fold-append : {A B : Type 0} (f : B → A → B) (b : B) (xs ys : List A) → fold f b (xs ++ ys) ≡ fold f (fold f b xs) ys
+fold-append f b [] ys = refl
+fold-append f b (x ∷ xs) ys = fold-append f (f b x) xs ys
+
+-- the keys of the edits that are left: those of the first come before the others
+pub folded_left : (put : List ℕ → ℕ → List ℕ) (keys : Edit → List ℕ) (es : List Edit) (i : ℕ) (e : Edit) (set : List ℕ) → i < length es → e ≡ get_or es i e
+    → fold put (fold put set (keys e)) (flat_map keys (drop (i + 1) es)) ≡ fold put set (flat_map keys (drop i es))
+folded_left put keys es i e set lt is =
+    sym (ap (λ xs. fold put set (flat_map keys xs)) (drop_more es i e lt is) ∙ fold-append put set (keys e) (flat_map keys (drop (i + 1) es)))
+
+pub folded_entries_left : (put : List ℕ → ℕ → List ℕ) (keys : Edit → List ℕ) (h : List Entry) (i : ℕ) (e : Entry) (set : List ℕ) → i < length h → e ≡ get_or h i e
+    → fold put (fold put set (flat_map keys (edits_in e))) (flat_map keys (all_edits (drop (i + 1) h))) ≡ fold put set (flat_map keys (all_edits (drop i h)))
+folded_entries_left put keys h i e set lt is =
+    sym
+    (ap (λ xs. fold put set (flat_map keys (all_edits xs))) (drop_more h i e lt is)
+     ∙ ap (λ es. fold put set (flat_map keys es)) (all_edits-cons e (drop (i + 1) h))
+     ∙ ap (fold put set) (flat_map-append keys (edits_in e) (all_edits (drop (i + 1) h)))
+     ∙ fold-append put set (flat_map keys (edits_in e)) (flat_map keys (all_edits (drop (i + 1) h))))
+
+-- whether one of the edits that are left passes a test
+pub any_left : {A : Type 0} (p : A → Bool) (xs : List A) (i : ℕ) (x : A) → i < length xs → x ≡ get_or xs i x → list_any p (drop i xs) ≡ (p x || list_any p (drop (i + 1) xs))
+any_left p xs i x lt is = ap (list_any p) (drop_more xs i x lt is)
+
+pub any_entries_left : (p : Edit → Bool) (h : List Entry) (i : ℕ) (e : Entry) → i < length h → e ≡ get_or h i e
+    → list_any p (all_edits (drop i h)) ≡ (list_any p (edits_in e) || list_any p (all_edits (drop (i + 1) h)))
+any_entries_left p h i e lt is =
+    ap (λ xs. list_any p (all_edits xs)) (drop_more h i e lt is) ∙ ap (list_any p) (all_edits-cons e (drop (i + 1) h)) ∙ list_any-append p (edits_in e) (all_edits (drop (i + 1) h))
+
+-- batches behind one entry, of at least one that is passed
+passed_one : (n : ℕ) (e : Entry) (h : List Entry) → 0 < n → drop n (batches (e ∷ h)) ≡ drop (n - length (batches (e ∷ []))) (batches h)
+passed_one zero e h lt = absurd (omega arith)
+passed_one (suc n) (Edits by batch) h lt = ap (λ m. drop m (batches h)) (let same : n ≡ suc n - 1 = omega arith in same)
+passed_one (suc n) (Login by id) h lt = ap (λ m. drop m (batches h)) (let same : suc n ≡ suc n - 0 = omega arith in same)
+passed_one (suc n) (Logout by id) h lt = ap (λ m. drop m (batches h)) (let same : suc n ≡ suc n - 0 = omega arith in same)
+passed_one (suc n) (Stop by) h lt = ap (λ m. drop m (batches h)) (let same : suc n ≡ suc n - 0 = omega arith in same)
+
+pub batches_left : (n : ℕ) (h : List Entry) (i : ℕ) (e : Entry) → 0 < n → i < length h → e ≡ get_or h i e
+    → drop (n - length (batches (e ∷ []))) (batches (drop (i + 1) h)) ≡ drop n (batches (drop i h))
+batches_left n h i e pos lt is = sym (ap (λ xs. drop n (batches xs)) (drop_more h i e lt is) ∙ passed_one n e (drop (i + 1) h) pos)
+
+-- one more that may be there, before the others
+pub found_next : {A : Type 0} (xs : List A) (found : Option A) (ys : List A) → (xs ++ option_to_list found) ++ ys ≡ xs ++ cons_option found ys
+found_next xs None ys = ap (λ zs. zs ++ ys) (append-nil xs)
+found_next xs (Some x) ys = append_assoc xs (x ∷ []) ys
+
+-- one more of a map's values, before those of the items that are left
+pub shown_next : {A B : Type 0} (f : A → B) (done : List B) (xs : List A) (i : ℕ) (x : A) → i < length xs → x ≡ get_or xs i x
+    → (done ++ f x ∷ []) ++ map f (drop (i + 1) xs) ≡ done ++ map f (drop i xs)
+shown_next f done xs i x lt is = append_assoc done (f x ∷ []) (map f (drop (i + 1) xs)) ∙ ap (λ ys. done ++ map f ys) (sym (drop_more xs i x lt is))
+
+-- one more that passes a test or not, before those of the items that are left
+pub filtered_next : {A : Type 0} (p : A → Bool) (done : List A) (xs : List A) (i : ℕ) (x : A) → i < length xs → x ≡ get_or xs i x
+    → (done ++ cond (p x) (x ∷ []) []) ++ filter p (drop (i + 1) xs) ≡ done ++ filter p (drop i xs)
+filtered_next p done xs i x lt is = kept_or_not (p x) done x (filter p (drop (i + 1) xs)) ∙ ap (λ ys. done ++ filter p ys) (sym (drop_more xs i x lt is))
+  where
+    kept_or_not : {A : Type 0} (b : Bool) (done : List A) (x : A) (rest : List A) → (done ++ cond b (x ∷ []) []) ++ rest ≡ done ++ cond b (x ∷ rest) rest
+    kept_or_not true done x rest = append_assoc done (x ∷ []) rest
+    kept_or_not false done x rest = ap (λ ys. ys ++ rest) (append-nil done)

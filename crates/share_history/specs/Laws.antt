@@ -1,0 +1,109 @@
+-- What follows from the definitions. Each fact here is proved for all histories.
+use Rattle.std.specs.Prelude.{◌≡◌, ◌<◌, ◌⊎◌, ℕ, List, [], ◌∷◌, ◌++◌, Bool, true, false, ◌==◌, Option, Some, None, length, option_and_then}
+use Rattle.std.specs.List.{list_any}
+use Rattle.dmap_tags.specs.Tree as tree
+use Rattle.dmap_tags.specs.Tree.{Tree, more, tree_list, leaf, U32}
+use Rattle.item_model.specs.declared.item.Row.{Row}
+use Rattle.item_model.specs.declared.query.Query.{Query}
+use Rattle.item_model.specs.declared.changes.Edit.{Edit}
+use Rattle.item_model.specs.declared.changes.Edit.TheVariants.{PutItem, DropItem, PutList, PutRule, DropList, PutMember, DropMember}
+use Rattle.item_model.specs.declared.request.Meta.{Meta}
+use Rattle.item_model.specs.declared.request.Look.{Look}
+use Rattle.item_model.specs.declared.request.Target.{Target}
+use Rattle.item_model.specs.declared.request.Target.TheVariants.{Container}
+use Rattle.share_history.specs.declared.revisions.TheConstants.{FIRST_REVISION}
+use Rattle.share_history.specs.declared.selection.TheConstants.{BASE_LIST}
+use Rattle.share_history.specs.Keyed.{IsAscending}
+use Rattle.share_history.specs.Histories.{batches, edits, revision, up_to, opening}
+use Rattle.share_history.specs.LastSaid.{Playlist, Plain, Ruled, item_at, list_at, member_at}
+use Rattle.share_history.specs.Named.{names_list, names_member}
+use Rattle.share_history.specs.Rows.{if_asked, row_at, rows, library}
+use Rattle.share_history.specs.Kept.{is_kept}
+use Rattle.share_history.specs.Listings.{Listing, delta_listing, full_listing, listing}
+use Rattle.share_history.specs.Bodies.{body_tree}
+use Rattle.share_history.specs.Mirror.{Held, mirror_after, mirrored, mirror_look}
+
+-- the library stands in ascending order, with each id once
+abbrev pub LibraryAscends : Type 0
+LibraryAscends = (es : List Edit) → IsAscending (library es)
+
+-- a share that is opened with a batch has the edits of the batch
+abbrev pub OpensWithTheBatch : Type 0
+OpensWithTheBatch = (es : List Edit) → edits (batches (opening es)) ≡ es
+
+-- no member of a list is there after the list was put or dropped
+abbrev pub ListsBeginWithoutMembers : Type 0
+ListsBeginWithoutMembers = (es : List Edit) (e : Edit) (c m : ℕ) → names_list c e ≡ true → member_at (es ++ e ∷ []) c m ≡ None
+
+-- a plain list has no rows right after it was put, and a list none right after it was dropped
+abbrev pub ListsBeginEmpty : Type 0
+ListsBeginEmpty =
+    (es : List Edit) (c : ℕ) (name : List ℕ) (query : Option Query) → (c == BASE_LIST) ≡ false
+    → (rows (es ++ PutList c name ∷ []) (Container c) query ≡ []) × (rows (es ++ DropList c ∷ []) (Container c) query ≡ [])
+
+abbrev pub is_plain : Option Playlist → Bool
+is_plain None = false
+is_plain (Some (Plain name)) = true
+is_plain (Some (Ruled name rule)) = false
+
+abbrev pub puts_member : ℕ → ℕ → Edit → Bool
+puts_member c m (PutItem row) = false
+puts_member c m (DropItem id) = false
+puts_member c m (PutList list name) = false
+puts_member c m (PutRule list name rule) = false
+puts_member c m (DropList list) = false
+puts_member c m (PutMember list member item) = names_member c m (PutMember list member item)
+puts_member c m (DropMember list member) = false
+
+-- a member that is put where no plain list stands is not there, whatever comes later, until it is put again
+abbrev pub MembersNeedAList : Type 0
+MembersNeedAList =
+    (es ds : List Edit) (c m item : ℕ) → is_plain (list_at es c) ≡ false → list_any (puts_member c m) ds ≡ false
+    → is_plain (list_at (es ++ PutMember c m item ∷ ds) c) ≡ true → member_at (es ++ PutMember c m item ∷ ds) c m ≡ None
+
+-- while no edit names a plain list or a member of it, the member's row is what its item is: it is gone with the item
+-- and comes back with it
+abbrev pub MembersFollowTheirItems : Type 0
+MembersFollowTheirItems =
+    (es ds : List Edit) (c m item : ℕ) (name : List ℕ) (query : Option Query) → (c == BASE_LIST) ≡ false
+    → list_at es c ≡ Some (Plain name) → member_at es c m ≡ Some item
+    → list_any (names_list c) ds ≡ false → list_any (names_member c m) ds ≡ false
+    → row_at (es ++ ds) (Container c) query m ≡ option_and_then (if_asked query) (item_at (es ++ ds) item)
+
+-- no base below the first revision or above the present one is kept
+abbrev pub BasesArePast : Type 0
+BasesArePast =
+    (keep : ℕ) (bs : List (List Edit)) (target : Target) (base : ℕ) → (base < FIRST_REVISION) ⊎ (revision bs < base) → is_kept keep bs target base ≡ false
+
+-- a delta from the present revision lists nothing and deletes nothing
+abbrev pub NothingChangedSinceNow : Type 0
+NothingChangedSinceNow =
+    (bs : List (List Edit)) (target : Target) (look : Look) → ((delta_listing bs target look (revision bs)).rows ≡ []) × ((delta_listing bs target look (revision bs)).gone ≡ [])
+
+-- a body whose row count is a number and whose rows are a list tells as many rows as it lists
+abbrev pub tells_its_rows : Tree → Bool
+tells_its_rows (tree.list _ (more status (more kind (more revision (more total (more (leaf _ (U32 n)) (more (tree.list _ members) rest))))))) = n == length (tree_list members)
+tells_its_rows _ = false
+
+-- the fifth member of a listing's body is the number of its rows, which are the sixth
+abbrev pub BodiesTellTheirRows : Type 0
+BodiesTellTheirRows = (target : Target) (l : Listing) → tells_its_rows (body_tree target l) ≡ true
+
+-- a mirror that asks with the revision that it holds, and holds what the share had then, holds after the answer what
+-- the share has now, whether the base is kept or not
+abbrev pub MirrorsFollow : Type 0
+MirrorsFollow =
+    (keep : ℕ) (bs : List (List Edit)) (target : Target) (query : Option Query) (meta : Meta) (base : ℕ)
+    → mirror_after (mirrored (up_to bs base) target query meta) (listing keep bs target (mirror_look query meta base)) ≡ mirrored bs target query meta
+
+-- the same from the revision at which the mirror was served last
+abbrev pub MirrorsCatchUp : Type 0
+MirrorsCatchUp =
+    (keep : ℕ) (bs later : List (List Edit)) (target : Target) (query : Option Query) (meta : Meta)
+    → mirror_after (mirrored bs target query meta) (listing keep (bs ++ later) target (mirror_look query meta (revision bs))) ≡ mirrored (bs ++ later) target query meta
+
+-- a full listing brings every mirror up to date, whatever it held
+abbrev pub FullListingsSuffice : Type 0
+FullListingsSuffice =
+    (held : Held) (bs : List (List Edit)) (target : Target) (query : Option Query) (meta : Meta) (base : ℕ)
+    → mirror_after held (full_listing bs target (mirror_look query meta base)) ≡ mirrored bs target query meta

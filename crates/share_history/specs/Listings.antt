@@ -1,0 +1,59 @@
+-- What a listing of items says. A full one has all rows that are asked for, cut to the range; a delta, for a kept base, the
+-- rows whose keys were touched after the base, and the touched keys that are no rows.
+use Rattle.std.specs.Prelude.{ℕ, List, [], Bool, true, false, length, map, filter, Option, Some, None, is_none, if◌then◌else◌}
+use Rattle.dmap_tags.specs.Tree.{Tree}
+use Rattle.item_model.specs.declared.item.Row.{Row}
+use Rattle.item_model.specs.declared.changes.Edit.{Edit}
+use Rattle.item_model.specs.declared.request.Meta.{Meta}
+use Rattle.item_model.specs.declared.request.Look.{Look}
+use Rattle.item_model.specs.declared.request.Target.{Target}
+use Rattle.item_model.specs.declared.request.Target.TheVariants.{Items, Container}
+use Rattle.item_model.specs.Projection.{projection}
+use Rattle.share_history.specs.Histories.{revision, edits, later}
+use Rattle.share_history.specs.Rows.{row_at, rows}
+use Rattle.share_history.specs.Ranges.{in_range}
+use Rattle.share_history.specs.Kept.{is_kept, touches, touched}
+
+pub record Listing : Type 0 where
+  pub is_delta : Bool
+  pub revision : ℕ
+  -- how many rows there are before the range
+  pub total : ℕ
+  -- the listed rows with their keys, ascending
+  pub rows : List (ℕ × Tree)
+  -- the keys that a delta deletes, ascending
+  pub gone : List ℕ
+
+-- in a container the row of an item tells its key as a member
+abbrev pub member_of : Target → ℕ → Option ℕ
+member_of Items key = None
+member_of (Container c) key = Some key
+
+abbrev pub shown : Target → Meta → ℕ × Row → ℕ × Tree
+shown target meta row = (row.0, projection row.1 (member_of target row.0) meta)
+
+abbrev pub shown_rows : Target → Meta → List (ℕ × Row) → List (ℕ × Tree)
+shown_rows target meta all = map (shown target meta) all
+
+-- the full listing that has these rows before the range
+abbrev pub full_of : ℕ → Target → Look → List (ℕ × Row) → Listing
+full_of revision target look all =
+    record { is_delta = false; revision = revision; total = length all; rows = shown_rows target look.meta (in_range look.range all); gone = [] }
+
+-- the delta that lists these rows and deletes these keys, whatever the range
+abbrev pub delta_of : ℕ → Target → Look → List (ℕ × Row) → List ℕ → Listing
+delta_of revision target look listed gone =
+    record { is_delta = true; revision = revision; total = length listed; rows = shown_rows target look.meta listed; gone = gone }
+
+abbrev pub full_listing : List (List Edit) → Target → Look → Listing
+full_listing bs target look = full_of (revision bs) target look (rows (edits bs) target look.query)
+
+abbrev pub delta_listing : List (List Edit) → Target → Look → ℕ → Listing
+delta_listing bs target look base =
+    delta_of (revision bs) target look (filter (λ row. touches (edits bs) target (later bs base) row.0) (rows (edits bs) target look.query))
+    (filter (λ key. is_none (row_at (edits bs) target look.query key)) (touched bs target base))
+
+-- a kept base is answered by a delta, and every other one by a full listing
+abbrev pub listing : ℕ → List (List Edit) → Target → Look → Listing
+listing keep bs target look =
+    if is_kept keep bs target look.base then delta_listing bs target look look.base else full_listing bs target look

@@ -1,0 +1,55 @@
+-- The rows of a listing, each an item under a key. The items of the library, and container 1, which has
+-- all of them, stand under their ids, and so do those of which the rule of a list holds; the members of a plain
+-- list under the members' ids. A query keeps the rows of which it holds.
+use Rattle.std.specs.Prelude.{ℕ, List, ◌==◌, Bool, true, Option, Some, None, is_some, option_and_then, if◌then◌else◌}
+use Rattle.item_model.specs.declared.item.Row.{Row}
+use Rattle.item_model.specs.declared.query.Query.{Query}
+use Rattle.item_model.specs.declared.changes.Edit.{Edit}
+use Rattle.item_model.specs.declared.request.Target.{Target}
+use Rattle.item_model.specs.declared.request.Target.TheVariants.{Items, Container}
+use Rattle.item_model.specs.QuerySeen.{tree_of}
+use Rattle.song_query.specs.Holds.{holds}
+use Rattle.share_history.specs.declared.selection.TheConstants.{BASE_LIST}
+use Rattle.share_history.specs.Keyed.{ascending, pairs_at}
+use Rattle.share_history.specs.LastSaid.{Playlist, Plain, Ruled, item_at, list_at, member_at, only_if}
+use Rattle.share_history.specs.Named.{named_keys, named_lists}
+
+-- a query that is not there holds of every item
+abbrev pub is_asked : Option Query → Row → Bool
+is_asked None row = true
+is_asked (Some query) row = holds (tree_of query) row
+
+-- the row, if it is asked for
+abbrev pub if_asked : Option Query → Row → Option Row
+if_asked query row = only_if (is_asked query row) row
+
+-- the item under a key of a list: of a plain list, the item of the member, if the library has it
+abbrev pub in_list : Option Playlist → List Edit → ℕ → ℕ → Option Row
+in_list None es c key = None
+in_list (Some (Plain name)) es c key = option_and_then (item_at es) (member_at es c key)
+in_list (Some (Ruled name rule)) es c key = option_and_then (if_asked (Some rule)) (item_at es key)
+
+abbrev pub in_target : List Edit → Target → ℕ → Option Row
+in_target es Items key = item_at es key
+in_target es (Container c) key = if c == BASE_LIST then item_at es key else in_list (list_at es c) es c key
+
+-- the row of a listing under a key
+abbrev pub row_at : List Edit → Target → Option Query → ℕ → Option Row
+row_at es target query key = option_and_then (if_asked query) (in_target es target key)
+
+-- all rows of a listing, ascending by key
+abbrev pub rows : List Edit → Target → Option Query → List (ℕ × Row)
+rows es target query = pairs_at (row_at es target query) (ascending (named_keys es))
+
+-- the items that are there, ascending by id
+abbrev pub library : List Edit → List (ℕ × Row)
+library es = rows es Items None
+
+-- the lists that are there beside container 1, ascending by id
+abbrev pub lists : List Edit → List (ℕ × Playlist)
+lists es = pairs_at (list_at es) (ascending (named_lists es))
+
+-- whether a listing's target is there
+abbrev pub is_there : List Edit → Target → Bool
+is_there es Items = true
+is_there es (Container c) = if c == BASE_LIST then true else is_some (list_at es c)

@@ -1,0 +1,31 @@
+//! What is true at a point of a share's history: its items and lists, the rows of a listing, which bases of a
+//! listing are kept and what a mirror of it has to hold. The definitions stand in `specs/`; the functions here
+//! compute them the slow way, by looking through the whole history for each question.
+#![tactic(auto)]
+
+mod bodies;
+mod browse;
+mod databases;
+mod items;
+mod kept;
+mod keys;
+pub mod laws;
+mod listings;
+mod lists;
+mod names;
+mod ranges;
+mod revisions;
+mod selection;
+mod sessions;
+
+pub use browse::{browse_body, browse_values};
+pub use databases::{containers_body, databases_body, playlists};
+pub use bodies::{body, full_body, listing_body};
+pub use items::item;
+pub use kept::{after, is_kept, is_touched, touched};
+pub use listings::{Listing, delta_listing, full_listing, listing_for};
+pub use lists::{PlaylistRef, list, member};
+pub use names::{Named, is_named};
+pub use revisions::{FIRST_REVISION, revision};
+pub use selection::{BASE_LIST, library, row, rows};
+pub use sessions::{LIVE_SESSIONS, is_live, is_stopped, next_session};
