@@ -7,7 +7,7 @@ use Rattle.std.specs.Prelude.{slice_get}
 use Rattle.std.specs.Str.{bytes_eq}
 use Rattle.clap.specs.Words.{Text}
 use Rattle.daapshare_words.specs.Grammar.{texts_of}
-use Rattle.daapshare_words.specs.Words.{command_of, said_by_name}
+use Rattle.daapshare_words.specs.Words.{command_of, command_named}
 
 -- two texts that differ are told apart
 differs : (a b : Text) → a ≢ b → bytes_eq a b ≡ false
@@ -15,7 +15,7 @@ differs a b different = false_from_ne_true (bytes_eq a b) (λ e. different ((byt
 
 -- a name of no command names none
 no_name : (name : Text) (words : List Text) → name ≢ codes "list" → name ≢ codes "show" → name ≢ codes "check" → name ≢ codes "codes"
-    → said_by_name name words ≡ None
+    → command_named name words ≡ None
 no_name name words list show check codes_ =
     rw (differs name (codes "list") list, differs name (codes "show") show, differs name (codes "check") check, differs name (codes "codes") codes_) refl
 
@@ -26,4 +26,4 @@ pub unnamed : (words : List (Bor Text)) (name : Bor Text) → Some name ≡ slic
 unnamed [] name first list show check codes_ = refl
 unnamed (word ∷ rest) name first list show check codes_ =
     let same : word.now ≡ name.now = cc in
-    ap (λ (t : Text). said_by_name t (texts_of (word ∷ rest))) same ∙ no_name name.now (texts_of (word ∷ rest)) list show check codes_
+    ap (λ (t : Text). command_named t (texts_of (word ∷ rest))) same ∙ no_name name.now (texts_of (word ∷ rest)) list show check codes_

@@ -1,5 +1,5 @@
--- A number among the words: 1 to 10 decimal digits and nothing else, leading zeros allowed, of at
--- most 4,294,967,295.
+-- A number that is given as a word: from one to ten decimal digits, zeros in front counted among
+-- them, and no other byte. It is at most 4,294,967,295.
 use Rattle.std.specs.Prelude.{◌&&◌, ℕ, Bool, Option, Some, None, if◌then◌else◌, length}
 use Rattle.std.specs.Prelude.{nat_le}
 use Rattle.std.specs.Char.{is_ascii_digit}

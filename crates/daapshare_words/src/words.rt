@@ -3,7 +3,7 @@
 ghost use Rattle.std.specs.Prelude.{◌≡◌, ◌≢◌, Some, None, IfOk, IfErr};
 ghost use Rattle.clap.specs.Words.{first_of, found_of, rows_of};
 ghost use Rattle.daapshare_words.specs.Grammar.{texts_of, is_flagged};
-ghost use Rattle.daapshare_words.specs.Words.{Reads, said, command_of, list_grammar, list_by, show_grammar, show_by, check_grammar, check_by, codes_grammar, codes_by};
+ghost use Rattle.daapshare_words.specs.Words.{Reads, command_by, command_of, list_grammar, list_of, show_grammar, show_of, check_grammar, check_of, codes_grammar, codes_of};
 
 use crate::grammar::{Part, matches_for, value_of};
 use clap::ArgMatches;
@@ -96,7 +96,7 @@ pub fn read_words(alloc: Global, words: &[&str]) -> Result<Command, WordsError>
 }
 
 fn list(alloc: Global, words: &[&str]) -> Result<Command, WordsError>
-    ensures { Reads (said list_by list_grammar (texts_of words.now)) result }
+    ensures { Reads (command_by list_of list_grammar (texts_of words.now)) result }
 {
     let matches = matches_for(alloc, "list", &LIST, words)?;
     Ok(Command::List {
@@ -106,7 +106,7 @@ fn list(alloc: Global, words: &[&str]) -> Result<Command, WordsError>
 }
 
 fn show(alloc: Global, words: &[&str]) -> Result<Command, WordsError>
-    ensures { Reads (said show_by show_grammar (texts_of words.now)) result }
+    ensures { Reads (command_by show_of show_grammar (texts_of words.now)) result }
 {
     let matches = matches_for(alloc, "show", &SHOW, words)?;
     Ok(Command::Show {
@@ -115,14 +115,14 @@ fn show(alloc: Global, words: &[&str]) -> Result<Command, WordsError>
 }
 
 fn check(alloc: Global, words: &[&str]) -> Result<Command, WordsError>
-    ensures { Reads (said check_by check_grammar (texts_of words.now)) result }
+    ensures { Reads (command_by check_of check_grammar (texts_of words.now)) result }
 {
     matches_for(alloc, "check", &CHECK, words)?;
     Ok(Command::Check)
 }
 
 fn codes(alloc: Global, words: &[&str]) -> Result<Command, WordsError>
-    ensures { Reads (said codes_by codes_grammar (texts_of words.now)) result }
+    ensures { Reads (command_by codes_of codes_grammar (texts_of words.now)) result }
 {
     let matches = matches_for(alloc, "codes", &CODES, words)?;
     Ok(Command::Codes {
