@@ -15,7 +15,7 @@ use thiserror::Error;
 /// What the program is asked for.
 #[derive(Debug, Drop)]
 pub enum Command {
-    /// The full listing of the records on the input.
+    /// The full listing of the records on the input. The texts are as given, and not yet read.
     List {
         query: Option<Text>,
         meta: Option<Text>,
@@ -77,8 +77,8 @@ static CHECK: [(&str, Part); 0] = [];
 
 static CODES: [(&str, Part); 1] = [("learn", Part::Flag)];
 
-/// Reads the words behind the program's name, the first of which names the command. No word is a
-/// number before its command reads it.
+/// Reads the words behind the program's name, the first of which names the command. Every fault of
+/// the words is `Usage`.
 pub fn read_words(alloc: Global, words: &[&str]) -> Result<Command, WordsError>
     ensures read { IfOk result (λ c. command_of (texts_of words.now) ≡ Some c) }
     ensures usage { IfErr result (λ e. e ≡ WordsError.Usage → command_of (texts_of words.now) ≡ None) }
