@@ -1,0 +1,5 @@
+pub mod Digits
+pub mod Parts
+pub mod Plain
+pub mod Taken
+pub mod Unnamed

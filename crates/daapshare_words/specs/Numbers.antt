@@ -1,0 +1,18 @@
+-- A number that is given as a word: from one to ten decimal digits, zeros in front counted among
+-- them, and no other byte. It is at most 4,294,967,295.
+use Rattle.std.specs.Prelude.{◌&&◌, ℕ, Bool, Option, Some, None, if◌then◌else◌, length}
+use Rattle.std.specs.Prelude.{nat_le}
+use Rattle.std.specs.Char.{is_ascii_digit}
+use Rattle.std.specs.List.{list_all}
+use Rattle.std.specs.Str.Parse.{digits_value}
+use Rattle.clap.specs.Words.{Text}
+
+abbrev pub is_number_word : Text → Bool
+is_number_word word =
+    nat_le 1 (length word) && (nat_le (length word) 10 && list_all is_ascii_digit word)
+
+-- the number that the digits write, where it is in range
+abbrev pub number_of_word : Text → Option ℕ
+number_of_word word =
+    if is_number_word word && nat_le (digits_value 10 word) 4294967295
+    then Some (digits_value 10 word) else None

@@ -1,0 +1,65 @@
+-- The command that a list of words is.
+use Rattle.std.specs.Prelude.{◌≡◌, List, [], ◌∷◌, Option, Some, None, Result, Ok, Err, codes}
+use Rattle.std.specs.Prelude.{if◌then◌else◌, option_and_then}
+use Rattle.std.specs.Str.{bytes_eq}
+use Rattle.clap.specs.Words.{Row, Text, first_of}
+use Rattle.daapshare_words.specs.Grammar.{Grammar, is_flagged, rows_for}
+use Rattle.daapshare_words.specs.declared.grammar.Part.TheVariants.{Valued, Flag}
+use Rattle.daapshare_words.specs.declared.words.Command.{Command}
+use Rattle.daapshare_words.specs.declared.words.Command.TheVariants as command
+use Rattle.daapshare_words.specs.declared.words.WordsError.{WordsError}
+use Rattle.daapshare_words.specs.declared.words.WordsError.TheVariants.{Usage, Memory}
+
+-- each command's name and parts, and what its matches say; `None` is for a number out of its range,
+-- which no command has so far
+
+abbrev pub list_grammar : Grammar
+list_grammar = record {
+  name = codes "list";
+  parts = (codes "query", Valued) ∷ (codes "meta", Valued) ∷ [];
+}
+
+abbrev pub list_of : List Row → Option Command
+list_of rows = Some (command.List (first_of (codes "query") rows) (first_of (codes "meta") rows))
+
+abbrev pub show_grammar : Grammar
+show_grammar = record { name = codes "show"; parts = (codes "back", Flag) ∷ [] }
+
+abbrev pub show_of : List Row → Option Command
+show_of rows = Some (command.Show (is_flagged (codes "back") rows))
+
+abbrev pub check_grammar : Grammar
+check_grammar = record { name = codes "check"; parts = [] }
+
+abbrev pub check_of : List Row → Option Command
+check_of rows = Some command.Check
+
+abbrev pub codes_grammar : Grammar
+codes_grammar = record { name = codes "codes"; parts = (codes "learn", Flag) ∷ [] }
+
+abbrev pub codes_of : List Row → Option Command
+codes_of rows = Some (command.Codes (is_flagged (codes "learn") rows))
+
+-- the command that the words are by a grammar, where clap's definition takes them
+abbrev pub command_by : (List Row → Option Command) → Grammar → List Text → Option Command
+command_by reads g words = option_and_then reads (rows_for g words)
+
+-- the same by the grammar of a name
+abbrev pub command_named : Text → List Text → Option Command
+command_named name words =
+    if bytes_eq name (codes "list") then command_by list_of list_grammar words
+    else (if bytes_eq name (codes "show") then command_by show_of show_grammar words
+    else (if bytes_eq name (codes "check") then command_by check_of check_grammar words
+    else (if bytes_eq name (codes "codes") then command_by codes_of codes_grammar words
+    else None)))
+
+-- the first word is the command's name, and the words are in that command's grammar
+abbrev pub command_of : List Text → Option Command
+command_of [] = None
+command_of (name ∷ rest) = command_named name (name ∷ rest)
+
+-- the call answers what is told, but for want of memory
+abbrev pub Reads : Option Command → Result Command WordsError → Type 0
+Reads told (Ok c) = told ≡ Some c
+Reads told (Err Usage) = told ≡ None
+Reads told (Err Memory) = Unit {0}

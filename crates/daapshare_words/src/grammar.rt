@@ -1,0 +1,77 @@
+//! The words of one command, as a simple `clap` command reads them.
+
+ghost use Rattle.std.specs.Prelude.{◌≡◌, ◌≢◌, Some, None, false, [], IfOk, MatchResult, option_map};
+ghost use Rattle.clap.specs.Words.{app_of, rule_of, rows_of, first_of, found_of};
+ghost use Rattle.daapshare_words.specs.Grammar.{app_for, grammar_of, rule_for, rows_for, texts_of};
+
+use crate::words::WordsError;
+use clap::{Arg, ArgAction, ArgMatches, Command};
+use std::alloc::{AllocError, Global};
+
+/// How a part of a command stands among its words.
+#[derive(Clone, Copy, Debug, PartialEq, Eq)]
+pub enum Part {
+    /// A word at the next place, which must be there.
+    Place,
+    /// `--name VALUE` or `--name=VALUE`, at most once.
+    Valued,
+    /// `--name`, at most once.
+    Flag,
+}
+
+/// What `clap` makes of the words of the command `name` with these parts, the first word left out.
+pub fn matches_for<'a>(
+    alloc: Global,
+    name: &'a str,
+    parts: &'a [(&'a str, Part)],
+    words: &'a [&'a str],
+) -> Result<ArgMatches<'a>, WordsError>
+    ensures { MatchResult result
+        (λ m. rows_for (grammar_of name.entry.now parts.entry.now) (texts_of words.entry.now) ≡ Some (rows_of (found_of m)))
+        (λ e. e ≡ WordsError.Usage → rows_for (grammar_of name.entry.now parts.entry.now) (texts_of words.entry.now) ≡ None) }
+{
+    let command = command(alloc, name, parts)?;
+    Ok(command.try_get_matches_from(words)?)
+}
+
+/// The first value of the part `name`, where it has one.
+pub fn value_of<'a>(matches: &ArgMatches<'a>, name: &str) -> Option<&'a str>
+    ensures { option_map (λ s. s.now) result ≡ first_of name.now (rows_of (found_of matches.now)) }
+{
+    matches.get_str(name)
+}
+
+/// The command `name`, with long names alone and without help or version.
+fn command<'a>(
+    alloc: Global,
+    name: &'a str,
+    parts: &'a [(&'a str, Part)],
+) -> Result<Command<'a>, AllocError>
+    ensures { IfOk result (λ c. app_of c ≡ app_for (grammar_of name.entry.now parts.entry.now)) }
+{
+    let mut command = bare(alloc, name);
+    for (part_name, part) in parts {
+        command = command.arg(argument(alloc, part_name, *part))?;
+    }
+    Ok(command)
+}
+
+fn bare<'a>(alloc: Global, name: &'a str) -> Command<'a>
+    ensures { app_of result ≡ app_for (grammar_of name.entry.now []) }
+{
+    Command::new(alloc, name)
+        .disable_help_flag(true)
+        .disable_version_flag(true)
+}
+
+fn argument<'a>(alloc: Global, name: &'a str, part: Part) -> Arg<'a>
+    ensures rule { rule_of result ≡ rule_for (name.entry.now, part) }
+    ensures local { result.global ≡ false }
+{
+    let argument = Arg::new(alloc, name);
+    match part {
+        Part::Place => argument.required(true).action(ArgAction::Set),
+        Part::Valued => argument.long(name).action(ArgAction::Set),
+        Part::Flag => argument.long(name).action(ArgAction::SetTrue),
+    }
+}

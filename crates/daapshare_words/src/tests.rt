@@ -1,0 +1,142 @@
+//! Whole command lines, and number words.
+
+use crate::{Command, WordsError, number_word, read_words};
+use std::alloc::{AllocError, Global};
+use std::test::Fail;
+
+/// What a command line is to be.
+#[derive(Clone, Copy, Debug)]
+enum Wanted {
+    List(Option<&'static str>, Option<&'static str>),
+    Show(bool),
+    Check,
+    Codes(bool),
+    Usage,
+}
+
+fn is_text(text: &Option<dmap_tags::Text>, wanted: Option<&str>) -> bool {
+    match (text, wanted) {
+        (Some(text), Some(wanted)) => text.as_str() == wanted,
+        (None, None) => true,
+        _ => false,
+    }
+}
+
+fn is_wanted(answer: &Result<Command, WordsError>, wanted: Wanted) -> bool {
+    match (answer, wanted) {
+        (Ok(Command::List { query, meta }), Wanted::List(wanted_query, wanted_meta)) => {
+            is_text(query, wanted_query) && is_text(meta, wanted_meta)
+        }
+        (Ok(Command::Show { back }), Wanted::Show(wanted)) => *back == wanted,
+        (Ok(Command::Check), Wanted::Check) => true,
+        (Ok(Command::Codes { learn }), Wanted::Codes(wanted)) => *learn == wanted,
+        (Err(WordsError::Usage), Wanted::Usage) => true,
+        _ => false,
+    }
+}
+
+/// The words of a line, one space between two: a space at its end makes an empty word.
+fn words_of<'a>(alloc: Global, line: &'a str) -> Result<Vec<&'a str>, AllocError> {
+    line.split(' ').collect(alloc)
+}
+
+#[test]
+fn lines_that_are_commands(rt: HostRuntime) -> Result<(), Fail> {
+    for (line, wanted) in [
+        ("list", Wanted::List(None, None)),
+        ("list --query=x", Wanted::List(Some("x"), None)),
+        (
+            "list --query x --meta y",
+            Wanted::List(Some("x"), Some("y")),
+        ),
+        (
+            "list --meta=y --query x",
+            Wanted::List(Some("x"), Some("y")),
+        ),
+        ("list --query ", Wanted::List(Some(""), None)),
+        ("list --meta=", Wanted::List(None, Some(""))),
+        ("list --query -", Wanted::List(Some("-"), None)),
+        ("list --query=-x", Wanted::List(Some("-x"), None)),
+        ("list --query=a=b", Wanted::List(Some("a=b"), None)),
+        ("list --query list", Wanted::List(Some("list"), None)),
+        ("list --", Wanted::List(None, None)),
+        ("show", Wanted::Show(false)),
+        ("show --back", Wanted::Show(true)),
+        ("check", Wanted::Check),
+        ("codes", Wanted::Codes(false)),
+        ("codes --learn", Wanted::Codes(true)),
+    ] {
+        let words = words_of(rt.alloc(), line)?;
+        let answer = read_words(rt.alloc(), &words);
+        assert!(rt; is_wanted(&answer, wanted), "{line}");
+    }
+    Ok(())
+}
+
+#[test]
+fn lines_that_are_none(rt: HostRuntime) -> Result<(), Fail> {
+    for line in [
+        "",
+        "lis",
+        "lists",
+        "List",
+        "--query x list",
+        "--help",
+        "--version",
+        "help",
+        "list --help",
+        "list --version",
+        "list -h",
+        "list --none",
+        "list --quer x",
+        "list -q x",
+        "list --query",
+        "list --query --",
+        "list --query -x",
+        "list --query --meta y",
+        "list --query x --query y",
+        "list --query=x --query=x",
+        "list --query x y",
+        "list -- --query x",
+        "list -",
+        "list ",
+        "list --list 1",
+        "show --back --back",
+        "show --back=",
+        "show --back yes",
+        "show --learn",
+        "check extra",
+        "check ",
+        "codes --learn --back",
+        "replay",
+    ] {
+        let words = words_of(rt.alloc(), line)?;
+        let answer = read_words(rt.alloc(), &words);
+        assert!(rt; is_wanted(&answer, Wanted::Usage), "{line}");
+    }
+    let answer = read_words(rt.alloc(), &[]);
+    assert!(rt; is_wanted(&answer, Wanted::Usage));
+    Ok(())
+}
+
+#[test]
+fn number_words(rt: HostRuntime) {
+    for (word, wanted) in [
+        ("0", Some(0)),
+        ("7", Some(7)),
+        ("007", Some(7)),
+        ("0000000000", Some(0)),
+        ("4294967295", Some(4294967295)),
+        ("4294967296", None),
+        ("9999999999", None),
+        ("00000000001", None),
+        ("", None),
+        ("+7", None),
+        ("-7", None),
+        (" 7", None),
+        ("7a", None),
+        ("1e3", None),
+    ] {
+        assert_eq!(rt; number_word(word), wanted, "{word}");
+    }
+}
