@@ -1,0 +1,10 @@
+//! The table of content codes: which kind of value each code has, and under which name `/content-codes` tells it.
+//! Contracts see a table as the list of its rows. The kind of a code is the kind in its row (`specs/Rows.antt`).
+#![tactic(auto)]
+
+mod row;
+mod standard;
+mod table;
+
+pub use row::CodeRow;
+pub use table::CodeTable;
