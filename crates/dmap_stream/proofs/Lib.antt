@@ -4,3 +4,4 @@ pub mod Wholes
 pub mod Settled
 pub mod Takings
 pub mod Heads
+pub mod Readings

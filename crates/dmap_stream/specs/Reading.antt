@@ -33,7 +33,7 @@ bytes_taken p = elim p.phase [ Head ↦ p.start + length p.part | Payload c kind
 -- no tag has begun that is not whole
 abbrev pub is_between : Position → Bool
 is_between p =
-    elim p.phase [ Head ↦ is_empty p.part && is_empty (open_after p.start p.around) | Payload c kind len ↦ false ]
+    elim p.phase [ Head ↦ is_empty (open_after p.start p.around) && is_empty p.part | Payload c kind len ↦ false ]
 
 -- an event comes next, and then what the new position goes on with; or the fault that bytes show
 abbrev pub Moves : List CodeRow → ℕ → (List ℕ → Walk) → Position → Result (Unit {0}) StreamError → Type 0

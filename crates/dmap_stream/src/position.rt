@@ -71,7 +71,8 @@ impl Position {
         requires quiet { ready_at self.old ≡ [] }
         requires due { is_due self.old ≡ true }
         requires counted { bytes_taken self.old + length piece.now < 2 ^ 64 }
-        ensures { Takes table.now top (resumed table.now top self.old) piece.now self.new result }
+        ensures takes { Takes table.now top (resumed table.now top self.old) piece.now self.new result }
+        ensures count { IfOk result (λ n. bytes_taken self.new ≡ bytes_taken self.old + n) }
     {
         let phase = self.phase;
         match phase {
@@ -93,9 +94,10 @@ impl Position {
         requires head { self.old.phase ≡ Phase.Head }
         requires due { length self.old.part < 8 }
         requires counted { self.old.start + length self.old.part + length piece.now < 2 ^ 64 }
-        ensures { Takes table.now top
+        ensures takes { Takes table.now top
             (λ rest. at_head (walk_from table.now top) table.now top self.old.start self.old.around (self.old.part ++ rest))
             piece.now self.new result }
+        ensures count { IfOk result (λ n. bytes_taken self.new ≡ self.old.start + length self.old.part + n) }
     {
         let taken = self.part.fill(8, piece)?;
         if self.part.len() < 8 {
@@ -117,9 +119,10 @@ impl Position {
         requires quiet { ready_at self.old ≡ [] }
         requires whole { length self.old.part ≡ 8 }
         requires counted { self.old.start + 8 + length piece.now < 2 ^ 64 }
-        ensures { Takes table.now top
+        ensures takes { Takes table.now top
             (λ rest. at_head (walk_from table.now top) table.now top self.old.start self.old.around (self.old.part ++ rest))
             piece.now self.new result }
+        ensures count { IfOk result (λ n. bytes_taken self.new ≡ self.old.start + 8 + n) }
     {
         let (code, len) = self.part.head();
         if let Some(error) = self.around.fault(top, self.start, code, len) {
@@ -138,8 +141,9 @@ impl Position {
     fn open_list(&mut self, code: Code, len: u32) -> Result<(), StreamError>
         requires quiet { ready_at self.old ≡ [] }
         requires counted { self.old.start + 8 < 2 ^ 64 }
-        ensures { (rows : List CodeRow) (limit : ℕ)
+        ensures moves { (rows : List CodeRow) (limit : ℕ)
             → Moves rows limit (at_body (walk_from rows limit) self.old.start self.old.around code Kind.List len) self.new result }
+        ensures count { IfOk result (λ _. bytes_taken self.new ≡ self.old.start + 8) }
     {
         let end = self.start as u128 + 8 + len as u128;
         self.around.push(Container {
@@ -170,10 +174,11 @@ impl Position {
         requires payload { self.old.phase ≡ Phase.Payload code kind len }
         requires within { length self.old.part ≤ len }
         requires counted { self.old.start + 8 + length self.old.part + length piece.now < 2 ^ 64 }
-        ensures { (rows : List CodeRow) (limit : ℕ)
+        ensures takes { (rows : List CodeRow) (limit : ℕ)
             → Takes rows limit
             (λ rest. at_payload (walk_from rows limit) self.old.start self.old.around code kind len (self.old.part ++ rest))
             piece.now self.new result }
+        ensures count { IfOk result (λ n. bytes_taken self.new ≡ self.old.start + 8 + length self.old.part + n) }
     {
         let taken = self.part.fill(len as usize, piece)?;
         if self.part.len() < len as usize {
@@ -187,10 +192,11 @@ impl Position {
         requires value { is_list kind ≡ false }
         requires quiet { ready_at self.old ≡ [] }
         requires counted { self.old.start + 8 + length self.old.part < 2 ^ 64 }
-        ensures { (rows : List CodeRow) (limit : ℕ)
+        ensures moves { (rows : List CodeRow) (limit : ℕ)
             → Moves rows limit
             (λ rest. at_payload (walk_from rows limit) self.old.start self.old.around code kind (length self.old.part) (self.old.part ++ rest))
             self.new result }
+        ensures count { IfOk result (λ _. bytes_taken self.new ≡ self.old.start + 8 + length self.old.part) }
     {
         let value = self.value(alloc, kind)?;
         self.ready = Some(Event::Leaf {
@@ -274,7 +280,7 @@ impl Position {
     {
         let phase = self.phase;
         match phase {
-            Phase::Head => self.part.len() == 0 && self.around.all_end_at(self.start),
+            Phase::Head => self.around.all_end_at(self.start) && self.part.len() == 0,
             Phase::Payload { .. } => false,
         }
     }
