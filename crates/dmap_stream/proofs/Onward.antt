@@ -3,6 +3,7 @@ use Rattle.std.proofs.Common.{◌≡◌, ℕ, zero, suc, ◌+◌, ◌<◌, ◌�
 use Rattle.std.proofs.lemmas.Bool.{ltb-false}
 use Rattle.std.proofs.lemmas.List.{length-drop}
 use Rattle.dmap_tags.specs.Codes.{Four, code_of}
+use Rattle.dmap_tags.specs.Typed.{leaf_at, value_of}
 use Rattle.dmap_tags.specs.declared.kinds.Kind.{Kind}
 use Rattle.code_table.specs.declared.row.CodeRow.{CodeRow}
 use Rattle.code_table.specs.Rows.{kind_in}
@@ -10,7 +11,6 @@ use Rattle.dmap_stream.specs.declared.containers.Container.{Container}
 use Rattle.dmap_stream.specs.declared.event.Event.TheVariants.{Open, Leaf}
 use Rattle.dmap_stream.specs.declared.refusal.StreamError.{StreamError}
 use Rattle.dmap_stream.specs.declared.refusal.StreamError.TheVariants.{ShortHead}
-use Rattle.dmap_stream.specs.Typed.{typed}
 use Rattle.dmap_stream.specs.Walk.{Walk, between, inside, broken, ends, behind, is_empty, is_list, closes, open_after, is_short, parent_of, fault_at, told_length, container, Onward, at_payload, at_body, unless_fault, behind_head, at_head, at_place, walk, walk_from}
 
 -- two continuations that say the same where fewer than n bytes are left
@@ -29,7 +29,7 @@ choose_first false w w' v v' h k = k
 payload_agrees : (n : ℕ) (f g : Onward) → AgreeBelow n f g → (at : ℕ) (around : List Container) (c : Four) (kind : Kind) (len : ℕ) (bytes : List ℕ) → length bytes < n → at_payload f at around c kind len bytes ≡ at_payload g at around c kind len bytes
 payload_agrees n f g h at around c kind len bytes l =
     choose (nat_lt (length bytes) len) _ _ _
-    (λ e. ap (behind (Leaf c (typed kind (take len bytes)) at ∷ [])) (h (at + 8 + len) around (drop len bytes) (omega (arith, length-drop len bytes))))
+    (λ e. ap (behind (Leaf c (value_of (leaf_at kind (take len bytes))) at ∷ [])) (h (at + 8 + len) around (drop len bytes) (omega (arith, length-drop len bytes))))
 
 body_agrees : (n : ℕ) (f g : Onward) → AgreeBelow n f g → (at : ℕ) (around : List Container) (c : Four) (kind : Kind) (len : ℕ) (bytes : List ℕ) → length bytes < n → at_body f at around c kind len bytes ≡ at_body g at around c kind len bytes
 body_agrees n f g h at around c kind len bytes l =

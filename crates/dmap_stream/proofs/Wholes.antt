@@ -3,23 +3,23 @@ use Rattle.std.proofs.Common.{◌≡◌, ◌≢◌, ℕ, zero, suc, ◌+◌, ◌
 use Rattle.std.proofs.Math.Seq.{take-append_seam, drop-append_seam}
 use Rattle.std.proofs.lemmas.Bool.{le-ltb, cond-false}
 use Rattle.dmap_tags.specs.Codes.{Four, code_of}
+use Rattle.dmap_tags.specs.Typed.{leaf_at, value_of}
 use Rattle.dmap_tags.specs.declared.kinds.Kind.{Kind}
 use Rattle.dmap_tags.specs.declared.tree.Value.{Value}
 use Rattle.code_table.specs.declared.row.CodeRow.{CodeRow}
 use Rattle.dmap_stream.specs.declared.containers.Container.{Container}
 use Rattle.dmap_stream.specs.declared.event.Event.TheVariants.{Leaf}
-use Rattle.dmap_stream.specs.Typed.{typed}
 use Rattle.dmap_stream.specs.Walk.{Walk, ends, inside, between, behind, is_empty, told_length, Onward, at_payload, behind_head, at_head}
 
 payload_whole : (onward : Onward) (at : ℕ) (around : List Container) (c : Four) (kind : Kind) (part rest : List ℕ) →
-    at_payload onward at around c kind (length part) (part ++ rest) ≡ behind (Leaf c (typed kind part) at ∷ []) (onward (at + 8 + length part) around rest)
+    at_payload onward at around c kind (length part) (part ++ rest) ≡ behind (Leaf c (value_of (leaf_at kind part)) at ∷ []) (onward (at + 8 + length part) around rest)
 payload_whole onward at around c kind part rest =
     cond-false _ _ _ (le-ltb (length (part ++ rest)) (length part) (omega (arith, length-append part rest)))
     ∙ rw (take-append_seam, drop-append_seam) refl
 
 -- the same with the value and the length as calls tell them
 pub payload_done : (onward : Onward) (at : ℕ) (around : List Container) (c : Four) (kind : Kind) (part rest : List ℕ) (value : Value) (n : ℕ) →
-    value ≡ typed kind part → n ≡ length part →
+    value ≡ value_of (leaf_at kind part) → n ≡ length part →
     at_payload onward at around c kind (length part) (part ++ rest) ≡ behind (Leaf c value at ∷ []) (onward (at + 8 + n) around rest)
 payload_done onward at around c kind part rest value n v e =
     payload_whole onward at around c kind part rest

@@ -1,4 +1,3 @@
-pub mod Typed
 pub mod Walk
 pub mod Reading
 pub mod Reader

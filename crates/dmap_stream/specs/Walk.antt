@@ -3,6 +3,7 @@
 use Rattle.std.specs.Prelude.{ℕ, zero, suc, ◌+◌, List, [], ◌∷◌, ◌++◌, length, take, drop, Bool, true, false, ◌&&◌, ◌==◌, nat_lt, nat_le, if◌then◌else◌, Option, Some, None}
 use Rattle.std.specs.Int.{from_be_bytes, w32}
 use Rattle.dmap_tags.specs.Codes.{Four, code_of}
+use Rattle.dmap_tags.specs.Typed.{leaf_at, value_of}
 use Rattle.dmap_tags.specs.declared.kinds.Kind.{Kind}
 use Rattle.dmap_tags.specs.declared.kinds.Kind.TheVariants.{U8, I8, U16, I16, U32, I32, U64, I64, Text, Date, Version, List as Members, Opaque}
 use Rattle.code_table.specs.declared.row.CodeRow.{CodeRow}
@@ -12,7 +13,6 @@ use Rattle.dmap_stream.specs.declared.event.Event.{Event}
 use Rattle.dmap_stream.specs.declared.event.Event.TheVariants.{Open, Leaf, Close}
 use Rattle.dmap_stream.specs.declared.refusal.StreamError.{StreamError}
 use Rattle.dmap_stream.specs.declared.refusal.StreamError.TheVariants.{TooLarge, TooDeep, Overrun, ShortHead}
-use Rattle.dmap_stream.specs.Typed.{typed}
 
 -- how bytes end: between two top tags, inside one, or broken at the first faulty place
 pub data Ending : Type 0 where
@@ -96,7 +96,7 @@ Onward = ℕ → List Container → List ℕ → Walk
 abbrev pub at_payload : Onward → ℕ → List Container → Four → Kind → ℕ → List ℕ → Walk
 at_payload onward at around c kind len bytes =
     if nat_lt (length bytes) len then ends inside
-    else behind (Leaf c (typed kind (take len bytes)) at ∷ []) (onward (at + 8 + len) around (drop len bytes))
+    else behind (Leaf c (value_of (leaf_at kind (take len bytes))) at ∷ []) (onward (at + 8 + len) around (drop len bytes))
 
 abbrev pub container : Four → ℕ → ℕ → Container
 container c at len = record { code = c; at = at; end = at + 8 + len }

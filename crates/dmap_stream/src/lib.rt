@@ -9,7 +9,6 @@ mod event;
 mod position;
 mod reader;
 mod refusal;
-mod typed;
 
 pub use event::Event;
 pub use reader::{DmapReader, Limits};

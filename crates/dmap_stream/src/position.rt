@@ -2,7 +2,7 @@
 
 ghost use Rattle.std.specs.Prelude.{◌≡◌, ◌+◌, ◌^◌, ◌<◌, ◌≤◌, ◌∷◌, [], ◌++◌, length, true, false, not, List, ℕ, None, IfOk, IfSome, IfNone, MatchResult};
 ghost use Rattle.code_table.specs.declared.row.CodeRow.{CodeRow};
-ghost use Rattle.dmap_stream.specs.Typed.{typed};
+ghost use Rattle.dmap_tags.specs.Typed.{leaf_at, value_of};
 ghost use Rattle.dmap_stream.specs.Walk.{is_empty, is_list, closes, open_after, is_short, at_head, at_payload, at_body, walk_from};
 ghost use Rattle.dmap_stream.specs.Reading.{ready_at, resumed, is_due, bytes_taken, Moves, Takes, is_between};
 
@@ -10,9 +10,8 @@ use crate::buffer::Buffer;
 use crate::containers::{Container, Containers};
 use crate::event::Event;
 use crate::refusal::StreamError;
-use crate::typed::leaf;
 use code_table::CodeTable;
-use dmap_tags::{Code, Kind, Value};
+use dmap_tags::{Code, Kind, Value, leaf};
 use std::alloc::{AllocError, Global};
 
 /// What the reader takes next.
@@ -211,7 +210,7 @@ impl Position {
     /// The payload as a value of the kind.
     fn value(&self, alloc: Global, kind: Kind) -> Result<Value, AllocError>
         requires { is_list kind ≡ false }
-        ensures { IfOk result (λ v. v ≡ typed kind self.now.part) }
+        ensures { IfOk result (λ v. v ≡ value_of (leaf_at kind self.now.part)) }
     {
         leaf(alloc, kind, self.part.as_slice())
     }
