@@ -58,22 +58,26 @@ pub fed_more : (rows : List CodeRow) (limit : ℕ) (fed piece : List ℕ) (hande
     HasRead (fed ++ take n piece) handed (record { rows = rows; limit = limit; position = q; error = None })
 fed_more rows limit fed piece handed p q n quiet takes count h =
     let long : length (fed ++ take n piece) ≡ length fed + n = length-append fed (take n piece) ∙ ap (λ k. length fed + k) (length-take n piece ∙ (let within : n ≤ length piece = takes.0 in omega arith)) in
-    let before : bytes_taken p ≡ length fed = h.1 in
-    (takes.2, omega arith,
-     λ rest. took_on rows limit fed (take n piece) rest handed (ready_at p) (ready_at q) (resumed rows limit p (take n piece ++ rest)) (resumed rows limit q rest) quiet (h.2 (take n piece ++ rest)) (takes.3 rest))
+    let before : bytes_taken p ≡ length fed = h.1 in (
+      takes.2,
+      omega arith,
+      λ rest. took_on rows limit fed (take n piece) rest handed (ready_at p) (ready_at q) (resumed rows limit p (take n piece ++ rest)) (resumed rows limit q rest) quiet (h.2 (take n piece ++ rest)) (takes.3 rest),
+    )
 
 pub fed_broken : (rows : List CodeRow) (limit : ℕ) (fed piece : List ℕ) (handed : List Event) (p q : Position) (e : StreamError) →
     ready_at p ≡ [] → Takes rows limit (resumed rows limit p) piece q (Err e) →
     HasRead fed handed (record { rows = rows; limit = limit; position = p; error = None }) →
     HasRead (fed ++ piece) handed (record { rows = rows; limit = limit; position = q; error = Some e })
-fed_broken rows limit fed piece handed p q e quiet takes h =
-    ((λ rest. elim (memory_or e) [ inl memory ↦ (resumed rows limit p (piece ++ rest), unknown memory rest) | inr known ↦ (ends (broken e), told known rest) ]),
-     told)
+fed_broken rows limit fed piece handed p q e quiet takes h = (
+  (λ rest. elim (memory_or e) [ inl memory ↦ (resumed rows limit p (piece ++ rest), unknown memory rest) | inr known ↦ (ends (broken e), told known rest) ]),
+  told,
+)
   where
     unknown : e ≡ Memory → (rest : List ℕ) → walk_of rows limit ((fed ++ piece) ++ rest) ≡ behind (handed ++ ready_at q) (resumed rows limit p (piece ++ rest))
     unknown memory rest =
         ap (walk_of rows limit) (append_assoc fed piece rest) ∙ h.2 (piece ++ rest)
         ∙ ap (λ l. behind l (resumed rows limit p (piece ++ rest))) (no_more handed (ready_at p) quiet ∙ sym (no_more handed (ready_at q) (takes.0 memory)))
+
     told : e ≢ Memory → (rest : List ℕ) → walk_of rows limit ((fed ++ piece) ++ rest) ≡ behind (handed ++ ready_at q) (ends (broken e))
     told known rest =
         took_on rows limit fed piece rest handed (ready_at p) (ready_at q) (resumed rows limit p (piece ++ rest)) (ends (broken e)) quiet (h.2 (piece ++ rest)) (takes.1 known rest)
@@ -85,24 +89,28 @@ fed_none fed piece handed r h = subst (λ l. HasRead l handed r) (sym (append-ni
 -- what is fed after an error
 pub fed_after : (fed piece : List ℕ) (handed : List Event) (r : Reader) (e : StreamError) → r.error ≡ Some e → HasRead fed handed r → HasRead (fed ++ piece) handed r
 fed_after fed piece handed r e stopped h =
-    subst (ReadAs (fed ++ piece) handed r) (sym stopped)
-    ((λ rest. let later = (subst (ReadAs fed handed r) stopped h).0 (piece ++ rest) in (later.0, ap (walk_of r.rows r.limit) (append_assoc fed piece rest) ∙ later.1)),
-     λ known rest. ap (walk_of r.rows r.limit) (append_assoc fed piece rest) ∙ (subst (ReadAs fed handed r) stopped h).1 known (piece ++ rest))
+    subst (ReadAs (fed ++ piece) handed r) (sym stopped) (
+      (λ rest. let later = (subst (ReadAs fed handed r) stopped h).0 (piece ++ rest) in (later.0, ap (walk_of r.rows r.limit) (append_assoc fed piece rest) ∙ later.1)),
+      λ known rest. ap (walk_of r.rows r.limit) (append_assoc fed piece rest) ∙ (subst (ReadAs fed handed r) stopped h).1 known (piece ++ rest),
+    )
 
 -- an event that was ready is handed out
 pub handed_more : (rows : List CodeRow) (limit : ℕ) (error : Option StreamError) (fed : List ℕ) (handed es : List Event) (p q : Position) →
     ready_at p ≡ es ++ ready_at q → ((rest : List ℕ) → resumed rows limit q rest ≡ resumed rows limit p rest) → is_due q ≡ is_due p → bytes_taken q ≡ bytes_taken p →
     HasRead fed handed (record { rows = rows; limit = limit; position = p; error = error }) →
     HasRead fed (handed ++ es) (record { rows = rows; limit = limit; position = q; error = error })
-handed_more rows limit None fed handed es p q given goes due count h =
-    (due ∙ h.0, count ∙ h.1,
-     λ rest. h.2 rest ∙ ap (λ l. behind l (resumed rows limit p rest)) (moved) ∙ ap (behind ((handed ++ es) ++ ready_at q)) (sym (goes rest)))
+handed_more rows limit None fed handed es p q given goes due count h = (
+  due ∙ h.0,
+  count ∙ h.1,
+  λ rest. h.2 rest ∙ ap (λ l. behind l (resumed rows limit p rest)) (moved) ∙ ap (behind ((handed ++ es) ++ ready_at q)) (sym (goes rest)),
+)
   where
     moved : handed ++ ready_at p ≡ (handed ++ es) ++ ready_at q
     moved = ap (λ l. handed ++ l) given ∙ sym (append_assoc handed es (ready_at q))
-handed_more rows limit (Some e) fed handed es p q given goes due count h =
-    ((λ rest. ((h.0 rest).0, (h.0 rest).1 ∙ ap (λ l. behind l (h.0 rest).0) moved)),
-     λ known rest. h.1 known rest ∙ ap (λ l. behind l (ends (broken e))) moved)
+handed_more rows limit (Some e) fed handed es p q given goes due count h = (
+  (λ rest. ((h.0 rest).0, (h.0 rest).1 ∙ ap (λ l. behind l (h.0 rest).0) moved)),
+  λ known rest. h.1 known rest ∙ ap (λ l. behind l (ends (broken e))) moved,
+)
   where
     moved : handed ++ ready_at p ≡ (handed ++ es) ++ ready_at q
     moved = ap (λ l. handed ++ l) given ∙ sym (append_assoc handed es (ready_at q))
@@ -127,11 +135,12 @@ told_as fed handed r None h =
     ap (walk_of r.rows r.limit) (sym (append-nil fed)) ∙ h.2 []
     ∙ ap (behind (handed ++ ready r)) (quiet_as r.rows r.limit r.position r.position.phase refl h.0)
     ∙ ap (λ l. record { events = l; ending = ending_at r.position }) (append-nil (handed ++ ready r))
-told_as fed handed r (Some e) h =
-    (((h.0 []).0.events, ap (λ w. w.events) (ap (walk_of r.rows r.limit) (sym (append-nil fed)) ∙ (h.0 []).1)),
-     λ known.
-       ap (walk_of r.rows r.limit) (sym (append-nil fed)) ∙ h.1 known []
-       ∙ ap (λ l. record { events = l; ending = broken e }) (append-nil (handed ++ ready r)))
+told_as fed handed r (Some e) h = (
+  ((h.0 []).0.events, ap (λ w. w.events) (ap (walk_of r.rows r.limit) (sym (append-nil fed)) ∙ (h.0 []).1)),
+  λ known.
+      ap (walk_of r.rows r.limit) (sym (append-nil fed)) ∙ h.1 known []
+      ∙ ap (λ l. record { events = l; ending = broken e }) (append-nil (handed ++ ready r)),
+)
 
 pub told : (fed : List ℕ) (handed : List Event) (r : Reader) → HasRead fed handed r → Tells fed handed r
 told fed handed r h = told_as fed handed r r.error h
@@ -157,7 +166,7 @@ pub went_on : (rows : List CodeRow) (limit : ℕ) (fed piece : List ℕ) (handed
     HasRead fed handed old → HasRead (fed ++ take n piece) handed (record { rows = rows; limit = limit; position = q; error = error })
 went_on rows limit fed piece handed old p q error n goes is quiet takes count h =
     let before : HasRead fed handed (record { rows = rows; limit = limit; position = p; error = None }) =
-      subst (HasRead fed handed) (sym is ∙ ap (λ o. record { rows = rows; limit = limit; position = p; error = o }) goes) h in
+    subst (HasRead fed handed) (sym is ∙ ap (λ o. record { rows = rows; limit = limit; position = p; error = o }) goes) h in
     subst (λ o. HasRead (fed ++ take n piece) handed (record { rows = rows; limit = limit; position = q; error = o })) (sym goes)
     (fed_more rows limit fed piece handed p q n (none_ready (ready_at p) quiet) takes count before)
 
@@ -167,6 +176,6 @@ pub stopped : (rows : List CodeRow) (limit : ℕ) (fed piece : List ℕ) (handed
     HasRead fed handed old → HasRead (fed ++ piece) handed (record { rows = rows; limit = limit; position = q; error = Some e' })
 stopped rows limit fed piece handed old p q error e e' goes is quiet takes copied h =
     let before : HasRead fed handed (record { rows = rows; limit = limit; position = p; error = None }) =
-      subst (HasRead fed handed) (sym is ∙ ap (λ o. record { rows = rows; limit = limit; position = p; error = o }) goes) h in
+    subst (HasRead fed handed) (sym is ∙ ap (λ o. record { rows = rows; limit = limit; position = p; error = o }) goes) h in
     subst (λ o. HasRead (fed ++ piece) handed (record { rows = rows; limit = limit; position = q; error = Some o })) (sym copied)
     (fed_broken rows limit fed piece handed p q e (none_ready (ready_at p) quiet) takes before)

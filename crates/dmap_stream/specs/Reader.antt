@@ -18,6 +18,10 @@ pub record Reader : Type 0 where
 abbrev pub ready : Reader → List Event
 ready r = ready_at r.position
 
+-- how many of the bytes that were fed it took
+abbrev pub taken : Reader → ℕ
+taken r = bytes_taken r.position
+
 -- what holds of a reader that no error has stopped
 abbrev pub Goes : Position → Option StreamError → Type 0
 Goes p error = error ≡ None → (is_due p ≡ true) × (bytes_taken p < 2 ^ 64)
@@ -30,7 +34,7 @@ ending_at p = if is_between p then between else inside
 -- that are ready, and then goes on where the reader stands
 abbrev pub ReadAs : List ℕ → List Event → Reader → Option StreamError → Type 0
 ReadAs fed handed r None =
-    (is_due r.position ≡ true) × (bytes_taken r.position ≡ length fed)
+    (is_due r.position ≡ true) × (taken r ≡ length fed)
     × ((rest : List ℕ) → walk_of r.rows r.limit (fed ++ rest) ≡ behind (handed ++ ready r) (resumed r.rows r.limit r.position rest))
 ReadAs fed handed r (Some e) =
     ((rest : List ℕ) → (later : Walk) × (walk_of r.rows r.limit (fed ++ rest) ≡ behind (handed ++ ready r) later))
@@ -60,6 +64,6 @@ Tells fed handed r = TellsAs fed handed r r.error
 abbrev pub ended : Reader → Result (Unit {0}) StreamError
 ended r =
     elim r.error [
-      None ↦ (if is_between r.position then Ok tt else Err (Truncated (bytes_taken r.position)))
-    | Some e ↦ Err e
+      | None ↦ (if is_between r.position then Ok tt else Err (Truncated (taken r)))
+      | Some e ↦ Err e
     ]

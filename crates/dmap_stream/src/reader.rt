@@ -3,8 +3,7 @@
 ghost use Rattle.std.specs.Prelude.{◌≡◌, ◌≢◌, ◌+◌, ◌<◌, ◌≤◌, ◌^◌, ℕ, List, [], ◌∷◌, ◌++◌, length, take, None, Some, IfOk, IfErr, IfSome, IfNone, MatchResult, option_to_list};
 ghost use Rattle.dmap_stream.specs.declared.event.Event.{Event};
 ghost use Rattle.dmap_stream.specs.Walk.{walk_of, between, inside};
-ghost use Rattle.dmap_stream.specs.Reading.{bytes_taken};
-ghost use Rattle.dmap_stream.specs.Reader.{ready, HasRead, Tells, fed_with, ended};
+ghost use Rattle.dmap_stream.specs.Reader.{ready, taken, HasRead, Tells, fed_with, ended};
 
 use crate::event::Event;
 use crate::position::Position;
@@ -48,7 +47,7 @@ impl DmapReader {
     /// A reader that was fed nothing. It knows the kinds of values by the table.
     pub fn new(alloc: Global, table: &CodeTable, limits: Limits) -> Result<DmapReader, AllocError>
         ensures table { IfOk result (λ r. (r.rows ≡ table.now) × (r.limit ≡ limits.top)) }
-        ensures idle { IfOk result (λ r. (r.error ≡ None) × (ready r ≡ [])) }
+        ensures idle { IfOk result (λ r. (r.error ≡ None) × (ready r ≡ []) × (taken r ≡ 0)) }
         ensures begins { IfOk result (λ r. HasRead [] [] r) }
     {
         Ok(DmapReader {
@@ -63,7 +62,7 @@ impl DmapReader {
     /// Takes bytes until an event is ready or the piece ends, and answers how many it took. While an event is
     /// ready it takes none. After an error it answers that error again.
     pub fn feed(&mut self, piece: &[u8]) -> Result<usize, StreamError>
-        requires { self.old.error ≡ None → bytes_taken self.old.position + length piece.now < 2 ^ 64 }
+        requires { self.old.error ≡ None → taken self.old + length piece.now < 2 ^ 64 }
         ensures same { (self.new.rows ≡ self.old.rows) × (self.new.limit ≡ self.old.limit) }
         ensures error { MatchResult result (λ _. self.new.error ≡ None)
             (λ e. self.new.error ≡ Some e) }
@@ -71,6 +70,7 @@ impl DmapReader {
         ensures waits { ready self.old ≢ [] → self.new ≡ self.old }
         ensures took { IfOk result
             (λ n. (n ≤ length piece.now) × (n < length piece.now → ready self.new ≢ [])) }
+        ensures count { IfOk result (λ n. taken self.new ≡ taken self.old + n) }
         ensures read { (fed : List ℕ) (handed : List Event) → HasRead fed handed self.old
             → HasRead (fed_with fed piece.now result) handed self.new }
         ensures tells { (fed : List ℕ) (handed : List Event) → HasRead fed handed self.old
@@ -100,6 +100,7 @@ impl DmapReader {
         ensures some { IfSome result (λ event. ready self.old ≡ event ∷ ready self.new) }
         ensures same { (self.new.rows ≡ self.old.rows) × (self.new.limit ≡ self.old.limit) }
         ensures error { self.new.error ≡ self.old.error }
+        ensures count { taken self.new ≡ taken self.old }
         ensures read { (fed : List ℕ) (handed : List Event) → HasRead fed handed self.old
             → HasRead fed (handed ++ option_to_list result) self.new }
     {
@@ -113,7 +114,7 @@ impl DmapReader {
             → MatchResult result
             (λ _. (walk_of self.rows self.limit fed).ending ≡ between)
             (λ e. ((walk_of self.rows self.limit fed).ending ≡ inside)
-                × (e ≡ StreamError.Truncated (length fed))) }
+            × (e ≡ StreamError.Truncated (length fed))) }
     {
         if let Some(error) = &self.error {
             return Err(error.copy());

@@ -19,8 +19,8 @@ returns-then-is_ready-clause-tells c = λ fed handed h. told (fed ++ take 0 c.ar
 pub returns-in-Ok-clause-read : goal.returns-in-Ok-clause-read
 returns-in-Ok-clause-read c =
     λ fed handed h.
-      went_on c.self.inside.table c.self.inside.limits.top fed c.args.piece.now handed c.args.self.now c.self.inside.position c.take.new.self c.self.inside.error c.in-Ok.taken
-      c.in_default.is c.self.view_is (sym c.is_ready.ensures ∙ c.if-is_ready.false) c.in-Ok.ensures.takes c.in-Ok.ensures.count h
+    went_on c.self.inside.table c.self.inside.limits.top fed c.args.piece.now handed c.args.self.now c.self.inside.position c.take.new.self c.self.inside.error c.in-Ok.taken
+    c.in_default.is c.self.view_is (sym c.is_ready.ensures ∙ c.if-is_ready.false) c.in-Ok.ensures.takes c.in-Ok.ensures.count h
 
 pub returns-in-Ok-clause-tells : goal.returns-in-Ok-clause-tells
 returns-in-Ok-clause-tells c =
@@ -30,8 +30,8 @@ returns-in-Ok-clause-tells c =
 pub returns-in-Err-clause-read : goal.returns-in-Err-clause-read
 returns-in-Err-clause-read c =
     λ fed handed h.
-      stopped c.self.inside.table c.self.inside.limits.top fed c.args.piece.now handed c.args.self.now c.self.inside.position c.take.new.self c.self.inside.error c.in-Err.error c.copy-in-Err.result
-      c.in_default.is c.self.view_is (sym c.is_ready.ensures ∙ c.if-is_ready.false) c.in-Err.ensures.takes c.copy-in-Err.ensures h
+    stopped c.self.inside.table c.self.inside.limits.top fed c.args.piece.now handed c.args.self.now c.self.inside.position c.take.new.self c.self.inside.error c.in-Err.error c.copy-in-Err.result
+    c.in_default.is c.self.view_is (sym c.is_ready.ensures ∙ c.if-is_ready.false) c.in-Err.ensures.takes c.copy-in-Err.ensures h
 
 pub returns-in-Err-clause-tells : goal.returns-in-Err-clause-tells
 returns-in-Err-clause-tells c =
