@@ -3,9 +3,11 @@
 #![tactic(auto)]
 
 mod fitting;
+mod reply;
 mod row;
 mod standard;
 mod table;
 
+pub use reply::CodeError;
 pub use row::CodeRow;
 pub use table::CodeTable;

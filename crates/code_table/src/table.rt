@@ -1,7 +1,7 @@
 //! The table and the questions that it answers.
 
-ghost use Rattle.std.specs.Prelude.{◌≡◌, IfOk};
-ghost use Rattle.code_table.specs.Rows.{kind_in, first_named, is_browse_item, is_browse_list};
+ghost use Rattle.std.specs.Prelude.{◌≡◌, true, IfOk};
+ghost use Rattle.code_table.specs.Rows.{kind_in, first_named, is_browse_item, is_browse_list, codes_differ};
 ghost use Rattle.code_table.specs.Standard.{standard_rows};
 
 use crate::row::CodeRow;
@@ -36,6 +36,18 @@ impl CodeTable {
         Ok(CodeTable {
             rows: standard::rows_of(alloc, &standard::STANDARD)?,
         })
+    }
+
+    /// A table of these rows.
+    pub(crate) fn of(rows: Vec<CodeRow>) -> CodeTable
+        requires { codes_differ rows.items ≡ true }
+        ensures { result ≡ rows.items }
+    {
+        CodeTable { rows }
+    }
+
+    pub(crate) fn allocator(&self) -> Global {
+        *self.rows.allocator()
     }
 
     pub fn rows(&self) -> &[CodeRow]

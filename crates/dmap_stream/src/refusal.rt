@@ -7,7 +7,7 @@ use std::alloc::AllocError;
 use thiserror::Error;
 
 /// Why bytes were refused. `at` is the offset of the faulty tag's head.
-#[derive(Debug, Drop, Error)]
+#[derive(Debug, Drop, PartialEq, Eq, Error)]
 pub enum StreamError {
     #[error("the tag at {at} is longer than the limit")]
     TooLarge { at: u64 },
