@@ -1,0 +1,11 @@
+use Rattle.std.proofs.Common.{◌≡◌, [], true, drop}
+use Rattle.dmap_tags.specs.Tree.{trees_of}
+use Rattle.code_table.specs.Rows.{codes_differ}
+use Rattle.code_table.specs.Reply.{rows_from}
+use Rattle.code_table.proofs.reply.told_rows.Given as goal
+
+-- the members that are left, behind the rows so far, answer as all of them do
+abbrev pub invariant-loop-index : goal.invariant-loop-index
+invariant-loop-index l =
+    (rows_from l.index l.rows.items (trees_of (drop l.index l.members)) ≡ rows_from 0 [] (trees_of l.members))
+    × (codes_differ l.rows.items ≡ true)

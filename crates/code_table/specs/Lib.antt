@@ -1,0 +1,4 @@
+pub mod Rows
+pub mod Standard
+pub mod Fits
+pub mod Reply

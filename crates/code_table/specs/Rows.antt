@@ -1,0 +1,48 @@
+-- What a table of content codes says: the kind of a tag's value and the code of a name, by the first row that has
+-- the code or the name.
+use Rattle.std.specs.Prelude.{◌≡◌, ℕ, List, [], ◌∷◌, Bool, true, false, not, ◌==◌, ◌&&◌, ◌||◌, if◌then◌else◌, Option, Some, None, codes}
+use Rattle.std.specs.Str.{bytes_eq}
+use Prim.Native.String.{String}
+use Rattle.dmap_tags.specs.Codes.{Four, code, code_of}
+use Rattle.dmap_tags.specs.declared.kinds.Kind.{Kind}
+use Rattle.dmap_tags.specs.declared.kinds.Kind.TheVariants.{Text, Opaque}
+use Rattle.code_table.specs.declared.row.CodeRow.{CodeRow}
+use Rattle.code_table.specs.declared.standard.StandardRow.{StandardRow}
+
+abbrev pub same_code : Four → Four → Bool
+same_code a b = (a.0 == b.0) && ((a.1 == b.1) && ((a.2 == b.2) && (a.3 == b.3)))
+
+-- the kind in the row of the code, and opaque where it has none
+abbrev pub row_kind : List CodeRow → Four → Kind
+row_kind [] c = Opaque
+row_kind (row ∷ rows) c = if same_code row.code c then row.kind else row_kind rows c
+
+-- the lists of a browse reply: artists, albums, genres, composers
+abbrev pub is_browse_list : Four → Bool
+is_browse_list c = same_code c (code "abar") || (same_code c (code "abal") || (same_code c (code "abgn") || same_code c (code "abcp")))
+
+-- an mlit of such a list carries the text itself
+abbrev pub is_browse_item : Option Four → Four → Bool
+is_browse_item None c = false
+is_browse_item (Some parent) c = same_code c (code "mlit") && is_browse_list parent
+
+-- the kind of a tag's value, by its code and that of the list around it
+abbrev pub kind_in : List CodeRow → Option Four → Four → Kind
+kind_in rows parent c = if is_browse_item parent c then Text else row_kind rows c
+
+abbrev pub first_named : List ℕ → List CodeRow → Option Four
+first_named name [] = None
+first_named name (row ∷ rows) = if bytes_eq row.name name then Some row.code else first_named name rows
+
+abbrev pub is_coded : Four → List CodeRow → Bool
+is_coded c [] = false
+is_coded c (row ∷ rows) = same_code row.code c || is_coded c rows
+
+-- no code has two rows
+abbrev pub codes_differ : List CodeRow → Bool
+codes_differ [] = true
+codes_differ (row ∷ rows) = not (is_coded row.code rows) && codes_differ rows
+
+-- the row that constant data stand for
+abbrev pub row_of : StandardRow → CodeRow
+row_of row = record { code = code_of row.0; name = row.2.now; kind = row.1 }

@@ -1,0 +1,13 @@
+//! The table of content codes: which kind of value each code has, and under which name `/content-codes` tells it.
+//! Contracts see a table as the list of its rows. The kind of a code is the kind in its row (`specs/Rows.antt`).
+#![tactic(auto)]
+
+mod fitting;
+mod reply;
+mod row;
+mod standard;
+mod table;
+
+pub use reply::CodeError;
+pub use row::CodeRow;
+pub use table::CodeTable;

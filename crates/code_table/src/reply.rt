@@ -1,0 +1,239 @@
+//! The reply to `/content-codes`.
+
+ghost use Rattle.std.specs.Prelude.{◌≡◌, ◌≢◌, suc, ◌∷◌, [], ◌++◌, true, false, Option, IfOk, OnOk, MatchResult, MatchOption, Some, None, Ok, Err, option_map, option_copied};
+ghost use Rattle.dmap_tags.specs.Tree.{Trees, more, trees_of};
+ghost use Rattle.code_table.specs.Rows.{is_coded, codes_differ};
+ghost use Rattle.code_table.specs.Reply.{table_reply, entry_of, number_of, numbered, type_of, first_in, number_in, type_in, name_in, entry_row, row_more, rows_from, table_of};
+
+use crate::row::CodeRow;
+use crate::table::CodeTable;
+use dmap_tags::{Code, Kind, Tag, Tags, Text, Value};
+use std::alloc::{AllocError, AllocFailed, Global};
+use thiserror::Error;
+
+/// Why a tag tells no table. `index` counts the members of the reply from 0.
+#[derive(Debug, Drop, Error)]
+pub enum CodeError {
+    #[error("the tag is no list of content codes")]
+    NotReply,
+    /// A member lacks its code, its name or its type.
+    #[error("member {index} is no entry")]
+    Entry { index: u64 },
+    /// A member has the code of one before it.
+    #[error("member {index} repeats a code")]
+    Repeated { index: u64 },
+    #[error("out of memory")]
+    Memory,
+}
+
+impl From<AllocError> for CodeError {
+    ghost use Rattle.code_table.specs.declared.reply.CodeError.TheVariants.{Memory};
+
+    ghost from_gives = { λ _ e. e ≡ Memory };
+
+    fn from(_error: AllocError) -> CodeError {
+        CodeError::Memory
+    }
+}
+
+impl<T: Drop> From<AllocFailed<T>> for CodeError {
+    ghost use Rattle.code_table.specs.declared.reply.CodeError.TheVariants.{Memory};
+
+    ghost from_gives = { λ _ e. e ≡ Memory };
+
+    fn from(_failed: AllocFailed<T>) -> CodeError {
+        CodeError::Memory
+    }
+}
+
+impl CodeTable {
+    /// The body of the reply to `/content-codes`: a status and an entry for each row.
+    pub fn reply(&self) -> Result<Tag, AllocError>
+        ensures { IfOk result (λ tag. tag ≡ table_reply self.now) }
+    {
+        let rows = self.rows();
+        let alloc = self.allocator();
+        let mut members = Tags::new(alloc);
+        members.push(Tag {
+            code: Code(*b"mstt"),
+            value: Value::U32(200),
+        })?;
+        for row in rows {
+            members.push(entry(alloc, row)?)?;
+        }
+        Ok(Tag {
+            code: Code(*b"mccr"),
+            value: Value::List(members),
+        })
+    }
+
+    /// The table that a reply to `/content-codes` tells. Members that are no entries are skipped.
+    pub fn from_reply(alloc: Global, tag: &Tag) -> Result<CodeTable, CodeError>
+        ensures { MatchResult result (λ table. table_of tag.now ≡ Ok table)
+            (λ e. e ≢ CodeError.Memory → table_of tag.now ≡ Err e) }
+    {
+        match &tag.value {
+            Value::List(members) => {
+                if tag.code == Code(*b"mccr") {
+                    Ok(CodeTable::of(told_rows(alloc, members.as_slice())?))
+                } else {
+                    Err(CodeError::NotReply)
+                }
+            }
+            _ => Err(CodeError::NotReply),
+        }
+    }
+}
+
+/// A row as a member of the reply.
+fn entry(alloc: Global, row: &CodeRow) -> Result<Tag, AllocError>
+    ensures { IfOk result (λ tag. tag ≡ entry_of row.now) }
+{
+    let mut parts = Tags::new(alloc);
+    let code = row.code.0;
+    parts.push(Tag {
+        code: Code(*b"mcnm"),
+        value: Value::U32(u32::from_be_bytes([code[0], code[1], code[2], code[3]])),
+    })?;
+    parts.push(Tag {
+        code: Code(*b"mcna"),
+        value: Value::Text(row.name.copy()?),
+    })?;
+    parts.push(Tag {
+        code: Code(*b"mcty"),
+        value: Value::U16(row.kind.number().unwrap_or(0)),
+    })?;
+    Ok(Tag {
+        code: Code(*b"mdcl"),
+        value: Value::List(parts),
+    })
+}
+
+/// The rows that the entries among the members tell.
+fn told_rows(alloc: Global, members: &[Tag]) -> Result<Vec<CodeRow>, CodeError>
+    ensures told { MatchResult result (λ rows. rows_from 0 [] (trees_of members.now) ≡ Ok rows.items)
+        (λ e. e ≢ CodeError.Memory → rows_from 0 [] (trees_of members.now) ≡ Err e) }
+    ensures differ { IfOk result (λ rows. codes_differ rows.items ≡ true) }
+{
+    let mut rows = Vec::new(alloc);
+    for (index, member) in members.iter().enumerate() {
+        add_member(&mut rows, index as u64, member)?;
+    }
+    Ok(rows)
+}
+
+/// Adds the row of an entry, and nothing for another member.
+fn add_member(rows: &mut Vec<CodeRow>, index: u64, member: &Tag) -> Result<(), CodeError>
+    requires { codes_differ rows.old.items ≡ true }
+    ensures differ { OnOk result (codes_differ rows.new.items ≡ true) }
+    ensures told { (members : Trees)
+        → MatchResult result
+        (λ _. rows_from index rows.old.items (more member.now members) ≡ rows_from (suc index) rows.new.items members)
+        (λ e. e ≢ CodeError.Memory → rows_from index rows.old.items (more member.now members) ≡ Err e) }
+{
+    if member.code != Code(*b"mdcl") {
+        return Ok(());
+    }
+    add_row(rows, index, entry_row(member)?)
+}
+
+/// Adds a row behind those that stood before.
+fn add_row(rows: &mut Vec<CodeRow>, index: u64, row: Option<CodeRow>) -> Result<(), CodeError>
+    requires { codes_differ rows.old.items ≡ true }
+    ensures differ { OnOk result (codes_differ rows.new.items ≡ true) }
+    ensures added { MatchResult result
+        (λ _. row_more index rows.old.items row Ok ≡ Ok rows.new.items)
+        (λ e. e ≢ CodeError.Memory → row_more index rows.old.items row Ok ≡ Err e) }
+{
+    let Some(row) = row else {
+        return Err(CodeError::Entry { index });
+    };
+    if is_coded(row.code, rows.as_slice()) {
+        return Err(CodeError::Repeated { index });
+    }
+    rows.push(row)?;
+    Ok(())
+}
+
+/// Some row has the code.
+fn is_coded(code: Code, rows: &[CodeRow]) -> bool
+    ensures { result ≡ is_coded code rows.now }
+{
+    for row in rows {
+        if row.code == code {
+            return true;
+        }
+    }
+    false
+}
+
+/// The row that an entry tells.
+fn entry_row(entry: &Tag) -> Result<Option<CodeRow>, AllocError>
+    ensures { IfOk result (λ row. row ≡ entry_row entry.now) }
+{
+    let Value::List(parts) = &entry.value else {
+        return Ok(None);
+    };
+    let parts = parts.as_slice();
+    let Some(number) = number_in(first_in(parts, Code(*b"mcnm"))) else {
+        return Ok(None);
+    };
+    let Some(kind) = type_in(first_in(parts, Code(*b"mcty"))) else {
+        return Ok(None);
+    };
+    let Some(name) = name_in(first_in(parts, Code(*b"mcna"))) else {
+        return Ok(None);
+    };
+    Ok(Some(CodeRow {
+        code: code_by(number),
+        name: name.copy()?,
+        kind: Kind::of_number(kind),
+    }))
+}
+
+/// The code whose four bytes spell the number.
+fn code_by(number: u32) -> Code
+    ensures { result ≡ numbered number }
+{
+    let b = number.to_be_bytes();
+    Code([b[0], b[1], b[2], b[3]])
+}
+
+/// The first tag with the code.
+fn first_in(tags: &[Tag], code: Code) -> Option<&Tag>
+    ensures { option_copied result ≡ first_in code (trees_of tags.now) }
+{
+    for tag in tags {
+        if tag.code == code {
+            return Some(tag);
+        }
+    }
+    None
+}
+
+fn number_in(tag: Option<&Tag>) -> Option<u32>
+    ensures { result ≡ number_in (option_copied tag.entry) }
+{
+    match &tag?.value {
+        Value::U32(n) => Some(*n),
+        _ => None,
+    }
+}
+
+fn type_in(tag: Option<&Tag>) -> Option<u16>
+    ensures { result ≡ type_in (option_copied tag.entry) }
+{
+    match &tag?.value {
+        Value::U16(n) => Some(*n),
+        _ => None,
+    }
+}
+
+fn name_in(tag: Option<&Tag>) -> Option<&Text>
+    ensures { option_copied result ≡ name_in (option_copied tag.entry) }
+{
+    match &tag?.value {
+        Value::Text(name) => Some(name),
+        _ => None,
+    }
+}
