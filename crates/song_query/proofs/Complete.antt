@@ -6,7 +6,8 @@ use Rattle.item_model.specs.QueryTree.{QueryTree, condition, and_of, or_of}
 use Rattle.item_model.specs.declared.condition.Op.{Op}
 use Rattle.item_model.specs.declared.condition.Op.TheVariants.{Is, IsNot}
 use Rattle.song_query.specs.Grammar.{Blank, space, plus, blank, blanks, Mark, quote, backslash, star, mark, is_mark, Atom, plain, escaped, lone, print_atoms, piece_of, are_atoms, print_starred, are_pieces, Value, print_value, value_pieces, print_op, CondForm, print_cond, cond_meaning, is_cond, UnitForm, cond as condition_form, group, AndForm, one, more, OrForm, only, either, print_unit, print_and, print_or, joined, unit_meaning, units, members, is_unit, is_and, is_or, QueryForm, print_query}
-use Rattle.song_query.specs.Machine.{Place, due, close, apart, opened, named, bang, valued, slashed, Level, State, start, with_unit, with_member, level_query, here, cond_of, step, go, bind, run}
+use Rattle.song_query.specs.declared.levels.Level.{Level}
+use Rattle.song_query.specs.Machine.{Place, due, close, apart, opened, named, bang, valued, slashed, State, start, with_unit, with_member, level_query, here, cond_of, step, go, bind, run}
 
 -- what is read leads from one state to another
 pub record Runs (s : State) (bytes : List ℕ) (t : State) : Type 0 where
@@ -112,7 +113,7 @@ escape_ends quote n o ps p l ls = refl
 escape_ends backslash n o ps p l ls = refl
 escape_ends star n o ps p l ls = refl
 
-plain_read : (c : ℕ) (n : List ℕ) (o : Op) (ps : List (List ℕ)) (p : List ℕ) (l : Level) (ls : List Level) → is_mark c ≡ false
+pub plain_read : (c : ℕ) (n : List ℕ) (o : Op) (ps : List (List ℕ)) (p : List ℕ) (l : Level) (ls : List Level) → is_mark c ≡ false
     → go (here (valued n o ps p) l ls) c ≡ Some (here (valued n o ps (p ++ c ∷ [])) l ls)
 plain_read c n o ps p l ls h = no_mark (c == 39) (c == 92) (c == 42) _ _ _ _ h
 

@@ -6,7 +6,8 @@ use Rattle.item_model.specs.Proper.{is_name_byte, are_name_bytes}
 use Rattle.item_model.specs.QueryTree.{QueryTree, and_of}
 use Rattle.item_model.specs.declared.condition.Op.{Op}
 use Rattle.song_query.specs.Grammar.{Blank, blank, blanks, Atom, print_atom, atom_meaning, print_atoms, piece_of, are_atoms, print_starred, are_pieces, print_op, UnitForm, AndForm, one, more, OrForm, only, either, print_unit, print_and, print_or, joined, unit_meaning, units, members, is_unit, is_and, is_or}
-use Rattle.song_query.specs.Machine.{Place, due, opened, named, bang, valued, slashed, Level, State, here}
+use Rattle.song_query.specs.declared.levels.Level.{Level}
+use Rattle.song_query.specs.Machine.{Place, due, opened, named, bang, valued, slashed, State, here}
 use Rattle.song_query.proofs.Complete.{lv, behind}
 
 -- what stands before the member of an `or` that is being read: blanks, or blanks, members and a comma

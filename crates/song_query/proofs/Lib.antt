@@ -4,3 +4,7 @@ pub mod Digits
 pub mod Complete
 pub mod Draft
 pub mod Sound
+pub mod Laws
+pub mod Wide
+pub mod Nested
+pub mod Reached

@@ -6,7 +6,8 @@ use Rattle.item_model.specs.QueryTree.{QueryTree, condition, and_of, or_of}
 use Rattle.item_model.specs.declared.condition.Op.{Op}
 use Rattle.item_model.specs.declared.condition.Op.TheVariants.{Is, IsNot}
 use Rattle.song_query.specs.Grammar.{Blank, space, plus, blank, blanks, Mark, quote, backslash, star, mark, is_mark, Atom, plain, escaped, lone, print_atoms, piece_of, are_atoms, print_starred, are_pieces, print_op, CondForm, print_cond, cond_meaning, is_and, UnitForm, cond as condition_form, group, AndForm, OrForm, print_unit, print_and, print_or, joined, unit_meaning, units, members}
-use Rattle.song_query.specs.Machine.{Place, due, close, apart, opened, named, bang, valued, slashed, Level, State, start, with_unit, with_member, level_query, here, cond_of, is_blank, begin, follow, shut, step, go, bind, run, empty_level}
+use Rattle.song_query.specs.declared.levels.Level.{Level}
+use Rattle.song_query.specs.Machine.{Place, due, close, apart, opened, named, bang, valued, slashed, State, start, with_unit, with_member, level_query, here, cond_of, is_blank, begin, follow, shut, step, go, bind, run, empty_level}
 use Rattle.song_query.proofs.Complete.{lv, behind}
 use Rattle.song_query.proofs.Draft.{Front, fresh, after_comma, print_front, front_members, is_front, front_gap, front_or, front_blank, Lead, first, next_to, print_lead, lead_units, is_lead, lead_and, Stub, quoted, naming, banged, valuing, slashing, print_stub, stub_place, is_stub, Draft, starts, after, within, print_draft, draft_place, draft_level, is_draft, Out, out_level, print_outs, are_outs, Whole, print_whole, is_whole, state_of, blanks_append, atoms_append, piece_append, are_atoms_append, starred_append, are_pieces_append, names_append, pieces_map_append, front_printed, front_read, front_valid, front_blank_printed, front_blank_read, front_blank_valid, lead_printed, lead_read, lead_valid}
 
@@ -23,7 +24,7 @@ pub record Grown (w : Whole) (c : ℕ) (t : State) : Type 0 where
   pub state : Some (state_of next) ≡ Some t
 
 -- a blank is a space or a plus
-blank_at : (c : ℕ) → is_blank c ≡ true → (b : Blank) × (blank b ≡ c)
+pub blank_at : (c : ℕ) → is_blank c ≡ true → (b : Blank) × (blank b ≡ c)
 blank_at c h = blank_by (eqb c 32) (eqb c 43) refl refl h
   where
     blank_by : (x y : Bool) → eqb c 32 ≡ x → eqb c 43 ≡ y → (x || y) ≡ true → (b : Blank) × (blank b ≡ c)
@@ -59,7 +60,7 @@ comma_printed k o g f a c p e =
     rw e (sym (append_assoc k o (g ++ 44 ∷ [])) ∙ ap (λ x. x ++ (g ++ 44 ∷ [])) (sym p) ∙ simp append_assoc)
 
 -- behind the same two parts
-regrouped : (k o f a rest : List ℕ) → f ++ a ≡ k ++ o → k ++ (o ++ rest) ≡ f ++ (a ++ rest)
+pub regrouped : (k o f a rest : List ℕ) → f ++ a ≡ k ++ o → k ++ (o ++ rest) ≡ f ++ (a ++ rest)
 regrouped k o f a rest p = sym (append_assoc k o rest) ∙ ap (λ x. x ++ rest) (sym p) ∙ append_assoc f a rest
 
 shut_printed : (outs f l and k o g e a : List ℕ) (c : ℕ) → l ++ 40 ∷ (k ++ (o ++ (g ++ 41 ∷ []))) ≡ and → e ++ a ≡ k ++ o → c ≡ 41

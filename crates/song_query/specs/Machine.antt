@@ -6,6 +6,7 @@ use Rattle.item_model.specs.declared.condition.Cond.{Cond}
 use Rattle.item_model.specs.declared.condition.Op.{Op}
 use Rattle.item_model.specs.declared.condition.Op.TheVariants.{Is, IsNot}
 use Rattle.song_query.specs.Grammar.{joined, is_mark}
+use Rattle.song_query.specs.declared.levels.Level.{Level}
 
 -- where in a query the next byte stands: a unit is due, behind a unit, behind a unit and blanks, behind an
 -- opening quote, in a name, behind its exclamation mark, in a value, behind a backslash of a value
@@ -18,11 +19,6 @@ pub data Place : Type 0 where
   bang : List ℕ → Place
   valued : List ℕ → Op → List (List ℕ) → List ℕ → Place
   slashed : List ℕ → Op → List (List ℕ) → List ℕ → Place
-
--- the members of an `or` that are whole, and the units of its last member
-pub record Level : Type 0 where
-  pub members : List QueryTree
-  pub units : List QueryTree
 
 pub record State : Type 0 where
   pub place : Place

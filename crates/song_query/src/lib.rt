@@ -3,9 +3,16 @@
 #![tactic(auto)]
 
 mod globs;
+mod levels;
+mod limits;
 mod matching;
+mod parts;
+mod reader;
+mod reading;
 mod steps;
 
 pub use globs::is_glob;
+pub use limits::{OPEN_PARENTHESES, QUERY_BYTES};
 pub use matching::matches;
+pub use reading::read;
 pub use steps::Steps;
