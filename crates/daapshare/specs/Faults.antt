@@ -1,0 +1,74 @@
+-- The line that a user sees for each fault, and the status that the program ends with.
+use Rattle.std.specs.Prelude.{ℕ, List, [], ◌∷◌, ◌++◌, codes, decimal}
+use Rattle.item_model.specs.declared.refusal.QueryError.{QueryError}
+use Rattle.item_model.specs.declared.refusal.QueryError.TheVariants as query
+use Rattle.item_model.specs.declared.refusal.QueryWhy.{QueryWhy}
+use Rattle.item_model.specs.declared.refusal.QueryWhy.TheVariants as why
+use Rattle.item_model.specs.declared.refusal.RecordWhy.{RecordWhy}
+use Rattle.item_model.specs.declared.refusal.RecordWhy.TheVariants as record_why
+use Rattle.records_import.specs.declared.refusal.RecordError.{RecordError}
+use Rattle.records_import.specs.declared.refusal.RecordError.TheVariants as records
+use Rattle.daap_outside.specs.declared.reading.ReadError.{ReadError}
+use Rattle.daap_outside.specs.declared.reading.ReadError.TheVariants as reads
+use Rattle.daapshare.specs.declared.fault.Fault.{Fault}
+use Rattle.daapshare.specs.declared.fault.Fault.TheVariants.{Words, Records, Read, Write, InputLimit, Memory}
+use Rattle.daapshare.specs.declared.fault.TheConstants.{USAGE}
+
+abbrev pub query_why_text : QueryWhy → List ℕ
+query_why_text why.End = codes " end"
+query_why_text why.Byte = codes " byte"
+
+abbrev pub query_text : QueryError → List ℕ
+query_text query.TooLong = codes "query: too long"
+query_text (query.TooDeep place) = codes "query: too deep at " ++ decimal place
+query_text (query.At place reason) = codes "query: at " ++ decimal place ++ query_why_text reason
+query_text query.Memory = codes "memory"
+
+abbrev pub record_why_text : RecordWhy → List ℕ
+record_why_text record_why.Op = codes "op"
+record_why_text record_why.Kind = codes "kind"
+record_why_text record_why.Number = codes "number"
+record_why_text record_why.Range = codes "range"
+record_why_text record_why.Text = codes "text"
+record_why_text record_why.Extra = codes "extra"
+record_why_text record_why.Missing = codes "missing"
+record_why_text (record_why.Query error) = query_text error
+
+abbrev pub records_text : RecordError → List ℕ
+records_text (records.Header column) = codes "records: header column " ++ decimal column
+records_text (records.Field row column reason) =
+    codes "records: record " ++ decimal row ++ codes " column " ++ decimal column ++ codes " " ++ record_why_text reason
+records_text (records.Length row) = codes "records: record " ++ decimal row ++ codes " length"
+records_text (records.TooMany row) = codes "records: record " ++ decimal row ++ codes " too many"
+records_text records.Memory = codes "memory"
+
+-- what is written for a fault: nothing where the output itself failed
+abbrev pub fault_line : Fault → List ℕ
+fault_line Words = USAGE.now
+fault_line (Records error) = records_text error ++ 10 ∷ []
+fault_line Read = codes "read failed" ++ 10 ∷ []
+fault_line Write = []
+fault_line InputLimit = codes "limit: input" ++ 10 ∷ []
+fault_line Memory = codes "memory" ++ 10 ∷ []
+
+abbrev pub fault_status : Fault → ℕ
+fault_status Words = 2
+fault_status (Records error) = 3
+fault_status Read = 4
+fault_status Write = 5
+fault_status InputLimit = 8
+fault_status Memory = 9
+
+-- the fault that a refusal of the input is
+abbrev pub read_fault : ReadError → Fault
+read_fault reads.Failed = Read
+read_fault reads.TooLong = InputLimit
+read_fault reads.Memory = Memory
+
+-- and that a refusal of its records is
+abbrev pub record_fault : RecordError → Fault
+record_fault (records.Header column) = Records (records.Header column)
+record_fault (records.Field row column reason) = Records (records.Field row column reason)
+record_fault (records.Length row) = Records (records.Length row)
+record_fault (records.TooMany row) = Records (records.TooMany row)
+record_fault records.Memory = Memory

@@ -1,0 +1,4 @@
+pub mod Faults
+pub mod Library
+pub mod Listing
+pub mod Runs

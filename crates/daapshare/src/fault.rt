@@ -1,0 +1,184 @@
+//! Why a command did not do its work: the line that the user sees, and the status.
+
+ghost use Rattle.std.specs.Prelude.{◌≡◌, ◌++◌, ◌∷◌, [], IfOk, OnOk, decimal};
+ghost use Rattle.daapshare.specs.Faults.{query_text, query_why_text, record_why_text, records_text, fault_line, fault_status};
+
+use daap_outside::ReadError;
+use item_model::{QueryError, QueryWhy, RecordWhy};
+use itoa::Buffer;
+use records_import::RecordError;
+use std::alloc::{AllocError, Global};
+
+/// How the program is called. It stands on the output where the words are no command's.
+pub const USAGE: &str = "\
+usage: daapshare list [--query Q] [--meta M] [--list ID]
+       daapshare show [--back]
+       daapshare check
+       daapshare codes [--learn]
+       daapshare replay [--keep K] [--name N]
+       daapshare rehearse NUMBER BATCHES SIZE [--keep K]
+       daapshare serve LISTEN EDIT [--name N] [--keep K] [--workers W] [--editors E]
+       daapshare edit PLACE [--stop]
+       daapshare follow PLACE ROUNDS [--query Q] [--meta M] [--list ID]
+";
+
+/// What ended a command early.
+#[derive(Debug, Drop)]
+pub enum Fault {
+    /// The words are no command's.
+    Words,
+    /// The records don't read as a batch.
+    Records(RecordError),
+    /// The input could not be read.
+    Read,
+    /// The output took no more.
+    Write,
+    /// The input is longer than the command takes.
+    InputLimit,
+    Memory,
+}
+
+impl From<AllocError> for Fault {
+    ghost use Rattle.daapshare.specs.declared.fault.Fault.TheVariants.{Memory};
+
+    ghost from_gives = { λ _ f. f ≡ Memory };
+
+    fn from(_error: AllocError) -> Fault {
+        Fault::Memory
+    }
+}
+
+impl From<ReadError> for Fault {
+    ghost use Rattle.daapshare.specs.Faults.{read_fault};
+
+    ghost from_gives = { λ e f. f ≡ read_fault e };
+
+    fn from(error: ReadError) -> Fault {
+        match error {
+            ReadError::Failed => Fault::Read,
+            ReadError::TooLong => Fault::InputLimit,
+            ReadError::Memory => Fault::Memory,
+        }
+    }
+}
+
+impl From<RecordError> for Fault {
+    ghost use Rattle.daapshare.specs.Faults.{record_fault};
+
+    ghost from_gives = { λ e f. f ≡ record_fault e };
+
+    fn from(error: RecordError) -> Fault {
+        match error {
+            RecordError::Memory => Fault::Memory,
+            refusal => Fault::Records(refusal),
+        }
+    }
+}
+
+impl Fault {
+    /// The status that the program ends with.
+    pub fn status(&self) -> u8
+        ensures { result ≡ fault_status self.now }
+    {
+        match self {
+            Fault::Words => 2,
+            Fault::Records(_) => 3,
+            Fault::Read => 4,
+            Fault::Write => 5,
+            Fault::InputLimit => 8,
+            Fault::Memory => 9,
+        }
+    }
+
+    /// The line that the user sees.
+    pub fn line(&self, alloc: Global) -> Result<Vec<u8>, AllocError>
+        ensures { IfOk result (λ line. line.items ≡ fault_line self.now) }
+    {
+        match self {
+            Fault::Words => Vec::from_slice(alloc, USAGE.as_bytes()),
+            Fault::Records(error) => records_line(alloc, error),
+            Fault::Read => Vec::from_slice(alloc, b"read failed\n"),
+            Fault::Write => Ok(Vec::new(alloc)),
+            Fault::InputLimit => Vec::from_slice(alloc, b"limit: input\n"),
+            Fault::Memory => Vec::from_slice(alloc, b"memory\n"),
+        }
+    }
+}
+
+fn records_line(alloc: Global, error: &RecordError) -> Result<Vec<u8>, AllocError>
+    ensures { IfOk result (λ line. line.items ≡ records_text error.now ++ 10 ∷ []) }
+{
+    let mut line = Vec::new(alloc);
+    push_records(&mut line, error)?;
+    line.push(b'\n')?;
+    Ok(line)
+}
+
+fn push_records(line: &mut Vec<u8>, error: &RecordError) -> Result<(), AllocError>
+    ensures { OnOk result (line.new.items ≡ line.old.items ++ records_text error.now) }
+{
+    match error {
+        RecordError::Header { column } => push_place(line, b"records: header column ", *column),
+        RecordError::Field { row, column, why } => {
+            push_place(line, b"records: record ", *row)?;
+            push_place(line, b" column ", *column)?;
+            line.push(b' ')?;
+            push_record_why(line, why)
+        }
+        RecordError::Length { row } => {
+            push_place(line, b"records: record ", *row)?;
+            line.extend_from_slice(b" length")
+        }
+        RecordError::TooMany { row } => {
+            push_place(line, b"records: record ", *row)?;
+            line.extend_from_slice(b" too many")
+        }
+        RecordError::Memory => line.extend_from_slice(b"memory"),
+    }
+}
+
+fn push_record_why(line: &mut Vec<u8>, why: &RecordWhy) -> Result<(), AllocError>
+    ensures { OnOk result (line.new.items ≡ line.old.items ++ record_why_text why.now) }
+{
+    match why {
+        RecordWhy::Op => line.extend_from_slice(b"op"),
+        RecordWhy::Kind => line.extend_from_slice(b"kind"),
+        RecordWhy::Number => line.extend_from_slice(b"number"),
+        RecordWhy::Range => line.extend_from_slice(b"range"),
+        RecordWhy::Text => line.extend_from_slice(b"text"),
+        RecordWhy::Extra => line.extend_from_slice(b"extra"),
+        RecordWhy::Missing => line.extend_from_slice(b"missing"),
+        RecordWhy::Query(error) => push_query(line, error),
+    }
+}
+
+fn push_query(line: &mut Vec<u8>, error: &QueryError) -> Result<(), AllocError>
+    ensures { OnOk result (line.new.items ≡ line.old.items ++ query_text error.now) }
+{
+    match error {
+        QueryError::TooLong => line.extend_from_slice(b"query: too long"),
+        QueryError::TooDeep { place } => push_place(line, b"query: too deep at ", *place),
+        QueryError::At { place, why } => {
+            push_place(line, b"query: at ", *place)?;
+            line.extend_from_slice(query_why(*why))
+        }
+        QueryError::Memory => line.extend_from_slice(b"memory"),
+    }
+}
+
+fn query_why(why: QueryWhy) -> &'static [u8]
+    ensures { result.now ≡ query_why_text why }
+{
+    match why {
+        QueryWhy::End => b" end",
+        QueryWhy::Byte => b" byte",
+    }
+}
+
+/// Adds words and a number behind them.
+fn push_place(line: &mut Vec<u8>, words: &[u8], place: u64) -> Result<(), AllocError>
+    ensures { OnOk result (line.new.items ≡ line.old.items ++ (words.now ++ decimal place)) }
+{
+    line.extend_from_slice(words)?;
+    line.extend_from_slice(Buffer::new().format(place).as_bytes())
+}

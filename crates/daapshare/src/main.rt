@@ -1,0 +1,71 @@
+//! `daapshare`: a server and a mirror client for a shared music catalogue over DAAP.
+//! Today it lists: records of a library in, the bytes of the DMAP listing of its items out.
+#![tactic(auto)]
+
+mod fault;
+mod library;
+mod list;
+mod listing;
+mod run;
+#[cfg(test)]
+mod tests;
+
+use crate::fault::Fault;
+use crate::run::{Outcome, refused, run};
+use daap_outside::{MemFiles, MemNet, Reading, Writing};
+use std::alloc::Global;
+use std::io::{ErrorKind, Read, Write};
+use std::process::ExitCode;
+use std::{env, io};
+
+/// The words after the program's name. One that is not UTF-8 is an error.
+fn words_of(rt: &HostRuntime) -> io::Result<Vec<String>> {
+    let mut words = Vec::new(rt.alloc());
+    for word in env::args(rt)?.skip(1) {
+        words.push(word)?;
+    }
+    Ok(words)
+}
+
+/// The same words, borrowed.
+fn texts_of(alloc: Global, words: &[String]) -> io::Result<Vec<&str>> {
+    let mut texts = Vec::new(alloc);
+    for word in words {
+        texts.push(word.as_str())?;
+    }
+    Ok(texts)
+}
+
+/// Runs the program over its standard input and output.
+fn run_on<R: Read, W: Write>(
+    alloc: Global,
+    words: &[String],
+    input: &mut Reading<R>,
+    output: &mut Writing<W>,
+) -> Outcome {
+    match texts_of(alloc, words) {
+        Ok(texts) => run(
+            alloc,
+            texts.as_slice(),
+            input,
+            output,
+            &mut MemFiles::new(),
+            &mut MemNet::new(),
+        ),
+        Err(_) => refused(alloc, output, &Fault::Memory),
+    }
+}
+
+fn main(rt: HostRuntime) -> ExitCode {
+    let alloc = rt.alloc();
+    let mut input = Reading::new(rt.stdin());
+    let mut output = Writing::new(rt.stdout());
+    let outcome = match words_of(&rt) {
+        Ok(words) => run_on(alloc, words.as_slice(), &mut input, &mut output),
+        Err(error) if error.kind() == ErrorKind::OutOfMemory => {
+            refused(alloc, &mut output, &Fault::Memory)
+        }
+        Err(_) => refused(alloc, &mut output, &Fault::Words),
+    };
+    ExitCode::from(outcome.status)
+}
