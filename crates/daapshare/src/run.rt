@@ -28,8 +28,8 @@ pub fn run<I: Source, W: Sink, F: Files, N: Net>(
     words: &[&str],
     input: &mut I,
     output: &mut W,
-    _files: &mut F,
-    _net: &mut N,
+    files: &mut F,
+    net: &mut N,
 ) -> Outcome
     ensures ends { Ends (texts_of words.now)
         (record { left = I.left input.old; read_faults = I.faults input.old; taken = W.taken output.old; write_faults = W.faults output.old })
@@ -41,7 +41,7 @@ pub fn run<I: Source, W: Sink, F: Files, N: Net>(
         result.status }
 
     // Files and sockets are left alone.
-    ensures beside { (_files.new ≡ _files.old) × (_net.new ≡ _net.old) }
+    ensures beside { (files.new ≡ files.old) × (net.new ≡ net.old) }
 {
     if !is_list(words) {
         return refused(alloc, output, &Fault::Words);
