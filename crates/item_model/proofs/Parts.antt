@@ -1,5 +1,5 @@
 -- The parts between commas: how a walk finds them, and how many there are.
-use Rattle.std.proofs.Common.{◌≡◌, ◌≢◌, ◌+◌, ◌<◌, ◌≤◌, ◌++◌, ℕ, suc, Bool, true, false, ◌==◌, ◌||◌, not, nat_le, List, [], ◌∷◌, length, take, drop, get_or, cond, refl, ap, sym, ◌∙◌, arith, append-nil, append_assoc, drop-cons, add-one}
+use Rattle.std.proofs.Common.{◌≡◌, ◌+◌, ◌<◌, ◌++◌, ℕ, Bool, true, false, ◌==◌, ◌||◌, not, nat_le, List, [], ◌∷◌, length, take, drop, get_or, cond, refl, ap, sym, ◌∙◌, arith, append-nil, drop-cons, add-one}
 use Rattle.std.specs.List.{count_by, list_any}
 use Rattle.std.proofs.lemmas.Bool.Decides.{nat_tests}
 use Rattle.std.proofs.lemmas.List.Sums.{sum_by-cons}

@@ -1,8 +1,8 @@
 -- The place of a property among the entries of an item, what is set there, and what is found.
-use Rattle.std.proofs.Common.{◌≡◌, ◌<◌, ◌≤◌, ◌+◌, ◌++◌, ℕ, zero, suc, Bool, true, false, ◌&&◌, nat_lt, nat_le, ◌==◌, List, [], ◌∷◌, length, get_or, set, take, drop, if◌then◌else◌, cond, Option, Some, None, IfSome, option_copied, Bor, refl, ap, sym, subst, ◌∙◌, arith}
+use Rattle.std.proofs.Common.{◌≡◌, ◌<◌, ◌≤◌, ◌+◌, ◌++◌, ℕ, zero, suc, Bool, true, false, nat_lt, nat_le, ◌==◌, List, [], ◌∷◌, length, get_or, set, take, drop, if◌then◌else◌, cond, Option, Some, None, IfSome, option_copied, Bor, refl, ap, sym, subst, arith}
 use Rattle.std.specs.List.{insert}
 use Rattle.std.proofs.Math.Seq.{drop-length}
-use Rattle.std.proofs.lemmas.Bool.{and_parts, and_from, le-leb, leb-true, lt-ltb, ltb-true, eqb-true}
+use Rattle.std.proofs.lemmas.Bool.{and_parts, and_from, le-leb, ltb-true, eqb-true}
 use Rattle.std.proofs.lemmas.Bool.Decides.{nat_tests}
 use Rattle.item_model.specs.declared.property.Property.{Property}
 use Rattle.item_model.specs.declared.item.PropValue.{PropValue}

@@ -1,5 +1,5 @@
 -- Sizes of queries, by which recursions over them end.
-use Rattle.std.proofs.Common.{◌<◌, ◌+◌, ℕ, zero, suc, List, [], ◌∷◌, length, get_or, arith}
+use Rattle.std.proofs.Common.{◌<◌, ℕ, zero, suc, List, [], ◌∷◌, length, get_or, arith}
 use Rattle.item_model.specs.QueryTree.{QueryTree, queries_of, query_size, query_sizes}
 
 -- a member of a list is smaller than all its members

@@ -1,5 +1,5 @@
 -- A printed `meta` text reads as what was printed, where a text reads as that at all.
-use Rattle.std.proofs.Common.{◌≡◌, ◌≤◌, ◌<◌, ◌+◌, ◌++◌, ◌==◌, ℕ, Bool, true, false, nat_le, List, [], ◌∷◌, length, map, codes, cond, refl, ap, sym, subst, ◌∙◌, arith, append-nil, Option, Some, None, Result, Ok, Err, IfOk}
+use Rattle.std.proofs.Common.{◌≡◌, ◌≤◌, ◌<◌, ◌++◌, ◌==◌, ℕ, Bool, true, false, nat_le, List, [], ◌∷◌, length, map, codes, cond, refl, ap, subst, ◌∙◌, arith, append-nil, Some, None, Result, Ok, Err, IfOk}
 use Rattle.std.specs.List.{filter_map, list_any}
 use Rattle.std.specs.Str.{bytes_eq}
 use Rattle.std.proofs.lemmas.Bool.{leb-true, le-leb}
@@ -11,7 +11,7 @@ use Rattle.item_model.specs.declared.request.Meta.TheVariants.{Default, All, Nam
 use Rattle.item_model.specs.declared.request.TheConstants.{META_NAMES}
 use Rattle.item_model.specs.Properties.{property_name, property_named}
 use Rattle.item_model.specs.Projection.{first_mentions}
-use Rattle.item_model.specs.Names.{parts, onto, named, asked_by, meta_of, meta_text, names_text, more_names}
+use Rattle.item_model.specs.Names.{parts, named, meta_of, meta_text, names_text, more_names}
 use Rattle.item_model.proofs.Parts.{part_front}
 use Rattle.item_model.proofs.Distinct.{first_again, first_fewer, known_fewer}
 

@@ -1,5 +1,5 @@
 -- An item: properties with their values, in the order of listings, each property at most once.
-use Rattle.std.specs.Prelude.{◌≡◌, ◌<◌, ◌≤◌, slice_set, suc, false, ℕ, List, [], ◌∷◌, ◌+◌, ◌^◌, Option, Some, None, Bool, true, ◌&&◌, nat_lt, nat_le, ◌==◌, length, if◌then◌else◌}
+use Rattle.std.specs.Prelude.{◌≡◌, ◌<◌, ◌≤◌, slice_set, false, ℕ, List, [], ◌∷◌, ◌+◌, ◌^◌, Option, Some, None, Bool, true, ◌&&◌, nat_lt, nat_le, length, if◌then◌else◌}
 use Rattle.std.specs.List.{insert}
 use Rattle.dmap_tags.specs.declared.kinds.Kind.{Kind}
 use Rattle.dmap_tags.specs.declared.kinds.Kind.TheVariants.{U8, I8, U16, I16, U32, I32, U64, I64, Text, Date, Version, List as Members, Opaque}

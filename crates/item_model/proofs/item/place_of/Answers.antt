@@ -1,5 +1,4 @@
-use Rattle.std.proofs.Common.{◌≡◌, ◌<◌, ◌≤◌, ◌++◌, length, take, drop, sym, ◌∙◌, rules, arith}
-use Rattle.item_model.specs.Items.{with_value}
+use Rattle.std.proofs.Common.{◌≡◌, length, sym, ◌∙◌, rules, arith}
 use Rattle.item_model.proofs.Places.{same_here, new_here, new_last}
 use Rattle.item_model.proofs.item.place_of.Goals as goal
 
