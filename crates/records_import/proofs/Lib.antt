@@ -1,6 +1,7 @@
 mod Cells
 mod Digits
 pub mod ReadBack
-mod OneForm
 mod Rows
+mod Walks
+mod Answering
 mod Written
