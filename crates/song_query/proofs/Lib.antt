@@ -1,0 +1,10 @@
+pub mod Joining
+pub mod Sizes
+pub mod Digits
+pub mod Complete
+pub mod Draft
+pub mod Sound
+pub mod Laws
+pub mod Wide
+pub mod Nested
+pub mod Reached

@@ -1,0 +1,160 @@
+-- A text that is read up to a place, and what it answers there.
+use Rattle.std.proofs.Common.{⊎_elim, ◌≡◌, ◌≢◌, ◌⊎◌, ◌≤◌, ◌<◌, ◌+◌, ◌-◌, ◌++◌, ℕ, zero, suc, min, Bool, true, false, List, [], ◌∷◌, length, take, drop, get_or, Option, Some, None, Ok, Err, refl, ap, sym, ◌∙◌, subst, inl, inr, arith, append_assoc, append-nil, length-append}
+use Rattle.std.proofs.Math.Seq.{take-add, take-append_seam, take-length}
+use Rattle.std.proofs.lemmas.Bool.{cases_lt}
+use Rattle.std.proofs.lemmas.List.{take_all, length-take, length-drop, take-append-le}
+use Rattle.std.proofs.lemmas.Str.{encode_ascii, length-encode}
+use Rattle.std.specs.Char.{encode_utf8, len_utf8}
+use Rattle.item_model.specs.QueryTree.{QueryTree}
+use Rattle.item_model.specs.QuerySeen.{tree_of}
+use Rattle.item_model.specs.declared.query.Query.{Query}
+use Rattle.item_model.specs.declared.refusal.QueryError.TheVariants.{TooDeep, At}
+use Rattle.item_model.specs.declared.refusal.QueryWhy.TheVariants.{End, Byte}
+use Rattle.song_query.specs.Seen.{Taken, refused_at}
+use Rattle.song_query.specs.declared.parts.Refusal.{Refusal}
+use Rattle.song_query.specs.declared.parts.Refusal.TheVariants.{Byte as ByteRefused, Deep, Memory}
+use Rattle.song_query.specs.Machine.{State, start, go, bind, run, is_end, level_query}
+use Rattle.song_query.specs.Reading.{QueryReads, Begins, IsStuck}
+use Rattle.song_query.specs.Nesting.{open_at_end}
+use Rattle.song_query.specs.Answers.{IsShallow, Answers}
+use Rattle.song_query.proofs.Complete.{run_append}
+use Rattle.song_query.proofs.Laws.{accepted, begins, stuck_at, stuck_end, not_over}
+use Rattle.song_query.proofs.Wide.{AreWide, wide_bytes, char_long}
+use Rattle.song_query.proofs.Nested.{nested, wide_behind}
+
+-- the text up to the place leads to the state, and not too many parentheses are open on the way
+pub record Reached (text : List ℕ) (place : ℕ) (s : State) : Type 0 where
+  pub within : place ≤ length text
+  pub ran : run start (take place text) ≡ Some s
+  pub shallow : IsShallow text place
+
+pub at_start : (text : List ℕ) → Reached text 0 start
+at_start text = record { within = omega arith; ran = refl; shallow = λ n h. (let e : n ≡ 0 = omega arith in rw e (omega arith)) }
+
+-- the place is in the text where something is left
+left_within : (text bytes rest : List ℕ) (place : ℕ) → drop place text ≡ bytes ++ rest → place ≤ length text → place + length bytes ≤ length text
+left_within text bytes rest place e h =
+    let l : length (drop place text) ≡ length (bytes ++ rest) = ap length e in
+    omega (arith, length-drop place text, length-append bytes rest)
+
+-- what a part of the bytes that are left leads to
+ran_on : (text bytes rest : List ℕ) (place : ℕ) (s : State) (t : Option State) → drop place text ≡ bytes ++ rest → run start (take place text) ≡ Some s → run s bytes ≡ t
+    → run start (take (place + length bytes) text) ≡ t
+ran_on text bytes rest place s t e h k =
+    let parts : take (place + length bytes) text ≡ take place text ++ bytes =
+        take-add place (length bytes) text ∙ ap (λ x. take place text ++ x) (ap (take (length bytes)) e ∙ take-append_seam bytes rest) in
+    ap (run start) parts ∙ run_append start (take place text) bytes ∙ ap (λ o. bind o (λ x. run x bytes)) h ∙ k
+
+-- the first byte of a character that is left
+first_left : (c : List ℕ) (rest : List ℕ) → 0 < length c → (more : List ℕ) × (c ++ rest ≡ (get_or c 0 0 ∷ []) ++ more)
+first_left [] rest h = absurd (omega arith)
+first_left (b ∷ c) rest h = (c ++ rest, refl)
+
+bind_some : (o : Option State) → bind o (λ t. Some t) ≡ o
+bind_some None = refl
+bind_some (Some t) = refl
+
+first_ran : (text rest : List ℕ) (place c : ℕ) (s : State) (t : Option State) → drop place text ≡ encode_utf8 c ++ rest → run start (take place text) ≡ Some s
+    → go s (get_or (encode_utf8 c) 0 0) ≡ t → run start (take (place + 1) text) ≡ t
+first_ran text rest place c s t e h k =
+    let f = first_left (encode_utf8 c) rest (char_long c) in
+    ran_on text (get_or (encode_utf8 c) 0 0 ∷ []) f.0 place s t (e ∙ f.1) h (bind_some (go s (get_or (encode_utf8 c) 0 0)) ∙ k)
+
+wide_each : (b : ℕ) (bytes : List ℕ) → 128 ≤ b → AreWide bytes → (i : ℕ) → i < length (b ∷ bytes) → 128 ≤ get_or (b ∷ bytes) i 0
+wide_each b bytes h k zero x = h
+wide_each b bytes h k (suc i) x = k.each i (omega arith)
+
+wide_more : (b : ℕ) (bytes : List ℕ) → 128 ≤ b → AreWide bytes → AreWide (b ∷ bytes)
+wide_more b bytes h k = record { each = λ i x. wide_each b bytes h k i x }
+
+wide_take : (k : ℕ) (bytes : List ℕ) → AreWide bytes → AreWide (take k bytes)
+wide_take zero bytes h = record { each = λ i x. absurd (omega arith) }
+wide_take (suc k) [] h = record { each = λ i x. absurd (omega arith) }
+wide_take (suc k) (b ∷ bytes) h =
+    wide_more b (take k bytes) (h.each 0 (omega arith)) (wide_take k bytes (record { each = λ i x. h.each (suc i) (omega arith) }))
+
+-- in a character beyond ASCII nothing is opened
+shallow_in : (text rest bytes : List ℕ) (place n : ℕ) → drop place text ≡ bytes ++ rest → AreWide bytes → place ≤ n → n ≤ place + length bytes
+    → open_at_end (take n text) ≡ open_at_end (take place text)
+shallow_in text rest bytes place n e w h k =
+    let more = n - place in
+    let at : n ≡ place + more = omega arith in
+    let short : more ≤ length bytes = omega arith in
+    let parts : take n text ≡ take place text ++ take more bytes =
+        ap (λ x. take x text) at ∙ take-add place more text ∙ ap (λ x. take place text ++ x) (ap (take more) e ∙ take-append-le more bytes rest short) in
+    ap open_at_end parts ∙ wide_behind (take place text) (take more bytes) (wide_take more bytes w)
+
+shallow_on : (text rest : List ℕ) (place c n : ℕ) (t : State) → drop place text ≡ encode_utf8 c ++ rest → IsShallow text place
+    → run start (take (place + length (encode_utf8 c)) text) ≡ Some t → length t.outer ≤ 64 → n ≤ place + length (encode_utf8 c) → open_at_end (take n text) ≤ 64
+shallow_on text rest place c n t e s r d h =
+    ⊎_elim
+    (λ (before : n < place + 1). s n (omega arith))
+    (λ (behind : place + 1 ≤ n).
+        ⊎_elim
+        (λ (low : c < 128).
+            let one : length (encode_utf8 c) ≡ 1 = ap length (encode_ascii c low) in
+            let last : n ≡ place + length (encode_utf8 c) = omega arith in
+            let count : open_at_end (take n text) ≡ length t.outer = ap (λ x. open_at_end (take x text)) last ∙ nested (take (place + length (encode_utf8 c)) text) t r in
+            omega arith)
+        (λ (high : 128 ≤ c).
+            let before : open_at_end (take place text) ≤ 64 = s place (omega arith) in
+            let same : open_at_end (take n text) ≡ open_at_end (take place text) = shallow_in text rest (encode_utf8 c) place n e (wide_bytes c high) (omega arith) h in
+            omega arith)
+        (cases_lt c 128))
+    (cases_lt n (place + 1))
+
+-- one character more
+pub char_reached : (text rest : List ℕ) (place c : ℕ) (s t : State) → Reached text place s → drop place text ≡ encode_utf8 c ++ rest → run s (encode_utf8 c) ≡ Some t → length t.outer ≤ 64
+    → Reached text (place + length (encode_utf8 c)) t
+char_reached text rest place c s t h e r d =
+    let ran : run start (take (place + length (encode_utf8 c)) text) ≡ Some t = ran_on text (encode_utf8 c) rest place s (Some t) e h.ran r in
+    record {
+      within = left_within text (encode_utf8 c) rest place e h.within;
+      ran = ran;
+      shallow = λ n x. shallow_on text rest place c n t e h.shallow ran d x;
+    }
+
+-- a character that no query goes on with
+pub byte_answer : (text rest : List ℕ) (place c : ℕ) (s : State) → Reached text place s → drop place text ≡ encode_utf8 c ++ rest → go s (get_or (encode_utf8 c) 0 0) ≡ None
+    → length text ≤ 4096 → Answers text (Err (At place Byte))
+byte_answer text rest place c s h e r l =
+    let long = left_within text (encode_utf8 c) rest place e h.within in
+    let some = char_long c in
+    let inside : place < length text = omega arith in
+    let apart : place ≢ length text = omega arith in
+    (l, stuck_at text place s inside h.ran (first_ran text rest place c s None e h.ran r), apart, h.shallow)
+
+-- a parenthesis too many
+pub deep_answer : (text rest : List ℕ) (place c : ℕ) (s t : State) → Reached text place s → drop place text ≡ encode_utf8 c ++ rest → go s (get_or (encode_utf8 c) 0 0) ≡ Some t
+    → 64 < length t.outer → length text ≤ 4096 → Answers text (Err (TooDeep place))
+deep_answer text rest place c s t h e r d l =
+    let long = left_within text (encode_utf8 c) rest place e h.within in
+    let some = char_long c in
+    let ran : run start (take (place + 1) text) ≡ Some t = first_ran text rest place c s (Some t) e h.ran r in
+    let count = nested (take (place + 1) text) t ran in
+    (l, record { within = omega arith; begins = begins (take (place + 1) text) t ran; deep = omega arith; first = h.shallow })
+
+-- the end of the text
+at_end : (text : List ℕ) (place : ℕ) → place ≤ length text → length text ≤ place → place ≡ length text
+at_end text place h k = omega arith
+
+pub end_answer : (text : List ℕ) (place : ℕ) (s : State) → Reached text place s → length text ≤ place → is_end s ≡ false → length text ≤ 4096
+    → Answers text (Err (At place End))
+end_answer text place s h k e l =
+    let whole : run start text ≡ Some s = ap (run start) (sym (take_all place text k)) ∙ h.ran in
+    let last : place ≡ length text = omega (arith, h.within) in
+    (l, subst (IsStuck text) (sym last) (stuck_end text s whole), (last, not_over text s whole e), h.shallow)
+
+pub ok_answer : (text : List ℕ) (place : ℕ) (s : State) (q : Query) → Reached text place s → length text ≤ place → is_end s ≡ true → tree_of q ≡ level_query s.level → length text ≤ 4096
+    → Answers text (Ok q)
+ok_answer text place s q h k e m l =
+    let whole : run start text ≡ Some s = ap (run start) (sym (take_all place text k)) ∙ h.ran in
+    let last : place ≡ length text = omega (arith, h.within) in
+    (l, subst (QueryReads text) (sym m) (accepted text s whole e), subst (IsShallow text) last h.shallow)
+
+-- a character that is not taken
+pub refusal_answer : (text rest : List ℕ) (place c : ℕ) (s t : State) (refusal : Refusal) → Reached text place s → drop place text ≡ encode_utf8 c ++ rest → Taken s c t (Err refusal)
+    → length text ≤ 4096 → Answers text (Err (refused_at place refusal))
+refusal_answer text rest place c s t ByteRefused h e r l = byte_answer text rest place c s h e r l
+refusal_answer text rest place c s t Deep h e r l = deep_answer text rest place c s r.0 h e r.1 r.2 l
+refusal_answer text rest place c s t Memory h e r l = tt

@@ -1,0 +1,33 @@
+-- What reading a text answers: the query where it reads as one within the limits, else the place and the cause.
+use Rattle.std.specs.Prelude.{◌≡◌, ◌≢◌, ◌≤◌, ◌<◌, ◌+◌, ⊤, ℕ, List, length, take, Result, Ok, Err}
+use Rattle.item_model.specs.QuerySeen.{tree_of}
+use Rattle.item_model.specs.declared.query.Query.{Query}
+use Rattle.item_model.specs.declared.refusal.QueryError.{QueryError}
+use Rattle.item_model.specs.declared.refusal.QueryError.TheVariants.{TooLong, TooDeep, At, Memory}
+use Rattle.item_model.specs.declared.refusal.QueryWhy.{QueryWhy}
+use Rattle.item_model.specs.declared.refusal.QueryWhy.TheVariants.{End, Byte}
+use Rattle.song_query.specs.Reading.{QueryReads, HasNoReading, Begins, IsStuck}
+use Rattle.song_query.specs.Nesting.{open_at_end}
+use Rattle.song_query.specs.declared.limits.TheConstants.{QUERY_BYTES, OPEN_PARENTHESES}
+
+-- no more parentheses are open at once up to the place than may be
+abbrev pub IsShallow : List ℕ → ℕ → Type 0
+IsShallow text place = (n : ℕ) → n ≤ place → open_at_end (take n text) ≤ OPEN_PARENTHESES
+
+-- the byte there is the first parenthesis too many, and a text that reads may go on with it
+pub record IsTooDeep (text : List ℕ) (place : ℕ) : Type 0 where
+  pub within : place < length text
+  pub begins : Begins (take (place + 1) text)
+  pub deep : OPEN_PARENTHESES < open_at_end (take (place + 1) text)
+  pub first : IsShallow text place
+
+abbrev pub IsRefusedAt : List ℕ → ℕ → QueryWhy → Type 0
+IsRefusedAt text place End = (place ≡ length text) × HasNoReading text
+IsRefusedAt text place Byte = place ≢ length text
+
+abbrev pub Answers : List ℕ → Result Query QueryError → Type 0
+Answers text (Ok query) = (length text ≤ QUERY_BYTES) × QueryReads text (tree_of query) × IsShallow text (length text)
+Answers text (Err TooLong) = QUERY_BYTES < length text
+Answers text (Err (TooDeep place)) = (length text ≤ QUERY_BYTES) × IsTooDeep text place
+Answers text (Err (At place why)) = (length text ≤ QUERY_BYTES) × IsStuck text place × IsRefusedAt text place why × IsShallow text place
+Answers text (Err Memory) = ⊤

@@ -1,0 +1,87 @@
+-- Where a query holds: a condition by the property that it names, an `And` where all its members hold, an
+-- `Or` where one does.
+use Rattle.std.specs.Prelude.{ℕ, List, [], ◌∷◌, ◌+◌, ◌-◌, ◌*◌, ◌^◌, Option, Some, None, Bool, true, false, not, ◌&&◌, ◌||◌, ◌==◌, nat_lt, unwrap_or, codes, if◌then◌else◌}
+use Rattle.std.specs.Char.{is_ascii_digit}
+use Rattle.std.specs.Str.{bytes_eq}
+use Rattle.dmap_tags.specs.declared.kinds.Kind.{Kind}
+use Rattle.dmap_tags.specs.declared.kinds.Kind.TheVariants.{Text as TextKind}
+use Rattle.item_model.specs.Properties.{property_kind, property_named}
+use Rattle.item_model.specs.Items.{value_of}
+use Rattle.item_model.specs.QueryTree.{QueryTree, condition, and_of, or_of, QueryTrees, no_queries, more_queries}
+use Rattle.item_model.specs.declared.condition.Cond.{Cond}
+use Rattle.item_model.specs.declared.condition.Op.{Op}
+use Rattle.item_model.specs.declared.condition.Op.TheVariants.{Is, IsNot}
+use Rattle.item_model.specs.declared.property.Property.{Property}
+use Rattle.item_model.specs.declared.item.PropValue.{PropValue}
+use Rattle.item_model.specs.declared.item.PropValue.TheVariants.{Number, Text}
+use Rattle.item_model.specs.declared.item.Row.{Row}
+use Rattle.song_query.specs.Glob.{glob}
+
+-- the value that a property without one counts as
+abbrev pub absent : Kind → PropValue
+absent TextKind = Text []
+absent _ = Number 0
+
+abbrev pub property_value : Option Property → List (Property × PropValue) → PropValue
+property_value None entries = Text []
+property_value (Some p) entries = unwrap_or (value_of p entries) (absent (property_kind p))
+
+-- what a name stands for in a row: the id, the value of the property with that name, or an empty text
+unfoldable pub named_value : List ℕ → Row → PropValue
+named_value name row =
+    if bytes_eq name (codes "dmap.itemid") then Number row.id else property_value (property_named name) row.item
+
+-- the number that decimal digits go on to, after those that make n
+abbrev pub number_from : ℕ → List ℕ → ℕ
+number_from n [] = n
+number_from n (c ∷ cs) = number_from (n * 10 + (c - 48)) cs
+
+abbrev pub are_digits : List ℕ → Bool
+are_digits [] = true
+are_digits (c ∷ cs) = is_ascii_digit c && are_digits cs
+
+-- the number that one or more digits spell, where 64 bits hold it
+abbrev pub number_of : List ℕ → Option ℕ
+number_of [] = None
+number_of (c ∷ cs) =
+    if are_digits (c ∷ cs) && nat_lt (number_from 0 (c ∷ cs)) (2 ^ 64) then Some (number_from 0 (c ∷ cs)) else None
+
+abbrev pub is_same_number : Option ℕ → ℕ → Bool
+is_same_number None n = false
+is_same_number (Some m) n = m == n
+
+-- a number is asked for without a wildcard
+abbrev pub asks_number : List (List ℕ) → ℕ → Bool
+asks_number [] n = false
+asks_number (p ∷ []) n = is_same_number (number_of p) n
+asks_number (p ∷ q ∷ ps) n = false
+
+unfoldable pub matches_value : List (List ℕ) → PropValue → Bool
+matches_value pieces (Text bytes) = glob pieces bytes
+matches_value pieces (Number n) = asks_number pieces n
+
+abbrev pub asked : Op → Bool → Bool
+asked Is b = b
+asked IsNot b = not b
+
+abbrev pub meets : Cond → Row → Bool
+meets c row = asked c.op (matches_value c.pattern.pieces (named_value c.name row))
+
+abbrev mutual
+  pub holds : QueryTree → Row → Bool
+  holds (condition c) row = meets c row
+  holds (and_of qs) row = all_hold qs row
+  holds (or_of qs) row = some_hold qs row
+
+  pub all_hold : QueryTrees → Row → Bool
+  all_hold no_queries row = true
+  all_hold (more_queries q qs) row = holds q row && all_hold qs row
+
+  pub some_hold : QueryTrees → Row → Bool
+  some_hold no_queries row = false
+  some_hold (more_queries q qs) row = holds q row || some_hold qs row
+
+-- a query that is absent holds everywhere
+abbrev pub holds_if_any : Option QueryTree → Row → Bool
+holds_if_any None row = true
+holds_if_any (Some q) row = holds q row

@@ -1,0 +1,18 @@
+//! Queries over the rows of a library: `read` reads a query's text exactly by its grammar or tells the place
+//! where no query goes on, `print` writes the shortest text of a query, and `matches` tells where it holds.
+#![tactic(auto)]
+
+mod globs;
+mod levels;
+mod limits;
+mod matching;
+mod parts;
+mod reader;
+mod reading;
+mod steps;
+
+pub use globs::is_glob;
+pub use limits::{OPEN_PARENTHESES, QUERY_BYTES};
+pub use matching::matches;
+pub use reading::read;
+pub use steps::Steps;

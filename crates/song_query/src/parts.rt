@@ -1,0 +1,108 @@
+//! What a reader of queries keeps.
+
+ghost use Rattle.std.specs.Prelude.{◌≡◌, ◌≤◌, [], ◌++◌, ◌∷◌, OnOk, IfOk, string_bytes, length};
+
+use crate::levels::{Level, Levels};
+use dmap_tags::Text;
+use item_model::{Cond, Op, Pattern, Texts};
+use std::alloc::{AllocError, Global};
+use std::mem::replace;
+
+/// Where in a query the next character stands.
+#[derive(Clone, Copy)]
+pub enum Place {
+    /// A unit is due.
+    Due,
+    /// Right behind a unit.
+    Close,
+    /// Behind a unit and blanks.
+    Apart,
+    /// Behind the quote that opens a condition.
+    Opened,
+    /// In a name.
+    Named,
+    /// Behind the exclamation mark after a name.
+    Bang,
+    /// In a value.
+    Valued,
+    /// Behind a backslash in a value.
+    Slashed,
+}
+
+/// Why a character is not taken.
+#[derive(Drop)]
+pub enum Refusal {
+    /// No query goes on with it.
+    Byte,
+    /// It is one open parenthesis too many.
+    Deep,
+    Memory,
+}
+
+impl From<AllocError> for Refusal {
+    ghost use Rattle.std.specs.Prelude.{◌≡◌};
+    ghost use Rattle.song_query.specs.declared.parts.Refusal.TheVariants.{Memory};
+
+    ghost from_gives = { λ _ e. e ≡ Memory };
+
+    fn from(_error: AllocError) -> Refusal {
+        Refusal::Memory
+    }
+}
+
+/// The condition that is being read.
+#[derive(Drop)]
+pub struct Partial {
+    pub name: String,
+    pub op: Op,
+    pub pieces: Texts,
+    pub piece: String,
+}
+
+/// What is read of a text.
+#[derive(Drop)]
+pub struct Reader {
+    pub alloc: Global,
+    pub place: Place,
+    pub partial: Partial,
+    pub level: Level,
+    pub outer: Levels,
+    pub ghost shallow: { length outer ≤ 64 },
+}
+
+impl Partial {
+    pub fn new(alloc: Global) -> Partial {
+        Partial {
+            name: String::new(alloc),
+            op: Op::Is,
+            pieces: Texts::new(alloc),
+            piece: String::new(alloc),
+        }
+    }
+
+    /// A wildcard or the end of the value: the piece is whole, and the next one is empty.
+    pub fn end_piece(&mut self, alloc: Global) -> Result<(), AllocError>
+        ensures pieces { OnOk result (self.new.pieces ≡ self.old.pieces ++ string_bytes self.old.piece ∷ []) }
+        ensures piece { OnOk result (string_bytes self.new.piece ≡ []) }
+        ensures name { string_bytes self.new.name ≡ string_bytes self.old.name }
+        ensures op { self.new.op ≡ self.old.op }
+    {
+        let piece = Text::of(alloc, self.piece.as_str())?;
+        self.pieces.push(piece)?;
+        self.piece.clear();
+        Ok(())
+    }
+
+    /// The condition, whose pieces are taken out.
+    pub fn cond(&mut self, alloc: Global) -> Result<Cond, AllocError>
+        ensures { IfOk result (λ c. (c.name ≡ string_bytes self.old.name) × (c.op ≡ self.old.op) × (c.pattern.pieces ≡ self.old.pieces)) }
+    {
+        let name = Text::of(alloc, self.name.as_str())?;
+        let pieces = replace(&mut self.pieces, Texts::new(alloc));
+        Ok(Cond {
+            name,
+            op: self.op,
+            pattern: Pattern { pieces },
+        })
+    }
+}

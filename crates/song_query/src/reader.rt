@@ -1,0 +1,298 @@
+//! The reading of a query's text, character by character.
+
+ghost use Rattle.std.specs.Prelude.{◌≡◌, ◌≤◌, ◌<◌, [], ◌∷◌, ◌++◌, Some, OnOk, IfOk, string_bytes};
+ghost use Rattle.item_model.specs.Proper.{is_name_byte};
+ghost use Rattle.item_model.specs.QuerySeen.{tree_of};
+ghost use Rattle.song_query.specs.Grammar.{is_mark};
+ghost use Rattle.song_query.specs.Machine.{close, cond_of, due, empty_level, follow, go, here, is_blank, is_end, level_query, shut, start, valued, with_unit};
+ghost use Rattle.song_query.specs.Seen.{state_of, Stepped, Taken};
+
+use crate::levels::{Level, Levels};
+use crate::limits::OPEN_PARENTHESES;
+use crate::parts::{Partial, Place, Reader, Refusal};
+use item_model::{Op, Query, Texts};
+use std::alloc::{AllocError, Global};
+use std::mem::replace;
+
+impl Reader {
+    pub fn new(alloc: Global) -> Reader
+        ensures { state_of result ≡ start }
+    {
+        Reader {
+            alloc,
+            place: Place::Due,
+            partial: Partial::new(alloc),
+            level: Level::empty(alloc),
+            outer: Levels::new(alloc),
+        }
+    }
+
+    /// Reads one character.
+    pub fn take(&mut self, c: char) -> Result<(), Refusal>
+        ensures { Taken (state_of self.old) c (state_of self.new) result }
+    {
+        if c.is_ascii() {
+            self.take_ascii(c)
+        } else {
+            self.take_wide(c)
+        }
+    }
+
+    fn take_ascii(&mut self, c: char) -> Result<(), Refusal>
+        requires { c < 128 }
+        ensures { Stepped (go (state_of self.old) c) (state_of self.new) result }
+    {
+        match self.place {
+            Place::Due => self.due(c),
+            Place::Close => self.close(c),
+            Place::Apart => self.apart(c),
+            Place::Opened => self.opened(c),
+            Place::Named => self.named(c),
+            Place::Bang => self.bang(c),
+            Place::Valued => self.valued(c),
+            Place::Slashed => self.slashed(c),
+        }
+    }
+
+    fn due(&mut self, c: char) -> Result<(), Refusal>
+        requires { self.old.place ≡ Place.Due }
+        ensures { Stepped (go (state_of self.old) c) (state_of self.new) result }
+    {
+        if is_blank(c) {
+            return Ok(());
+        }
+        if c == '\'' {
+            self.place = Place::Opened;
+            return Ok(());
+        }
+        if c == '(' {
+            return self.open();
+        }
+        Err(Refusal::Byte)
+    }
+
+    fn close(&mut self, c: char) -> Result<(), Refusal>
+        requires { self.old.place ≡ Place.Close }
+        ensures { Stepped (go (state_of self.old) c) (state_of self.new) result }
+    {
+        if is_blank(c) {
+            self.place = Place::Apart;
+            return Ok(());
+        }
+        self.follow(c)
+    }
+
+    fn apart(&mut self, c: char) -> Result<(), Refusal>
+        requires { self.old.place ≡ Place.Apart }
+        ensures { Stepped (go (state_of self.old) c) (state_of self.new) result }
+    {
+        if is_blank(c) {
+            return Ok(());
+        }
+        if c == '\'' {
+            self.place = Place::Opened;
+            return Ok(());
+        }
+        if c == '(' {
+            return self.open();
+        }
+        self.follow(c)
+    }
+
+    // An opening parenthesis.
+    fn open(&mut self) -> Result<(), Refusal>
+        ensures { Stepped (Some (here due empty_level (self.old.level ∷ self.old.outer))) (state_of self.new) result }
+    {
+        if self.outer.len() >= OPEN_PARENTHESES {
+            return Err(Refusal::Deep);
+        }
+        let level = replace(&mut self.level, Level::empty(self.alloc));
+        self.outer.push(level)?;
+        self.place = Place::Due;
+        Ok(())
+    }
+
+    // A comma or a closing parenthesis behind a unit.
+    fn follow(&mut self, c: char) -> Result<(), Refusal>
+        ensures { Stepped (follow self.old.level self.old.outer c) (state_of self.new) result }
+    {
+        if c == ',' {
+            self.level.end_member(self.alloc)?;
+            self.place = Place::Due;
+            return Ok(());
+        }
+        if c == ')' {
+            return self.shut();
+        }
+        Err(Refusal::Byte)
+    }
+
+    // A closing parenthesis.
+    fn shut(&mut self) -> Result<(), Refusal>
+        ensures { Stepped (shut self.old.level self.old.outer) (state_of self.new) result }
+    {
+        let Some(around) = self.outer.pop() else {
+            return Err(Refusal::Byte);
+        };
+        let inside = replace(&mut self.level, around);
+        let query = inside.into_query(self.alloc)?;
+        self.level.push_unit(query)?;
+        self.place = Place::Close;
+        Ok(())
+    }
+
+    fn opened(&mut self, c: char) -> Result<(), Refusal>
+        requires place { self.old.place ≡ Place.Opened }
+        requires ascii { c < 128 }
+        ensures { Stepped (go (state_of self.old) c) (state_of self.new) result }
+    {
+        if !is_of_name(c) {
+            return Err(Refusal::Byte);
+        }
+        self.partial.name.clear();
+        self.partial.name.push(c)?;
+        self.place = Place::Named;
+        Ok(())
+    }
+
+    fn named(&mut self, c: char) -> Result<(), Refusal>
+        requires place { self.old.place ≡ Place.Named }
+        requires ascii { c < 128 }
+        ensures { Stepped (go (state_of self.old) c) (state_of self.new) result }
+    {
+        if is_of_name(c) {
+            self.partial.name.push(c)?;
+            return Ok(());
+        }
+        if c == ':' {
+            self.begin_value(Op::Is);
+            return Ok(());
+        }
+        if c == '!' {
+            self.place = Place::Bang;
+            return Ok(());
+        }
+        Err(Refusal::Byte)
+    }
+
+    fn bang(&mut self, c: char) -> Result<(), Refusal>
+        requires { self.old.place ≡ Place.Bang }
+        ensures { Stepped (go (state_of self.old) c) (state_of self.new) result }
+    {
+        if c != ':' {
+            return Err(Refusal::Byte);
+        }
+        self.begin_value(Op::IsNot);
+        Ok(())
+    }
+
+    // The value of the condition is due.
+    fn begin_value(&mut self, op: Op)
+        ensures { state_of self.new ≡ here (valued (string_bytes self.old.partial.name) op [] []) self.old.level self.old.outer }
+    {
+        self.partial.op = op;
+        self.partial.pieces = Texts::new(self.alloc);
+        self.partial.piece.clear();
+        self.place = Place::Valued;
+    }
+
+    fn valued(&mut self, c: char) -> Result<(), Refusal>
+        requires place { self.old.place ≡ Place.Valued }
+        requires ascii { c < 128 }
+        ensures { Stepped (go (state_of self.old) c) (state_of self.new) result }
+    {
+        if c == '\'' {
+            self.end_condition()?;
+            return Ok(());
+        }
+        if c == '\\' {
+            self.place = Place::Slashed;
+            return Ok(());
+        }
+        if c == '*' {
+            self.partial.end_piece(self.alloc)?;
+            return Ok(());
+        }
+        self.partial.piece.push(c)?;
+        Ok(())
+    }
+
+    fn end_condition(&mut self) -> Result<(), AllocError>
+        ensures { OnOk result (state_of self.new ≡ here close (with_unit (cond_of (string_bytes self.old.partial.name) self.old.partial.op (self.old.partial.pieces ++ string_bytes self.old.partial.piece ∷ [])) self.old.level) self.old.outer) }
+    {
+        self.partial.end_piece(self.alloc)?;
+        let cond = self.partial.cond(self.alloc)?;
+        self.level.push_unit(Query::Cond(cond))?;
+        self.place = Place::Close;
+        Ok(())
+    }
+
+    fn slashed(&mut self, c: char) -> Result<(), Refusal>
+        requires place { self.old.place ≡ Place.Slashed }
+        requires ascii { c < 128 }
+        ensures { Stepped (go (state_of self.old) c) (state_of self.new) result }
+    {
+        if !is_mark(c) {
+            self.partial.piece.push('\\')?;
+        }
+        self.partial.piece.push(c)?;
+        self.place = Place::Valued;
+        Ok(())
+    }
+
+    // A character beyond ASCII stands in values alone.
+    fn take_wide(&mut self, c: char) -> Result<(), Refusal>
+        requires { 128 ≤ c }
+        ensures { Taken (state_of self.old) c (state_of self.new) result }
+    {
+        match self.place {
+            Place::Valued => {
+                self.partial.piece.push(c)?;
+                Ok(())
+            }
+            Place::Slashed => {
+                self.partial.piece.push('\\')?;
+                self.partial.piece.push(c)?;
+                self.place = Place::Valued;
+                Ok(())
+            }
+            _ => Err(Refusal::Byte),
+        }
+    }
+
+    /// Whether a query may end here.
+    pub fn is_end(&self) -> bool
+        ensures { result ≡ is_end (state_of self.now) }
+    {
+        match self.place {
+            Place::Close | Place::Apart => self.outer.len() == 0,
+            _ => false,
+        }
+    }
+
+    /// The query of what was read.
+    pub fn into_query(self) -> Result<Query, AllocError>
+        ensures { IfOk result (λ q. tree_of q ≡ level_query self.level) }
+    {
+        self.level.into_query(self.alloc)
+    }
+}
+
+fn is_blank(c: char) -> bool
+    ensures { result ≡ is_blank c }
+{
+    c == ' ' || c == '+'
+}
+
+fn is_mark(c: char) -> bool
+    ensures { result ≡ is_mark c }
+{
+    c == '\'' || (c == '\\' || c == '*')
+}
+
+// A letter, a digit, a point, a low line or a hyphen.
+fn is_of_name(c: char) -> bool
+    ensures { result ≡ is_name_byte c }
+{
+    c.is_ascii_alphanumeric() || (c == '.' || (c == '_' || c == '-'))
+}

@@ -1,0 +1,52 @@
+//! Texts read as queries.
+
+ghost use Rattle.std.specs.Prelude.{◌≡◌, true, IfOk};
+ghost use Rattle.item_model.specs.Proper.{is_proper};
+ghost use Rattle.item_model.specs.QuerySeen.{tree_of};
+ghost use Rattle.song_query.specs.Answers.{Answers};
+ghost use Rattle.song_query.specs.Seen.{refused_at};
+
+use crate::limits::QUERY_BYTES;
+use crate::parts::{Reader, Refusal};
+use item_model::{Query, QueryError, QueryWhy};
+use std::alloc::Global;
+
+/// The query that a text reads as. A refusal tells its cause and, in bytes from 0, its place. No call goes
+/// deeper for an open parenthesis.
+pub fn read(alloc: Global, text: &str) -> Result<Query, QueryError>
+    ensures { Answers text.now result }
+{
+    if text.len() > QUERY_BYTES {
+        return Err(QueryError::TooLong);
+    }
+    let mut reader = Reader::new(alloc);
+    let mut place = 0u64;
+    let mut rest = text.chars();
+    while let Some(c) = rest.next() {
+        match reader.take(c) {
+            Ok(()) => place += c.len_utf8() as u64,
+            Err(refusal) => return Err(refused(refusal, place)),
+        }
+    }
+    if !reader.is_end() {
+        return Err(QueryError::At {
+            place,
+            why: QueryWhy::End,
+        });
+    }
+    Ok(reader.into_query()?)
+}
+
+// A character that is not taken, with its place.
+fn refused(refusal: Refusal, place: u64) -> QueryError
+    ensures { result ≡ refused_at place refusal }
+{
+    match refusal {
+        Refusal::Byte => QueryError::At {
+            place,
+            why: QueryWhy::Byte,
+        },
+        Refusal::Deep => QueryError::TooDeep { place },
+        Refusal::Memory => QueryError::Memory,
+    }
+}
