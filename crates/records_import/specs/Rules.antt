@@ -1,10 +1,9 @@
--- What the cell of a query reads as.
-use Rattle.std.specs.Prelude.{◌≡◌, ℕ, List, Result, Err}
+-- What the text of a rule reads as: a query, or the refusal that reading a query gives.
+use Rattle.std.specs.Prelude.{◌≢◌, ℕ, List, Result, Err}
 use Rattle.item_model.specs.declared.query.Query.{Query}
 use Rattle.item_model.specs.declared.refusal.QueryError.{QueryError}
-use Rattle.item_model.specs.declared.refusal.QueryError.TheVariants.{At}
-use Rattle.item_model.specs.declared.refusal.QueryWhy.TheVariants.{Byte}
+use Rattle.item_model.specs.declared.refusal.QueryError.TheVariants.{Memory}
+use Rattle.song_query.specs.Answers.{Answers}
 
--- the text reads as the query, or is refused with the error
 abbrev pub RuleReads : List ℕ → Result Query QueryError → Type 0
-RuleReads text answer = answer ≡ Err (At 0 Byte)
+RuleReads text answer = (answer ≢ Err Memory) × Answers text answer
