@@ -4,4 +4,6 @@ pub mod ReadBack
 mod Rows
 mod Walks
 mod Answering
+mod Proper
+mod ValidEdits
 mod Written

@@ -85,7 +85,7 @@ walked_item action (c ∷ columns) (cell ∷ cells) before after w =
     ∙ ap (λ item. with_cells item columns cells) (item_kept (uses action c) c cell before w.0 w.1 w.2)
 
 -- what a number's cell writes
-number_value : (cell : List ℕ) (n : ℕ) → number_of cell ≡ Some n → n ≡ digits_value 10 cell
+pub number_value : (cell : List ℕ) (n : ℕ) → number_of cell ≡ Some n → n ≡ digits_value 10 cell
 number_value cell n h = elim (cases_Bool (is_number cell)) [
   | inl digits ↦
       let e : Some (digits_value 10 cell) ≡ Some n = rw digits at h in
@@ -118,7 +118,7 @@ list_step false true holds.List columns cell cells before next after b has same 
     let told : Added holds.List cell before next = subst (λ used. AddedBy used holds.List cell before next) (used refl) added in
     rw has (found ∙ ap (λ v. v.list) told.2 ∙ ap Some (number_value cell told.0 told.1))
 
-list_used : (action : Action) (c : Column) → uses action holds.List ≡ true → is_same_column holds.List c ≡ true → uses action c ≡ true
+pub list_used : (action : Action) (c : Column) → uses action holds.List ≡ true → is_same_column holds.List c ≡ true → uses action c ≡ true
 list_used action (holds.Property p) used same = absurd (cc same)
 list_used action holds.Query used same = absurd (cc same)
 list_used action holds.List used same = used
@@ -157,7 +157,7 @@ entry_step false true holds.Item columns cell cells before next after b has same
     let told : Added holds.Item cell before next = subst (λ used. AddedBy used holds.Item cell before next) (used refl) added in
     rw has (found ∙ ap (λ v. v.entry) told.2 ∙ ap Some (number_value cell told.0 told.1))
 
-entry_used : (action : Action) (c : Column) → uses action holds.Item ≡ true → is_same_column holds.Item c ≡ true → uses action c ≡ true
+pub entry_used : (action : Action) (c : Column) → uses action holds.Item ≡ true → is_same_column holds.Item c ≡ true → uses action c ≡ true
 entry_used action (holds.Property p) used same = absurd (cc same)
 entry_used action holds.Query used same = absurd (cc same)
 entry_used action holds.Item used same = used

@@ -21,7 +21,9 @@ pub const MOST_RECORDS: usize = 65_536;
 ///
 /// No record at all is the empty batch.
 pub fn read_batch(alloc: Global, bytes: &[u8]) -> Result<Batch, RecordError>
-    ensures { MatchResult result (λ batch. BatchReads (table_of bytes.now) (Ok batch)) (λ e. e ≢ RecordError.Memory → BatchReads (table_of bytes.now) (Err e)) }
+    ensures exact { MatchResult result (λ batch. BatchReads (table_of bytes.now) (Ok batch)) (λ e. e ≢ RecordError.Memory → BatchReads (table_of bytes.now) (Err e)) }
+    ensures valid { IfOk result (λ batch. AreValid batch) }
+    ensures few { IfOk result (λ batch. length batch ≤ MOST_RECORDS) }
 {
     // One record more than a batch has, below the header, shows that there are too many.
     let rows = rows_of(alloc, bytes, MOST_RECORDS + 2)?;
