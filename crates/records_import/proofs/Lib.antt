@@ -7,3 +7,4 @@ mod Answering
 mod Proper
 mod ValidEdits
 mod Written
+pub mod Once

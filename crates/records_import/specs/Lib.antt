@@ -7,3 +7,4 @@ pub mod Rules
 pub mod Values
 pub mod Records
 pub mod Walk
+pub mod Laws

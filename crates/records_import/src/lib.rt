@@ -4,6 +4,7 @@
 mod action;
 mod batch;
 mod header;
+pub mod laws;
 mod number;
 mod record;
 mod refusal;
