@@ -1,6 +1,10 @@
 mod Cells
 mod Digits
 pub mod ReadBack
-mod OneForm
 mod Rows
+mod Walks
+mod Answering
+mod Proper
+mod ValidEdits
 mod Written
+pub mod Once

@@ -1,4 +1,10 @@
 pub mod Number
-pub mod OneForm
 pub mod Table
 pub mod Writing
+pub mod Columns
+pub mod Actions
+pub mod Rules
+pub mod Values
+pub mod Records
+pub mod Walk
+pub mod Laws

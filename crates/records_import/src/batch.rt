@@ -1,16 +1,17 @@
 // Batches of edits, read from records.
 
-ghost use Rattle.std.specs.Prelude.{◌≡◌, ◌≢◌, ◌≤◌, length, map, true, false, Some, None, IfOk, MatchResult};
+ghost use Rattle.std.specs.Prelude.{◌≡◌, ◌≢◌, ◌≤◌, length, map, Ok, Err, IfOk, MatchResult};
 ghost use Rattle.csv.specs.Records.{fields_of};
 ghost use Rattle.item_model.specs.Valid.{AreValid};
-ghost use Rattle.records_import.specs.OneForm.{is_header, edits_within, batch_of};
+ghost use Rattle.records_import.specs.Records.{BatchReads, RecordsAnswer};
 ghost use Rattle.records_import.specs.Table.{table_of};
 
+use crate::header::{Column, read_header};
 use crate::record::read_record;
 use crate::refusal::RecordError;
-use crate::table::{cell, rows_of, width};
+use crate::table::rows_of;
 use csv::ByteRecord;
-use item_model::{Batch, Edits, Property};
+use item_model::{Batch, Edits};
 use std::alloc::Global;
 
 /// How many records a batch has at most.
@@ -20,7 +21,7 @@ pub const MOST_RECORDS: usize = 65_536;
 ///
 /// No record at all is the empty batch.
 pub fn read_batch(alloc: Global, bytes: &[u8]) -> Result<Batch, RecordError>
-    ensures exact { MatchResult result (λ batch. batch_of (table_of bytes.now) ≡ Some batch) (λ e. e ≢ RecordError.Memory → batch_of (table_of bytes.now) ≡ None) }
+    ensures exact { MatchResult result (λ batch. BatchReads (table_of bytes.now) (Ok batch)) (λ e. e ≢ RecordError.Memory → BatchReads (table_of bytes.now) (Err e)) }
     ensures valid { IfOk result (λ batch. AreValid batch) }
     ensures few { IfOk result (λ batch. length batch ≤ MOST_RECORDS) }
 {
@@ -29,53 +30,32 @@ pub fn read_batch(alloc: Global, bytes: &[u8]) -> Result<Batch, RecordError>
     read_rows(alloc, rows.as_slice())
 }
 
-#[tactic(auto, unfolding(crate::specs::OneForm::batch_of))]
+#[tactic(auto, unfolding(crate::specs::Records::BatchReads))]
 fn read_rows(alloc: Global, rows: &[ByteRecord]) -> Result<Batch, RecordError>
-    ensures { MatchResult result (λ batch. batch_of (map fields_of rows.now) ≡ Some batch) (λ e. e ≢ RecordError.Memory → batch_of (map fields_of rows.now) ≡ None) }
+    ensures { MatchResult result (λ batch. BatchReads (map fields_of rows.now) (Ok batch)) (λ e. e ≢ RecordError.Memory → BatchReads (map fields_of rows.now) (Err e)) }
 {
     match rows {
         [] => Ok(Batch {
             edits: Edits::new(alloc),
         }),
         [header, records @ ..] => {
-            check_header(header)?;
-            let edits = read_records(alloc, records)?;
+            let header = read_header(alloc, header)?;
+            let edits = read_records(alloc, header.columns.as_slice(), records)?;
             Ok(Batch { edits })
         }
     }
 }
 
-fn check_header(header: &ByteRecord) -> Result<(), RecordError>
-    ensures { MatchResult result (λ _. is_header (fields_of header.now) ≡ true) (λ e. is_header (fields_of header.now) ≡ false) }
-{
-    if cell(header, 0) != b"op".as_slice() {
-        return Err(RecordError::Header { column: 1 });
-    }
-    if cell(header, 1) != b"kind".as_slice() {
-        return Err(RecordError::Header { column: 2 });
-    }
-    if cell(header, 2) != b"id".as_slice() {
-        return Err(RecordError::Header { column: 3 });
-    }
-    if cell(header, 3) != Property::Minm.name().as_bytes() {
-        return Err(RecordError::Header { column: 4 });
-    }
-    if width(header) != 4 {
-        return Err(RecordError::Header { column: 5 });
-    }
-    Ok(())
-}
-
-fn read_records(alloc: Global, records: &[ByteRecord]) -> Result<Edits, RecordError>
-    ensures { MatchResult result (λ edits. edits_within (map fields_of records.now) ≡ Some edits) (λ e. e ≢ RecordError.Memory → edits_within (map fields_of records.now) ≡ None) }
+fn read_records(
+    alloc: Global,
+    columns: &[Column],
+    records: &[ByteRecord],
+) -> Result<Edits, RecordError>
+    ensures { MatchResult result (λ edits. RecordsAnswer columns.now 1 (map fields_of records.now) (Ok edits)) (λ e. e ≢ RecordError.Memory → RecordsAnswer columns.now 1 (map fields_of records.now) (Err e)) }
 {
     let mut edits = Edits::new(alloc);
-    for (place, record) in records.iter().enumerate() {
-        let row = place as u64 + 1;
-        if place >= MOST_RECORDS {
-            return Err(RecordError::TooMany { row });
-        }
-        edits.push(read_record(alloc, row, record)?)?;
+    for (place, cells) in records.iter().enumerate() {
+        edits.push(read_record(alloc, place as u64 + 1, columns, cells)?)?;
     }
     Ok(edits)
 }

@@ -1,13 +1,17 @@
-//! Batches read from records: comma separated text, each row an edit, taken whole or not at all. So far each
-//! record puts an item with its name.
+//! Batches read from records: comma separated text, each row an edit, taken whole or not at all.
 #![tactic(auto)]
 
+mod action;
 mod batch;
+mod header;
+pub mod laws;
 mod number;
 mod record;
 mod refusal;
+mod rule;
 mod table;
 mod table_text;
+mod values;
 
 pub use batch::{MOST_RECORDS, read_batch};
 pub use number::read_number;

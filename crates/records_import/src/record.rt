@@ -1,45 +1,46 @@
 // Edits, read from records.
 
-ghost use Rattle.std.specs.Prelude.{◌≡◌, ◌≢◌, ◌&&◌, true, false, Some, None, MatchResult, IfOk, option_map, length, ◌≤◌, if◌then◌else◌};
-ghost use Rattle.std.specs.Str.{is_utf8};
+ghost use Rattle.std.specs.Prelude.{◌≡◌, ◌≢◌, ◌+◌, drop, length, get_or, [], true, false, Some, None, Ok, Err, IfOk, MatchResult};
 ghost use Rattle.csv.specs.Records.{fields_of};
-ghost use Rattle.item_model.specs.declared.item.TheConstants.{TEXT_BYTES};
-ghost use Rattle.records_import.specs.Number.{number_of};
-ghost use Rattle.records_import.specs.OneForm.{edit_of, id_of, is_name, item_named};
+ghost use Rattle.records_import.specs.Records.{action_of, name_in, IsLeftmost, RecordAnswers};
+ghost use Rattle.records_import.specs.Walk.{Walked, edit_from, member_edit, no_values};
 
-use crate::number::read_number;
+use crate::action::Action;
+use crate::batch::MOST_RECORDS;
+use crate::header::{Column, FIRST_COLUMNS};
 use crate::refusal::RecordError;
 use crate::table::{cell, width};
+use crate::values::{CellError, Values, read_id};
 use csv::ByteRecord;
 use dmap_tags::Text;
-use item_model::{Edit, Item, PropValue, Property, RecordWhy, Row, TEXT_BYTES};
+use item_model::{Edit, Item, PropValue, Property, RecordWhy, Row};
 use std::alloc::{AllocError, Global};
-use std::str::from_utf8;
 
-/// The edit of the record at this row.
-pub fn read_record(alloc: Global, row: u64, cells: &ByteRecord) -> Result<Edit, RecordError>
-    ensures { MatchResult result (λ edit. edit_of (fields_of cells.now) ≡ Some edit) (λ e. e ≢ RecordError.Memory → edit_of (fields_of cells.now) ≡ None) }
+/// The edit of the record with this number, from 1.
+pub fn read_record(
+    alloc: Global,
+    row: u64,
+    columns: &[Column],
+    cells: &ByteRecord,
+) -> Result<Edit, RecordError>
+    ensures { MatchResult result (λ edit. RecordAnswers columns.now row (fields_of cells.now) (Ok edit)) (λ e. e ≢ RecordError.Memory → RecordAnswers columns.now row (fields_of cells.now) (Err e)) }
 {
-    if width(cells) != 4 {
+    if row > MOST_RECORDS as u64 {
+        return Err(RecordError::TooMany { row });
+    }
+    if width(cells) != columns.len() + FIRST_COLUMNS {
         return Err(RecordError::Length { row });
     }
-    if cell(cells, 0) != b"put".as_slice() {
-        return Err(field(row, 1, RecordWhy::Op));
-    }
-    if cell(cells, 1) != b"item".as_slice() {
-        return Err(field(row, 2, RecordWhy::Kind));
-    }
-    let id = match read_id(cell(cells, 2)) {
+    let action = read_action(row, cells)?;
+    let id = match read_id(cell(cells, 2), action.least_id()) {
         Ok(id) => id,
         Err(why) => return Err(field(row, 3, why)),
     };
-    let Some(name) = name_text(cell(cells, 3)) else {
-        return Err(field(row, 4, RecordWhy::Text));
-    };
-    let item = named_item(alloc, name)?;
-    Ok(Edit::PutItem {
-        row: Row { id, item },
-    })
+    let values = read_cells(alloc, row, action, columns, cells)?;
+    match edit_from(alloc, action, id, values)? {
+        Some(edit) => Ok(edit),
+        None => Err(field(row, columns.len() as u64 + 4, RecordWhy::Missing)),
+    }
 }
 
 fn field(row: u64, column: u64, why: RecordWhy) -> RecordError
@@ -48,47 +49,106 @@ fn field(row: u64, column: u64, why: RecordWhy) -> RecordError
     RecordError::Field { row, column, why }
 }
 
-fn read_id(cell: &[u8]) -> Result<u32, RecordWhy>
-    ensures { MatchResult result (λ id. id_of (number_of cell.now) ≡ Some id) (λ _. id_of (number_of cell.now) ≡ None) }
+/// The action of a record, by its first two cells.
+fn read_action(row: u64, cells: &ByteRecord) -> Result<Action, RecordError>
+    ensures { result ≡ action_of row (get_or (fields_of cells.now) 0 []) (get_or (fields_of cells.now) 1 []) }
 {
-    match read_number(cell) {
-        None => Err(RecordWhy::Number),
-        Some(number) => match u32::try_from(number) {
-            Ok(id) if id > 0 => Ok(id),
-            _ => Err(RecordWhy::Range),
-        },
+    let kind = cell(cells, 1);
+    let action = if cell(cells, 0) == b"put".as_slice() {
+        Action::put(kind)
+    } else if cell(cells, 0) == b"drop".as_slice() {
+        Action::drop_(kind)
+    } else {
+        return Err(field(row, 1, RecordWhy::Op));
+    };
+    match action {
+        Some(action) => Ok(action),
+        None => Err(field(row, 2, RecordWhy::Kind)),
     }
 }
 
-/// The text of a name, if it is one.
-fn name_text(name: &[u8]) -> Option<&str>
-    ensures { option_map (λ text. text.now) result ≡ (if is_name name.now then Some name.now else None) }
+/// Takes in the cells of the further columns, from left to right.
+fn read_cells(
+    alloc: Global,
+    row: u64,
+    action: Action,
+    columns: &[Column],
+    cells: &ByteRecord,
+) -> Result<Values, RecordError>
+    requires { length (fields_of cells.now) ≡ length columns.now + 3 }
+    ensures { MatchResult result (λ values. Walked action columns.now (drop 3 (fields_of cells.now)) no_values values) (λ e. e ≢ RecordError.Memory → IsLeftmost action row 4 columns.now (drop 3 (fields_of cells.now)) e) }
 {
-    if name.len() > TEXT_BYTES {
-        return None;
-    }
-    text_of(name)
-}
-
-fn text_of(bytes: &[u8]) -> Option<&str>
-    ensures { option_map (λ text. text.now) result ≡ (if is_utf8 bytes.now then Some bytes.now else None) }
-{
-    match from_utf8(bytes) {
-        Ok(text) => Some(text),
-        Err(_) => None,
-    }
-}
-
-fn named_item(alloc: Global, name: &str) -> Result<Item, AllocError>
-    requires { length name.now ≤ TEXT_BYTES }
-    ensures { IfOk result (λ item. item ≡ item_named name.now) }
-{
-    let mut item = Item::new(alloc);
-    if !name.is_empty() {
-        let value = PropValue::Text(Text::of(alloc, name)?);
-        if item.put(Property::Minm, value).is_err() {
-            return Err(AllocError);
+    let mut values = Values::new(alloc);
+    for (place, column) in columns.iter().enumerate() {
+        match values.take(alloc, action, *column, cell(cells, place + FIRST_COLUMNS)) {
+            Ok(()) => {}
+            Err(CellError::Memory) => return Err(RecordError::Memory),
+            Err(CellError::Refused(why)) => return Err(field(row, place as u64 + 4, why)),
         }
     }
-    Ok(item)
+    Ok(values)
+}
+
+/// The edit that the values make, and none where the action lacks one of them.
+fn edit_from(
+    alloc: Global,
+    action: Action,
+    id: u32,
+    values: Values,
+) -> Result<Option<Edit>, AllocError>
+    ensures { IfOk result (λ edit. edit ≡ edit_from action id values) }
+{
+    let Values {
+        item,
+        rule,
+        list,
+        entry,
+    } = values;
+    match action {
+        Action::PutItem => Ok(Some(Edit::PutItem {
+            row: Row { id, item },
+        })),
+        Action::DropItem => Ok(Some(Edit::DropItem { id })),
+        Action::PutList => {
+            let name = name_in(alloc, &item)?;
+            Ok(Some(Edit::PutList { list: id, name }))
+        }
+        Action::PutRule => {
+            let Some(rule) = rule else {
+                return Ok(None);
+            };
+            let name = name_in(alloc, &item)?;
+            Ok(Some(Edit::PutRule {
+                list: id,
+                name,
+                rule,
+            }))
+        }
+        Action::DropList => Ok(Some(Edit::DropList { list: id })),
+        Action::PutMember => Ok(member_edit(id, list, entry)),
+        Action::DropMember => {
+            let Some(list) = list else {
+                return Ok(None);
+            };
+            Ok(Some(Edit::DropMember { list, member: id }))
+        }
+    }
+}
+
+fn member_edit(member: u32, list: Option<u32>, entry: Option<u32>) -> Option<Edit>
+    ensures { result ≡ member_edit member list entry }
+{
+    let list = list?;
+    let item = entry?;
+    Some(Edit::PutMember { list, member, item })
+}
+
+/// The name among an item's properties, empty where there is none.
+fn name_in(alloc: Global, item: &Item) -> Result<Text, AllocError>
+    ensures { IfOk result (λ name. name ≡ name_in item.now) }
+{
+    match item.get(Property::Minm) {
+        Some(PropValue::Text(name)) => name.copy(),
+        _ => Text::of(alloc, ""),
+    }
 }

@@ -8,3 +8,4 @@ pub mod Laws
 pub mod Wide
 pub mod Nested
 pub mod Reached
+pub mod Once

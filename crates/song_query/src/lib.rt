@@ -9,6 +9,7 @@ mod matching;
 mod parts;
 mod reader;
 mod reading;
+pub mod refusals;
 mod steps;
 
 pub use globs::is_glob;

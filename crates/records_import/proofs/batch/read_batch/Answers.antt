@@ -1,12 +1,12 @@
 use Rattle.std.proofs.Common.{map}
 use Rattle.csv.specs.Records.{fields_of}
-use Rattle.records_import.specs.OneForm.{batch_of}
 use Rattle.records_import.specs.Table.{table_of}
-use Rattle.records_import.proofs.OneForm.{Told, read_few, read_valid, whole_told}
+use Rattle.records_import.proofs.Answering.{Told, whole_told}
+use Rattle.records_import.proofs.ValidEdits.{read_few, read_valid}
 use Rattle.records_import.proofs.batch.read_batch.Goals as goal
 
--- the first rows tell all
-told : (c : goal.After-drop-rows) → Told (batch_of (table_of c.args.bytes.now)) c.read_rows.result
+-- the first rows tell what all rows do
+told : (c : goal.After-drop-rows) → Told (table_of c.args.bytes.now) c.read_rows.result
 told c =
     whole_told (table_of c.args.bytes.now) (map fields_of c.in_ok-rows.rows.items) c.read_rows.result c.in_ok-rows.ensures
     (rw c.as_slice.ensures.value at c.read_rows.ensures)

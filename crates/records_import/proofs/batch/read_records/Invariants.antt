@@ -1,13 +1,13 @@
-use Rattle.std.proofs.Common.{◌≡◌, ◌≤◌, drop, map}
+use Rattle.std.proofs.Common.{◌+◌, List, Result, drop, map}
 use Rattle.csv.specs.Records.{fields_of}
-use Rattle.records_import.specs.OneForm.{edits_of}
-use Rattle.records_import.specs.declared.batch.TheConstants.{MOST_RECORDS}
-use Rattle.records_import.proofs.OneForm.{behind}
+use Rattle.item_model.specs.declared.changes.Edit.{Edit}
+use Rattle.records_import.specs.Records.{RecordsAnswer}
+use Rattle.records_import.specs.declared.refusal.RecordError.{RecordError}
+use Rattle.records_import.proofs.Answering.{behind}
 use Rattle.records_import.proofs.batch.read_records.Given as goal
 
--- the edits so far stand before those of the records that are left
+-- what the records that are left answer, behind the edits so far, all records answer
 abbrev pub invariant-loop-place : goal.invariant-loop-place
-invariant-loop-place l = record {
-  few : l.place ≤ MOST_RECORDS;
-  so_far : behind l.edits (edits_of (map fields_of (drop l.place l.records))) ≡ edits_of (map fields_of l.records);
-}
+invariant-loop-place l =
+    (answer : Result (List Edit) RecordError) → RecordsAnswer l.columns (l.place + 1) (map fields_of (drop l.place l.records)) answer
+    → RecordsAnswer l.columns 1 (map fields_of l.records) (behind l.edits answer)

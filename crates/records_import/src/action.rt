@@ -1,0 +1,92 @@
+// What a record does.
+
+ghost use Rattle.std.specs.Prelude.{◌≡◌};
+ghost use Rattle.records_import.specs.Actions.{drop_action, is_property, least_id, put_action, uses};
+
+use crate::header::Column;
+use item_model::Property;
+
+/// An operation on a kind of thing.
+#[derive(Clone, Copy, Debug, PartialEq, Eq)]
+pub enum Action {
+    PutItem,
+    DropItem,
+    PutList,
+    PutRule,
+    DropList,
+    PutMember,
+    DropMember,
+}
+
+impl Action {
+    /// What is put of this kind.
+    pub fn put(kind: &[u8]) -> Option<Action>
+        ensures { result ≡ put_action kind.now }
+    {
+        if kind == b"item".as_slice() {
+            return Some(Action::PutItem);
+        }
+        if kind == b"list".as_slice() {
+            return Some(Action::PutList);
+        }
+        if kind == b"rule".as_slice() {
+            return Some(Action::PutRule);
+        }
+        if kind == b"member".as_slice() {
+            return Some(Action::PutMember);
+        }
+        None
+    }
+
+    /// What is dropped of this kind.
+    pub fn drop_(kind: &[u8]) -> Option<Action>
+        ensures { result ≡ drop_action kind.now }
+    {
+        if kind == b"item".as_slice() {
+            return Some(Action::DropItem);
+        }
+        if kind == b"list".as_slice() {
+            return Some(Action::DropList);
+        }
+        if kind == b"member".as_slice() {
+            return Some(Action::DropMember);
+        }
+        None
+    }
+
+    /// The least id of what is put or dropped. List 1 is always there and no record's.
+    pub fn least_id(self) -> u32
+        ensures { result ≡ least_id self }
+    {
+        match self {
+            Action::PutItem | Action::DropItem | Action::PutMember | Action::DropMember => 1,
+            Action::PutList | Action::PutRule | Action::DropList => 2,
+        }
+    }
+
+    /// Whether the cells of a column say something to the action.
+    pub fn uses(self, column: Column) -> bool
+        ensures { result ≡ uses self column }
+    {
+        match self {
+            Action::PutItem => is_property(column),
+            Action::DropItem => false,
+            Action::PutList => column.is_same(Column::Property(Property::Minm)),
+            Action::PutRule => {
+                column.is_same(Column::Property(Property::Minm)) || column.is_same(Column::Query)
+            }
+            Action::DropList => false,
+            Action::PutMember => column.is_same(Column::List) || column.is_same(Column::Item),
+            Action::DropMember => column.is_same(Column::List),
+        }
+    }
+}
+
+fn is_property(column: Column) -> bool
+    ensures { result ≡ is_property column }
+{
+    match column {
+        Column::Property(_) => true,
+        _ => false,
+    }
+}
