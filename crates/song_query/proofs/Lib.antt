@@ -8,3 +8,9 @@ pub mod Laws
 pub mod Wide
 pub mod Nested
 pub mod Reached
+pub mod Depths
+pub mod Forms
+pub mod Least
+pub mod Shallowest
+pub mod Peaks
+pub mod Printed

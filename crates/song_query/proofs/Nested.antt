@@ -75,7 +75,7 @@ on_follow l ls c t h =
 not_name : (c k : ℕ) → is_name_byte k ≡ false → is_name_byte c ≡ true → eqb c k ≡ false
 not_name c k h e = false_from_ne_true _ (λ x. false≢true (sym h ∙ ap is_name_byte (sym (eqb-true c k x)) ∙ e))
 
-name_inside : (c : ℕ) → is_name_byte c ≡ true → where_next inside c ≡ inside
+pub name_inside : (c : ℕ) → is_name_byte c ≡ true → where_next inside c ≡ inside
 name_inside c h = cond-false _ _ _ (not_name c 39 refl h) ∙ cond-false _ _ _ (not_name c 92 refl h)
 
 step_counts : (p : Place) (l : Level) (ls : List Level) (c : ℕ) (t : State) → step p l ls c ≡ Some t → Counts (where_at p) (length ls) c t

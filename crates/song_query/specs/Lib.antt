@@ -6,3 +6,4 @@ pub mod Nesting
 pub mod Answers
 pub mod Machine
 pub mod Seen
+pub mod Printing
