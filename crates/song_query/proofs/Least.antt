@@ -6,11 +6,8 @@ use Rattle.item_model.specs.QueryTree.{QueryTree, condition, and_of, or_of, Quer
 use Rattle.song_query.specs.Grammar.{Blank, blank, blanks, Mark, quote, backslash, star, mark, is_mark, Atom, plain, escaped, lone, print_atoms, piece_of, are_atoms, print_starred, are_pieces, Value, print_value, value_pieces, is_value, print_op, CondForm, print_cond, cond_meaning, is_cond, UnitForm, cond, group, AndForm, one, more, OrForm, only, either, print_unit, print_and, print_or, joined, unit_meaning, units, members, is_unit, is_and, is_or, QueryForm, print_query}
 use Rattle.song_query.specs.Printing.{is_before_mark, is_escaped, printed_byte, printed_piece, printed_pieces, printed_more, printed_cond, printed, printed_unit, printed_member, printed_and, printed_and_more, printed_or, printed_or_more}
 use Rattle.song_query.specs.Reading.{QueryReads}
+use Rattle.song_query.proofs.Complete.{not_true}
 use Rattle.song_query.proofs.Forms.{plain_printed}
-
-not_true : (b : Bool) → not b ≡ true → b ≡ false
-not_true true h = absurd (false≢true h)
-not_true false h = refl
 
 short : (b : Bool) (x y : List ℕ) → length x ≤ 2 → length y ≤ 2 → length (if b then x else y) ≤ 2
 short true x y h k = h
@@ -141,11 +138,11 @@ joined_members [] n h k = absurd (k refl)
 joined_members (q ∷ []) n h k = omega (arith, whole_le_member q)
 joined_members (q ∷ r ∷ ms) n h k = omega (arith, or_total q (r ∷ ms))
 
-some_units : (a : AndForm) → length (units a) ≢ 0
+pub some_units : (a : AndForm) → length (units a) ≢ 0
 some_units (one u) h = absurd (omega arith)
 some_units (more a b g u) h = absurd (omega (arith, length-append (units a) (unit_meaning u ∷ [])))
 
-some_members : (o : OrForm) → length (members o) ≢ 0
+pub some_members : (o : OrForm) → length (members o) ≢ 0
 some_members (only a) h = absurd (omega arith)
 some_members (either o g k a) h = absurd (omega (arith, length-append (members o) (joined and_of (units a) ∷ [])))
 

@@ -14,3 +14,4 @@ pub mod Least
 pub mod Shallowest
 pub mod Peaks
 pub mod Printed
+pub mod ReadLaws

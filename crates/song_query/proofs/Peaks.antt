@@ -11,6 +11,7 @@ use Rattle.song_query.specs.Reading.{QueryReads}
 use Rattle.song_query.specs.Nesting.{Where, outside, inside, behind, where_next, open_next, most_open, deepest}
 use Rattle.song_query.specs.Printing.{printed}
 use Rattle.song_query.proofs.Depths.{unit_depth, and_depth, or_depth, depth}
+use Rattle.song_query.proofs.Complete.{not_true}
 use Rattle.song_query.proofs.Forms.{text_for}
 use Rattle.song_query.proofs.Shallowest.{form_shallow}
 use Rattle.song_query.proofs.Nested.{name_inside}
@@ -45,10 +46,6 @@ name_peak (c ∷ cs) n rest h =
 op_peak : (o : Op) (n : ℕ) (rest : List ℕ) → most_open inside n (print_op o ++ rest) ≡ most_open inside n rest
 op_peak Is n rest = stays inside inside n 58 rest refl refl
 op_peak IsNot n rest = stays inside inside n 33 (58 ∷ rest) refl refl ∙ stays inside inside n 58 rest refl refl
-
-not_true : (b : Bool) → not b ≡ true → b ≡ false
-not_true true h = absurd (false≢true h)
-not_true false h = refl
 
 plain_inside : (c : ℕ) → is_mark c ≡ false → where_next inside c ≡ inside
 plain_inside c h =
