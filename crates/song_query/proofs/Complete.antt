@@ -103,7 +103,8 @@ no_mark false true d x y z w h = absurd (false≢true (sym h))
 no_mark false false true x y z w h = absurd (false≢true (sym h))
 no_mark false false false x y z w h = refl
 
-not_true : (b : Bool) → not b ≡ true → b ≡ false
+-- a test whose negation holds fails
+pub not_true : (b : Bool) → not b ≡ true → b ≡ false
 not_true true h = absurd (false≢true h)
 not_true false h = refl
 

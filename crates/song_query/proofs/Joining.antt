@@ -220,5 +220,8 @@ joins_none first text (p ∷ ps) h e =
     and_left _ _ (eq_false _ _ (λ k. e (ap (λ k. take k (folded text)) (sym n) ∙ k)))
 
 -- the test tells where the pattern describes the text
+pub glob_is_Glob : (pieces : List (List ℕ)) (text : List ℕ) → Decides (glob pieces text) (Glob pieces text)
+glob_is_Glob pieces text = joins_decides (map folded pieces) (folded text)
+
 pub glob_decides : (pieces : List (List ℕ)) (text : List ℕ) (r : Bool) → r ≡ glob pieces text → Decides r (Glob pieces text)
-glob_decides pieces text r e = Decides-at r _ e (joins_decides (map folded pieces) (folded text))
+glob_decides pieces text r e = Decides-at r _ e (glob_is_Glob pieces text)

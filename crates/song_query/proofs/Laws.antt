@@ -11,7 +11,7 @@ use Rattle.song_query.specs.Machine.{Place, due, close, apart, opened, named, ba
 use Rattle.song_query.specs.Reading.{QueryReads, HasNoReading, Begins, IsStuck}
 use Rattle.song_query.proofs.Complete.{lv, behind, Runs, both, next, stay, run_append, after_or, after_query, query_runs}
 use Rattle.song_query.proofs.Draft.{Front, front_members, is_front, front_gap, front_or, Stub, quoted, naming, banged, valuing, slashing, stub_place, Draft, starts, after, within, print_front, draft_place, draft_level, is_draft, Out, out_level, are_outs, print_outs, Whole, print_whole, is_whole, state_of, front_printed, front_read, front_valid}
-use Rattle.song_query.proofs.Sound.{Drafted, drafted, regrouped}
+use Rattle.song_query.proofs.Sound.{some_is, Drafted, drafted, regrouped}
 
 -- a draft behind a unit outside of parentheses is a form
 whole_reads : (x : Draft) (outs : List Out) → is_draft x ≡ true → is_behind_unit (draft_place x) ≡ true → is_outside (map out_level outs) ≡ true
@@ -60,9 +60,6 @@ read_back text q r = record {
   ends = and_from _ _ (behind_is r.form.back) refl;
   means = after_query r.form.body ∙ sym r.means;
 }
-
-some_is : (s t : State) → Some s ≡ Some t → s ≡ t
-some_is s t h = cc
 
 -- no text reads as two queries
 pub one_reading : (text : List ℕ) (q r : QueryTree) → QueryReads text q → QueryReads text r → q ≡ r

@@ -9,3 +9,10 @@ pub mod Wide
 pub mod Nested
 pub mod Reached
 pub mod Once
+pub mod Depths
+pub mod Forms
+pub mod Least
+pub mod Shallowest
+pub mod Peaks
+pub mod Printed
+pub mod ReadLaws

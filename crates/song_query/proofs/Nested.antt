@@ -8,7 +8,7 @@ use Rattle.song_query.specs.declared.levels.Level.{Level}
 use Rattle.song_query.specs.Grammar.{Blank, space, plus, blank, is_mark}
 use Rattle.song_query.specs.Machine.{Place, due, close, apart, opened, named, bang, valued, slashed, State, start, here, is_blank, begin, follow, shut, step, go, bind, run}
 use Rattle.song_query.specs.Nesting.{Where, outside, inside, behind, where_next, open_next, open_behind, open_at_end}
-use Rattle.song_query.proofs.Sound.{chosen, blank_at}
+use Rattle.song_query.proofs.Sound.{some_is, chosen, blank_at}
 use Rattle.song_query.proofs.Wide.{AreWide}
 
 -- where a place is
@@ -75,7 +75,7 @@ on_follow l ls c t h =
 not_name : (c k : ℕ) → is_name_byte k ≡ false → is_name_byte c ≡ true → eqb c k ≡ false
 not_name c k h e = false_from_ne_true _ (λ x. false≢true (sym h ∙ ap is_name_byte (sym (eqb-true c k x)) ∙ e))
 
-name_inside : (c : ℕ) → is_name_byte c ≡ true → where_next inside c ≡ inside
+pub name_inside : (c : ℕ) → is_name_byte c ≡ true → where_next inside c ≡ inside
 name_inside c h = cond-false _ _ _ (not_name c 39 refl h) ∙ cond-false _ _ _ (not_name c 92 refl h)
 
 step_counts : (p : Place) (l : Level) (ls : List Level) (c : ℕ) (t : State) → step p l ls c ≡ Some t → Counts (where_at p) (length ls) c t
@@ -131,9 +131,6 @@ step_counts (slashed n o ps p) l ls c t h =
       inl e ↦ counted behind (length ls) c (valued n o ps (p ++ c ∷ [])) l ls t refl refl e.1
     | inr e ↦ counted behind (length ls) c (valued n o ps (p ++ 92 ∷ c ∷ [])) l ls t refl refl e.1
     ]
-
-some_is : (s t : State) → Some s ≡ Some t → s ≡ t
-some_is s t h = cc
 
 counts_on : (s : State) (c : ℕ) (cs : List ℕ) (t : State) (o : Option State) → go s c ≡ o → bind o (λ u. run u cs) ≡ Some t
     → ((u : State) → run u cs ≡ Some t → open_behind (where_at u.place) (length u.outer) cs ≡ length t.outer)

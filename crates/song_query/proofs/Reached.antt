@@ -13,6 +13,7 @@ use Rattle.item_model.specs.declared.refusal.QueryWhy.TheVariants.{End, Byte}
 use Rattle.song_query.specs.Seen.{Taken, refused_at}
 use Rattle.song_query.specs.declared.parts.Refusal.{Refusal}
 use Rattle.song_query.specs.declared.parts.Refusal.TheVariants.{Byte as ByteRefused, Deep, Memory}
+use Rattle.song_query.specs.declared.limits.TheConstants.{OPEN_PARENTHESES, QUERY_BYTES}
 use Rattle.song_query.specs.Machine.{State, start, go, bind, run, is_end, level_query}
 use Rattle.song_query.specs.Reading.{QueryReads, Begins, IsStuck}
 use Rattle.song_query.specs.Nesting.{open_at_end}
@@ -85,7 +86,7 @@ shallow_in text rest bytes place n e w h k =
     ap open_at_end parts ∙ wide_behind (take place text) (take more bytes) (wide_take more bytes w)
 
 shallow_on : (text rest : List ℕ) (place c n : ℕ) (t : State) → drop place text ≡ encode_utf8 c ++ rest → IsShallow text place
-    → run start (take (place + length (encode_utf8 c)) text) ≡ Some t → length t.outer ≤ 64 → n ≤ place + length (encode_utf8 c) → open_at_end (take n text) ≤ 64
+    → run start (take (place + length (encode_utf8 c)) text) ≡ Some t → length t.outer ≤ OPEN_PARENTHESES → n ≤ place + length (encode_utf8 c) → open_at_end (take n text) ≤ OPEN_PARENTHESES
 shallow_on text rest place c n t e s r d h =
     ⊎_elim
     (λ (before : n < place + 1). s n (omega arith))
@@ -97,14 +98,14 @@ shallow_on text rest place c n t e s r d h =
             let count : open_at_end (take n text) ≡ length t.outer = ap (λ x. open_at_end (take x text)) last ∙ nested (take (place + length (encode_utf8 c)) text) t r in
             omega arith)
         (λ (high : 128 ≤ c).
-            let before : open_at_end (take place text) ≤ 64 = s place (omega arith) in
+            let before : open_at_end (take place text) ≤ OPEN_PARENTHESES = s place (omega arith) in
             let same : open_at_end (take n text) ≡ open_at_end (take place text) = shallow_in text rest (encode_utf8 c) place n e (wide_bytes c high) (omega arith) h in
             omega arith)
         (cases_lt c 128))
     (cases_lt n (place + 1))
 
 -- one character more
-pub char_reached : (text rest : List ℕ) (place c : ℕ) (s t : State) → Reached text place s → drop place text ≡ encode_utf8 c ++ rest → run s (encode_utf8 c) ≡ Some t → length t.outer ≤ 64
+pub char_reached : (text rest : List ℕ) (place c : ℕ) (s t : State) → Reached text place s → drop place text ≡ encode_utf8 c ++ rest → run s (encode_utf8 c) ≡ Some t → length t.outer ≤ OPEN_PARENTHESES
     → Reached text (place + length (encode_utf8 c)) t
 char_reached text rest place c s t h e r d =
     let ran : run start (take (place + length (encode_utf8 c)) text) ≡ Some t = ran_on text (encode_utf8 c) rest place s (Some t) e h.ran r in
@@ -116,7 +117,7 @@ char_reached text rest place c s t h e r d =
 
 -- a character that no query goes on with
 pub byte_answer : (text rest : List ℕ) (place c : ℕ) (s : State) → Reached text place s → drop place text ≡ encode_utf8 c ++ rest → go s (get_or (encode_utf8 c) 0 0) ≡ None
-    → length text ≤ 4096 → Answers text (Err (At place Byte))
+    → length text ≤ QUERY_BYTES → Answers text (Err (At place Byte))
 byte_answer text rest place c s h e r l =
     let long = left_within text (encode_utf8 c) rest place e h.within in
     let some = char_long c in
@@ -126,7 +127,7 @@ byte_answer text rest place c s h e r l =
 
 -- a parenthesis too many
 pub deep_answer : (text rest : List ℕ) (place c : ℕ) (s t : State) → Reached text place s → drop place text ≡ encode_utf8 c ++ rest → go s (get_or (encode_utf8 c) 0 0) ≡ Some t
-    → 64 < length t.outer → length text ≤ 4096 → Answers text (Err (TooDeep place))
+    → OPEN_PARENTHESES < length t.outer → length text ≤ QUERY_BYTES → Answers text (Err (TooDeep place))
 deep_answer text rest place c s t h e r d l =
     let long = left_within text (encode_utf8 c) rest place e h.within in
     let some = char_long c in
@@ -138,14 +139,14 @@ deep_answer text rest place c s t h e r d l =
 at_end : (text : List ℕ) (place : ℕ) → place ≤ length text → length text ≤ place → place ≡ length text
 at_end text place h k = omega arith
 
-pub end_answer : (text : List ℕ) (place : ℕ) (s : State) → Reached text place s → length text ≤ place → is_end s ≡ false → length text ≤ 4096
+pub end_answer : (text : List ℕ) (place : ℕ) (s : State) → Reached text place s → length text ≤ place → is_end s ≡ false → length text ≤ QUERY_BYTES
     → Answers text (Err (At place End))
 end_answer text place s h k e l =
     let whole : run start text ≡ Some s = ap (run start) (sym (take_all place text k)) ∙ h.ran in
     let last : place ≡ length text = omega (arith, h.within) in
     (l, subst (IsStuck text) (sym last) (stuck_end text s whole), (last, not_over text s whole e), h.shallow)
 
-pub ok_answer : (text : List ℕ) (place : ℕ) (s : State) (q : Query) → Reached text place s → length text ≤ place → is_end s ≡ true → tree_of q ≡ level_query s.level → length text ≤ 4096
+pub ok_answer : (text : List ℕ) (place : ℕ) (s : State) (q : Query) → Reached text place s → length text ≤ place → is_end s ≡ true → tree_of q ≡ level_query s.level → length text ≤ QUERY_BYTES
     → Answers text (Ok q)
 ok_answer text place s q h k e m l =
     let whole : run start text ≡ Some s = ap (run start) (sym (take_all place text k)) ∙ h.ran in
@@ -154,7 +155,7 @@ ok_answer text place s q h k e m l =
 
 -- a character that is not taken
 pub refusal_answer : (text rest : List ℕ) (place c : ℕ) (s t : State) (refusal : Refusal) → Reached text place s → drop place text ≡ encode_utf8 c ++ rest → Taken s c t (Err refusal)
-    → length text ≤ 4096 → Answers text (Err (refused_at place refusal))
+    → length text ≤ QUERY_BYTES → Answers text (Err (refused_at place refusal))
 refusal_answer text rest place c s t ByteRefused h e r l = byte_answer text rest place c s h e r l
 refusal_answer text rest place c s t Deep h e r l = deep_answer text rest place c s r.0 h e r.1 r.2 l
 refusal_answer text rest place c s t Memory h e r l = tt

@@ -296,7 +296,8 @@ pub record Drafted (bytes : List ℕ) (t : State) : Type 0 where
   pub printed : print_whole whole ≡ bytes
   pub state : state_of whole ≡ t
 
-some_is : (s t : State) → Some s ≡ Some t → s ≡ t
+-- what an option holds
+pub some_is : (s t : State) → Some s ≡ Some t → s ≡ t
 some_is s t h = cc
 
 drafted_step : (w : Whole) (c : ℕ) (cs : List ℕ) (t : State) (o : Option State) → is_whole w ≡ true → go (state_of w) c ≡ o → bind o (λ u. run u cs) ≡ Some t

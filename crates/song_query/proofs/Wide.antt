@@ -29,7 +29,7 @@ pub wide_bytes : (c : ℕ) → 128 ≤ c → AreWide (encode_utf8 c)
 wide_bytes c h = record { each = λ k l. wide_at c k h l (cases_lt _ _) }
 
 -- a byte that is no ASCII is no mark
-no_mark : (b : ℕ) → 128 ≤ b → is_mark b ≡ false
+pub no_mark : (b : ℕ) → 128 ≤ b → is_mark b ≡ false
 no_mark b h = or_from _ _ (ne_eqb b 39 (omega arith)) (or_from _ _ (ne_eqb b 92 (omega arith)) (ne_eqb b 42 (omega arith)))
 
 no_name : (b : ℕ) → 128 ≤ b → is_name_byte b ≡ false

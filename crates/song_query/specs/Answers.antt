@@ -1,5 +1,6 @@
 -- What reading a text answers: the query where it reads as one within the limits, else the place and the cause.
 use Rattle.std.specs.Prelude.{◌≡◌, ◌≢◌, ◌≤◌, ◌<◌, ◌+◌, ⊤, ℕ, List, length, take, Result, Ok, Err}
+use Rattle.item_model.specs.QueryTree.{QueryTree}
 use Rattle.item_model.specs.QuerySeen.{tree_of}
 use Rattle.item_model.specs.declared.query.Query.{Query}
 use Rattle.item_model.specs.declared.refusal.QueryError.{QueryError}
@@ -31,3 +32,16 @@ Answers text (Err TooLong) = QUERY_BYTES < length text
 Answers text (Err (TooDeep place)) = (length text ≤ QUERY_BYTES) × IsTooDeep text place
 Answers text (Err (At place why)) = (length text ≤ QUERY_BYTES) × IsStuck text place × IsRefusedAt text place why × IsShallow text place
 Answers text (Err Memory) = ⊤
+
+-- the query is answered, if there is memory
+abbrev pub Gives : QueryTree → Result Query QueryError → Type 0
+Gives query (Ok read) = tree_of read ≡ query
+Gives query (Err TooLong) = ⊥
+Gives query (Err (TooDeep place)) = ⊥
+Gives query (Err (At place why)) = ⊥
+Gives query (Err Memory) = ⊤
+
+-- each query that the text reads as within the limits is answered
+abbrev pub IsComplete : List ℕ → Result Query QueryError → Type 0
+IsComplete text result =
+    (query : QueryTree) → QueryReads text query → length text ≤ QUERY_BYTES → IsShallow text (length text) → Gives query result

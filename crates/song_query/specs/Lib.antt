@@ -7,3 +7,4 @@ pub mod Answers
 pub mod Machine
 pub mod Seen
 pub mod Laws
+pub mod Printing

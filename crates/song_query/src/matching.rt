@@ -1,6 +1,7 @@
 //! Where a query holds.
 
-ghost use Rattle.std.specs.Prelude.{◌≡◌, ◌+◌, ◌*◌, ◌-◌, ◌^◌, map, true, Some, None, nat_lt, if◌then◌else◌};
+ghost use Rattle.std.specs.Prelude.{◌≡◌, ◌+◌, ◌*◌, ◌-◌, ◌^◌, ℕ, List, map, true, Decides, Some, None, nat_lt, if◌then◌else◌};
+ghost use Rattle.song_query.specs.Glob.{glob, Glob};
 ghost use Rattle.std.specs.Char.{is_ascii_digit};
 ghost use Rattle.item_model.specs.Properties.{property_kind};
 ghost use Rattle.item_model.specs.QueryTree.{queries_of};
@@ -20,6 +21,7 @@ const ITEM_ID: &str = "dmap.itemid";
 /// tried twice against a pattern.
 pub fn matches<L: Ledger>(query: &Query, row: &Row, steps: &mut Steps<L>) -> bool
     ensures meaning { result ≡ holds (tree_of query.now) row.now }
+    ensures globs { (pieces : List (List ℕ)) (text : List ℕ) → Decides (glob pieces text) (Glob pieces text) }
     ensures cost { steps.new ≡ steps.old + 1 }
 {
     steps.tick();

@@ -1,5 +1,6 @@
 //! What a reader of queries keeps.
 
+ghost use Rattle.song_query.specs.declared.limits.TheConstants.{OPEN_PARENTHESES};
 ghost use Rattle.std.specs.Prelude.{◌≡◌, ◌≤◌, [], ◌++◌, ◌∷◌, OnOk, IfOk, string_bytes, length};
 
 use crate::levels::{Level, Levels};
@@ -67,7 +68,7 @@ pub struct Reader {
     pub partial: Partial,
     pub level: Level,
     pub outer: Levels,
-    pub ghost shallow: { length outer ≤ 64 },
+    pub ghost shallow: { length outer ≤ OPEN_PARENTHESES },
 }
 
 impl Partial {

@@ -1,9 +1,9 @@
 //! Texts read as queries.
 
-ghost use Rattle.std.specs.Prelude.{◌≡◌, true, IfOk};
+ghost use Rattle.std.specs.Prelude.{◌≡◌, ◌≤◌, true, IfOk, length};
 ghost use Rattle.item_model.specs.Proper.{is_proper};
 ghost use Rattle.item_model.specs.QuerySeen.{tree_of};
-ghost use Rattle.song_query.specs.Answers.{Answers};
+ghost use Rattle.song_query.specs.Answers.{Answers, IsComplete};
 ghost use Rattle.song_query.specs.Seen.{refused_at};
 
 use crate::limits::QUERY_BYTES;
@@ -14,11 +14,21 @@ use std::alloc::Global;
 /// The query that a text reads as. A refusal tells its cause and, in bytes from 0, its place. No call goes
 /// deeper for an open parenthesis.
 pub fn read(alloc: Global, text: &str) -> Result<Query, QueryError>
-    ensures { Answers text.now result }
+    ensures answer { Answers text.now result }
+    ensures complete { IsComplete text.now result }
+    ensures proper { IfOk result (λ q. is_proper (tree_of q) ≡ true) }
 {
     if text.len() > QUERY_BYTES {
         return Err(QueryError::TooLong);
     }
+    read_short(alloc, text)
+}
+
+// A text that is not too long.
+fn read_short(alloc: Global, text: &str) -> Result<Query, QueryError>
+    requires { length text.now ≤ QUERY_BYTES }
+    ensures { Answers text.now result }
+{
     let mut reader = Reader::new(alloc);
     let mut place = 0u64;
     let mut rest = text.chars();

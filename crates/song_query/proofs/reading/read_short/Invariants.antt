@@ -2,7 +2,7 @@ use Rattle.std.proofs.Common.{◌≡◌, drop}
 use Rattle.std.specs.Str.Iter.{chars_rest}
 use Rattle.song_query.specs.Seen.{state_of}
 use Rattle.song_query.proofs.Reached.{Reached}
-use Rattle.song_query.proofs.reading.read.Given as goal
+use Rattle.song_query.proofs.reading.read_short.Given as goal
 
 -- the text is read up to the place, and the rest is left
 abbrev pub invariant-loop-c : goal.invariant-loop-c
