@@ -25,9 +25,9 @@ pub folded_entries_left : (put : List ℕ → ℕ → List ℕ) (keys : Edit →
 folded_entries_left put keys h i e set lt is =
     sym
     (ap (λ xs. fold put set (flat_map keys (all_edits xs))) (drop_more h i e lt is)
-     ∙ ap (λ es. fold put set (flat_map keys es)) (all_edits-cons e (drop (i + 1) h))
-     ∙ ap (fold put set) (flat_map-append keys (edits_in e) (all_edits (drop (i + 1) h)))
-     ∙ fold-append put set (flat_map keys (edits_in e)) (flat_map keys (all_edits (drop (i + 1) h))))
+    ∙ ap (λ es. fold put set (flat_map keys es)) (all_edits-cons e (drop (i + 1) h))
+    ∙ ap (fold put set) (flat_map-append keys (edits_in e) (all_edits (drop (i + 1) h)))
+    ∙ fold-append put set (flat_map keys (edits_in e)) (flat_map keys (all_edits (drop (i + 1) h))))
 
 -- whether one of the edits that are left passes a test
 pub any_left : {A : Type 0} (p : A → Bool) (xs : List A) (i : ℕ) (x : A) → i < length xs → x ≡ get_or xs i x → list_any p (drop i xs) ≡ (p x || list_any p (drop (i + 1) xs))

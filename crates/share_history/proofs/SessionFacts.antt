@@ -1,5 +1,5 @@
 -- The login of a session among the entries that are left.
-use Rattle.std.proofs.Common.{◌≡◌, ◌≤◌, arith, ℕ, Bool, ◌+◌, ◌<◌, take, [], ◌∷◌, sym, ◌∙◌, length, get_or, drop, cond, count_by, List, ap, Option, Some}
+use Rattle.std.proofs.Common.{◌≡◌, ◌≤◌, arith, ℕ, Bool, ◌+◌, ◌<◌, take, [], ◌∷◌, sym, ◌∙◌, length, get_or, drop, cond, count_by, List, ap, Some}
 use Rattle.std.proofs.lemmas.List.Sums.{sum_by-cons}
 use Rattle.item_model.specs.declared.changes.Entry.{Entry}
 use Rattle.item_model.specs.declared.changes.Entry.TheVariants.{Edits, Login, Logout, Stop}

@@ -21,9 +21,9 @@ mod sessions;
 #[cfg(test)]
 mod tests;
 
+pub use bodies::{body, full_body, listing_body};
 pub use browse::{browse_body, browse_values};
 pub use databases::{containers_body, databases_body, playlists};
-pub use bodies::{body, full_body, listing_body};
 pub use items::item;
 pub use kept::{after, is_kept, is_touched, touched};
 pub use limits::{MAX_EDITS, MAX_ENTRIES, MAX_LISTS, has_place, has_room_for};

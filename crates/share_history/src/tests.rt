@@ -60,7 +60,6 @@ const DATABASES: [u8; 126] =
 const CONTAINERS: [u8; 215] =
     *b"aply\0\0\0\xcfmstt\0\0\0\x04\0\0\0\xc8muty\0\0\0\x01\0musr\0\0\0\x04\0\0\0\x04mtco\0\0\0\x04\0\0\0\x03mrco\0\0\0\x04\0\0\0\x03mlcl\0\0\0\x8emlit\0\0\0*miid\0\0\0\x04\0\0\0\x01minm\0\0\0\x01Sabpl\0\0\0\x01\x01mimc\0\0\0\x04\0\0\0\x06mlit\0\0\0#miid\0\0\0\x04\0\0\0\x02minm\0\0\0\x03Mixmimc\0\0\0\x04\0\0\0\x01mlit\0\0\0)miid\0\0\0\x04\0\0\0\x03minm\0\0\0\0aeSP\0\0\0\x01\x01mimc\0\0\0\x04\0\0\0\x03";
 
-
 #[tactic(auto, using(crate::proofs::SessionFacts::few_batches))]
 fn is_small(history: &[Entry]) -> bool
     ensures revision { IsTrue result → revision (batches history.now) < 2 ^ 32 }
@@ -126,7 +125,9 @@ fn one(alloc: Global, edit: Edit) -> Result<Entry, AllocError> {
 }
 
 const NAME: Property = Property::Minm;
+
 const ARTIST: Property = Property::Asar;
+
 const ALBUM: Property = Property::Asal;
 
 // Two of them have no album and no media kind.
@@ -248,7 +249,13 @@ fn an_item_that_left_the_query_is_deleted(rt: HostRuntime) -> Result<(), Fail> {
     drop(found);
     let texts = [(NAME, "Hey"), (ARTIST, "Ann"), (ALBUM, "One")];
     history.push(one(alloc, song(alloc, 1, &texts, Some(4))?)?)?;
-    let bytes = listed(alloc, 16, &history, Target::Items, &look(Some(query.copy()?), 3))?;
+    let bytes = listed(
+        alloc,
+        16,
+        &history,
+        Target::Items,
+        &look(Some(query.copy()?), 3),
+    )?;
     assert_eq!(rt; bytes.as_slice(), LEFT_THE_QUERY.as_slice());
     let bytes = listed(alloc, 16, &history, Target::Items, &look(Some(query), 4))?;
     assert_eq!(rt; bytes.as_slice(), NOTHING_SINCE_4.as_slice());
@@ -265,7 +272,10 @@ fn an_item_put_and_dropped_is_deleted(rt: HostRuntime) -> Result<(), Fail> {
     let bytes = listed(alloc, 16, &history, Target::Items, &look(None, 3))?;
     assert_eq!(rt; bytes.as_slice(), GONE_9.as_slice());
     let library = library(alloc, &history)?;
-    assert_eq!(rt; keys_of(alloc, &library)?.as_slice(), [1, 2, 3, 4, 5, 6].as_slice());
+    assert_eq!(rt;
+        keys_of(alloc, &library)?.as_slice(),
+        [1, 2, 3, 4, 5, 6].as_slice()
+    );
     Ok(())
 }
 
@@ -306,7 +316,10 @@ fn a_rule_that_is_put_again_has_no_older_base(rt: HostRuntime) -> Result<(), Fai
         },
     )?)?;
     let rule_rows = rows(alloc, &history, Target::Container(3), None)?;
-    assert_eq!(rt; keys_of(alloc, &rule_rows)?.as_slice(), [1, 2, 6].as_slice());
+    assert_eq!(rt;
+        keys_of(alloc, &rule_rows)?.as_slice(),
+        [1, 2, 6].as_slice()
+    );
     drop(rule_rows);
     history.push(one(
         alloc,
@@ -316,7 +329,13 @@ fn a_rule_that_is_put_again_has_no_older_base(rt: HostRuntime) -> Result<(), Fai
             rule: condition(alloc, KIND, Op::Is, "4")?,
         },
     )?)?;
-    let bytes = listed(alloc, 16, &history, Target::Container(3), &names_since(alloc, 4)?)?;
+    let bytes = listed(
+        alloc,
+        16,
+        &history,
+        Target::Container(3),
+        &names_since(alloc, 4)?,
+    )?;
     assert_eq!(rt; bytes.as_slice(), TALK.as_slice());
     let bytes = listed(alloc, 16, &history, Target::Items, &look(None, 4))?;
     assert_eq!(rt; bytes.as_slice(), NOTHING_TOUCHED.as_slice());
