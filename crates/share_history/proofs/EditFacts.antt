@@ -4,7 +4,6 @@ use Rattle.std.specs.BTreeMap.{is_at}
 use Rattle.std.specs.Option.{option_or}
 use Rattle.std.specs.List.{list_any}
 use Rattle.std.proofs.lemmas.List.Folds.{list_any-append}
-use Rattle.std.proofs.lemmas.List.{take_more}
 use Rattle.std.proofs.lemmas.Grind.{flat_map-append}
 use Rattle.std.proofs.Math.Seq.{take-append_seam}
 use Rattle.share_history.specs.declared.revisions.TheConstants.{FIRST_REVISION}
@@ -255,7 +254,7 @@ pub said_entries_left : {A : Type 0} (says : Edit → Option A) (h : List Entry)
 said_entries_left says h i e before lt is =
     sym
     (ap (λ xs. unwrap_or (last_said says (all_edits xs)) before) (drop_more h i e lt is) ∙ ap (λ es. unwrap_or (last_said says es) before) (all_edits-cons e (drop (i + 1) h))
-     ∙ said_on says (edits_in e) (all_edits (drop (i + 1) h)) before)
+    ∙ said_on says (edits_in e) (all_edits (drop (i + 1) h)) before)
 
 -- ---- revisions
 

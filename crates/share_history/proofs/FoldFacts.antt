@@ -1,5 +1,5 @@
 -- Keys that a loop over edits, or over entries, puts into a set one after the other.
-use Rattle.std.proofs.Common.{◌≡◌, ℕ, zero, suc, ◌+◌, ◌-◌, ◌<◌, Bool, true, false, ◌||◌, cond, map, filter, arith, Option, Some, None, append-nil, append_assoc, List, [], ◌∷◌, ◌++◌, length, get_or, drop, fold, flat_map, refl, sym, ap, ◌∙◌}
+use Rattle.std.proofs.Common.{◌≡◌, ℕ, zero, suc, ◌+◌, ◌-◌, ◌<◌, Bool, true, false, ◌||◌, cond, map, filter, arith, Option, Some, None, append-nil, append_assoc, length-append, List, [], ◌∷◌, ◌++◌, length, get_or, drop, fold, flat_map, refl, sym, ap, ◌∙◌}
 use Rattle.std.specs.Option.{option_to_list}
 use Rattle.std.specs.List.{list_any, cons_option}
 use Rattle.std.proofs.lemmas.List.Folds.{list_any-append}
@@ -25,9 +25,9 @@ pub folded_entries_left : (put : List ℕ → ℕ → List ℕ) (keys : Edit →
 folded_entries_left put keys h i e set lt is =
     sym
     (ap (λ xs. fold put set (flat_map keys (all_edits xs))) (drop_more h i e lt is)
-     ∙ ap (λ es. fold put set (flat_map keys es)) (all_edits-cons e (drop (i + 1) h))
-     ∙ ap (fold put set) (flat_map-append keys (edits_in e) (all_edits (drop (i + 1) h)))
-     ∙ fold-append put set (flat_map keys (edits_in e)) (flat_map keys (all_edits (drop (i + 1) h))))
+    ∙ ap (λ es. fold put set (flat_map keys es)) (all_edits-cons e (drop (i + 1) h))
+    ∙ ap (fold put set) (flat_map-append keys (edits_in e) (all_edits (drop (i + 1) h)))
+    ∙ fold-append put set (flat_map keys (edits_in e)) (flat_map keys (all_edits (drop (i + 1) h))))
 
 -- whether one of the edits that are left passes a test
 pub any_left : {A : Type 0} (p : A → Bool) (xs : List A) (i : ℕ) (x : A) → i < length xs → x ≡ get_or xs i x → list_any p (drop i xs) ≡ (p x || list_any p (drop (i + 1) xs))
@@ -68,3 +68,8 @@ filtered_next p done xs i x lt is = kept_or_not (p x) done x (filter p (drop (i 
     kept_or_not : {A : Type 0} (b : Bool) (done : List A) (x : A) (rest : List A) → (done ++ cond b (x ∷ []) []) ++ rest ≡ done ++ cond b (x ∷ rest) rest
     kept_or_not true done x rest = append_assoc done (x ∷ []) rest
     kept_or_not false done x rest = ap (λ ys. ys ++ rest) (append-nil done)
+
+-- how many edits the entries bring that are left
+pub edits_left : (h : List Entry) (i : ℕ) (e : Entry) → i < length h → e ≡ get_or h i e → length (all_edits (drop i h)) ≡ length (edits_in e) + length (all_edits (drop (i + 1) h))
+edits_left h i e lt is =
+    ap (λ xs. length (all_edits xs)) (drop_more h i e lt is) ∙ ap length (all_edits-cons e (drop (i + 1) h)) ∙ length-append (edits_in e) (all_edits (drop (i + 1) h))

@@ -1,21 +1,21 @@
 -- Pairs in ascending order of the key: what is under a key after a put or a removal, and that two ascending lists with the
 -- same under each key are one.
-use Rattle.std.proofs.Common.{◌≡◌, ℕ, Bool, true, false, cond, ◌||◌, ◌&&◌, ◌==◌, filter, eq-eqb, eqb-true, List, [], ◌∷◌, ◌++◌, map, refl, sym, ap, ◌∙◌, true≢false, ⊎_elim, Option, Some, None, unwrap_or, Ordering, Less, Equal, Greater, nat_cmp, is_eq, fold, ◌≢◌, is_some, subst, map-id}
+use Rattle.std.proofs.Common.{◌≡◌, ℕ, Bool, true, false, cond, ◌||◌, ◌&&◌, ◌==◌, filter, eq-eqb, eqb-true, List, [], ◌∷◌, map, refl, sym, ap, ◌∙◌, true≢false, ⊎_elim, Option, Some, None, unwrap_or, Ordering, Less, Equal, Greater, nat_cmp, is_eq, fold, ◌≢◌, is_some, subst}
 use Rattle.std.specs.Option.{option_or, option_map}
 use Rattle.std.specs.List.{list_any, AllByRecursion, cons_option}
 use Rattle.std.specs.List.Sorted.{IsStrictlySortedBy}
-use Rattle.std.specs.Ordering.{match_ordering, ordering_reverse, eq_by_cmp, is_lt}
+use Rattle.std.specs.Ordering.{match_ordering, ordering_reverse}
 use Rattle.std.specs.Cmp.{IsTotalOrder, nat_cmp_total}
-use Rattle.std.specs.Map.{keys_of, lookup, remove_entry}
+use Rattle.std.specs.Map.{keys_of, lookup}
 use Rattle.std.specs.BTreeMap.{is_at, insert_entry}
 use Rattle.std.specs.BTreeSet.{insert_key}
 use Rattle.std.proofs.lemmas.Bool.{cases_Bool, false_from_ne_true}
 use Rattle.std.proofs.lemmas.Map.Views.{any-filter_same}
-use Rattle.std.proofs.lemmas.Cmp.{tied_itself, tied_back, alike_right, eq_by_cmp_equiv}
+use Rattle.std.proofs.lemmas.Cmp.{tied_itself, alike_right, eq_by_cmp_equiv}
 use Rattle.std.proofs.lemmas.Map.{lookup-none, lookup-remove_entry}
-use Rattle.std.proofs.lemmas.Map.Keys.{sorted_head, sorted_tail, IsDistinct-from_sorted}
+use Rattle.std.proofs.lemmas.Map.Keys.{sorted_tail, IsDistinct-from_sorted}
 use Rattle.std.proofs.lemmas.Map.Entries.{lookup-filter-keys, lookup_head, lookup_tail, none_past_head, none_below_head}
-use Rattle.std.proofs.lemmas.Map.Lookups.{CmpEqualImpliesEq, exact_unsigned}
+use Rattle.std.proofs.lemmas.Map.Lookups.{exact_unsigned}
 use Rattle.share_history.specs.Keyed.{at, put_in, taken_out, IsAscending, AreAscending, ascending, pairs_at}
 
 not_None : {X : Type 0} (v : X) → Some v ≢ None
@@ -80,7 +80,7 @@ module _ {K : Type 0} (R : K → K → Ordering) (o : IsTotalOrder R) where
   keys-insert_entry k v [] = refl
   keys-insert_entry k v (e ∷ es) =
       elim (R k e.0) as (λ r. keys_of (match_ordering r ((k, v) ∷ e ∷ es) ((e.0, v) ∷ es) (e ∷ insert_entry R es k v))
-          ≡ match_ordering r (k ∷ e.0 ∷ keys_of es) (e.0 ∷ keys_of es) (e.0 ∷ insert_key R (keys_of es) k)) [
+      ≡ match_ordering r (k ∷ e.0 ∷ keys_of es) (e.0 ∷ keys_of es) (e.0 ∷ insert_key R (keys_of es) k)) [
         | Less ↦ refl
         | Equal ↦ refl
         | Greater ↦ ap (λ ks. e.0 ∷ ks) (keys-insert_entry k v es)
@@ -90,7 +90,7 @@ module _ {K : Type 0} (R : K → K → Ordering) (o : IsTotalOrder R) where
   lookup-insert_entry q k v [] = refl
   lookup-insert_entry q k v (e ∷ es) =
       elim (R k e.0) as (λ r. R k e.0 ≡ r → lookup (is_at (R q)) (match_ordering r ((k, v) ∷ e ∷ es) ((e.0, v) ∷ es) (e ∷ insert_entry R es k v))
-          ≡ cond (is_eq (R q k)) (Some v) (cond (is_eq (R q e.0)) (Some e.1) (lookup (is_at (R q)) es))) [
+      ≡ cond (is_eq (R q k)) (Some v) (cond (is_eq (R q e.0)) (Some e.1) (lookup (is_at (R q)) es))) [
         | Less ↦ λ p. refl
         | Equal ↦ λ p. test_again (is_eq (R q e.0)) (Some v) (Some e.1) _ ∙ ap (λ r. cond (is_eq r) (Some v) (cond (is_eq (R q e.0)) (Some e.1) (lookup (is_at (R q)) es))) (sym (alike_right o k e.0 q p))
         | Greater ↦ λ p. ap (λ w. cond (is_eq (R q e.0)) (Some e.1) w) (lookup-insert_entry q k v es)
@@ -378,6 +378,6 @@ pub same_keys_same : (ks js : List ℕ) → AreAscending ks → AreAscending js 
 same_keys_same ks js s t h =
     sym (keys-marked ks)
     ∙ ap keys_of
-      (same_pairs (marked ks) (marked js) (subst (IsStrictlySortedBy nat_cmp) (sym (keys-marked ks)) s) (subst (IsStrictlySortedBy nat_cmp) (sym (keys-marked js)) t)
-       (λ q. at-marked q ks ∙ ap (λ b. cond b (Some tt) None) (h q) ∙ sym (at-marked q js)))
+    (same_pairs (marked ks) (marked js) (subst (IsStrictlySortedBy nat_cmp) (sym (keys-marked ks)) s) (subst (IsStrictlySortedBy nat_cmp) (sym (keys-marked js)) t)
+    (λ q. at-marked q ks ∙ ap (λ b. cond b (Some tt) None) (h q) ∙ sym (at-marked q js)))
     ∙ keys-marked js

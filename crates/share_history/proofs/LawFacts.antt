@@ -1,5 +1,5 @@
 -- The laws of lists, members, bases and bodies.
-use Rattle.std.proofs.Common.{◌≡◌, ℕ, suc, ◌+◌, ◌-◌, ◌<◌, ◌⊎◌, Bool, true, false, cond, ◌||◌, ◌&&◌, ◌==◌, nat_le, List, [], ◌∷◌, ◌++◌, map, filter, drop, length, refl, sym, ap, ◌∙◌, subst, true≢false, inl, inr, Option, Some, None, is_none, unwrap_or, arith, eq-eqb, leb-true, drop_of_length-le, append_assoc, append-nil}
+use Rattle.std.proofs.Common.{◌≡◌, ℕ, ◌+◌, ◌-◌, ◌<◌, Bool, true, false, cond, ◌&&◌, ◌==◌, nat_le, List, [], ◌∷◌, ◌++◌, map, filter, length, refl, sym, ap, ◌∙◌, subst, true≢false, inl, inr, Option, Some, None, is_none, unwrap_or, arith, eq-eqb, leb-true, drop_of_length-le, append_assoc, append-nil}
 use Rattle.std.specs.Option.{option_and_then}
 use Rattle.std.specs.List.{list_any}
 use Rattle.std.proofs.lemmas.Bool.{false_from_ne_true}
@@ -8,18 +8,16 @@ use Rattle.dmap_tags.specs.Tree.{Tree, trees_of, tree_list}
 use Rattle.item_model.specs.declared.query.Query.{Query}
 use Rattle.item_model.specs.declared.changes.Edit.{Edit}
 use Rattle.item_model.specs.declared.changes.Edit.TheVariants.{PutItem, DropItem, PutList, PutRule, DropList, PutMember, DropMember}
-use Rattle.item_model.specs.declared.request.Target.{Target}
 use Rattle.item_model.specs.declared.request.Target.TheVariants.{Container}
-use Rattle.item_model.specs.declared.request.Look.{Look}
 use Rattle.share_history.specs.declared.revisions.TheConstants.{FIRST_REVISION}
 use Rattle.share_history.specs.declared.selection.TheConstants.{BASE_LIST}
 use Rattle.share_history.specs.Keyed.{ascending}
 use Rattle.share_history.specs.Histories.{edits, later, revision}
 use Rattle.share_history.specs.LastSaid.{Playlist, Plain, Ruled, only_if, says_list, says_member, item_at, list_at, member_at}
-use Rattle.share_history.specs.Named.{names_list, names_member, named_keys}
+use Rattle.share_history.specs.Named.{names_list, named_keys}
 use Rattle.share_history.specs.Rows.{if_asked, in_list, row_at, rows}
-use Rattle.share_history.specs.Kept.{is_left, is_kept, touches}
-use Rattle.share_history.specs.Listings.{Listing, shown_rows}
+use Rattle.share_history.specs.Kept.{is_left, touches}
+use Rattle.share_history.specs.Listings.{shown_rows}
 use Rattle.share_history.specs.Laws.{is_plain, puts_member, LibraryAscends, OpensWithTheBatch, ListsBeginWithoutMembers, ListsBeginEmpty, MembersNeedAList, MembersFollowTheirItems, BasesArePast, NothingChangedSinceNow, BodiesTellTheirRows}
 use Rattle.share_history.proofs.KeyedFacts.{sorted-ascending}
 use Rattle.share_history.proofs.EditFacts.{first_false, second_false, list_more, member_more, list_stays, member_stays, edits-opening}
@@ -62,14 +60,14 @@ itself c = eq-eqb c c refl
 pub lists_begin_empty : ListsBeginEmpty
 lists_begin_empty es c name q h = (
   no_rows (es ++ PutList c name ∷ []) c q h
-  (λ k.
-     ap (λ l. in_list l (es ++ PutList c name ∷ []) c k)
-     (list_more es (PutList c name) c ∙ ap (λ b. unwrap_or (only_if b (Some (Plain name))) (list_at es c)) (itself c))
-     ∙ ap (option_and_then (item_at (es ++ PutList c name ∷ []))) (lists_begin_without_members es (PutList c name) c k (itself c))),
+      (λ k.
+      ap (λ l. in_list l (es ++ PutList c name ∷ []) c k)
+      (list_more es (PutList c name) c ∙ ap (λ b. unwrap_or (only_if b (Some (Plain name))) (list_at es c)) (itself c))
+      ∙ ap (option_and_then (item_at (es ++ PutList c name ∷ []))) (lists_begin_without_members es (PutList c name) c k (itself c))),
   no_rows (es ++ DropList c ∷ []) c q h
-  (λ k.
-     ap (λ l. in_list l (es ++ DropList c ∷ []) c k)
-     (list_more es (DropList c) c ∙ ap (λ b. unwrap_or (only_if b None) (list_at es c)) (itself c)))
+      (λ k.
+      ap (λ l. in_list l (es ++ DropList c ∷ []) c k)
+      (list_more es (DropList c) c ∙ ap (λ b. unwrap_or (only_if b None) (list_at es c)) (itself c))),
 )
 
 -- ---- members need a plain list
@@ -115,7 +113,7 @@ pub members_follow_their_items : MembersFollowTheirItems
 members_follow_their_items es ds c m item name q h list member unlisted unnamed =
     container_row (es ++ ds) c q m h
     ∙ ap (option_and_then (if_asked q))
-      (ap (λ l. in_list l (es ++ ds) c m) (list_stays es ds c unlisted ∙ list) ∙ ap (option_and_then (item_at (es ++ ds))) (member_stays es ds c m unlisted unnamed ∙ member))
+    (ap (λ l. in_list l (es ++ ds) c m) (list_stays es ds c unlisted ∙ list) ∙ ap (option_and_then (item_at (es ++ ds))) (member_stays es ds c m unlisted unnamed ∙ member))
 
 -- ---- bases
 
@@ -143,9 +141,9 @@ none_pass p h (x ∷ xs) = ap (λ b. cond b (x ∷ filter p xs) (filter p xs)) (
 pub nothing_changed_since_now : NothingChangedSinceNow
 nothing_changed_since_now bs t look = (
   ap (λ ds. shown_rows t look.meta (filter (λ row. touches (edits bs) t ds row.0) (rows (edits bs) t look.query))) (later-now bs)
-  ∙ ap (shown_rows t look.meta) (none_pass (λ row. touches (edits bs) t [] row.0) (λ row. untouched (edits bs) t row.0) (rows (edits bs) t look.query)),
+      ∙ ap (shown_rows t look.meta) (none_pass (λ row. touches (edits bs) t [] row.0) (λ row. untouched (edits bs) t row.0) (rows (edits bs) t look.query)),
   ap (λ ds. filter (λ key. is_none (row_at (edits bs) t look.query key)) (filter (touches (edits bs) t ds) (ascending (named_keys (edits bs))))) (later-now bs)
-  ∙ ap (filter (λ key. is_none (row_at (edits bs) t look.query key))) (none_pass (touches (edits bs) t []) (untouched (edits bs) t) (ascending (named_keys (edits bs))))
+      ∙ ap (filter (λ key. is_none (row_at (edits bs) t look.query key))) (none_pass (touches (edits bs) t []) (untouched (edits bs) t) (ascending (named_keys (edits bs)))),
 )
 
 -- ---- bodies

@@ -1,9 +1,7 @@
 -- A mirror that applies the listings of a share holds what the share has.
-use Rattle.std.proofs.Common.{◌≡◌, ℕ, ◌+◌, ◌-◌, Bool, true, false, cond, ◌||◌, ◌&&◌, List, [], ◌∷◌, ◌++◌, map, filter, fold, flat_map, take, drop, length, refl, sym, ap, ◌∙◌, subst, true≢false, Option, Some, None, is_none, nat_le, take-append-drop, arith}
-use Rattle.std.proofs.Math.Seq.{take-append_seam}
+use Rattle.std.proofs.Common.{◌≡◌, ℕ, ◌+◌, Bool, true, false, cond, ◌&&◌, List, [], ◌++◌, filter, fold, refl, sym, ap, ◌∙◌, subst, true≢false, Option, Some, None, is_none, nat_le}
 use Rattle.std.specs.Option.{option_or, option_map}
 use Rattle.std.proofs.lemmas.Grind.{flat_map-append}
-use Rattle.std.proofs.lemmas.Bool.{cases_Bool}
 use Rattle.dmap_tags.specs.Tree.{Tree}
 use Rattle.item_model.specs.declared.item.Row.{Row}
 use Rattle.item_model.specs.declared.query.Query.{Query}
@@ -16,9 +14,9 @@ use Rattle.share_history.specs.Keyed.{at, put_in, taken_out, IsAscending, ascend
 use Rattle.share_history.specs.Histories.{edits, later, revision, up_to}
 use Rattle.share_history.specs.Named.{named_keys}
 use Rattle.share_history.specs.Rows.{row_at, rows}
-use Rattle.share_history.specs.Kept.{is_left, is_kept, touches, touched}
+use Rattle.share_history.specs.Kept.{is_left, is_kept, touches}
 use Rattle.share_history.specs.Listings.{member_of, shown, shown_rows, full_listing, delta_listing, listing}
-use Rattle.share_history.specs.Mirror.{Held, mirror_after, mirrored, mirror_look}
+use Rattle.share_history.specs.Mirror.{mirror_after, mirrored, mirror_look}
 use Rattle.share_history.specs.Laws.{MirrorsFollow, MirrorsCatchUp, FullListingsSuffice}
 use Rattle.share_history.proofs.KeyedFacts.{has, same_pairs, sorted-ascending, at-puts, ascending-puts, at-outs, ascending-outs, at-filter, ascending-filter, at-map, ascending-map, has-filter, has-ascending}
 use Rattle.share_history.proofs.EditFacts.{edits-split, up_to-revision, second_false, has-append}
@@ -104,11 +102,11 @@ module _ (old all ds : List Edit) (split : all ≡ old ++ ds) (t : Target) (q : 
       (ascending-puts (fold taken_out (shown_rows t meta (rows old t q)) deleted_now) (shown_rows t meta listed_now) (ascending-outs (shown_rows t meta (rows old t q)) deleted_now old_ascends))
       (ascending-shown t meta (rows all t q) (ascending-rows all t q))
       (λ k.
-         at-puts k (fold taken_out (shown_rows t meta (rows old t q)) deleted_now) (shown_rows t meta listed_now) listed_ascends
-         ∙ (λ i. option_or (at-listed k i) (at-outs k (shown_rows t meta (rows old t q)) deleted_now old_ascends i))
-         ∙ (λ i. option_or (option_map (shown_at t meta k) (cond (touches all t ds k) (row_at all t q k) None)) (cond (has-deleted k i) None (at-old k i)))
-         ∙ at_one_key (touches all t ds k) (has k (named_keys all)) (row_at all t q k) (row_at old t q k) (shown_at t meta k) (named_or_not k) (stays_or_not k)
-         ∙ sym (at-shown t meta k (rows all t q) ∙ ap (option_map (shown_at t meta k)) (at-rows all t q k)))
+      at-puts k (fold taken_out (shown_rows t meta (rows old t q)) deleted_now) (shown_rows t meta listed_now) listed_ascends
+      ∙ (λ i. option_or (at-listed k i) (at-outs k (shown_rows t meta (rows old t q)) deleted_now old_ascends i))
+      ∙ (λ i. option_or (option_map (shown_at t meta k) (cond (touches all t ds k) (row_at all t q k) None)) (cond (has-deleted k i) None (at-old k i)))
+      ∙ at_one_key (touches all t ds k) (has k (named_keys all)) (row_at all t q k) (row_at old t q k) (shown_at t meta k) (named_or_not k) (stays_or_not k)
+      ∙ sym (at-shown t meta k (rows all t q) ∙ ap (option_map (shown_at t meta k)) (at-rows all t q k)))
 
 -- ---- the law
 
@@ -121,10 +119,11 @@ fourth_true false b c d h = absurd (true≢false (sym h))
 pub mirrors_follow : MirrorsFollow
 mirrors_follow keep bs t q meta base =
     elim (is_kept keep bs t base) as (λ b. is_kept keep bs t base ≡ b
-        → mirror_after (mirrored (up_to bs base) t q meta) (cond b (delta_listing bs t (mirror_look q meta base) base) (full_listing bs t (mirror_look q meta base))) ≡ mirrored bs t q meta) [
+    → mirror_after (mirrored (up_to bs base) t q meta) (cond b (delta_listing bs t (mirror_look q meta base) base) (full_listing bs t (mirror_look q meta base))) ≡ mirrored bs t q meta) [
       | true ↦ λ kept. λ i. record {
-          revision = revision bs;
-          rows = delta_applied (edits (up_to bs base)) (edits bs) (later bs base) (edits-split bs base) t q meta (fourth_true (nat_le FIRST_REVISION base) (nat_le base (revision bs)) (nat_le (revision bs) (base + keep)) (is_left t (later bs base)) kept) i }
+        revision = revision bs;
+        rows = delta_applied (edits (up_to bs base)) (edits bs) (later bs base) (edits-split bs base) t q meta (fourth_true (nat_le FIRST_REVISION base) (nat_le base (revision bs)) (nat_le (revision bs) (base + keep)) (is_left t (later bs base)) kept) i;
+      }
       | false ↦ λ _. full_listings_suffice (mirrored (up_to bs base) t q meta) bs t q meta base
     ] refl
 

@@ -44,9 +44,9 @@ pub delta_found : (bs behind : List (List Edit)) (t : Target) (look : Look) (que
 delta_found bs behind t look query base revised all all_read listed listed_read keys keys_read gone r q b a ar l lr k kr g =
     let all_is : map row_of all_read ≡ rows (edits bs) t look.query = ap (map row_of) ar ∙ a ∙ ap (rows (edits bs) t) q in
     let listed_is : map row_of listed_read ≡ filter (λ row. touches (edits bs) t (later bs base) row.0) (rows (edits bs) t look.query) =
-        ap (map row_of) lr ∙ l ∙ (λ i. filter (λ row. touches (edits bs) t (edits (b i)) row.0) (all_is i)) in
+    ap (map row_of) lr ∙ l ∙ (λ i. filter (λ row. touches (edits bs) t (edits (b i)) row.0) (all_is i)) in
     let gone_is : gone ≡ filter (λ key. is_none (row_at (edits bs) t look.query key)) (touched bs t base) =
-        g ∙ (λ i. filter (λ key. is_none (row_at (edits bs) t (q i) key)) ((kr ∙ k) i)) in
+    g ∙ (λ i. filter (λ key. is_none (row_at (edits bs) t (q i) key)) ((kr ∙ k) i)) in
     λ i. delta_of (r i) t look (listed_is i) (gone_is i)
 
 -- ---- how many rows are listed
@@ -77,8 +77,12 @@ length-full bs t look =
 
 length-delta : (bs : List (List Edit)) (t : Target) (look : Look) (base : ℕ) → length (delta_listing bs t look base).rows ≤ length (edits bs)
 length-delta bs t look base =
-    omega (arith, length-map (filter (λ row. touches (edits bs) t (later bs base) row.0) (rows (edits bs) t look.query)) (shown t look.meta),
-           length-filter (λ row. touches (edits bs) t (later bs base) row.0) (rows (edits bs) t look.query), length-rows (edits bs) t look.query)
+    omega (
+      arith,
+      length-map (filter (λ row. touches (edits bs) t (later bs base) row.0) (rows (edits bs) t look.query)) (shown t look.meta),
+      length-filter (λ row. touches (edits bs) t (later bs base) row.0) (rows (edits bs) t look.query),
+      length-rows (edits bs) t look.query,
+    )
 
 -- no listing lists more rows than there are edits
 pub few_full : (bs : List (List Edit)) (t : Target) (look : Look) (l : Listing) → l ≡ full_listing bs t look → length l.rows ≤ length (edits bs)

@@ -15,7 +15,7 @@ use Rattle.item_model.specs.declared.request.Target.{Target}
 use Rattle.item_model.specs.declared.request.Target.TheVariants.{Items, Container}
 use Rattle.share_history.specs.declared.selection.TheConstants.{BASE_LIST}
 use Rattle.share_history.specs.Keyed.{at, put_in, taken_out, IsAscending, AreAscending, ascending, pairs_at}
-use Rattle.share_history.specs.LastSaid.{Playlist, Plain, Ruled, only_if, says_item, item_at, list_at, member_at}
+use Rattle.share_history.specs.LastSaid.{Playlist, Plain, Ruled, only_if, says_item, item_at, list_at}
 use Rattle.share_history.specs.Named.{keys_in, named_keys, lists_in, named_lists}
 use Rattle.share_history.specs.Rows.{if_asked, in_list, in_target, row_at, rows, library, lists}
 use Rattle.share_history.proofs.KeyedFacts.{has, is_eq-cmp, at-put, ascending-put, at-out, ascending-out, same_pairs, same_keys_same, sorted-ascending, has-ascending, ascending-pairs_at, at-pairs_at, has-keys_of}

@@ -1,7 +1,11 @@
 -- The login of a session among the entries that are left.
-use Rattle.std.proofs.Common.{◌≡◌, ℕ, ◌+◌, ◌<◌, take, [], ◌∷◌, sym, ◌∙◌, length, get_or, drop, cond, count_by, List, ap, Option, Some}
+use Rattle.std.proofs.Common.{◌≡◌, ◌≤◌, arith, ℕ, Bool, ◌+◌, ◌<◌, take, [], ◌∷◌, sym, ◌∙◌, length, get_or, drop, cond, count_by, List, ap, Some}
+use Rattle.std.proofs.lemmas.List.Sums.{sum_by-cons}
 use Rattle.item_model.specs.declared.changes.Entry.{Entry}
-use Rattle.share_history.specs.Sessions.{is_login, is_login_of, after_login}
+use Rattle.item_model.specs.declared.changes.Entry.TheVariants.{Edits, Login, Logout, Stop}
+use Rattle.share_history.specs.Histories.{batches}
+use Rattle.share_history.specs.Limits.{takes_place}
+use Rattle.share_history.specs.Sessions.{is_login_of, after_login}
 use Rattle.std.proofs.lemmas.List.{take_more}
 use Rattle.share_history.proofs.EditFacts.{drop_more}
 use Rattle.share_history.proofs.FoldFacts.{fold-append}
@@ -10,9 +14,17 @@ pub login_left : (id : ℕ) (h : List Entry) (i : ℕ) (e : Entry) → i < lengt
     → after_login id (drop i h) ≡ cond (is_login_of id e) (Some (drop (i + 1) h)) (after_login id (drop (i + 1) h))
 login_left id h i e lt is = ap (after_login id) (drop_more h i e lt is)
 
--- the logins up to one more entry
-pub logins_more : (h : List Entry) (i : ℕ) (e : Entry) → i < length h → e ≡ get_or h i e
-    → count_by is_login (take (i + 1) h) ≡ count_by is_login (take i h) + cond (is_login e) 1 0
-logins_more h i e lt is =
-    ap (count_by is_login) (take_more h i e lt) ∙ fold-append (λ n x. n + cond (is_login x) 1 0) 0 (take i h) (get_or h i e ∷ [])
-    ∙ ap (λ x. count_by is_login (take i h) + cond (is_login x) 1 0) (sym is)
+-- how many of the entries up to one more pass a test
+pub count_more : (p : Entry → Bool) (h : List Entry) (i : ℕ) (e : Entry) → i < length h → e ≡ get_or h i e
+    → count_by p (take (i + 1) h) ≡ count_by p (take i h) + cond (p e) 1 0
+count_more p h i e lt is =
+    ap (count_by p) (take_more h i e lt) ∙ fold-append (λ n x. n + cond (p x) 1 0) 0 (take i h) (get_or h i e ∷ [])
+    ∙ ap (λ x. count_by p (take i h) + cond (p x) 1 0) (sym is)
+
+-- each batch takes a place
+pub few_batches : (h : List Entry) → length (batches h) ≤ count_by takes_place h
+few_batches [] = omega arith
+few_batches (Edits by batch ∷ h) = omega (arith, few_batches h, sum_by-cons (λ x. cond (takes_place x) 1 0) (Edits by batch) h)
+few_batches (Login by id ∷ h) = omega (arith, few_batches h, sum_by-cons (λ x. cond (takes_place x) 1 0) (Login by id) h)
+few_batches (Logout by id ∷ h) = omega (arith, few_batches h, sum_by-cons (λ x. cond (takes_place x) 1 0) (Logout by id) h)
+few_batches (Stop by ∷ h) = omega (arith, few_batches h, sum_by-cons (λ x. cond (takes_place x) 1 0) (Stop by) h)

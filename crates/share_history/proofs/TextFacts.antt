@@ -1,5 +1,5 @@
 -- Texts that a loop puts into a set one after the other.
-use Rattle.std.proofs.Common.{◌≡◌, ℕ, ◌+◌, ◌<◌, ◌≤◌, ◌==◌, true≢false, Option, Bool, true, false, cond, List, [], ◌∷◌, length, get_or, drop, map, fold, filter, refl, sym, ap, ◌∙◌, Ordering, Less, Equal, Greater, nat_cmp, Bor, arith}
+use Rattle.std.proofs.Common.{◌≡◌, ℕ, ◌+◌, ◌<◌, ◌≤◌, ◌==◌, true≢false, Option, Bool, true, false, cond, List, [], ◌∷◌, length, get_or, drop, map, fold, filter, refl, sym, ap, ◌∙◌, Less, Equal, Greater, nat_cmp, Bor, arith}
 use Rattle.std.specs.Ordering.{match_ordering}
 use Rattle.std.specs.Cmp.Lexicographic.{slice_cmp}
 use Rattle.std.specs.BTreeSet.{insert_key}
@@ -15,14 +15,13 @@ use Rattle.share_history.specs.BrowseListings.{browsed, text_in, is_filled, brow
 use Rattle.share_history.proofs.RowFacts.{folded-longer, length-rows}
 use Rattle.share_history.specs.RowSeen.{text_at}
 use Rattle.share_history.proofs.EditFacts.{drop_more}
-use Rattle.share_history.proofs.FoldFacts.{fold-append}
 
 -- what a key stands for goes to the place of the key
 pub insert_key-text : (k : Bor (List ℕ)) (ks : List (Bor (List ℕ))) → map text_at (insert_key (λ x y. slice_cmp nat_cmp x.now y.now) ks k) ≡ insert_key (slice_cmp nat_cmp) (map text_at ks) k.now
 insert_key-text k [] = refl
 insert_key-text k (x ∷ xs) =
     elim (slice_cmp nat_cmp k.now x.now) as (λ r. map text_at (match_ordering r (k ∷ x ∷ xs) (x ∷ xs) (x ∷ insert_key (λ x y. slice_cmp nat_cmp x.now y.now) xs k))
-        ≡ match_ordering r (k.now ∷ x.now ∷ map text_at xs) (x.now ∷ map text_at xs) (x.now ∷ insert_key (slice_cmp nat_cmp) (map text_at xs) k.now)) [
+    ≡ match_ordering r (k.now ∷ x.now ∷ map text_at xs) (x.now ∷ map text_at xs) (x.now ∷ insert_key (slice_cmp nat_cmp) (map text_at xs) k.now)) [
       | Less ↦ refl
       | Equal ↦ refl
       | Greater ↦ ap (λ ts. x.now ∷ ts) (insert_key-text k xs)
@@ -41,16 +40,11 @@ pub texts_left : {A : Type 0} (put : List (List ℕ) → List ℕ → List (List
 texts_left put p text xs i x set lt is =
     filtered_cons put p set (text x) (map text (drop (i + 1) xs)) ∙ ap (λ ys. fold put set (filter p (map text ys))) (sym (drop_more xs i x lt is))
 
--- a text that is not empty
-pub filled : (bytes : List ℕ) (b : Bool) → b ≡ false → b ≡ (length bytes == 0) → is_filled bytes ≡ true
-filled [] b n h = absurd (true≢false (sym h ∙ n))
-filled (x ∷ bytes) b n h = refl
-
 -- the set with one more text that is not empty
-pub text_put : (k : Bor (List ℕ)) (old new : List (Bor (List ℕ))) (b : Bool) → b ≡ false → b ≡ (length k.now == 0) → new ≡ insert_key (λ x y. slice_cmp nat_cmp x.now y.now) old k
+pub text_put : (k : Bor (List ℕ)) (old new : List (Bor (List ℕ))) (b : Bool) → b ≡ true → b ≡ is_filled k.now → new ≡ insert_key (λ x y. slice_cmp nat_cmp x.now y.now) old k
     → map text_at new ≡ fold (insert_key (slice_cmp nat_cmp)) (map text_at old) (filter is_filled (k.now ∷ []))
 text_put k old new b n h e =
-    ap (map text_at) e ∙ insert_key-text k old ∙ sym (ap (λ t. fold (insert_key (slice_cmp nat_cmp)) (map text_at old) (cond t (k.now ∷ []) [])) (filled k.now b n h))
+    ap (map text_at) e ∙ insert_key-text k old ∙ sym (ap (λ t. fold (insert_key (slice_cmp nat_cmp)) (map text_at old) (cond t (k.now ∷ []) [])) (sym h ∙ n))
 
 -- ---- how many values there are
 
@@ -64,8 +58,13 @@ few_filled (t ∷ ts) = elim (is_filled t) as (λ b. length (cond b (t ∷ filte
 few_values : (es : List Edit) (b : Browse) (q : Option Query) → length (browse_values es b q) ≤ length es
 few_values es b q =
     let texts : List (List ℕ) = map (λ row. text_in (value_of (browsed b) row.1.item)) (rows es Items q) in
-    omega (arith, folded-longer (slice_cmp nat_cmp) [] (filter is_filled texts), few_filled texts,
-           length-map (rows es Items q) (λ row. text_in (value_of (browsed b) row.1.item)), length-rows es Items q)
+    omega (
+      arith,
+      folded-longer (slice_cmp nat_cmp) [] (filter is_filled texts),
+      few_filled texts,
+      length-map (rows es Items q) (λ row. text_in (value_of (browsed b) row.1.item)),
+      length-rows es Items q,
+    )
 
 -- no more tags of values than edits
 pub few_value_tags : (es : List Edit) (b : Browse) (q : Option Query) (ks : List (Bor (List ℕ))) (tags : List Tree) → map text_at ks ≡ browse_values es b q → tags ≡ map value_tag (map text_at ks) → length tags ≤ length es

@@ -33,8 +33,8 @@ abbrev pub body_tree : Target → Listing → Tree
 body_tree target l =
     list (body_code target)
     (trees_of
-     (start_tags l.is_delta l.revision l.total (length l.rows)
-      ++ list (code "mlcl") (trees_of (map (λ row. row.1) l.rows)) ∷ gone_tags target l.is_delta l.gone))
+    (start_tags l.is_delta l.revision l.total (length l.rows)
+    ++ list (code "mlcl") (trees_of (map (λ row. row.1) l.rows)) ∷ gone_tags target l.is_delta l.gone))
 
 -- the bodies over a history: whole, as the change since a base, and as the base decides
 abbrev pub full_body : List Entry → Target → Look → Tree

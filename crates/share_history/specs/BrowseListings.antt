@@ -7,7 +7,6 @@ use Rattle.std.specs.BTreeSet.{insert_key}
 use Rattle.dmap_tags.specs.Codes.{Four, code}
 use Rattle.dmap_tags.specs.Tree as tree
 use Rattle.dmap_tags.specs.Tree.{Tree, leaf}
-use Rattle.item_model.specs.declared.item.Row.{Row}
 use Rattle.item_model.specs.declared.item.PropValue.{PropValue}
 use Rattle.item_model.specs.declared.item.PropValue.TheVariants.{Number, Text}
 use Rattle.item_model.specs.declared.property.Property.{Property}

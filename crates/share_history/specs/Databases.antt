@@ -25,7 +25,7 @@ abbrev pub database_tag : List ℕ → List Edit → Tree
 database_tag name es =
     entry_tag
     (leaf (code "miid") (U32 1) ∷ leaf (code "minm") (Text name) ∷ leaf (code "mimc") (U32 (length (library es)))
-     ∷ leaf (code "mctc") (U32 (length (lists es) + 1)) ∷ [])
+    ∷ leaf (code "mctc") (U32 (length (lists es) + 1)) ∷ [])
 
 abbrev pub databases_body : List ℕ → List Entry → Tree
 databases_body name h = whole_body (code "avdb") (code "mlcl") (revision (batches h)) (database_tag name (edits (batches h)) ∷ [])
@@ -35,7 +35,7 @@ abbrev pub container_tag : ℕ → List ℕ → List Tree → List Edit → Tree
 container_tag id name mark es =
     entry_tag
     (leaf (code "miid") (U32 id) ∷ leaf (code "minm") (Text name)
-     ∷ (mark ++ leaf (code "mimc") (U32 (length (rows es (Container id) None))) ∷ []))
+    ∷ (mark ++ leaf (code "mimc") (U32 (length (rows es (Container id) None))) ∷ []))
 
 abbrev pub list_tag : List Edit → ℕ × Playlist → Tree
 list_tag es (id, Plain name) = container_tag id name [] es

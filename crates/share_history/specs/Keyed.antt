@@ -1,5 +1,5 @@
 -- Values by their keys, as listings and mirrors have them: pairs in ascending order of the key, each key once.
-use Rattle.std.specs.Prelude.{ℕ, List, [], ◌∷◌, Option, fold, filter_map, option_map}
+use Rattle.std.specs.Prelude.{ℕ, List, [], Option, fold, filter_map, option_map}
 use Rattle.std.specs.Ordering.{nat_cmp}
 use Rattle.std.specs.List.Sorted.{IsStrictlySortedBy}
 use Rattle.std.specs.Map.{keys_of, lookup, remove_entry}

@@ -7,6 +7,7 @@ pub mod Kept
 pub mod Ranges
 pub mod Listings
 pub mod Bodies
+pub mod Limits
 pub mod Sessions
 pub mod Mirror
 pub mod Databases

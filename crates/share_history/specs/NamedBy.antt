@@ -1,5 +1,5 @@
 -- Which edits name what a question of the program is about.
-use Rattle.std.specs.Prelude.{ℕ, Bool}
+use Rattle.std.specs.Prelude.{Bool}
 use Rattle.item_model.specs.declared.changes.Edit.{Edit}
 use Rattle.share_history.specs.Named.{names_item, names_list, names_member}
 use Rattle.share_history.specs.declared.names.Named.{Named}

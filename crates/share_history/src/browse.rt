@@ -48,11 +48,17 @@ fn text_of(row: &Row, browse: Browse) -> &str
     }
 }
 
+fn is_filled(text: &str) -> bool
+    ensures { result ≡ is_filled text.now }
+{
+    !text.is_empty()
+}
+
 // Puts a text that is not empty into its place, unless it is there.
 fn put_text<'a>(texts: &mut BTreeSet<&'a str>, text: &'a str) -> Result<(), AllocError>
     ensures { OnOk result (map text_at texts.new.keys ≡ fold (insert_key (slice_cmp nat_cmp)) (map text_at texts.old.keys) (filter is_filled (text.now ∷ []))) }
 {
-    if !text.is_empty() {
+    if is_filled(text) {
         texts.insert(text)?;
     }
     Ok(())

@@ -83,12 +83,7 @@ pub fn playlists(
 }
 
 // The only database, with its numbers of items and of containers.
-fn database_tag(
-    alloc: Global,
-    name: &Text,
-    items: u32,
-    containers: u32,
-) -> Result<Tag, AllocError>
+fn database_tag(alloc: Global, name: &Text, items: u32, containers: u32) -> Result<Tag, AllocError>
     ensures { IfOk result (λ tag. tag ≡ entry_tag (leaf (code "miid") (U32 1) ∷ leaf (code "minm") (tree.Text name.now) ∷ leaf (code "mimc") (U32 items) ∷ leaf (code "mctc") (U32 containers) ∷ [])) }
 {
     let mut tags = Tags::new(alloc);

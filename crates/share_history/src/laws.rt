@@ -7,76 +7,64 @@ ghost use Rattle.share_history.specs.Laws.{LibraryAscends, OpensWithTheBatch, Li
 #[tactic(auto, using(crate::proofs::LawFacts::library_ascends))]
 pub fn the_library_ascends()
     ensures { LibraryAscends }
-{
-}
+{}
 
 /// Opening with a batch makes just its edits.
 #[tactic(auto, using(crate::proofs::LawFacts::opens_with_the_batch))]
 pub fn a_share_opens_with_its_batch()
     ensures { OpensWithTheBatch }
-{
-}
+{}
 
 /// A put or a drop of a list takes all members out of it.
 pub fn a_list_begins_without_members()
     ensures { ListsBeginWithoutMembers }
-{
-}
+{}
 
 /// A plain list that was just put, and a list that was just dropped, have no rows.
 pub fn a_list_begins_empty()
     ensures { ListsBeginEmpty }
-{
-}
+{}
 
 /// A member that is put where no plain list stands is never there.
 #[tactic(auto, using(crate::proofs::LawFacts::members_need_a_list))]
 pub fn a_member_needs_a_list()
     ensures { MembersNeedAList }
-{
-}
+{}
 
 /// A member goes and comes back with its item.
 pub fn a_member_follows_its_item()
     ensures { MembersFollowTheirItems }
-{
-}
+{}
 
 /// A kept base is a revision that the share had or has.
 #[tactic(auto, using(crate::proofs::LawFacts::bases_are_past))]
 pub fn a_base_is_past()
     ensures { BasesArePast }
-{
-}
+{}
 
 /// From the present revision on nothing was touched.
 pub fn nothing_changed_since_now()
     ensures { NothingChangedSinceNow }
-{
-}
+{}
 
 /// A body lists as many rows as its row count says.
 pub fn a_body_tells_its_rows()
     ensures { BodiesTellTheirRows }
-{
-}
+{}
 
 /// A full listing is all that a mirror needs.
 pub fn a_full_listing_suffices()
     ensures { FullListingsSuffice }
-{
-}
+{}
 
 /// A mirror that held what the share had at its base holds, after the answer, what the share has.
 #[tactic(auto, using(crate::proofs::MirrorFacts::mirrors_follow))]
 pub fn a_mirror_follows()
     ensures { MirrorsFollow }
-{
-}
+{}
 
 /// A mirror that was up to date is so again after the answer, whatever batches came in between.
 #[tactic(auto, using(crate::proofs::MirrorFacts::mirrors_catch_up))]
 pub fn a_mirror_catches_up()
     ensures { MirrorsCatchUp }
-{
-}
+{}

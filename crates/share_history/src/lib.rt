@@ -10,6 +10,7 @@ mod items;
 mod kept;
 mod keys;
 pub mod laws;
+mod limits;
 mod listings;
 mod lists;
 mod names;
@@ -17,12 +18,15 @@ mod ranges;
 mod revisions;
 mod selection;
 mod sessions;
+#[cfg(test)]
+mod tests;
 
+pub use bodies::{body, full_body, listing_body};
 pub use browse::{browse_body, browse_values};
 pub use databases::{containers_body, databases_body, playlists};
-pub use bodies::{body, full_body, listing_body};
 pub use items::item;
 pub use kept::{after, is_kept, is_touched, touched};
+pub use limits::{MAX_EDITS, MAX_ENTRIES, MAX_LISTS, has_place, has_room_for};
 pub use listings::{Listing, delta_listing, full_listing, listing_for};
 pub use lists::{PlaylistRef, list, member};
 pub use names::{Named, is_named};

@@ -193,7 +193,14 @@ pub fn delta_listing(
     let listed = touched_rows(alloc, history, target, after(history, base), all.as_slice())?;
     let keys = touched(alloc, history, target, base)?;
     let gone = gone_keys(alloc, history, target, query, keys.as_slice())?;
-    let delta = delta_of(alloc, revision(history), target, look, listed.as_slice(), gone)?;
+    let delta = delta_of(
+        alloc,
+        revision(history),
+        target,
+        look,
+        listed.as_slice(),
+        gone,
+    )?;
     Ok(delta)
 }
 

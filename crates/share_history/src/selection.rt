@@ -50,7 +50,11 @@ fn if_asked<'a>(query: Option<&Query>, found: Option<&'a Row>) -> Option<&'a Row
     ensures { option_copied result ≡ option_and_then (if_asked (option_copied query.entry)) (option_copied found.entry) }
 {
     let row = found?;
-    if is_asked(query, row) { Some(row) } else { None }
+    if is_asked(query, row) {
+        Some(row)
+    } else {
+        None
+    }
 }
 
 fn in_list<'a>(

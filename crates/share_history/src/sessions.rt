@@ -46,7 +46,7 @@ fn count_with(count: usize, entry: &Entry) -> usize
     if is_login(entry) { count + 1 } else { count }
 }
 
-#[tactic(auto, using(crate::proofs::SessionFacts::logins_more))]
+#[tactic(auto, using(crate::proofs::SessionFacts::count_more))]
 fn logins(entries: &[Entry]) -> usize
     ensures { result ≡ count_by is_login entries.now }
 {

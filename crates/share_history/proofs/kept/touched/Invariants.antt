@@ -1,8 +1,5 @@
-use Rattle.std.proofs.Common.{◌≡◌, ◌-◌, ◌++◌, drop, filter}
-use Rattle.std.specs.List.{list_any}
-use Rattle.share_history.specs.declared.revisions.TheConstants.{FIRST_REVISION}
+use Rattle.std.proofs.Common.{◌≡◌, ◌++◌, filter}
 use Rattle.share_history.specs.Histories.{batches, all_edits}
-use Rattle.share_history.specs.NamedBy.{names}
 use Rattle.share_history.specs.Kept.{touches, touched}
 use Rattle.share_history.proofs.kept.touched.Given as goal
 

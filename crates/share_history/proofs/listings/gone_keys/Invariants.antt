@@ -1,10 +1,7 @@
-use Rattle.std.proofs.Common.{◌≡◌, ◌++◌, map, filter, drop, is_none}
+use Rattle.std.proofs.Common.{◌≡◌, ◌++◌, filter, drop, is_none}
 use Rattle.std.specs.Option.{option_copied}
 use Rattle.share_history.specs.Histories.{all_edits}
 use Rattle.share_history.specs.Rows.{row_at}
-use Rattle.share_history.specs.Kept.{touches}
-use Rattle.share_history.specs.Listings.{shown_rows}
-use Rattle.share_history.specs.RowSeen.{row_of}
 use Rattle.share_history.proofs.listings.gone_keys.Given as goal
 
 abbrev pub invariant-loop-key : goal.invariant-loop-key

@@ -1,8 +1,4 @@
-use Rattle.std.proofs.Common.{◌≡◌, ◌++◌, map, filter, drop, is_none}
-use Rattle.std.specs.Option.{option_copied}
-use Rattle.share_history.specs.Histories.{all_edits}
-use Rattle.share_history.specs.Rows.{row_at}
-use Rattle.share_history.specs.Kept.{touches}
+use Rattle.std.proofs.Common.{◌≡◌, ◌++◌, map, drop}
 use Rattle.share_history.specs.Listings.{shown_rows}
 use Rattle.share_history.specs.RowSeen.{row_of}
 use Rattle.share_history.proofs.listings.shown_rows.Given as goal

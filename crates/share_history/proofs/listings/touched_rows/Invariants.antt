@@ -1,9 +1,6 @@
-use Rattle.std.proofs.Common.{◌≡◌, ◌≤◌, length, ◌++◌, map, filter, drop, is_none}
-use Rattle.std.specs.Option.{option_copied}
+use Rattle.std.proofs.Common.{◌≡◌, ◌≤◌, length, ◌++◌, map, filter, drop}
 use Rattle.share_history.specs.Histories.{all_edits}
-use Rattle.share_history.specs.Rows.{row_at}
 use Rattle.share_history.specs.Kept.{touches}
-use Rattle.share_history.specs.Listings.{shown_rows}
 use Rattle.share_history.specs.RowSeen.{row_of}
 use Rattle.share_history.proofs.listings.touched_rows.Given as goal
 

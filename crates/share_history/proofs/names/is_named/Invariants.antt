@@ -1,9 +1,7 @@
-use Rattle.std.proofs.Common.{◌≡◌, ◌-◌, ◌++◌, drop, filter}
+use Rattle.std.proofs.Common.{◌≡◌, drop}
 use Rattle.std.specs.List.{list_any}
-use Rattle.share_history.specs.declared.revisions.TheConstants.{FIRST_REVISION}
-use Rattle.share_history.specs.Histories.{batches, all_edits}
+use Rattle.share_history.specs.Histories.{all_edits}
 use Rattle.share_history.specs.NamedBy.{names}
-use Rattle.share_history.specs.Kept.{touches, touched}
 use Rattle.share_history.proofs.names.is_named.Given as goal
 
 abbrev pub invariant-loop-entry : goal.invariant-loop-entry

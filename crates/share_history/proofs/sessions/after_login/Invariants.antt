@@ -1,6 +1,5 @@
 use Rattle.std.proofs.Common.{◌≡◌, drop}
-use Rattle.std.specs.List.{list_any}
-use Rattle.share_history.specs.Sessions.{logs_out, is_stop, after_login, is_stopped}
+use Rattle.share_history.specs.Sessions.{after_login}
 use Rattle.share_history.proofs.sessions.after_login.Given as goal
 
 abbrev pub invariant-loop-place : goal.invariant-loop-place

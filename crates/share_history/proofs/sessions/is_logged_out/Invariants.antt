@@ -1,6 +1,6 @@
 use Rattle.std.proofs.Common.{◌≡◌, drop}
 use Rattle.std.specs.List.{list_any}
-use Rattle.share_history.specs.Sessions.{logs_out, is_stop, after_login, is_stopped}
+use Rattle.share_history.specs.Sessions.{logs_out}
 use Rattle.share_history.proofs.sessions.is_logged_out.Given as goal
 
 abbrev pub invariant-loop-entry : goal.invariant-loop-entry

@@ -1,0 +1,65 @@
+//! How much a share takes.
+
+ghost use Rattle.std.specs.Prelude.{◌≡◌, ◌<◌, ◌+◌, ◌^◌, count_by, length, if◌then◌else◌};
+ghost use Rattle.share_history.specs.Histories.{all_edits};
+ghost use Rattle.share_history.specs.Limits.{takes_place, has_place, has_room_for};
+
+use crate::revisions::edits_of;
+use item_model::Entry;
+
+/// How many entries of edits and of logins a history has at most.
+pub const MAX_ENTRIES: usize = 1_048_576;
+
+/// How many edits all batches of a history have at most.
+pub const MAX_EDITS: usize = 262_144;
+
+/// How many lists there are at most beside container 1.
+pub const MAX_LISTS: usize = 1_024;
+
+fn does_take_place(entry: &Entry) -> bool
+    ensures { result ≡ takes_place entry.now }
+{
+    matches!(entry, Entry::Edits { .. } | Entry::Login { .. })
+}
+
+fn count_with(count: usize, entry: &Entry) -> usize
+    requires { count < usize.MAX }
+    ensures { result ≡ count + (if takes_place entry.now then 1 else 0) }
+{
+    if does_take_place(entry) {
+        count + 1
+    } else {
+        count
+    }
+}
+
+/// Whether one more login, or one more batch, has a place.
+#[tactic(auto, using(crate::proofs::SessionFacts::count_more))]
+pub fn has_place(history: &[Entry]) -> bool
+    ensures { result ≡ has_place history.now }
+{
+    let mut count = 0;
+    for entry in history {
+        count = count_with(count, entry);
+    }
+    count < MAX_ENTRIES
+}
+
+/// Whether so many edits more are not too many.
+#[tactic(auto, using(crate::proofs::FoldFacts::edits_left))]
+pub fn has_room_for(history: &[Entry], count: usize) -> bool
+    ensures { result ≡ has_room_for history.now count }
+{
+    if count > MAX_EDITS {
+        return false;
+    }
+    let mut left = MAX_EDITS - count;
+    for entry in history {
+        let brought = edits_of(entry).len();
+        if brought > left {
+            return false;
+        }
+        left -= brought;
+    }
+    true
+}
