@@ -4,6 +4,9 @@ use Rattle.daap_outside.specs.Counts.{Rose}
 use Rattle.item_model.specs.declared.changes.Edit.{Edit}
 use Rattle.item_model.specs.declared.changes.Entry.{Entry}
 use Rattle.share_history.specs.Histories.{opening}
+use Rattle.records_import.specs.Table.{table_of}
+use Rattle.records_import.specs.declared.refusal.RecordError.{RecordError}
+use Rattle.records_import.proofs.Once.{batch_once}
 use Rattle.daapshare.specs.declared.fault.Fault.{Fault}
 use Rattle.daapshare.specs.declared.fault.Fault.TheVariants.{Words, Records, Read, Write, InputLimit, Memory}
 use Rattle.daapshare.specs.declared.list.TheConstants.{RECORDS_LIMIT}
@@ -68,21 +71,21 @@ memory_only : (input : List ℕ) (edits : List Edit) (before after : ℕ) (fault
     → status ≡ fault_status fault → IsInputCause (Some input) before after fault → (status ≡ 0) ⊎ (status ≡ 9)
 memory_only input edits before after Words status steady reads s cause = absurd cause
 memory_only input edits before after (Records error) status steady reads s cause =
-    let some = reads.read in let none = cause.refused in absurd (cc)
+    absurd (batch_once (table_of input) edits error cause.cause reads.read cause.refused)
 memory_only input edits before after Read status steady reads s cause = absurd (steady cause)
 memory_only input edits before after Write status steady reads s cause = absurd cause
 memory_only input edits before after InputLimit status steady reads s cause = let within = reads.within in absurd (omega arith)
 memory_only input edits before after Memory status steady reads s cause = inr s
 
 -- refused records have no other fault
-records_only : (input : List ℕ) (before after : ℕ) (fault : Fault) (status : ℕ) → ¬ (Rose before after) → IsRefused input
+records_only : (input : List ℕ) (refusal : RecordError) (before after : ℕ) (fault : Fault) (status : ℕ) → ¬ (Rose before after) → IsRefused refusal input
     → status ≡ fault_status fault → IsInputCause (Some input) before after fault → (status ≡ 3) ⊎ (status ≡ 9)
-records_only input before after Words status steady refused s cause = absurd cause
-records_only input before after (Records error) status steady refused s cause = inl s
-records_only input before after Read status steady refused s cause = absurd (steady cause)
-records_only input before after Write status steady refused s cause = absurd cause
-records_only input before after InputLimit status steady refused s cause = let within = refused.within in absurd (omega arith)
-records_only input before after Memory status steady refused s cause = inr s
+records_only input refusal before after Words status steady refused s cause = absurd cause
+records_only input refusal before after (Records error) status steady refused s cause = inl s
+records_only input refusal before after Read status steady refused s cause = absurd (steady cause)
+records_only input refusal before after Write status steady refused s cause = absurd cause
+records_only input refusal before after InputLimit status steady refused s cause = let within = refused.within in absurd (omega arith)
+records_only input refusal before after Memory status steady refused s cause = inr s
 
 -- nor has an input that is too long
 limit_only : (input : List ℕ) (before after : ℕ) (fault : Fault) (status : ℕ) → ¬ (Rose before after) → RECORDS_LIMIT < length input
@@ -102,7 +105,7 @@ decides words input before after status history told steady open_ (Listed edits)
     record {
       usage = λ not_list. let asked = h.0.asked in absurd (cc);
       done = λ _ _ _. inl s;
-      records = λ _ refused. let some = reads.read in let none = refused.refused in absurd (cc);
+      records = λ error _ refused. absurd (batch_once (table_of input) edits error refused.cause reads.read refused.refused);
       limit = λ _ long. let within = reads.within in absurd (omega arith);
     }
 decides words input before after status history told steady open_ (ListingCut edits) s h = absurd (open_ h.3)
@@ -113,7 +116,7 @@ decides words input before after status history told steady open_ (Refused fault
     record {
       usage = λ not_list. usage_only fault status s (of_words words before after fault not_list h.0);
       done = λ edits asked reads. memory_only input edits before.read_faults after.read_faults fault status steady reads s (cause asked);
-      records = λ asked refused. records_only input before.read_faults after.read_faults fault status steady refused s (cause asked);
+      records = λ error asked refused. records_only input error before.read_faults after.read_faults fault status steady refused s (cause asked);
       limit = λ asked long. limit_only input before.read_faults after.read_faults fault status steady long s (cause asked);
     }
 

@@ -1,5 +1,5 @@
 -- How a run of the program ends, by its words, its input and its output.
-use Rattle.std.specs.Prelude.{◌≡◌, ◌<◌, ◌≤◌, ℕ, List, [], ◌∷◌, map, length, codes, Bool, true, false, Option, Some, None, IfSome, cond, ◌⊎◌}
+use Rattle.std.specs.Prelude.{◌≡◌, ◌<◌, ◌≤◌, ℕ, List, [], ◌∷◌, map, length, codes, Bool, true, false, Option, Some, None, Ok, Err, ◌≢◌, IfSome, cond, ◌⊎◌}
 use Rattle.std.specs.Str.{bytes_eq}
 use Rattle.std.specs.Borrow.{Bor}
 use Rattle.std.specs.Io.KnownBytes.{Appends, IsAtEnd}
@@ -9,7 +9,9 @@ use Rattle.item_model.specs.declared.changes.Edit.{Edit}
 use Rattle.item_model.specs.declared.changes.Entry.{Entry}
 use Rattle.share_history.specs.Histories.{opening}
 use Rattle.records_import.specs.Table.{table_of}
-use Rattle.records_import.specs.OneForm.{batch_of}
+use Rattle.records_import.specs.Records.{BatchReads}
+use Rattle.records_import.specs.declared.refusal.RecordError.{RecordError}
+use Rattle.records_import.specs.declared.refusal.RecordError.TheVariants as records
 use Rattle.daapshare.specs.declared.fault.Fault.{Fault}
 use Rattle.daapshare.specs.declared.fault.Fault.TheVariants.{Words, Records, Read, Write, InputLimit, Memory}
 use Rattle.daapshare.specs.declared.list.TheConstants.{RECORDS_LIMIT}
@@ -36,12 +38,13 @@ pub record Seen : Type 0 where
 -- the input, within its limit, reads as the batch of these edits
 pub record ReadsAs (edits : List Edit) (input : List ℕ) : Type 0 where
   pub within : length input ≤ RECORDS_LIMIT
-  pub read : batch_of (table_of input) ≡ Some edits
+  pub read : BatchReads (table_of input) (Ok edits)
 
--- the input is within its limit, and its records are refused
-pub record IsRefused (input : List ℕ) : Type 0 where
+-- the input is within its limit, and its records are refused for this
+pub record IsRefused (error : RecordError) (input : List ℕ) : Type 0 where
   pub within : length input ≤ RECORDS_LIMIT
-  pub refused : batch_of (table_of input) ≡ None
+  pub cause : error ≢ records.Memory
+  pub refused : BatchReads (table_of input) (Err error)
 
 -- the words ask for a listing, and the input was read to its end, without a fault, as the batch of these edits
 pub record IsOpened (words : List (List ℕ)) (before after : Seen) (edits : List Edit) : Type 0 where
@@ -53,7 +56,7 @@ pub record IsOpened (words : List (List ℕ)) (before after : Seen) (edits : Lis
 -- what has to hold of the input where reading it ends by a fault
 abbrev pub IsInputCause : Option (List ℕ) → ℕ → ℕ → Fault → Type 0
 IsInputCause left before after Words = ⊥
-IsInputCause left before after (Records error) = IfSome left IsRefused
+IsInputCause left before after (Records error) = IfSome left (IsRefused error)
 IsInputCause left before after Read = Rose before after
 IsInputCause left before after Write = ⊥
 IsInputCause left before after InputLimit = IfSome left (λ input. RECORDS_LIMIT < length input)
@@ -113,7 +116,7 @@ Ends words before after status history = (ending : Ending) × (status ≡ ending
 pub record Decides (words : List (List ℕ)) (input : List ℕ) (status : ℕ) : Type 0 where
   pub usage : is_list words ≡ false → (status ≡ 2) ⊎ (status ≡ 9)
   pub done : (edits : List Edit) → is_list words ≡ true → ReadsAs edits input → (status ≡ 0) ⊎ (status ≡ 9)
-  pub records : is_list words ≡ true → IsRefused input → (status ≡ 3) ⊎ (status ≡ 9)
+  pub records : (error : RecordError) → is_list words ≡ true → IsRefused error input → (status ≡ 3) ⊎ (status ≡ 9)
   pub limit : is_list words ≡ true → RECORDS_LIMIT < length input → (status ≡ 8) ⊎ (status ≡ 9)
 
 abbrev pub IsDecided : List (List ℕ) → Seen → Seen → ℕ → Type 0

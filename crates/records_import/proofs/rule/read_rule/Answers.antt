@@ -13,4 +13,4 @@ told text (Ok rule) h = (λ e. absurd (cc e), h)
 told text (Err error) h = λ other. (λ same. other (cc same), h)
 
 pub returns : goal.returns
-returns c = told c.args.text.now c.read.result c.read.ensures
+returns c = told c.args.text.now c.read.result c.read.ensures.answer
