@@ -84,13 +84,13 @@ at_end p [] h =
 at_end p (c ∷ cs) h =
     ⊎_elim
     (λ (short : length cs < length p).
-        let e : 0 ≡ suc (length cs) - length p = omega arith in
-        or_with (bytes_eq (c ∷ cs) p) _ (too_short p cs short) ∙ ap (λ n. bytes_eq (drop n (c ∷ cs)) p) e)
+    let e : 0 ≡ suc (length cs) - length p = omega arith in
+    or_with (bytes_eq (c ∷ cs) p) _ (too_short p cs short) ∙ ap (λ n. bytes_eq (drop n (c ∷ cs)) p) e)
     (λ (long : length p ≤ length cs).
-        let e : suc (length cs - length p) ≡ suc (length cs) - length p = omega arith in
-        ap (λ b. b || from_some (joins (p ∷ [])) cs) (other_length (c ∷ cs) p (omega arith))
-        ∙ at_end p cs long
-        ∙ ap (λ n. bytes_eq (drop n (c ∷ cs)) p) e)
+    let e : suc (length cs - length p) ≡ suc (length cs) - length p = omega arith in
+    ap (λ b. b || from_some (joins (p ∷ [])) cs) (other_length (c ∷ cs) p (omega arith))
+    ∙ at_end p cs long
+    ∙ ap (λ n. bytes_eq (drop n (c ∷ cs)) p) e)
     (cases_lt (length cs) (length p))
 
 -- nothing is behind a place of no text
@@ -124,8 +124,8 @@ some_decides test P d (c ∷ cs) = (
   λ h. ⊎_elim
       (λ (k : test (c ∷ cs) ≡ true). ([], c ∷ cs, refl, (d (c ∷ cs)).0 k))
       (λ (k : test (c ∷ cs) ≡ false).
-          let w = (some_decides test P d cs).0 (or_second _ _ k h) in
-          (c ∷ w.0, w.1, ap (λ s. c ∷ s) w.2, w.3))
+      let w = (some_decides test P d cs).0 (or_second _ _ k h) in
+      (c ∷ w.0, w.1, ap (λ s. c ∷ s) w.2, w.3))
       (cases_Bool (test (c ∷ cs))),
   λ w. some_from test P d c cs w.0 w.1 w.2 w.3 (some_decides test P d cs).1,
 )
@@ -135,8 +135,7 @@ pub joins_decides : (ps : List (List ℕ)) (text : List ℕ) → Decides (joins 
 joins_decides [] text = (λ h. absurd (cc), λ h. absurd h)
 joins_decides (p ∷ []) text = bytes_eq-Decides text p
 joins_decides (p ∷ q ∷ ps) text =
-    let d = some_decides (joins (q ∷ ps)) (Joins (q ∷ ps)) (joins_decides (q ∷ ps)) in
-    (
+    let d = some_decides (joins (q ∷ ps)) (Joins (q ∷ ps)) (joins_decides (q ∷ ps)) in (
       λ h.
           let parts = and_parts _ _ h in
           let e : take (length p) text ≡ p = (bytes_eq-Decides _ p).0 parts.0 in
@@ -186,7 +185,7 @@ the_end piece text end r h e d =
     let n : length (folded text) ≡ length text = length-map text to_ascii_lowercase in
     let place : length text - length piece ≡ length (folded text) - length (folded piece) = omega arith in
     let same : folded end ≡ drop (length (folded text) - length (folded piece)) (folded text) =
-        ap folded e ∙ sym (drop-map to_ascii_lowercase (length text - length piece) text) ∙ ap (λ k. drop k (folded text)) place in
+    ap folded e ∙ sym (drop-map to_ascii_lowercase (length text - length piece) text) ∙ ap (λ k. drop k (folded text)) place in
     same_from_decides r (bytes_eq (folded end) (folded piece)) d (bytes_eq-Decides (folded end) (folded piece))
     ∙ ap (λ s. bytes_eq s (folded piece)) same
     ∙ sym (at_end (folded piece) (folded text) (omega arith))

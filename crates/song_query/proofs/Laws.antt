@@ -140,9 +140,9 @@ more_stops : (text : List ℕ) (m n : ℕ) → m ≤ n → n ≤ length text →
 more_stops text m n h k e =
     let long : m ≤ length (take n text) = omega (arith, length-take-le n text k) in
     let front : take m (take n text) ≡ take m text =
-        sym (take-append-le m (take n text) (drop n text) long) ∙ ap (take m) (take-append-drop n text) in
+    sym (take-append-le m (take n text) (drop n text) long) ∙ ap (take m) (take-append-drop n text) in
     let parts : take m text ++ drop m (take n text) ≡ take n text =
-        ap (λ x. x ++ drop m (take n text)) (sym front) ∙ take-append-drop m (take n text) in
+    ap (λ x. x ++ drop m (take n text)) (sym front) ∙ take-append-drop m (take n text) in
     ap (run start) (sym parts) ∙ run_append start (take m text) (drop m (take n text)) ∙ ap (λ o. bind o (λ t. run t (drop m (take n text)))) e
 
 not_longer : (text : List ℕ) (place n : ℕ) → place < length text → n ≤ length text → run start (take (place + 1) text) ≡ None → Begins (take n text)

@@ -33,8 +33,14 @@ piece_least (escaped m ∷ atoms) h =
 piece_least (lone c ∷ atoms) h =
     let parts = and_parts (not (is_mark c)) (are_atoms atoms) h in
     let rest = piece_of atoms in
-    omega (arith, lone_byte c rest (not_true _ parts.0), one_byte c rest (not_true _ parts.0),
-    length-append (printed_byte 92 (c ∷ rest)) (printed_piece (c ∷ rest)), length-append (printed_byte c rest) (printed_piece rest), piece_least atoms parts.1)
+    omega (
+      arith,
+      lone_byte c rest (not_true _ parts.0),
+      one_byte c rest (not_true _ parts.0),
+      length-append (printed_byte 92 (c ∷ rest)) (printed_piece (c ∷ rest)),
+      length-append (printed_byte c rest) (printed_piece rest),
+      piece_least atoms parts.1,
+    )
 
 -- behind a star, and as the first pieces
 more_least : (starred : List (List Atom)) (last : List Atom) → are_pieces starred ≡ true → are_atoms last ≡ true
@@ -51,8 +57,14 @@ value_least [] last h k = omega (arith, piece_least last k, length-append (print
 value_least (p ∷ starred) last h k =
     let parts = and_parts (are_atoms p) (are_pieces starred) h in
     let rest = map piece_of starred ++ piece_of last ∷ [] in
-    omega (arith, piece_least p parts.0, more_least starred last parts.1 k, length-append (printed_piece (piece_of p)) (printed_more rest),
-    length-append (print_atoms p) (42 ∷ print_starred starred), length-append (print_starred (p ∷ starred)) (print_atoms last))
+    omega (
+      arith,
+      piece_least p parts.0,
+      more_least starred last parts.1 k,
+      length-append (printed_piece (piece_of p)) (printed_more rest),
+      length-append (print_atoms p) (42 ∷ print_starred starred),
+      length-append (print_starred (p ∷ starred)) (print_atoms last),
+    )
 
 cond_least : (c : CondForm) → is_cond c ≡ true → length (printed_cond (cond_meaning c)) ≤ length (print_cond c)
 cond_least c h =
@@ -60,9 +72,16 @@ cond_least c h =
     let value = and_parts (are_pieces c.value.starred) (are_atoms c.value.last) parts.1 in
     let name = c.first ∷ c.rest in
     let pieces = value_pieces c.value in
-    omega (arith, value_least c.value.starred c.value.last value.0 value.1,
-    length-append name (print_op c.op ++ (printed_pieces pieces ++ 39 ∷ [])), length-append (print_op c.op) (printed_pieces pieces ++ 39 ∷ []), length-append (printed_pieces pieces) (39 ∷ []),
-    length-append c.rest (print_op c.op ++ (print_value c.value ++ 39 ∷ [])), length-append (print_op c.op) (print_value c.value ++ 39 ∷ []), length-append (print_value c.value) (39 ∷ []))
+    omega (
+      arith,
+      value_least c.value.starred c.value.last value.0 value.1,
+      length-append name (print_op c.op ++ (printed_pieces pieces ++ 39 ∷ [])),
+      length-append (print_op c.op) (printed_pieces pieces ++ 39 ∷ []),
+      length-append (printed_pieces pieces) (39 ∷ []),
+      length-append c.rest (print_op c.op ++ (print_value c.value ++ 39 ∷ [])),
+      length-append (print_op c.op) (print_value c.value ++ 39 ∷ []),
+      length-append (print_value c.value) (39 ∷ []),
+    )
 
 -- the bytes of queries as units or members, each with a blank or a comma behind it
 units_total : List QueryTree → ℕ
@@ -156,16 +175,29 @@ mutual
   units_least (one u) h = omega (arith, units_total_one (unit_meaning u), unit_least u h)
   units_least (more a b g u) h =
       let parts = and_parts (is_and a) (is_unit u) h in
-      omega (arith, units_least a parts.0, unit_least u parts.1, units_total_append (units a) (unit_meaning u),
-      length-append (print_and a) (blank b ∷ (blanks g ++ print_unit u)), length-append (blanks g) (print_unit u))
+      omega (
+        arith,
+        units_least a parts.0,
+        unit_least u parts.1,
+        units_total_append (units a) (unit_meaning u),
+        length-append (print_and a) (blank b ∷ (blanks g ++ print_unit u)),
+        length-append (blanks g) (print_unit u),
+      )
 
   members_least : (o : OrForm) → is_or o ≡ true → members_total (members o) ≤ suc (length (print_or o))
   members_least (only a) h =
       omega (arith, members_total_one (joined and_of (units a)), joined_units (units a) (length (print_and a)) (units_least a h) (some_units a))
   members_least (either o g k a) h =
       let parts = and_parts (is_or o) (is_and a) h in
-      omega (arith, members_least o parts.0, joined_units (units a) (length (print_and a)) (units_least a parts.1) (some_units a), members_total_append (members o) (joined and_of (units a)),
-      length-append (print_or o) (blanks g ++ 44 ∷ (blanks k ++ print_and a)), length-append (blanks g) (44 ∷ (blanks k ++ print_and a)), length-append (blanks k) (print_and a))
+      omega (
+        arith,
+        members_least o parts.0,
+        joined_units (units a) (length (print_and a)) (units_least a parts.1) (some_units a),
+        members_total_append (members o) (joined and_of (units a)),
+        length-append (print_or o) (blanks g ++ 44 ∷ (blanks k ++ print_and a)),
+        length-append (blanks g) (44 ∷ (blanks k ++ print_and a)),
+        length-append (blanks k) (print_and a),
+      )
 
 or_least : (o : OrForm) → is_or o ≡ true → length (printed (joined or_of (members o))) ≤ length (print_or o)
 or_least o h = joined_members (members o) (length (print_or o)) (members_least o h) (some_members o)

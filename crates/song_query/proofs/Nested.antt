@@ -50,10 +50,10 @@ on_begin : (l : Level) (ls : List Level) (c : ℕ) (t : State) (other : Option S
     → Counts outside (length ls) c t
 on_begin l ls c t other h else_ =
     elim (chosen (eqb c 39) _ _ _ h) [
-      inl e ↦ counted outside (length ls) c opened l ls t (ap (where_next outside) (eqb-true c 39 e.0)) (ap (open_next outside (length ls)) (eqb-true c 39 e.0)) e.1
-    | inr e ↦ elim (chosen (eqb c 40) _ _ _ e.1) [
-        inl k ↦ counted outside (length ls) c due _ (l ∷ ls) t (ap (where_next outside) (eqb-true c 40 k.0)) (ap (open_next outside (length ls)) (eqb-true c 40 k.0) ∙ omega arith) k.1
-      | inr k ↦ else_ k.1
+      | inl e ↦ counted outside (length ls) c opened l ls t (ap (where_next outside) (eqb-true c 39 e.0)) (ap (open_next outside (length ls)) (eqb-true c 39 e.0)) e.1
+      | inr e ↦ elim (chosen (eqb c 40) _ _ _ e.1) [
+        | inl k ↦ counted outside (length ls) c due _ (l ∷ ls) t (ap (where_next outside) (eqb-true c 40 k.0)) (ap (open_next outside (length ls)) (eqb-true c 40 k.0) ∙ omega arith) k.1
+        | inr k ↦ else_ k.1
       ]
     ]
 
@@ -65,10 +65,10 @@ on_shut l (m ∷ ls) c t e h =
 on_follow : (l : Level) (ls : List Level) (c : ℕ) (t : State) → follow l ls c ≡ Some t → Counts outside (length ls) c t
 on_follow l ls c t h =
     elim (chosen (eqb c 44) _ _ _ h) [
-      inl e ↦ counted outside (length ls) c due _ ls t (ap (where_next outside) (eqb-true c 44 e.0)) (ap (open_next outside (length ls)) (eqb-true c 44 e.0)) e.1
-    | inr e ↦ elim (chosen (eqb c 41) _ _ _ e.1) [
-        inl k ↦ on_shut l ls c t (eqb-true c 41 k.0) k.1
-      | inr k ↦ absurd (cc)
+      | inl e ↦ counted outside (length ls) c due _ ls t (ap (where_next outside) (eqb-true c 44 e.0)) (ap (open_next outside (length ls)) (eqb-true c 44 e.0)) e.1
+      | inr e ↦ elim (chosen (eqb c 41) _ _ _ e.1) [
+        | inl k ↦ on_shut l ls c t (eqb-true c 41 k.0) k.1
+        | inr k ↦ absurd (cc)
       ]
     ]
 
@@ -81,55 +81,55 @@ name_inside c h = cond-false _ _ _ (not_name c 39 refl h) ∙ cond-false _ _ _ (
 step_counts : (p : Place) (l : Level) (ls : List Level) (c : ℕ) (t : State) → step p l ls c ≡ Some t → Counts (where_at p) (length ls) c t
 step_counts due l ls c t h =
     elim (chosen (is_blank c) _ _ _ h) [
-      inl e ↦ on_blank due l ls c t refl e.0 e.1
-    | inr e ↦ on_begin l ls c t None e.1 (λ k. absurd (cc))
+      | inl e ↦ on_blank due l ls c t refl e.0 e.1
+      | inr e ↦ on_begin l ls c t None e.1 (λ k. absurd (cc))
     ]
 step_counts close l ls c t h =
     elim (chosen (is_blank c) _ _ _ h) [
-      inl e ↦ on_blank apart l ls c t refl e.0 e.1
-    | inr e ↦ on_follow l ls c t e.1
+      | inl e ↦ on_blank apart l ls c t refl e.0 e.1
+      | inr e ↦ on_follow l ls c t e.1
     ]
 step_counts apart l ls c t h =
     elim (chosen (is_blank c) _ _ _ h) [
-      inl e ↦ on_blank apart l ls c t refl e.0 e.1
-    | inr e ↦ on_begin l ls c t (follow l ls c) e.1 (λ k. on_follow l ls c t k)
+      | inl e ↦ on_blank apart l ls c t refl e.0 e.1
+      | inr e ↦ on_begin l ls c t (follow l ls c) e.1 (λ k. on_follow l ls c t k)
     ]
 step_counts opened l ls c t h =
     elim (chosen (is_name_byte c) _ _ _ h) [
-      inl e ↦ counted inside (length ls) c (named (c ∷ [])) l ls t (name_inside c e.0) refl e.1
-    | inr e ↦ absurd (cc)
+      | inl e ↦ counted inside (length ls) c (named (c ∷ [])) l ls t (name_inside c e.0) refl e.1
+      | inr e ↦ absurd (cc)
     ]
 step_counts (named n) l ls c t h =
     elim (chosen (is_name_byte c) _ _ _ h) [
-      inl e ↦ counted inside (length ls) c (named (n ++ c ∷ [])) l ls t (name_inside c e.0) refl e.1
-    | inr e ↦ elim (chosen (eqb c 58) _ _ _ e.1) [
-        inl k ↦ counted inside (length ls) c _ l ls t (ap (where_next inside) (eqb-true c 58 k.0)) refl k.1
-      | inr k ↦ elim (chosen (eqb c 33) _ _ _ k.1) [
-          inl x ↦ counted inside (length ls) c _ l ls t (ap (where_next inside) (eqb-true c 33 x.0)) refl x.1
-        | inr x ↦ absurd (cc)
+      | inl e ↦ counted inside (length ls) c (named (n ++ c ∷ [])) l ls t (name_inside c e.0) refl e.1
+      | inr e ↦ elim (chosen (eqb c 58) _ _ _ e.1) [
+        | inl k ↦ counted inside (length ls) c _ l ls t (ap (where_next inside) (eqb-true c 58 k.0)) refl k.1
+        | inr k ↦ elim (chosen (eqb c 33) _ _ _ k.1) [
+          | inl x ↦ counted inside (length ls) c _ l ls t (ap (where_next inside) (eqb-true c 33 x.0)) refl x.1
+          | inr x ↦ absurd (cc)
         ]
       ]
     ]
 step_counts (bang n) l ls c t h =
     elim (chosen (eqb c 58) _ _ _ h) [
-      inl k ↦ counted inside (length ls) c _ l ls t (ap (where_next inside) (eqb-true c 58 k.0)) refl k.1
-    | inr k ↦ absurd (cc)
+      | inl k ↦ counted inside (length ls) c _ l ls t (ap (where_next inside) (eqb-true c 58 k.0)) refl k.1
+      | inr k ↦ absurd (cc)
     ]
 step_counts (valued n o ps p) l ls c t h =
     elim (chosen (eqb c 39) _ _ _ h) [
-      inl e ↦ counted inside (length ls) c close _ ls t (cond-true _ _ _ e.0) refl e.1
-    | inr e ↦ elim (chosen (eqb c 92) _ _ _ e.1) [
-        inl k ↦ counted inside (length ls) c (slashed n o ps p) l ls t (cond-false _ _ _ e.0 ∙ cond-true _ _ _ k.0) refl k.1
-      | inr k ↦ elim (chosen (eqb c 42) _ _ _ k.1) [
-          inl x ↦ counted inside (length ls) c (valued n o (ps ++ p ∷ []) []) l ls t (cond-false _ _ _ e.0 ∙ cond-false _ _ _ k.0) refl x.1
-        | inr x ↦ counted inside (length ls) c (valued n o ps (p ++ c ∷ [])) l ls t (cond-false _ _ _ e.0 ∙ cond-false _ _ _ k.0) refl x.1
+      | inl e ↦ counted inside (length ls) c close _ ls t (cond-true _ _ _ e.0) refl e.1
+      | inr e ↦ elim (chosen (eqb c 92) _ _ _ e.1) [
+        | inl k ↦ counted inside (length ls) c (slashed n o ps p) l ls t (cond-false _ _ _ e.0 ∙ cond-true _ _ _ k.0) refl k.1
+        | inr k ↦ elim (chosen (eqb c 42) _ _ _ k.1) [
+          | inl x ↦ counted inside (length ls) c (valued n o (ps ++ p ∷ []) []) l ls t (cond-false _ _ _ e.0 ∙ cond-false _ _ _ k.0) refl x.1
+          | inr x ↦ counted inside (length ls) c (valued n o ps (p ++ c ∷ [])) l ls t (cond-false _ _ _ e.0 ∙ cond-false _ _ _ k.0) refl x.1
         ]
       ]
     ]
 step_counts (slashed n o ps p) l ls c t h =
     elim (chosen (is_mark c) _ _ _ h) [
-      inl e ↦ counted behind (length ls) c (valued n o ps (p ++ c ∷ [])) l ls t refl refl e.1
-    | inr e ↦ counted behind (length ls) c (valued n o ps (p ++ 92 ∷ c ∷ [])) l ls t refl refl e.1
+      | inl e ↦ counted behind (length ls) c (valued n o ps (p ++ c ∷ [])) l ls t refl refl e.1
+      | inr e ↦ counted behind (length ls) c (valued n o ps (p ++ 92 ∷ c ∷ [])) l ls t refl refl e.1
     ]
 
 counts_on : (s : State) (c : ℕ) (cs : List ℕ) (t : State) (o : Option State) → go s c ≡ o → bind o (λ u. run u cs) ≡ Some t
@@ -166,7 +166,7 @@ wide_keeps : (w : Where) (n : ℕ) (bytes : List ℕ) → AreWide bytes → open
 wide_keeps w n [] h = refl
 wide_keeps outside n (b ∷ bytes) h =
     let e : open_next outside n b ≡ n =
-        cond-false _ _ _ (ne_eqb b 40 (let k = h.each 0 (omega arith) in omega arith)) ∙ cond-false _ _ _ (ne_eqb b 41 (let k = h.each 0 (omega arith) in omega arith)) in
+    cond-false _ _ _ (ne_eqb b 40 (let k = h.each 0 (omega arith) in omega arith)) ∙ cond-false _ _ _ (ne_eqb b 41 (let k = h.each 0 (omega arith) in omega arith)) in
     ap (λ m. open_behind (where_next outside b) m bytes) e ∙ wide_keeps (where_next outside b) n bytes (record { each = λ k x. h.each (suc k) (omega arith) })
 wide_keeps inside n (b ∷ bytes) h = wide_keeps (where_next inside b) n bytes (record { each = λ k x. h.each (suc k) (omega arith) })
 wide_keeps behind n (b ∷ bytes) h = wide_keeps inside n bytes (record { each = λ k x. h.each (suc k) (omega arith) })

@@ -25,7 +25,7 @@ at_least w n (c ∷ cs) = omega arith
 stays : (w v : Where) (n c : ℕ) (rest : List ℕ) → where_next w c ≡ v → open_next w n c ≡ n → most_open w n (c ∷ rest) ≡ most_open v n rest
 stays w v n c rest h k =
     let a : most_open (where_next w c) (open_next w n c) rest ≡ most_open v n rest =
-        ap (λ x. most_open x (open_next w n c) rest) h ∙ ap (λ m. most_open v m rest) k in
+    ap (λ x. most_open x (open_next w n c) rest) h ∙ ap (λ m. most_open v m rest) k in
     omega (arith, at_least v n rest)
 
 gap_peak : (g : List Blank) (n : ℕ) (rest : List ℕ) → most_open outside n (blanks g ++ rest) ≡ most_open outside n rest

@@ -43,7 +43,7 @@ ran_on : (text bytes rest : List ℕ) (place : ℕ) (s : State) (t : Option Stat
     → run start (take (place + length bytes) text) ≡ t
 ran_on text bytes rest place s t e h k =
     let parts : take (place + length bytes) text ≡ take place text ++ bytes =
-        take-add place (length bytes) text ∙ ap (λ x. take place text ++ x) (ap (take (length bytes)) e ∙ take-append_seam bytes rest) in
+    take-add place (length bytes) text ∙ ap (λ x. take place text ++ x) (ap (take (length bytes)) e ∙ take-append_seam bytes rest) in
     ap (run start) parts ∙ run_append start (take place text) bytes ∙ ap (λ o. bind o (λ x. run x bytes)) h ∙ k
 
 -- the first byte of a character that is left
@@ -82,7 +82,7 @@ shallow_in text rest bytes place n e w h k =
     let at : n ≡ place + more = omega arith in
     let short : more ≤ length bytes = omega arith in
     let parts : take n text ≡ take place text ++ take more bytes =
-        ap (λ x. take x text) at ∙ take-add place more text ∙ ap (λ x. take place text ++ x) (ap (take more) e ∙ take-append-le more bytes rest short) in
+    ap (λ x. take x text) at ∙ take-add place more text ∙ ap (λ x. take place text ++ x) (ap (take more) e ∙ take-append-le more bytes rest short) in
     ap open_at_end parts ∙ wide_behind (take place text) (take more bytes) (wide_take more bytes w)
 
 shallow_on : (text rest : List ℕ) (place c n : ℕ) (t : State) → drop place text ≡ encode_utf8 c ++ rest → IsShallow text place
@@ -91,17 +91,17 @@ shallow_on text rest place c n t e s r d h =
     ⊎_elim
     (λ (before : n < place + 1). s n (omega arith))
     (λ (behind : place + 1 ≤ n).
-        ⊎_elim
-        (λ (low : c < 128).
-            let one : length (encode_utf8 c) ≡ 1 = ap length (encode_ascii c low) in
-            let last : n ≡ place + length (encode_utf8 c) = omega arith in
-            let count : open_at_end (take n text) ≡ length t.outer = ap (λ x. open_at_end (take x text)) last ∙ nested (take (place + length (encode_utf8 c)) text) t r in
-            omega arith)
-        (λ (high : 128 ≤ c).
-            let before : open_at_end (take place text) ≤ OPEN_PARENTHESES = s place (omega arith) in
-            let same : open_at_end (take n text) ≡ open_at_end (take place text) = shallow_in text rest (encode_utf8 c) place n e (wide_bytes c high) (omega arith) h in
-            omega arith)
-        (cases_lt c 128))
+    ⊎_elim
+    (λ (low : c < 128).
+    let one : length (encode_utf8 c) ≡ 1 = ap length (encode_ascii c low) in
+    let last : n ≡ place + length (encode_utf8 c) = omega arith in
+    let count : open_at_end (take n text) ≡ length t.outer = ap (λ x. open_at_end (take x text)) last ∙ nested (take (place + length (encode_utf8 c)) text) t r in
+    omega arith)
+    (λ (high : 128 ≤ c).
+    let before : open_at_end (take place text) ≤ OPEN_PARENTHESES = s place (omega arith) in
+    let same : open_at_end (take n text) ≡ open_at_end (take place text) = shallow_in text rest (encode_utf8 c) place n e (wide_bytes c high) (omega arith) h in
+    omega arith)
+    (cases_lt c 128))
     (cases_lt n (place + 1))
 
 -- one character more

@@ -87,18 +87,18 @@ begins_unit : (f : Front) (d : Lead) (old : Draft) (outs : List Out) (c : ℕ) (
     → Grown (record { draft = old; outer = outs }) c t
 begins_unit f d old outs c t other v w o p h else_ =
     elim (chosen (eqb c 39) _ _ _ h) [
-      inl e ↦ within_same outs old (within f d quoted) c t (and_from _ _ v (and_from _ _ w refl)) o
+      | inl e ↦ within_same outs old (within f d quoted) c t (and_from _ _ v (and_from _ _ w refl)) o
           (ap (λ x. print_front f ++ (print_lead d ++ x ∷ [])) (sym (eqb-true c 39 e.0))
           ∙ sym (append_assoc (print_front f) (print_lead d) (c ∷ [])) ∙ ap (λ x. x ++ c ∷ []) (sym p))
           e.1
-    | inr e ↦ elim (chosen (eqb c 40) _ _ _ e.1) [
-        inl k ↦ record {
+      | inr e ↦ elim (chosen (eqb c 40) _ _ _ e.1) [
+        | inl k ↦ record {
           next = record { draft = starts (fresh []); outer = record { front = f; lead = d } ∷ outs };
           valid = and_from _ _ (and_from _ _ v w) o;
           printed = open_printed (print_outs outs) (print_front f) (print_lead d) (print_draft old) c p (eqb-true c 40 k.0);
           state = k.1;
         }
-      | inr k ↦ else_ k.1
+        | inr k ↦ else_ k.1
       ]
     ]
 
@@ -131,12 +131,12 @@ follows_unit : (f : Front) (a : AndForm) (g : List Blank) (outs : List Out) (c :
     → Grown (record { draft = after f a g; outer = outs }) c t
 follows_unit f a g outs c t v w o h =
     elim (chosen (eqb c 44) _ _ _ h) [
-      inl e ↦ within_same outs (after f a g) (starts (after_comma (front_gap f) (front_or f a) g [])) c t (front_valid f a v w) o
+      | inl e ↦ within_same outs (after f a g) (starts (after_comma (front_gap f) (front_or f a) g [])) c t (front_valid f a v w) o
           (comma_printed (blanks (front_gap f)) (print_or (front_or f a)) (blanks g) (print_front f) (print_and a) c (front_printed f a) (eqb-true c 44 e.0))
           (ap (λ m. Some (here due (lv m []) (map out_level outs))) (front_read f a) ∙ e.1)
-    | inr e ↦ elim (chosen (eqb c 41) _ _ _ e.1) [
-        inl k ↦ shuts f a g outs c t v w o (eqb-true c 41 k.0) k.1
-      | inr k ↦ absurd (cc)
+      | inr e ↦ elim (chosen (eqb c 41) _ _ _ e.1) [
+        | inl k ↦ shuts f a g outs c t v w o (eqb-true c 41 k.0) k.1
+        | inr k ↦ absurd (cc)
       ]
     ]
 
@@ -175,19 +175,19 @@ value_grows f d n ns op ps p outs c t v w o k h =
     let parts = and_parts _ _ k in
     let more = and_parts _ _ parts.1 in
     elim (chosen (eqb c 39) _ _ _ h) [
-      inl e ↦ cond_ends f d n ns op ps p outs c t v w o k (eqb-true c 39 e.0) e.1
-    | inr e ↦ elim (chosen (eqb c 92) _ _ _ e.1) [
-        inl x ↦ stub_grows f d (valuing n ns op ps p) (slashing n ns op ps p) outs c t v w o k
+      | inl e ↦ cond_ends f d n ns op ps p outs c t v w o k (eqb-true c 39 e.0) e.1
+      | inr e ↦ elim (chosen (eqb c 92) _ _ _ e.1) [
+        | inl x ↦ stub_grows f d (valuing n ns op ps p) (slashing n ns op ps p) outs c t v w o k
             (value_printed n ns (print_op op) (print_starred ps) (print_atoms p) (92 ∷ [])
             ∙ ap (λ y. print_stub (valuing n ns op ps p) ++ y ∷ []) (sym (eqb-true c 92 x.0))) x.1
-      | inr x ↦ elim (chosen (eqb c 42) _ _ _ x.1) [
-          inl y ↦ stub_grows f d (valuing n ns op ps p) (valuing n ns op (ps ++ p ∷ []) []) outs c t v w o
+        | inr x ↦ elim (chosen (eqb c 42) _ _ _ x.1) [
+          | inl y ↦ stub_grows f d (valuing n ns op ps p) (valuing n ns op (ps ++ p ∷ []) []) outs c t v w o
               (and_from _ _ parts.0 (and_from _ _ (are_pieces_append ps p more.0 more.1) refl))
               (ap (λ y. 39 ∷ n ∷ (ns ++ (print_op op ++ y))) (append-nil (print_starred (ps ++ p ∷ [])) ∙ starred_append ps p)
               ∙ value_printed n ns (print_op op) (print_starred ps) (print_atoms p) (42 ∷ [])
               ∙ ap (λ y. print_stub (valuing n ns op ps p) ++ y ∷ []) (sym (eqb-true c 42 y.0)))
               (ap (λ r. Some (here (valued (n ∷ ns) op r []) (lv (front_members f) (lead_units d)) (map out_level outs))) (pieces_map_append ps p) ∙ y.1)
-        | inr y ↦ stub_grows f d (valuing n ns op ps p) (valuing n ns op ps (p ++ plain c ∷ [])) outs c t v w o
+          | inr y ↦ stub_grows f d (valuing n ns op ps p) (valuing n ns op ps (p ++ plain c ∷ [])) outs c t v w o
               (and_from _ _ parts.0 (and_from _ _ more.0 (are_atoms_append p (plain c ∷ []) more.1 (and_from _ _ (not_mark c e.0 x.0 y.0) refl))))
               (ap (λ y. 39 ∷ n ∷ (ns ++ (print_op op ++ (print_starred ps ++ y)))) (atoms_append p (plain c ∷ []))
               ∙ value_printed n ns (print_op op) (print_starred ps) (print_atoms p) (c ∷ []))
@@ -205,13 +205,13 @@ slash_grows f d n ns op ps p outs c t v w o k h =
     let parts = and_parts _ _ k in
     let more = and_parts _ _ parts.1 in
     elim (chosen (is_mark c) _ _ _ h) [
-      inl e ↦
+      | inl e ↦
           let m = mark_at c e.0 in
           stub_grows f d (slashing n ns op ps p) (valuing n ns op ps (p ++ escaped m.0 ∷ [])) outs c t v w o
           (and_from _ _ parts.0 (and_from _ _ more.0 (are_atoms_append p (escaped m.0 ∷ []) more.1 refl)))
           (simp (atoms_append, append_assoc, m.1))
           (ap (λ r. Some (here (valued (n ∷ ns) op (map piece_of ps) r) (lv (front_members f) (lead_units d)) (map out_level outs))) (piece_append p (escaped m.0 ∷ []) ∙ ap (λ x. piece_of p ++ x ∷ []) m.1) ∙ e.1)
-    | inr e ↦ stub_grows f d (slashing n ns op ps p) (valuing n ns op ps (p ++ lone c ∷ [])) outs c t v w o
+      | inr e ↦ stub_grows f d (slashing n ns op ps p) (valuing n ns op ps (p ++ lone c ∷ [])) outs c t v w o
           (and_from _ _ parts.0 (and_from _ _ more.0 (are_atoms_append p (lone c ∷ []) more.1 (and_from _ _ (ap not e.0) refl))))
           (simp (atoms_append, append_assoc))
           (ap (λ r. Some (here (valued (n ∷ ns) op (map piece_of ps) r) (lv (front_members f) (lead_units d)) (map out_level outs))) (piece_append p (lone c ∷ [])) ∙ e.1)
@@ -224,28 +224,28 @@ stub_step : (f : Front) (d : Lead) (s : Stub) (outs : List Out) (c : ℕ) (t : S
     → Grown (record { draft = within f d s; outer = outs }) c t
 stub_step f d quoted outs c t v w o k h =
     elim (chosen (is_name_byte c) _ _ _ h) [
-      inl e ↦ stub_grows f d quoted (naming c []) outs c t v w o (and_from _ _ e.0 refl) refl e.1
-    | inr e ↦ absurd (cc)
+      | inl e ↦ stub_grows f d quoted (naming c []) outs c t v w o (and_from _ _ e.0 refl) refl e.1
+      | inr e ↦ absurd (cc)
     ]
 stub_step f d (naming n ns) outs c t v w o k h =
     let parts = and_parts _ _ k in
     elim (chosen (is_name_byte c) _ _ _ h) [
-      inl e ↦ stub_grows f d (naming n ns) (naming n (ns ++ c ∷ [])) outs c t v w o (and_from _ _ parts.0 (names_append ns c parts.1 e.0)) refl e.1
-    | inr e ↦ elim (chosen (eqb c 58) _ _ _ e.1) [
-        inl x ↦ stub_grows f d (naming n ns) (valuing n ns Is [] []) outs c t v w o (and_from _ _ k refl)
+      | inl e ↦ stub_grows f d (naming n ns) (naming n (ns ++ c ∷ [])) outs c t v w o (and_from _ _ parts.0 (names_append ns c parts.1 e.0)) refl e.1
+      | inr e ↦ elim (chosen (eqb c 58) _ _ _ e.1) [
+        | inl x ↦ stub_grows f d (naming n ns) (valuing n ns Is [] []) outs c t v w o (and_from _ _ k refl)
             (ap (λ y. 39 ∷ n ∷ (ns ++ y ∷ [])) (sym (eqb-true c 58 x.0))) x.1
-      | inr x ↦ elim (chosen (eqb c 33) _ _ _ x.1) [
-          inl y ↦ stub_grows f d (naming n ns) (banged n ns) outs c t v w o k
+        | inr x ↦ elim (chosen (eqb c 33) _ _ _ x.1) [
+          | inl y ↦ stub_grows f d (naming n ns) (banged n ns) outs c t v w o k
               (ap (λ y. 39 ∷ n ∷ (ns ++ y ∷ [])) (sym (eqb-true c 33 y.0))) y.1
-        | inr y ↦ absurd (cc)
+          | inr y ↦ absurd (cc)
         ]
       ]
     ]
 stub_step f d (banged n ns) outs c t v w o k h =
     elim (chosen (eqb c 58) _ _ _ h) [
-      inl x ↦ stub_grows f d (banged n ns) (valuing n ns IsNot [] []) outs c t v w o (and_from _ _ k refl)
+      | inl x ↦ stub_grows f d (banged n ns) (valuing n ns IsNot [] []) outs c t v w o (and_from _ _ k refl)
           (ap (λ y. 39 ∷ n ∷ (ns ++ 33 ∷ y ∷ [])) (sym (eqb-true c 58 x.0)) ∙ ap (λ y. 39 ∷ n ∷ y) (sym (append_assoc ns (33 ∷ []) (c ∷ [])))) x.1
-    | inr x ↦ absurd (cc)
+      | inr x ↦ absurd (cc)
     ]
 stub_step f d (valuing n ns op ps p) outs c t v w o k h = value_grows f d n ns op ps p outs c t v w o k h
 stub_step f d (slashing n ns op ps p) outs c t v w o k h = slash_grows f d n ns op ps p outs c t v w o k h
@@ -255,33 +255,33 @@ draft_grows : (x : Draft) (outs : List Out) (c : ℕ) (t : State) → is_draft x
     → step (draft_place x) (draft_level x) (map out_level outs) c ≡ Some t → Grown (record { draft = x; outer = outs }) c t
 draft_grows (starts f) outs c t v o h =
     elim (chosen (is_blank c) _ _ _ h) [
-      inl e ↦
+      | inl e ↦
           let b = blank_at c e.0 in
           within_same outs (starts f) (starts (front_blank f b.0)) c t (front_blank_valid f b.0 ∙ v) o
           (front_blank_printed f b.0 ∙ ap (λ y. print_front f ++ y ∷ []) b.1)
           (ap (λ ms. Some (here due (lv ms []) (map out_level outs))) (front_blank_read f b.0) ∙ e.1)
-    | inr e ↦ begins_unit f first (starts f) outs c t None v refl o (sym (append-nil (print_front f))) e.1 (λ k. absurd (cc))
+      | inr e ↦ begins_unit f first (starts f) outs c t None v refl o (sym (append-nil (print_front f))) e.1 (λ k. absurd (cc))
     ]
 draft_grows (after f a []) outs c t v o h =
     let parts = and_parts _ _ v in
     elim (chosen (is_blank c) _ _ _ h) [
-      inl e ↦
+      | inl e ↦
           let b = blank_at c e.0 in
           within_same outs (after f a []) (after f a (b.0 ∷ [])) c t v o
           (ap (λ y. print_front f ++ (print_and a ++ y ∷ [])) b.1 ∙ stub_printed (print_front f) (print_and a) [] (c ∷ []))
           e.1
-    | inr e ↦ follows_unit f a [] outs c t parts.0 parts.1 o e.1
+      | inr e ↦ follows_unit f a [] outs c t parts.0 parts.1 o e.1
     ]
 draft_grows (after f a (b ∷ g)) outs c t v o h =
     let parts = and_parts _ _ v in
     elim (chosen (is_blank c) _ _ _ h) [
-      inl e ↦
+      | inl e ↦
           let x = blank_at c e.0 in
           within_same outs (after f a (b ∷ g)) (after f a ((b ∷ g) ++ x.0 ∷ [])) c t v o
           (ap (λ y. print_front f ++ (print_and a ++ y)) (blanks_append (b ∷ g) (x.0 ∷ []) ∙ ap (λ y. blanks (b ∷ g) ++ y ∷ []) x.1)
           ∙ stub_printed (print_front f) (print_and a) (blanks (b ∷ g)) (c ∷ []))
           e.1
-    | inr e ↦ begins_unit f (next_to a b g) (after f a (b ∷ g)) outs c t _ parts.0 parts.1 o refl e.1
+      | inr e ↦ begins_unit f (next_to a b g) (after f a (b ∷ g)) outs c t _ parts.0 parts.1 o refl e.1
           (λ k. follows_unit f a (b ∷ g) outs c t parts.0 parts.1 o k)
     ]
 draft_grows (within f d s) outs c t v o h =

@@ -41,7 +41,7 @@ fn behind_front<'a>(text: &'a [u8], piece: &[u8]) -> Option<&'a [u8]>
     ensures { MatchOption result
         (take (length piece.now) (folded text.now) ≢ folded piece.now)
         (λ rest. (take (length piece.now) (folded text.now) ≡ folded piece.now)
-            × (folded rest.now ≡ drop (length piece.now) (folded text.now))) }
+        × (folded rest.now ≡ drop (length piece.now) (folded text.now))) }
 {
     if text.len() < piece.len() {
         return None;
@@ -59,7 +59,7 @@ fn behind_first<'a>(text: &'a [u8], piece: &[u8]) -> Option<&'a [u8]>
     ensures { MatchOption result
         ((q : List ℕ) (ps : List (List ℕ)) → from_some (joins (folded piece.now ∷ q ∷ ps)) (folded text.now) ≡ false)
         (λ rest. (q : List ℕ) (ps : List (List ℕ)) →
-            from_some (joins (folded piece.now ∷ q ∷ ps)) (folded text.now) ≡ from_some (joins (q ∷ ps)) (folded rest.now)) }
+        from_some (joins (folded piece.now ∷ q ∷ ps)) (folded text.now) ≡ from_some (joins (q ∷ ps)) (folded rest.now)) }
 {
     let mut left = text;
     loop {

@@ -12,6 +12,8 @@ mod reader;
 mod reading;
 pub mod refusals;
 mod steps;
+#[cfg(test)]
+mod tests;
 
 pub use globs::is_glob;
 pub use limits::{OPEN_PARENTHESES, QUERY_BYTES};

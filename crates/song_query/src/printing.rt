@@ -44,16 +44,8 @@ fn push_unit(out: &mut String, query: &Query) -> Result<(), AllocError>
 {
     match query {
         Query::Cond(cond) => push_cond(out, cond),
-        Query::And(units) => {
-            out.push('(')?;
-            push_and(out, units.as_slice())?;
-            out.push(')')
-        }
-        Query::Or(members) => {
-            out.push('(')?;
-            push_or(out, members.as_slice())?;
-            out.push(')')
-        }
+        Query::And(units) => push_closed_and(out, units.as_slice()),
+        Query::Or(members) => push_closed_or(out, members.as_slice()),
     }
 }
 
@@ -65,12 +57,28 @@ fn push_member(out: &mut String, query: &Query) -> Result<(), AllocError>
     match query {
         Query::Cond(cond) => push_cond(out, cond),
         Query::And(units) => push_and(out, units.as_slice()),
-        Query::Or(members) => {
-            out.push('(')?;
-            push_or(out, members.as_slice())?;
-            out.push(')')
-        }
+        Query::Or(members) => push_closed_or(out, members.as_slice()),
     }
+}
+
+// Units in parentheses.
+#[cycle(push)]
+fn push_closed_and(out: &mut String, units: &[Query]) -> Result<(), AllocError>
+    ensures { OnOk result (string_bytes out.new ≡ string_bytes out.old ++ 40 ∷ (printed_and (queries_of (map tree_of units.now)) ++ 41 ∷ [])) }
+{
+    out.push('(')?;
+    push_and(out, units)?;
+    out.push(')')
+}
+
+// Members in parentheses.
+#[cycle(push)]
+fn push_closed_or(out: &mut String, members: &[Query]) -> Result<(), AllocError>
+    ensures { OnOk result (string_bytes out.new ≡ string_bytes out.old ++ 40 ∷ (printed_or (queries_of (map tree_of members.now)) ++ 41 ∷ [])) }
+{
+    out.push('(')?;
+    push_or(out, members)?;
+    out.push(')')
 }
 
 #[cycle(push)]

@@ -10,6 +10,12 @@ decreases-push_unit l = 2 * query_size (tree_of l.query.now)
 abbrev pub decreases-push_member : goal.decreases-push_member
 decreases-push_member l = 2 * query_size (tree_of l.query.now)
 
+abbrev pub decreases-push_closed_and : goal.decreases-push_closed_and
+decreases-push_closed_and l = 2 * query_sizes (queries_of (map tree_of l.units.now)) + 2
+
+abbrev pub decreases-push_closed_or : goal.decreases-push_closed_or
+decreases-push_closed_or l = 2 * query_sizes (queries_of (map tree_of l.members.now)) + 2
+
 abbrev pub decreases-push_and : goal.decreases-push_and
 decreases-push_and l = 2 * query_sizes (queries_of (map tree_of l.units.now)) + 1
 
