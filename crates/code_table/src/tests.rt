@@ -5,30 +5,27 @@ use dmap_tags::{Code, Kind, Tag, Tags, Text, Value, leaf};
 use std::alloc::{AllocError, Global};
 use std::test::Fail;
 
-fn tag(code: &[u8; 4], value: Value) -> Tag {
-    Tag {
-        code: Code(*code),
-        value,
-    }
+fn tag(code: Code, value: Value) -> Tag {
+    Tag { code, value }
 }
 
 /// An entry of a reply.
 fn entry(alloc: Global, code: &[u8; 4], name: &str, number: u16) -> Result<Tag, AllocError> {
     let mut parts = Tags::new(alloc);
-    parts.push(tag(b"mcnm", Value::U32(u32::from_be_bytes(*code))))?;
-    parts.push(tag(b"mcna", Value::Text(Text::of(alloc, name)?)))?;
-    parts.push(tag(b"mcty", Value::U16(number)))?;
-    Ok(tag(b"mdcl", Value::List(parts)))
+    parts.push(tag(Code(*b"mcnm"), Value::U32(u32::from_be_bytes(*code))))?;
+    parts.push(tag(Code(*b"mcna"), Value::Text(Text::of(alloc, name)?)))?;
+    parts.push(tag(Code(*b"mcty"), Value::U16(number)))?;
+    Ok(tag(Code(*b"mdcl"), Value::List(parts)))
 }
 
 /// A reply with a status and these codes, in order.
 fn reply(alloc: Global, codes: &[[u8; 4]]) -> Result<Tag, AllocError> {
     let mut members = Tags::new(alloc);
-    members.push(tag(b"mstt", Value::U32(200)))?;
+    members.push(tag(Code(*b"mstt"), Value::U32(200)))?;
     for code in codes {
         members.push(entry(alloc, code, "test.value", 3)?)?;
     }
-    Ok(tag(b"mccr", Value::List(members)))
+    Ok(tag(Code(*b"mccr"), Value::List(members)))
 }
 
 #[test]
@@ -56,14 +53,19 @@ fn the_standard_table_has_the_published_codes(rt: HostRuntime) -> Result<(), Fai
 fn a_tag_fits_where_its_values_have_the_kinds(rt: HostRuntime) -> Result<(), Fail> {
     let table = CodeTable::standard(rt.alloc())?;
     let short = leaf(rt.alloc(), Kind::U32, &[0, 0, 1])?;
-    assert!(rt; table.fits(None, &tag(b"miid", short)));
+    assert!(rt; table.fits(None, &tag(Code(*b"miid"), short)));
     let whole = leaf(rt.alloc(), Kind::Opaque, &[0, 0, 0, 1])?;
-    assert!(rt; !table.fits(None, &tag(b"miid", whole)));
-    assert!(rt; !table.fits(None, &tag(b"miid", Value::U16(1))));
+    assert!(rt; !table.fits(None, &tag(Code(*b"miid"), whole)));
+    assert!(rt; !table.fits(None, &tag(Code(*b"miid"), Value::U16(1))));
     let mut members = Tags::new(rt.alloc());
-    members.push(tag(b"miid", Value::U32(1)))?;
-    assert!(rt; table.fits(None, &tag(b"mlit", Value::List(members.copy()?))));
-    assert!(rt; !table.fits(Some(Code(*b"abar")), &tag(b"mlit", Value::List(members))));
+    members.push(tag(Code(*b"miid"), Value::U32(1)))?;
+    assert!(rt; table.fits(None, &tag(Code(*b"mlit"), Value::List(members.copy()?))));
+    assert!(rt;
+        !table.fits(
+            Some(Code(*b"abar")),
+            &tag(Code(*b"mlit"), Value::List(members))
+        )
+    );
     Ok(())
 }
 
@@ -101,13 +103,13 @@ fn a_reply_is_refused_at_its_first_bad_entry(rt: HostRuntime) -> Result<(), Fail
     );
     let mut members = Tags::new(rt.alloc());
     members.push(entry(rt.alloc(), b"aaaa", "a", 1)?)?;
-    members.push(tag(b"mdcl", Value::List(Tags::new(rt.alloc()))))?;
-    let bad = tag(b"mccr", Value::List(members));
+    members.push(tag(Code(*b"mdcl"), Value::List(Tags::new(rt.alloc()))))?;
+    let bad = tag(Code(*b"mccr"), Value::List(members));
     assert_eq!(rt;
         refused(&CodeTable::from_reply(rt.alloc(), &bad)),
         Some((1, false))
     );
-    let other = tag(b"mlog", Value::List(Tags::new(rt.alloc())));
+    let other = tag(Code(*b"mlog"), Value::List(Tags::new(rt.alloc())));
     assert_eq!(rt; refused(&CodeTable::from_reply(rt.alloc(), &other)), None);
     Ok(())
 }
