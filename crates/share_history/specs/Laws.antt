@@ -54,7 +54,7 @@ puts_member c m (DropList list) = false
 puts_member c m (PutMember list member item) = names_member c m (PutMember list member item)
 puts_member c m (DropMember list member) = false
 
--- a member that is put where no plain list stands is not there, whatever comes later, until it is put again
+-- without a plain list to stand in, a put of a member comes to nothing: it is not there, whatever follows, until it is put again
 abbrev pub MembersNeedAList : Type 0
 MembersNeedAList =
     (es ds : List Edit) (c m item : ℕ) → is_plain (list_at es c) ≡ false → list_any (puts_member c m) ds ≡ false
