@@ -1,18 +1,22 @@
+//! Records with the batches and the refusals that they are known to give.
+
 use crate::{
     MOST_RECORDS, RecordError, cell, read_batch, read_number, rows_of, table_writer, width,
     write_row, write_rows, written_text,
 };
 use csv::ByteRecord;
-use item_model::{Batch, Edit, PropValue, Property, Query, QueryError, QueryWhy, RecordWhy};
+use item_model::{Batch, Edit, PropValue, Property, QueryError, QueryWhy, RecordWhy};
 use std::alloc::Global;
 use std::test::Fail;
 
 // The marks that the default form knows: a byte order mark, three ends of line, a blank line, quotes, and a last row with no end.
-const MARKED: &[u8] = b"\xEF\xBB\xBFop,kind\r\n\r\nput,\"a,\"\"b\"\"\"\rx\n,";
+fn marked() -> &'static [u8] {
+    b"\xEF\xBB\xBFop,kind\r\n\r\nput,\"a,\"\"b\"\"\"\rx\n,"
+}
 
 #[test]
 fn rows_are_cut_as_csv_does(rt: HostRuntime) -> Result<(), Fail> {
-    let rows = rows_of(rt.alloc(), MARKED, 10)?;
+    let rows = rows_of(rt.alloc(), marked(), 10)?;
     assert!(rt; rows.len() == 4);
     assert!(rt; cell(&rows[0], 0) == b"op".as_slice());
     assert!(rt; cell(&rows[0], 1) == b"kind".as_slice());
@@ -26,7 +30,11 @@ fn rows_are_cut_as_csv_does(rt: HostRuntime) -> Result<(), Fail> {
 #[test]
 fn no_more_rows_than_asked_for(rt: HostRuntime) -> Result<(), Fail> {
     for (most, want) in [(0, 0), (1, 1), (3, 3), (4, 4), (5, 4)] {
-        assert_eq!(rt; rows_of(rt.alloc(), MARKED, most)?.len(), want, "at {most}");
+        assert_eq!(rt;
+            rows_of(rt.alloc(), marked(), most)?.len(),
+            want,
+            "at {most}"
+        );
     }
     assert!(rt; rows_of(rt.alloc(), b"", 3)?.is_empty());
     Ok(())
@@ -62,7 +70,9 @@ fn rows_are_written_a_line_each(rt: HostRuntime) -> Result<(), Fail> {
     Ok(())
 }
 
-const HEADER: &str = "op,kind,id,dmap.itemname,daap.songyear,query,list,item\n";
+fn header() -> &'static str {
+    "op,kind,id,dmap.itemname,daap.songyear,query,list,item\n"
+}
 
 /// Why a text is refused.
 fn refusal(alloc: Global, text: &[u8]) -> Option<RecordError> {
@@ -74,7 +84,8 @@ fn refusal(alloc: Global, text: &[u8]) -> Option<RecordError> {
 
 /// Why a record below the header above is refused.
 fn fault(alloc: Global, record: &str) -> Result<Option<RecordError>, Fail> {
-    let text = format!(in alloc; "{HEADER}{record}")?;
+    let mut text = String::from_str(alloc, header())?;
+    text.push_str(record)?;
     Ok(refusal(alloc, text.as_bytes()))
 }
 
@@ -93,34 +104,40 @@ fn named(batch: &Batch, place: usize) -> Option<(u32, Option<&str>)> {
     }
 }
 
-#[test]
-fn each_cause_has_its_column(rt: HostRuntime) -> Result<(), Fail> {
-    let cases = [
-        ("add,item,7,,,,,\n", 1, RecordWhy::Op),
-        ("put,thing,7,,,,,\n", 2, RecordWhy::Kind),
-        ("drop,rule,7,,,,,\n", 2, RecordWhy::Kind),
-        ("put,item,,,,,,\n", 3, RecordWhy::Number),
-        (
+/// A record with the column at fault, and why.
+fn bad_record(number: u32) -> (&'static str, u64, RecordWhy) {
+    match number {
+        0 => ("add,item,7,,,,,\n", 1, RecordWhy::Op),
+        1 => ("put,thing,7,,,,,\n", 2, RecordWhy::Kind),
+        2 => ("drop,rule,7,,,,,\n", 2, RecordWhy::Kind),
+        3 => ("put,item,,,,,,\n", 3, RecordWhy::Number),
+        4 => (
             "put,item,000000000000000000007,,,,,\n",
             3,
             RecordWhy::Number,
         ),
-        ("put,item,0,,,,,\n", 3, RecordWhy::Range),
-        ("put,item,4294967296,,,,,\n", 3, RecordWhy::Range),
-        ("put,list,1,,,,,\n", 3, RecordWhy::Range),
-        ("put,item,7,A,19x,,,\n", 5, RecordWhy::Number),
-        ("put,item,7,A,65536,,,\n", 5, RecordWhy::Range),
-        ("put,item,7,,70000,x,,\n", 5, RecordWhy::Range),
-        ("put,item,7,,,x,,\n", 6, RecordWhy::Extra),
-        ("drop,item,7,A,,,,\n", 4, RecordWhy::Extra),
-        ("put,list,7,A,1999,,,\n", 5, RecordWhy::Extra),
-        ("put,rule,7,A,,,,\n", 6, RecordWhy::Missing),
-        ("put,member,7,,,,,7\n", 7, RecordWhy::Missing),
-        ("put,member,7,,,,1,7\n", 7, RecordWhy::Range),
-        ("put,member,7,,,,2,\n", 8, RecordWhy::Missing),
-        ("drop,member,7,,,,2,7\n", 8, RecordWhy::Extra),
-    ];
-    for (record, column, why) in cases {
+        5 => ("put,item,0,,,,,\n", 3, RecordWhy::Range),
+        6 => ("put,item,4294967296,,,,,\n", 3, RecordWhy::Range),
+        7 => ("put,list,1,,,,,\n", 3, RecordWhy::Range),
+        8 => ("put,item,7,A,19x,,,\n", 5, RecordWhy::Number),
+        9 => ("put,item,7,A,65536,,,\n", 5, RecordWhy::Range),
+        10 => ("put,item,7,,70000,x,,\n", 5, RecordWhy::Range),
+        11 => ("put,item,7,,,x,,\n", 6, RecordWhy::Extra),
+        12 => ("drop,item,7,A,,,,\n", 4, RecordWhy::Extra),
+        13 => ("put,list,7,A,1999,,,\n", 5, RecordWhy::Extra),
+        14 => ("put,rule,7,A,,,,\n", 6, RecordWhy::Missing),
+        15 => ("put,member,7,,,,,7\n", 7, RecordWhy::Missing),
+        16 => ("put,member,7,,,,1,7\n", 7, RecordWhy::Range),
+        17 => ("put,member,7,,,,2,\n", 8, RecordWhy::Missing),
+        18 => ("drop,member,7,,,,2,7\n", 8, RecordWhy::Extra),
+        _ => ("", 0, RecordWhy::Op),
+    }
+}
+
+#[test]
+fn each_cause_has_its_column(rt: HostRuntime) -> Result<(), Fail> {
+    for number in 0..19 {
+        let (record, column, why) = bad_record(number);
         assert!(rt;
             fault(rt.alloc(), record)? == field(1, column, why),
             "{record}"
@@ -155,22 +172,25 @@ fn a_needed_column_is_missing_behind_the_last(rt: HostRuntime) {
     assert!(rt; got == field(2, 5, RecordWhy::Missing));
 }
 
+/// A header with the column at fault.
+fn bad_header(number: u32) -> (&'static [u8], u64) {
+    match number {
+        0 => (b"x,kind,id\n", 1),
+        1 => (b"op\n", 2),
+        2 => (b"op,x\n", 2),
+        3 => (b"op,kind\n", 3),
+        4 => (b"op,kind,id,dmap.itemname,daap.song\n", 5),
+        5 => (b"op,kind,id,list,list\n", 5),
+        6 => (b"op,kind,id,daap.songyear,item,daap.songyear\n", 6),
+        7 => (b"op,kind,id,\xFF\n", 4),
+        _ => (b"", 0),
+    }
+}
+
 #[test]
 fn each_fault_of_a_header_has_its_column(rt: HostRuntime) {
-    let cases = [
-        (b"x,kind,id\n".as_slice(), 1),
-        (b"op\n".as_slice(), 2),
-        (b"op,x\n".as_slice(), 2),
-        (b"op,kind\n".as_slice(), 3),
-        (b"op,kind,id,dmap.itemname,daap.song\n".as_slice(), 5),
-        (b"op,kind,id,list,list\n".as_slice(), 5),
-        (
-            b"op,kind,id,daap.songyear,item,daap.songyear\n".as_slice(),
-            6,
-        ),
-        (b"op,kind,id,\xFF\n".as_slice(), 4),
-    ];
-    for (text, column) in cases {
+    for number in 0..8 {
+        let (text, column) = bad_header(number);
         assert!(rt;
             refusal(rt.alloc(), text) == Some(RecordError::Header { column }),
             "at {column}"
@@ -178,23 +198,33 @@ fn each_fault_of_a_header_has_its_column(rt: HostRuntime) {
     }
 }
 
+/// A record whose name has so many bytes.
+fn named_long(alloc: Global, bytes: usize) -> Result<String, Fail> {
+    let mut record = String::from_str(alloc, "put,item,7,")?;
+    for _byte in 0..bytes {
+        record.push('x')?;
+    }
+    record.push_str(",,,,\n")?;
+    Ok(record)
+}
+
 #[test]
 fn texts_end_at_255_bytes(rt: HostRuntime) -> Result<(), Fail> {
-    let long = "0123456789abcdef".repeat(rt.alloc(), 16)?;
-    let text = format!(in rt.alloc(); "put,item,7,{},,,,\n", &long.as_str()[..255])?;
-    assert!(rt; fault(rt.alloc(), text.as_str())? == None);
-    let text = format!(in rt.alloc(); "put,item,7,{long},,,,\n")?;
-    assert!(rt; fault(rt.alloc(), text.as_str())? == field(1, 4, RecordWhy::Text));
-    let got = refusal(rt.alloc(), b"op,kind,id,query\nput,rule,7,\xFF\n");
-    assert!(rt; got == field(1, 4, RecordWhy::Text));
+    let alloc = rt.alloc();
+    assert!(rt; fault(alloc, named_long(alloc, 255)?.as_str())? == None);
+    let long = fault(alloc, named_long(alloc, 256)?.as_str())?;
+    assert!(rt; long == field(1, 4, RecordWhy::Text));
     Ok(())
+}
+
+/// Cells in quotes, with commas and line feeds, below a byte order mark.
+fn quoted() -> &'static [u8] {
+    b"\xEF\xBB\xBFop,kind,id,dmap.itemname\r\n\r\nput,item,007,\"a,\"\"b\"\"\nc\"\r\nput,item,4294967295,\nput,item,7,A"
 }
 
 #[test]
 fn cells_are_those_of_csv(rt: HostRuntime) -> Result<(), Fail> {
-    let text =
-        b"\xEF\xBB\xBFop,kind,id,dmap.itemname\r\n\r\nput,item,007,\"a,\"\"b\"\"\nc\"\r\nput,item,4294967295,\nput,item,7,A".as_slice();
-    let batch = read_batch(rt.alloc(), text)?;
+    let batch = read_batch(rt.alloc(), quoted())?;
     assert!(rt; batch.edits.as_slice().len() == 3);
     assert!(rt; named(&batch, 0) == Some((7, Some("a,\"b\"\nc"))));
     assert!(rt; named(&batch, 1) == Some((4_294_967_295, None)));
@@ -203,16 +233,23 @@ fn cells_are_those_of_csv(rt: HostRuntime) -> Result<(), Fail> {
     Ok(())
 }
 
+/// Five years, of which the third is at fault, and two records behind it too.
+fn years(bad: &'static str) -> &'static [u8] {
+    match bad {
+        "19x" =>
+            b"op,kind,id,daap.songyear\nput,item,1,1\nput,item,2,2\nput,item,3,19x\nput,item,4\nput,item,0,5\n",
+        "70000" =>
+            b"op,kind,id,daap.songyear\nput,item,1,1\nput,item,2,2\nput,item,3,70000\nput,item,4\nput,item,0,5\n",
+        _ => b"op,kind,id,daap.songyear\nput,item,1,1\nput,item,2\n",
+    }
+}
+
 #[test]
 fn the_first_record_at_fault_refuses_all(rt: HostRuntime) {
-    let year =
-        b"op,kind,id,daap.songyear\nput,item,1,1\nput,item,2,2\nput,item,3,19x\nput,item,4\nput,item,0,5\n";
-    assert!(rt; refusal(rt.alloc(), year) == field(3, 4, RecordWhy::Number));
-    let year =
-        b"op,kind,id,daap.songyear\nput,item,1,1\nput,item,2,2\nput,item,3,70000\nput,item,4\nput,item,0,5\n";
-    assert!(rt; refusal(rt.alloc(), year) == field(3, 4, RecordWhy::Range));
-    let short = b"op,kind,id,daap.songyear\nput,item,1,1\nput,item,2\n";
-    assert!(rt; refusal(rt.alloc(), short) == Some(RecordError::Length { row: 2 }));
+    let alloc = rt.alloc();
+    assert!(rt; refusal(alloc, years("19x")) == field(3, 4, RecordWhy::Number));
+    assert!(rt; refusal(alloc, years("70000")) == field(3, 4, RecordWhy::Range));
+    assert!(rt; refusal(alloc, years("")) == Some(RecordError::Length { row: 2 }));
 }
 
 #[test]
@@ -230,38 +267,42 @@ fn a_batch_ends_at_65536_records(rt: HostRuntime) -> Result<(), Fail> {
     Ok(())
 }
 
+/// A record of each kind.
+fn each_kind() -> &'static [u8] {
+    b"op,kind,id,dmap.itemname,daap.songyear,query,list,item\nput,item,1,A,1999,,,\ndrop,item,2,,,,,\nput,list,3,B,,,,\nput,rule,4,,,'a:1',,\ndrop,list,5,,,,,\nput,member,6,,,,7,8\ndrop,member,9,,,,10,\n"
+}
+
+/// The numbers of an edit: its kind, and the ids that it names.
+fn numbers(edit: &Edit) -> (u32, u32, u32, u32) {
+    match edit {
+        Edit::PutItem { row } => (0, row.id, 0, 0),
+        Edit::DropItem { id } => (1, *id, 0, 0),
+        Edit::PutList { list, .. } => (2, *list, 0, 0),
+        Edit::PutRule { list, .. } => (3, *list, 0, 0),
+        Edit::DropList { list } => (4, *list, 0, 0),
+        Edit::PutMember { list, member, item } => (5, *list, *member, *item),
+        Edit::DropMember { list, member } => (6, *list, *member, 0),
+    }
+}
+
+fn expected(kind: u32) -> (u32, u32, u32, u32) {
+    match kind {
+        0 => (0, 1, 0, 0),
+        1 => (1, 2, 0, 0),
+        2 => (2, 3, 0, 0),
+        3 => (3, 4, 0, 0),
+        4 => (4, 5, 0, 0),
+        5 => (5, 7, 6, 8),
+        _ => (6, 10, 9, 0),
+    }
+}
+
 #[test]
 fn each_line_of_the_table_makes_its_edit(rt: HostRuntime) -> Result<(), Fail> {
-    let text = format!(in rt.alloc();
-        "{HEADER}put,item,1,A,1999,,,\ndrop,item,2,,,,,\nput,list,3,B,,,,\nput,rule,4,,,'a:1',,\ndrop,list,5,,,,,\nput,member,6,,,,7,8\ndrop,member,9,,,,10,\n"
-    )?;
-    let batch = read_batch(rt.alloc(), text.as_bytes())?;
-    match batch.edits.as_slice() {
-        [
-            Edit::PutItem { row },
-            Edit::DropItem { id: 2 },
-            Edit::PutList { list: 3, name },
-            Edit::PutRule {
-                list: 4,
-                name: empty,
-                rule: Query::Cond(cond),
-            },
-            Edit::DropList { list: 5 },
-            Edit::PutMember {
-                list: 7,
-                member: 6,
-                item: 8,
-            },
-            Edit::DropMember {
-                list: 10,
-                member: 9,
-            },
-        ] => {
-            assert!(rt; row.id == 1 && name.as_str() == "B");
-            assert!(rt; empty.as_str() == "" && cond.name.as_str() == "a");
-            assert!(rt; matches!(row.item.get(Property::Asyr), Some(PropValue::Number(1999))));
-        }
-        _ => assert!(rt; false),
+    let batch = read_batch(rt.alloc(), each_kind())?;
+    assert_eq!(rt; batch.edits.as_slice().len(), 7);
+    for (edit, kind) in batch.edits.as_slice().iter().zip(0..7u32) {
+        assert!(rt; numbers(edit) == expected(kind));
     }
     Ok(())
 }
