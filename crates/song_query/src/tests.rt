@@ -45,17 +45,24 @@ fn rows(alloc: Global) -> Result<Vec<Row>, Fail> {
     Ok(rows)
 }
 
-/// The ids of the rows of which the query holds, as digits.
-fn listed<L: Ledger>(alloc: Global, text: &str, rows: &[Row], blank: Blank) -> Result<String, Fail>
+fn does_hold_by<L: Ledger>(blank: Blank, query: &Query, row: &Row) -> bool
     requires name { blank.name ≡ L.name }
     requires parts { blank.parts ≡ L.parts }
     requires any { 0 < blank.parts }
 {
+    matches(query, row, &mut Steps::<L>::open(blank))
+}
+
+fn does_hold(query: &Query, row: &Row) -> bool {
+    does_hold_by::<Brand>(Blank::new(1), query, row)
+}
+
+/// The ids of the rows of which the query holds, as digits.
+fn listed(alloc: Global, text: &str, rows: &[Row]) -> Result<String, Fail> {
     let query = read(alloc, text)?;
-    let mut steps = Steps::<L>::open(blank);
     let mut ids = String::new(alloc);
     for row in rows {
-        if matches(&query, row, &mut steps) {
+        if does_hold(&query, row) {
             ids.push_str(format!(in alloc; "{}", row.id)?.as_str())?;
         }
     }
@@ -94,7 +101,7 @@ fn a_query_lists_the_rows_of_which_it_holds(rt: HostRuntime) -> Result<(), Fail>
     let rows = rows(rt.alloc())?;
     for number in 0..17 {
         let (text, ids) = listing(number);
-        let found = listed::<Brand>(rt.alloc(), text, rows.as_slice(), Blank::new(1))?;
+        let found = listed(rt.alloc(), text, rows.as_slice())?;
         assert_eq!(rt; found.as_str(), ids, "{text}");
     }
     Ok(())
