@@ -1,0 +1,7 @@
+pub mod Onward
+pub mod Arrivals
+pub mod Wholes
+pub mod Settled
+pub mod Takings
+pub mod Heads
+pub mod Readings

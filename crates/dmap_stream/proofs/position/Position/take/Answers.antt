@@ -1,0 +1,14 @@
+use Rattle.std.proofs.Common.{◌≡◌}
+use Rattle.dmap_stream.proofs.Settled.{resumed_head, resumed_payload}
+use Rattle.dmap_stream.proofs.Takings.{takes_same}
+use Rattle.dmap_stream.proofs.position.Position.take.Goals as goal
+
+pub returns-in-Head-clause-takes : goal.returns-in-Head-clause-takes
+returns-in-Head-clause-takes c =
+    takes_same c.args.table.now c.args.top _ _ c.args.piece.now c.take_head.new.self c.take_head.result
+    (λ rest. resumed_head c.args.table.now c.args.top c.args.self.now rest c.in-Head.is c.requires.quiet) c.take_head.ensures.takes
+
+pub returns-in-Payload-clause-takes : goal.returns-in-Payload-clause-takes
+returns-in-Payload-clause-takes c =
+    takes_same c.args.table.now c.args.top _ _ c.args.piece.now c.take_payload.new.self c.take_payload.result
+    (λ rest. resumed_payload c.args.table.now c.args.top c.args.self.now c.in-Payload.code c.in-Payload.kind c.in-Payload.len rest c.in-Payload.is c.requires.quiet) (c.take_payload.ensures.takes c.args.table.now c.args.top)

@@ -1,0 +1,77 @@
+//! The bytes of a head or of a payload that have come so far.
+
+ghost use Rattle.std.specs.Prelude.{◌≡◌, ◌≤◌, ◌-◌, [], ◌++◌, length, take, drop, min, IfOk, OnErr};
+ghost use Rattle.std.specs.Int.{from_be_bytes, w32};
+ghost use Rattle.dmap_tags.specs.Codes.{code_of};
+ghost use Rattle.dmap_stream.specs.Walk.{told_length};
+
+use dmap_tags::Code;
+use std::alloc::{AllocError, Global};
+use std::marker::Model;
+
+/// Bytes that grow as they come, never by a length that was only announced.
+#[derive(Debug, Drop)]
+pub struct Buffer {
+    bytes: Vec<u8>,
+}
+
+impl Model for Buffer {
+    ghost use Rattle.std.specs.Prelude.{List, ℕ};
+
+    ghost Value = { List ℕ };
+
+    ghost view = { λ a. a.bytes.items };
+}
+
+impl Buffer {
+    pub fn new(alloc: Global) -> Buffer
+        ensures { result ≡ [] }
+    {
+        Buffer {
+            bytes: Vec::new(alloc),
+        }
+    }
+
+    pub fn len(&self) -> usize
+        ensures { result ≡ length self.now }
+    {
+        self.bytes.len()
+    }
+
+    pub fn as_slice(&self) -> &[u8]
+        ensures { result.now ≡ self.now }
+    {
+        self.bytes.as_slice()
+    }
+
+    pub fn clear(&mut self)
+        ensures { self.new ≡ [] }
+    {
+        self.bytes.clear();
+    }
+
+    /// Takes bytes from the front of the piece until there are `wanted` in all, and answers how many it took.
+    pub fn fill(&mut self, wanted: usize, piece: &[u8]) -> Result<usize, AllocError>
+        requires { length self.old ≤ wanted }
+        ensures took { IfOk result
+            (λ n. n ≡ min (wanted - length self.old) (length piece.now)) }
+        ensures filled { IfOk result (λ n. self.new ≡ self.old ++ take n piece.now) }
+        ensures err { OnErr result (self.new ≡ self.old) }
+    {
+        let missing = (wanted - self.bytes.len()).min(piece.len());
+        let (front, _) = piece.split_at(missing);
+        self.bytes.extend_from_slice(front)?;
+        Ok(missing)
+    }
+
+    /// The code and the payload's length in a head.
+    pub fn head(&self) -> (Code, u32)
+        requires { length self.now ≡ 8 }
+        ensures code { result.0 ≡ code_of self.now }
+        ensures len { result.1 ≡ told_length self.now }
+    {
+        let b = self.bytes.as_slice();
+        let code = Code([b[0], b[1], b[2], b[3]]);
+        (code, u32::from_be_bytes([b[4], b[5], b[6], b[7]]))
+    }
+}

@@ -1,0 +1,138 @@
+//! The lists that are open at a place.
+
+ghost use Rattle.std.specs.Prelude.{◌≡◌, [], ◌∷◌, not, OnOk, OnErr, IfNone, IfSome};
+ghost use Rattle.dmap_stream.specs.Walk.{closes, open_after, is_short, parent_of, fault_at, is_empty, first_of};
+
+use crate::refusal::StreamError;
+use dmap_tags::Code;
+use std::alloc::{AllocError, Global};
+use std::marker::Model;
+
+/// A list whose head was read.
+#[derive(Clone, Copy, Debug)]
+pub struct Container {
+    pub code: Code,
+    /// Where its head stands.
+    pub at: u64,
+    /// Where it ends. The end of a top tag that is never read whole may be past 64 bits.
+    pub end: u128,
+}
+
+/// The lists around a place, which contracts see from the innermost to the outermost.
+#[derive(Debug, Drop)]
+pub struct Containers {
+    outermost_first: Vec<Container>,
+}
+
+impl Model for Containers {
+    ghost use Rattle.std.specs.Prelude.{List, reverse};
+    ghost use Rattle.dmap_stream.specs.declared.containers.Container.{Container};
+
+    ghost Value = { List Container };
+
+    ghost view = { λ a. reverse a.outermost_first.items };
+}
+
+impl Containers {
+    pub fn new(alloc: Global) -> Containers
+        ensures { result ≡ [] }
+    {
+        Containers {
+            outermost_first: Vec::new(alloc),
+        }
+    }
+
+    pub fn push(&mut self, container: Container) -> Result<(), AllocError>
+        ensures ok { OnOk result (self.new ≡ container ∷ self.old) }
+        ensures err { OnErr result (self.new ≡ self.old) }
+    {
+        self.outermost_first.push(container)?;
+        Ok(())
+    }
+
+    /// The code of the innermost list.
+    pub fn parent(&self) -> Option<Code>
+        ensures { result ≡ parent_of self.now }
+    {
+        match self.outermost_first.last() {
+            Some(container) => Some(container.code),
+            None => None,
+        }
+    }
+
+    /// The innermost list ends there.
+    pub fn ends_at(&self, at: u64) -> bool
+        ensures { result ≡ not (is_empty (closes at self.now)) }
+    {
+        match self.outermost_first.last() {
+            Some(container) => container.end == at as u128,
+            None => false,
+        }
+    }
+
+    /// Takes the innermost list out if it ends there.
+    pub fn pop_ended(&mut self, at: u64) -> Option<Container>
+        ensures none { IfNone result ((closes at self.old ≡ []) × (self.new ≡ self.old)) }
+        ensures some { IfSome result (λ c. (c.end ≡ at) × (self.old ≡ c ∷ self.new)) }
+    {
+        if self.ends_at(at) {
+            self.outermost_first.pop()
+        } else {
+            None
+        }
+    }
+
+    /// All lists end there.
+    pub fn all_end_at(&self, at: u64) -> bool
+        ensures { result ≡ is_empty (open_after at self.now) }
+    {
+        match self.open_at(at) {
+            Some(_) => false,
+            None => true,
+        }
+    }
+
+    /// Once the lists that end there are closed, 1 to 7 bytes are left in the innermost.
+    pub fn is_short(&self, at: u64) -> bool
+        ensures { result ≡ is_short at (open_after at self.now) }
+    {
+        match self.open_at(at) {
+            Some(container) => (at as u128) < container.end && container.end < at as u128 + 8,
+            None => false,
+        }
+    }
+
+    /// The innermost list that does not end there.
+    fn open_at(&self, at: u64) -> Option<Container>
+        ensures { result ≡ first_of (open_after at self.now) }
+    {
+        let mut depth = self.outermost_first.len();
+        while depth > 0 {
+            depth -= 1;
+            let container = self.outermost_first[depth];
+            if container.end != at as u128 {
+                return Some(container);
+            }
+        }
+        None
+    }
+
+    /// The fault of a head that tells that code and length, among lists none of which ends at it.
+    pub fn fault(&self, top: u32, at: u64, code: Code, len: u32) -> Option<StreamError>
+        ensures { result ≡ fault_at top at self.now code len }
+    {
+        let depth = self.outermost_first.len();
+        if depth == 0 && len > top {
+            return Some(StreamError::TooLarge { at });
+        }
+        if depth >= 32 {
+            return Some(StreamError::TooDeep { at });
+        }
+        match self.outermost_first.last() {
+            Some(container) if container.end < at as u128 + 8 + len as u128 => {
+                Some(StreamError::Overrun { at, code })
+            }
+            _ => None,
+        }
+    }
+}

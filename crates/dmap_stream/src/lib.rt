@@ -1,0 +1,15 @@
+//! Reads DMAP tags as bytes come, in pieces of any size: a `DmapReader` hands out an event where a list opens, a
+//! value is whole or a list closes, and refuses at the first faulty place. What bytes say is told by places
+//! (`specs/Walk.antt`) and does not depend on how they were cut.
+#![tactic(auto)]
+
+mod buffer;
+mod containers;
+mod event;
+mod position;
+mod reader;
+mod refusal;
+
+pub use event::Event;
+pub use reader::{DmapReader, Limits};
+pub use refusal::StreamError;

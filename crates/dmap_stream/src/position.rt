@@ -1,0 +1,307 @@
+//! Where a reader stands between two calls.
+
+ghost use Rattle.std.specs.Prelude.{◌≡◌, ◌+◌, ◌^◌, ◌<◌, ◌≤◌, ◌∷◌, [], ◌++◌, length, true, false, not, List, ℕ, None, IfOk, IfSome, IfNone, MatchResult};
+ghost use Rattle.code_table.specs.declared.row.CodeRow.{CodeRow};
+ghost use Rattle.dmap_tags.specs.Typed.{leaf_at, value_of};
+ghost use Rattle.dmap_stream.specs.Walk.{is_empty, is_list, closes, open_after, is_short, at_head, at_payload, at_body, walk_from};
+ghost use Rattle.dmap_stream.specs.Reading.{ready_at, resumed, is_due, bytes_taken, Moves, Takes, is_between};
+
+use crate::buffer::Buffer;
+use crate::containers::{Container, Containers};
+use crate::event::Event;
+use crate::refusal::StreamError;
+use code_table::CodeTable;
+use dmap_tags::{Code, Kind, Value, leaf};
+use std::alloc::{AllocError, Global};
+
+/// What the reader takes next.
+#[derive(Clone, Copy, Debug)]
+pub enum Phase {
+    /// The eight bytes of a head.
+    Head,
+    /// The payload of a tag that is no list.
+    Payload { code: Code, kind: Kind, len: u32 },
+}
+
+/// The last place that was reached, and what has come since.
+#[derive(Debug, Drop)]
+pub struct Position {
+    /// The place's offset.
+    pub start: u64,
+    /// The lists around the place. Those that end at it were not closed yet.
+    pub around: Containers,
+    pub phase: Phase,
+    /// The bytes of the head, or of the payload, so far.
+    pub part: Buffer,
+    /// The list's opening or the value that led to the place, until it is handed out.
+    pub ready: Option<Event>,
+}
+
+impl Position {
+    /// Before the first byte.
+    pub fn new(alloc: Global) -> Position
+        ensures { result
+            ≡ record { start = 0; around = []; phase = Phase.Head; part = []; ready = None } }
+    {
+        Position {
+            start: 0,
+            around: Containers::new(alloc),
+            phase: Phase::Head,
+            part: Buffer::new(alloc),
+            ready: None,
+        }
+    }
+
+    /// An event waits to be handed out.
+    pub fn is_ready(&self) -> bool
+        ensures { result ≡ not (is_empty (ready_at self.now)) }
+    {
+        self.ready.is_some() || self.around.ends_at(self.start)
+    }
+
+    /// Takes bytes until an event is ready or the piece ends, and answers how many it took.
+    pub fn take(
+        &mut self,
+        alloc: Global,
+        table: &CodeTable,
+        top: u32,
+        piece: &[u8],
+    ) -> Result<usize, StreamError>
+        requires quiet { ready_at self.old ≡ [] }
+        requires due { is_due self.old ≡ true }
+        requires counted { bytes_taken self.old + length piece.now < 2 ^ 64 }
+        ensures takes { Takes table.now top (resumed table.now top self.old) piece.now self.new result }
+        ensures count { IfOk result (λ n. bytes_taken self.new ≡ bytes_taken self.old + n) }
+    {
+        let phase = self.phase;
+        match phase {
+            Phase::Head => self.take_head(alloc, table, top, piece),
+            Phase::Payload { code, kind, len } => {
+                self.take_payload(alloc, code, kind, len, piece)
+            }
+        }
+    }
+
+    fn take_head(
+        &mut self,
+        alloc: Global,
+        table: &CodeTable,
+        top: u32,
+        piece: &[u8],
+    ) -> Result<usize, StreamError>
+        requires quiet { ready_at self.old ≡ [] }
+        requires head { self.old.phase ≡ Phase.Head }
+        requires due { length self.old.part < 8 }
+        requires counted { self.old.start + length self.old.part + length piece.now < 2 ^ 64 }
+        ensures takes { Takes table.now top
+            (λ rest. at_head (walk_from table.now top) table.now top self.old.start self.old.around (self.old.part ++ rest))
+            piece.now self.new result }
+        ensures count { IfOk result (λ n. bytes_taken self.new ≡ self.old.start + length self.old.part + n) }
+    {
+        let taken = self.part.fill(8, piece)?;
+        if self.part.len() < 8 {
+            return Ok(taken);
+        }
+        let (_, rest) = piece.split_at(taken);
+        let more = self.enter(alloc, table, top, rest)?;
+        Ok(taken + more)
+    }
+
+    /// Goes on behind a whole head.
+    fn enter(
+        &mut self,
+        alloc: Global,
+        table: &CodeTable,
+        top: u32,
+        piece: &[u8],
+    ) -> Result<usize, StreamError>
+        requires quiet { ready_at self.old ≡ [] }
+        requires whole { length self.old.part ≡ 8 }
+        requires counted { self.old.start + 8 + length piece.now < 2 ^ 64 }
+        ensures takes { Takes table.now top
+            (λ rest. at_head (walk_from table.now top) table.now top self.old.start self.old.around (self.old.part ++ rest))
+            piece.now self.new result }
+        ensures count { IfOk result (λ n. bytes_taken self.new ≡ self.old.start + 8 + n) }
+    {
+        let (code, len) = self.part.head();
+        if let Some(error) = self.around.fault(top, self.start, code, len) {
+            return Err(error);
+        }
+        let kind = table.kind_of(self.around.parent(), code);
+        if is_list(kind) {
+            self.open_list(code, len)?;
+            return Ok(0);
+        }
+        self.phase = Phase::Payload { code, kind, len };
+        self.part.clear();
+        self.take_payload(alloc, code, kind, len, piece)
+    }
+
+    fn open_list(&mut self, code: Code, len: u32) -> Result<(), StreamError>
+        requires quiet { ready_at self.old ≡ [] }
+        requires counted { self.old.start + 8 < 2 ^ 64 }
+        ensures moves { (rows : List CodeRow) (limit : ℕ)
+            → Moves rows limit (at_body (walk_from rows limit) self.old.start self.old.around code Kind.List len) self.new result }
+        ensures count { IfOk result (λ _. bytes_taken self.new ≡ self.old.start + 8) }
+    {
+        let end = self.start as u128 + 8 + len as u128;
+        self.around.push(Container {
+            code,
+            at: self.start,
+            end,
+        })?;
+        self.ready = Some(Event::Open {
+            code,
+            len,
+            at: self.start,
+        });
+        let inside = self.start + 8;
+        self.arrive(inside)
+    }
+
+    /// Takes bytes of the payload that is due.
+    fn take_payload(
+        &mut self,
+        alloc: Global,
+        code: Code,
+        kind: Kind,
+        len: u32,
+        piece: &[u8],
+    ) -> Result<usize, StreamError>
+        requires quiet { ready_at self.old ≡ [] }
+        requires value { is_list kind ≡ false }
+        requires payload { self.old.phase ≡ Phase.Payload code kind len }
+        requires within { length self.old.part ≤ len }
+        requires counted { self.old.start + 8 + length self.old.part + length piece.now < 2 ^ 64 }
+        ensures takes { (rows : List CodeRow) (limit : ℕ)
+            → Takes rows limit
+            (λ rest. at_payload (walk_from rows limit) self.old.start self.old.around code kind len (self.old.part ++ rest))
+            piece.now self.new result }
+        ensures count { IfOk result (λ n. bytes_taken self.new ≡ self.old.start + 8 + length self.old.part + n) }
+    {
+        let taken = self.part.fill(len as usize, piece)?;
+        if self.part.len() < len as usize {
+            return Ok(taken);
+        }
+        self.end_leaf(alloc, code, kind)?;
+        Ok(taken)
+    }
+
+    fn end_leaf(&mut self, alloc: Global, code: Code, kind: Kind) -> Result<(), StreamError>
+        requires value { is_list kind ≡ false }
+        requires quiet { ready_at self.old ≡ [] }
+        requires counted { self.old.start + 8 + length self.old.part < 2 ^ 64 }
+        ensures moves { (rows : List CodeRow) (limit : ℕ)
+            → Moves rows limit
+            (λ rest. at_payload (walk_from rows limit) self.old.start self.old.around code kind (length self.old.part) (self.old.part ++ rest))
+            self.new result }
+        ensures count { IfOk result (λ _. bytes_taken self.new ≡ self.old.start + 8 + length self.old.part) }
+    {
+        let value = self.value(alloc, kind)?;
+        self.ready = Some(Event::Leaf {
+            code,
+            value,
+            at: self.start,
+        });
+        let end = self.start + 8 + self.part.len() as u64;
+        self.arrive(end)
+    }
+
+    /// The payload as a value of the kind.
+    fn value(&self, alloc: Global, kind: Kind) -> Result<Value, AllocError>
+        requires { is_list kind ≡ false }
+        ensures { IfOk result (λ v. v ≡ value_of (leaf_at kind self.now.part)) }
+    {
+        leaf(alloc, kind, self.part.as_slice())
+    }
+
+    /// Stands at the next place.
+    fn arrive(&mut self, at: u64) -> Result<(), StreamError>
+        ensures after { self.new
+            ≡ record {
+              start = at;
+              around = self.old.around;
+              phase = Phase.Head;
+              part = [];
+              ready = self.old.ready;
+            } }
+        ensures short { MatchResult result
+            (λ _. is_short at (open_after at self.old.around) ≡ false)
+            (λ e. (is_short at (open_after at self.old.around) ≡ true)
+            × (e ≡ StreamError.ShortHead at)) }
+    {
+        self.start = at;
+        self.phase = Phase::Head;
+        self.part.clear();
+        if self.around.is_short(at) {
+            Err(StreamError::ShortHead { at })
+        } else {
+            Ok(())
+        }
+    }
+
+    /// The next event that is ready.
+    pub fn next(&mut self) -> Option<Event>
+        ensures none { IfNone result ((ready_at self.old ≡ []) × (self.new ≡ self.old)) }
+        ensures some { IfSome result (λ event. ready_at self.old ≡ event ∷ ready_at self.new) }
+        ensures rest { (rows : List CodeRow) (limit : ℕ) (rest : List ℕ)
+            → resumed rows limit self.new rest ≡ resumed rows limit self.old rest }
+        ensures due { is_due self.new ≡ is_due self.old }
+        ensures taken { bytes_taken self.new ≡ bytes_taken self.old }
+    {
+        match self.ready.take() {
+            Some(event) => Some(event),
+            None => self.close(),
+        }
+    }
+
+    fn close(&mut self) -> Option<Event>
+        requires { self.old.ready ≡ None }
+        ensures none { IfNone result ((ready_at self.old ≡ []) × (self.new ≡ self.old)) }
+        ensures some { IfSome result (λ event. ready_at self.old ≡ event ∷ ready_at self.new) }
+        ensures rest { (rows : List CodeRow) (limit : ℕ) (rest : List ℕ)
+            → resumed rows limit self.new rest ≡ resumed rows limit self.old rest }
+        ensures due { is_due self.new ≡ is_due self.old }
+        ensures taken { bytes_taken self.new ≡ bytes_taken self.old }
+    {
+        match self.around.pop_ended(self.start) {
+            Some(container) => Some(Event::Close {
+                code: container.code,
+                at: container.at,
+            }),
+            None => None,
+        }
+    }
+
+    /// No tag has begun that is not whole.
+    pub fn is_between(&self) -> bool
+        ensures { result ≡ is_between self.now }
+    {
+        let phase = self.phase;
+        match phase {
+            Phase::Head => self.around.all_end_at(self.start) && self.part.len() == 0,
+            Phase::Payload { .. } => false,
+        }
+    }
+
+    /// How many bytes were taken.
+    pub fn taken(&self) -> u64
+        requires { bytes_taken self.now < 2 ^ 64 }
+        ensures { result ≡ bytes_taken self.now }
+    {
+        let phase = self.phase;
+        match phase {
+            Phase::Head => self.start + self.part.len() as u64,
+            Phase::Payload { .. } => self.start + 8 + self.part.len() as u64,
+        }
+    }
+}
+
+fn is_list(kind: Kind) -> bool
+    ensures { result ≡ is_list kind }
+{
+    match kind {
+        Kind::List => true,
+        _ => false,
+    }
+}
