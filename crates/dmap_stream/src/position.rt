@@ -59,7 +59,7 @@ impl Position {
         self.ready.is_some() || self.around.ends_at(self.start)
     }
 
-    /// Takes bytes until an event is ready or the piece ends, and answers how many it took.
+    /// Takes bytes up to the one that makes an event ready, or all, and answers how many.
     pub fn take(
         &mut self,
         alloc: Global,

@@ -59,7 +59,7 @@ impl DmapReader {
         })
     }
 
-    /// Takes bytes until an event is ready or the piece ends, and answers how many it took. While an event is
+    /// Takes bytes up to the one that makes an event ready, or all, and answers how many. While an event is
     /// ready it takes none. After an error it answers that error again.
     pub fn feed(&mut self, piece: &[u8]) -> Result<usize, StreamError>
         requires { self.old.error ≡ None → taken self.old + length piece.now < 2 ^ 64 }
