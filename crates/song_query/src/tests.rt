@@ -126,13 +126,14 @@ fn reprint(number: u32) -> (&'static str, &'static str) {
         13 => ("'a:\\\\*\\\\\\*'", "'a:\\\\*\\\\\\*'"),
         14 => ("'a:*x**'", "'a:*x**'"),
         15 => ("'a:\u{e9}\\\u{e9}'", "'a:\u{e9}\\\u{e9}'"),
+        16 => ("'a:***'", "'a:***'"),
         _ => ("", ""),
     }
 }
 
 #[test]
 fn a_text_reads_as_the_query_that_is_printed(rt: HostRuntime) -> Result<(), Fail> {
-    for number in 0..16 {
+    for number in 0..17 {
         let (text, printed) = reprint(number);
         let again = print(rt.alloc(), &read(rt.alloc(), text)?)?;
         assert_eq!(rt; again.as_str(), printed, "{text}");
