@@ -1,3 +1,4 @@
 pub mod Changes
 pub mod Listed
+pub mod Agreed
 pub mod Endings

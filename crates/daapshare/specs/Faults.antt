@@ -8,10 +8,14 @@ use Rattle.item_model.specs.declared.refusal.RecordWhy.{RecordWhy}
 use Rattle.item_model.specs.declared.refusal.RecordWhy.TheVariants as record_why
 use Rattle.records_import.specs.declared.refusal.RecordError.{RecordError}
 use Rattle.records_import.specs.declared.refusal.RecordError.TheVariants as records
+use Rattle.item_model.specs.declared.names.MetaError.{MetaError}
+use Rattle.item_model.specs.declared.names.MetaError.TheVariants as meta
+use Rattle.daapshare_words.specs.declared.words.WordsError.{WordsError}
+use Rattle.daapshare_words.specs.declared.words.WordsError.TheVariants as words
 use Rattle.daap_outside.specs.declared.reading.ReadError.{ReadError}
 use Rattle.daap_outside.specs.declared.reading.ReadError.TheVariants as reads
 use Rattle.daapshare.specs.declared.fault.Fault.{Fault}
-use Rattle.daapshare.specs.declared.fault.Fault.TheVariants.{Words, Records, Read, Write, InputLimit, Memory}
+use Rattle.daapshare.specs.declared.fault.Fault.TheVariants.{Words, Query, Meta, Records, Read, Write, InputLimit, Memory}
 use Rattle.daapshare.specs.declared.fault.TheConstants.{USAGE}
 
 abbrev pub query_why_text : QueryWhy → List ℕ
@@ -45,6 +49,8 @@ records_text records.Memory = codes "memory"
 -- what is written for a fault: nothing where the output itself failed
 abbrev pub fault_line : Fault → List ℕ
 fault_line Words = USAGE.now
+fault_line (Query error) = query_text error ++ 10 ∷ []
+fault_line Meta = codes "meta: too many names" ++ 10 ∷ []
 fault_line (Records error) = records_text error ++ 10 ∷ []
 fault_line Read = codes "read failed" ++ 10 ∷ []
 fault_line Write = []
@@ -53,13 +59,32 @@ fault_line Memory = codes "memory" ++ 10 ∷ []
 
 abbrev pub fault_status : Fault → ℕ
 fault_status Words = 2
+fault_status (Query error) = 3
+fault_status Meta = 3
 fault_status (Records error) = 3
 fault_status Read = 4
 fault_status Write = 5
 fault_status InputLimit = 8
 fault_status Memory = 9
 
--- the fault that a refusal of the input is
+-- the fault that a refusal of the words is
+abbrev pub words_fault : WordsError → Fault
+words_fault words.Usage = Words
+words_fault words.Memory = Memory
+
+-- that a refusal of a query is
+abbrev pub query_fault : QueryError → Fault
+query_fault query.TooLong = Query query.TooLong
+query_fault (query.TooDeep place) = Query (query.TooDeep place)
+query_fault (query.At place reason) = Query (query.At place reason)
+query_fault query.Memory = Memory
+
+-- that a refusal of names of properties is
+abbrev pub meta_fault : MetaError → Fault
+meta_fault meta.TooMany = Meta
+meta_fault meta.Memory = Memory
+
+-- that a refusal of the input is
 abbrev pub read_fault : ReadError → Fault
 read_fault reads.Failed = Read
 read_fault reads.TooLong = InputLimit

@@ -1,4 +1,9 @@
 pub mod Faults
 pub mod Library
 pub mod Listing
+pub mod Looks
+pub mod LookFaults
+pub mod Seen
+pub mod Lists
+pub mod Commands
 pub mod Runs

@@ -4,7 +4,8 @@ ghost use Rattle.std.specs.Prelude.{◌≡◌, ◌++◌, ◌∷◌, [], IfOk, On
 ghost use Rattle.daapshare.specs.Faults.{query_text, query_why_text, record_why_text, records_text, fault_line, fault_status};
 
 use daap_outside::ReadError;
-use item_model::{QueryError, QueryWhy, RecordWhy};
+use daapshare_words::WordsError;
+use item_model::{MetaError, QueryError, QueryWhy, RecordWhy};
 use itoa::Buffer;
 use records_import::RecordError;
 use std::alloc::{AllocError, Global};
@@ -27,6 +28,10 @@ usage: daapshare list [--query Q] [--meta M] [--list ID]
 pub enum Fault {
     /// The words are no command's.
     Words,
+    /// The text of `--query` is refused.
+    Query(QueryError),
+    /// The text of `--meta` has too many names.
+    Meta,
     /// The records don't read as a batch.
     Records(RecordError),
     /// The input could not be read.
@@ -45,6 +50,45 @@ impl From<AllocError> for Fault {
 
     fn from(_error: AllocError) -> Fault {
         Fault::Memory
+    }
+}
+
+impl From<WordsError> for Fault {
+    ghost use Rattle.daapshare.specs.Faults.{words_fault};
+
+    ghost from_gives = { λ e f. f ≡ words_fault e };
+
+    fn from(error: WordsError) -> Fault {
+        match error {
+            WordsError::Usage => Fault::Words,
+            WordsError::Memory => Fault::Memory,
+        }
+    }
+}
+
+impl From<QueryError> for Fault {
+    ghost use Rattle.daapshare.specs.Faults.{query_fault};
+
+    ghost from_gives = { λ e f. f ≡ query_fault e };
+
+    fn from(error: QueryError) -> Fault {
+        match error {
+            QueryError::Memory => Fault::Memory,
+            refusal => Fault::Query(refusal),
+        }
+    }
+}
+
+impl From<MetaError> for Fault {
+    ghost use Rattle.daapshare.specs.Faults.{meta_fault};
+
+    ghost from_gives = { λ e f. f ≡ meta_fault e };
+
+    fn from(error: MetaError) -> Fault {
+        match error {
+            MetaError::TooMany => Fault::Meta,
+            MetaError::Memory => Fault::Memory,
+        }
     }
 }
 
@@ -82,7 +126,7 @@ impl Fault {
     {
         match self {
             Fault::Words => 2,
-            Fault::Records(_) => 3,
+            Fault::Query(_) | Fault::Meta | Fault::Records(_) => 3,
             Fault::Read => 4,
             Fault::Write => 5,
             Fault::InputLimit => 8,
@@ -96,6 +140,8 @@ impl Fault {
     {
         match self {
             Fault::Words => Vec::from_slice(alloc, USAGE.as_bytes()),
+            Fault::Query(error) => query_line(alloc, error),
+            Fault::Meta => Vec::from_slice(alloc, b"meta: too many names\n"),
             Fault::Records(error) => records_line(alloc, error),
             Fault::Read => Vec::from_slice(alloc, b"read failed\n"),
             Fault::Write => Ok(Vec::new(alloc)),
@@ -103,6 +149,15 @@ impl Fault {
             Fault::Memory => Vec::from_slice(alloc, b"memory\n"),
         }
     }
+}
+
+fn query_line(alloc: Global, error: &QueryError) -> Result<Vec<u8>, AllocError>
+    ensures { IfOk result (λ line. line.items ≡ query_text error.now ++ 10 ∷ []) }
+{
+    let mut line = Vec::new(alloc);
+    push_query(&mut line, error)?;
+    line.push(b'\n')?;
+    Ok(line)
 }
 
 fn records_line(alloc: Global, error: &RecordError) -> Result<Vec<u8>, AllocError>

@@ -1,30 +1,43 @@
 //! The command `list`: the bytes of the listing of a share that is opened with the records of the input.
 
-ghost use Rattle.std.specs.Prelude.{◌≡◌, List, IfOk, IfErr, IfSome, OnOk};
-ghost use Rattle.std.specs.Io.KnownBytes.{IsAtEnd};
-ghost use Rattle.daapshare.specs.Listing.{listing_bytes};
-ghost use Rattle.daapshare.specs.Runs.{ReadsAs, IsInputCause};
-ghost use Rattle.share_history.specs.Histories.{opening};
+ghost use Rattle.std.specs.Prelude.{◌≡◌, List, Some, option_copied, IfOk, IfErr};
+ghost use Rattle.daapshare_words.specs.declared.words.Command.TheVariants.{List as list_command};
+ghost use Rattle.daapshare.specs.Lists.{IsListed};
+ghost use Rattle.daapshare.specs.Commands.{IsCause};
 
 use crate::fault::Fault;
 use crate::listing::{Opened, open};
+use crate::look::look_of;
 use daap_outside::{Source, read_within};
-use item_model::Edit;
+use dmap_tags::Text;
 use records_import::read_batch;
 use std::alloc::Global;
 
 /// The most bytes of records that the input may have.
 pub const RECORDS_LIMIT: u64 = 4_194_304;
 
-/// Opens a share with the batch that the input's records are, and lists its items.
-pub fn opened<I: Source>(alloc: Global, input: &mut I) -> Result<Opened, Fault>
-    ensures read { IfOk result (λ opened. (edits : List Edit) × (opened.history ≡ opening edits) × (opened.listing.items ≡ listing_bytes edits) × IfSome (I.left input.old) (ReadsAs edits)) }
-    ensures end { IfOk result (λ _. IsAtEnd (I.left input.new)) }
-    ensures faultless { OnOk result (I.faults input.new ≡ I.faults input.old) }
-    ensures cause { IfErr result (λ fault. IsInputCause (I.left input.old) (I.faults input.old) (I.faults input.new) fault) }
+/// Opens a share with the batch that the input's records are, and lists the items that are asked for.
+pub fn opened<I: Source>(
+    alloc: Global,
+    query: Option<&Text>,
+    meta: Option<&Text>,
+    input: &mut I,
+) -> Result<Opened, Fault>
+    ensures listed { IfOk result (λ opened. IsListed (option_copied query.entry) (option_copied meta.entry)
+        (record { left = I.left input.old; faults = I.faults input.old })
+        (record { left = I.left input.new; faults = I.faults input.new })
+        (Some opened.history) opened.listing.items) }
+    ensures cause { IfErr result (λ fault. IsCause (Some (list_command (option_copied query.entry) (option_copied meta.entry)))
+        (record { left = I.left input.old; faults = I.faults input.old })
+        (record { left = I.left input.new; faults = I.faults input.new })
+        fault) }
 {
+    let look = match look_of(alloc, query, meta) {
+        Ok(look) => look,
+        Err(fault) => return Err(fault),
+    };
     let bytes = read_within(alloc, input, RECORDS_LIMIT)?;
     let batch = read_batch(alloc, bytes.as_slice())?;
-    let opened = open(alloc, batch)?;
+    let opened = open(alloc, batch, &look)?;
     Ok(opened)
 }

@@ -1,6 +1,6 @@
-//! The full listing of the items that a batch leaves.
+//! The full listing of the items that a batch leaves, as a look asks for it.
 
-ghost use Rattle.std.specs.Prelude.{◌≡◌, ◌≤◌, ◌<◌, ◌^◌, ◌++◌, ◌∷◌, [], length, map, false, None, IfOk, OnOk};
+ghost use Rattle.std.specs.Prelude.{◌≡◌, ◌≤◌, ◌<◌, ◌^◌, ◌++◌, ◌∷◌, [], length, false, None, if◌then◌else◌, IfOk, OnOk};
 ghost use Rattle.std.specs.Map.{values_of};
 ghost use Rattle.dmap_tags.specs.Codes.{code, code_of};
 ghost use Rattle.dmap_tags.specs.Seen.{tree_with};
@@ -9,13 +9,16 @@ ghost use Rattle.dmap_tags.specs.Tree.{list, trees_of};
 ghost use Rattle.item_model.specs.Projection.{projection};
 ghost use Rattle.share_history.specs.Bodies.{start_tags};
 ghost use Rattle.share_history.specs.Histories.{opening, batches, revision};
-ghost use Rattle.share_history.specs.Rows.{library};
+ghost use Rattle.item_model.specs.declared.request.Range.TheVariants.{All};
+ghost use Rattle.item_model.specs.declared.request.Target.TheVariants.{Items};
+ghost use Rattle.share_history.specs.Rows.{rows, is_asked};
 ghost use Rattle.daapshare.specs.Listing.{listing_bytes};
+ghost use Rattle.daapshare.specs.Library.{listed, listed_behind};
 
 use crate::library::rows_of;
 use dmap_tags::{Code, Tag, TagError, Tags, Value, encode_into};
-use item_model::{Batch, Edit, Entries, Entry, Meta, Row, project};
-use share_history::FIRST_REVISION;
+use item_model::{Batch, Edit, Entries, Entry, Look, Row, project};
+use share_history::{FIRST_REVISION, is_asked};
 use std::alloc::{AllocError, Global};
 use std::collections::BTreeMap;
 
@@ -26,23 +29,25 @@ pub struct Opened {
     pub listing: Vec<u8>,
 }
 
-/// Opens a share with a batch and lists its items.
-pub fn open(alloc: Global, batch: Batch) -> Result<Opened, AllocError>
-    requires { length batch < 2 ^ 32 }
+/// Opens a share with a batch and lists the items that a look at all rows asks for.
+pub fn open(alloc: Global, batch: Batch, look: &Look) -> Result<Opened, AllocError>
+    requires few { length batch < 2 ^ 32 }
+    requires whole { look.now.range ≡ All }
     ensures history { IfOk result (λ opened. opened.history ≡ opening batch) }
-    ensures listing { IfOk result (λ opened. opened.listing.items ≡ listing_bytes batch) }
+    ensures listing { IfOk result (λ opened. opened.listing.items ≡ listing_bytes batch look.now) }
 {
-    let listing = listing_of(alloc, batch.edits.as_slice())?;
+    let listing = listing_of(alloc, batch.edits.as_slice(), look)?;
     let history = history_of(alloc, batch)?;
     Ok(Opened { history, listing })
 }
 
-/// The bytes of the listing of all items that the edits leave.
-fn listing_of(alloc: Global, edits: &[Edit]) -> Result<Vec<u8>, AllocError>
-    requires { length edits.now < 2 ^ 32 }
-    ensures { IfOk result (λ listing. listing.items ≡ listing_bytes edits.now) }
+/// The bytes of the listing of the items that the edits leave and the look asks for.
+fn listing_of(alloc: Global, edits: &[Edit], look: &Look) -> Result<Vec<u8>, AllocError>
+    requires few { length edits.now < 2 ^ 32 }
+    requires whole { look.now.range ≡ All }
+    ensures { IfOk result (λ listing. listing.items ≡ listing_bytes edits.now look.now) }
 {
-    let rows = listed_rows(alloc, edits)?;
+    let rows = listed_rows(alloc, edits, look)?;
     let body = full_body(alloc, opening_revision(edits), rows)?;
     let bytes = spelled(alloc, &body)?;
     Ok(bytes)
@@ -81,27 +86,37 @@ fn spelled(alloc: Global, tag: &Tag) -> Result<Vec<u8>, AllocError>
     }
 }
 
-/// The rows of the items that the edits leave, ascending by id, with the properties of the default projection.
-fn listed_rows(alloc: Global, edits: &[Edit]) -> Result<Tags, AllocError>
-    ensures rows { IfOk result (λ tags. tags ≡ map (λ row. projection row.1 None Meta.Default) (library edits.now)) }
+/// The rows of the items that the edits leave and the look asks for, ascending by id.
+fn listed_rows(alloc: Global, edits: &[Edit], look: &Look) -> Result<Tags, AllocError>
+    ensures rows { IfOk result (λ tags. tags ≡ listed look.now.meta (rows edits.now Items look.now.query)) }
     ensures few { IfOk result (λ tags. length tags ≤ length edits.now) }
 {
     let rows = rows_of(alloc, edits)?;
-    let tags = projected(alloc, &rows)?;
+    let tags = projected(alloc, &rows, look)?;
     Ok(tags)
 }
 
-fn projected(alloc: Global, rows: &BTreeMap<u32, &Row>) -> Result<Tags, AllocError>
-    ensures { IfOk result (λ tags. tags ≡ map (λ row. projection row.now None Meta.Default) (values_of rows.now.entries)) }
+fn projected(alloc: Global, rows: &BTreeMap<u32, &Row>, look: &Look) -> Result<Tags, AllocError>
+    ensures { IfOk result (λ tags. tags ≡ listed_behind look.now.query look.now.meta (values_of rows.now.entries)) }
 {
     let mut tags = Tags::new(alloc);
     for row in rows.values() {
-        tags.push(project(alloc, row, None, &Meta::Default)?)?;
+        push_asked(alloc, &mut tags, row, look)?;
     }
     Ok(tags)
 }
 
-/// The body of a full listing of all items.
+/// Adds what is shown of a row, if the row is asked for.
+fn push_asked(alloc: Global, tags: &mut Tags, row: &Row, look: &Look) -> Result<(), AllocError>
+    ensures { OnOk result (tags.new ≡ tags.old ++ (if is_asked look.now.query row.now then projection row.now None look.now.meta ∷ [] else [])) }
+{
+    if is_asked(look.query.as_ref(), row) {
+        tags.push(project(alloc, row, None, &look.meta)?)?;
+    }
+    Ok(())
+}
+
+/// The body of a full listing of items.
 fn full_body(alloc: Global, revision: u32, rows: Tags) -> Result<Tag, AllocError>
     requires { length rows < 2 ^ 32 }
     ensures { IfOk result (λ tag. tag ≡ list (code "adbs") (trees_of (start_tags false revision (length rows) (length rows) ++ list (code "mlcl") (trees_of rows) ∷ []))) }

@@ -2,10 +2,12 @@
 //! Today it lists: records of a library in, the bytes of the DMAP listing of its items out.
 #![tactic(auto)]
 
+mod answer;
 mod fault;
 mod library;
 mod list;
 mod listing;
+mod look;
 mod run;
 #[cfg(test)]
 mod tests;

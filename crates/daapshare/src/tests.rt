@@ -32,8 +32,15 @@ fn whole_item() -> &'static [u8] {
     b"adbs\0\0\0\x86mstt\0\0\0\x04\0\0\0\xc8muty\0\0\0\x01\0musr\0\0\0\x04\0\0\0\x03mtco\0\0\0\x04\0\0\0\x01mrco\0\0\0\x04\0\0\0\x01mlcl\0\0\0\x45mlit\0\0\0\x3dmiid\0\0\0\x04\0\0\0\x09mikd\0\0\0\x01\x02minm\0\0\0\x01Tasar\0\0\0\x01Sastn\0\0\0\x02\0\x03astm\0\0\0\x04\0\0\0\x05"
 }
 
+/// The year and the name of an item, asked for in this order.
+fn year_and_name() -> &'static [u8] {
+    b"adbs\0\0\0\x68mstt\0\0\0\x04\0\0\0\xc8muty\0\0\0\x01\0musr\0\0\0\x04\0\0\0\x03mtco\0\0\0\x04\0\0\0\x01mrco\0\0\0\x04\0\0\0\x01mlcl\0\0\0\x27mlit\0\0\0\x1fmiid\0\0\0\x04\0\0\0\x09asyr\0\0\0\x02\x07\xbfminm\0\0\0\x01T"
+}
+
 fn records(name: &str) -> &'static [u8] {
     match name {
+        "six" =>
+            b"op,kind,id,dmap.itemname,daap.songartist,daap.songalbum,com.apple.itunes.mediakind\nput,item,1,Hey,Ann,One,1\nput,item,2,it's late,Bob,,1\nput,item,3,Talk,Cy,Pod,4\nput,item,4,Move,Di,Film,32\nput,item,5,Quiet,Ed,Two,\nput,item,6,Late,ann,two,1\n",
         "one" => b"op,kind,id,dmap.itemname\nput,item,7,A\n",
         "one, other line ends" => b"op,kind,id,dmap.itemname\r\nput,item,0000000007,A",
         "header" => b"op,kind,id,dmap.itemname\n",
@@ -141,6 +148,164 @@ fn records_that_are_refused_have_one_line_and_no_listing(rt: HostRuntime) -> Res
     )
 }
 
+/// What the words get over the records.
+fn ran_over(alloc: Global, words: &[&str], records: &[u8]) -> Result<Ran, AllocError> {
+    let source = MemSource::new(alloc, records, 32_768, &[])?;
+    let sink = MemSink::new(alloc, 4096, 4096, &[])?;
+    run_over(alloc, words, source, sink)
+}
+
+/// The parts of a listing of ids alone, at revision 3: up to the number of rows, up to that of those listed, up to
+/// their length, and up to the id of a row.
+fn part(n: u32) -> &'static [u8] {
+    match n {
+        0 =>
+            b"mstt\0\0\0\x04\0\0\0\xc8muty\0\0\0\x01\0musr\0\0\0\x04\0\0\0\x03mtco\0\0\0\x04\0\0\0",
+        1 => b"mrco\0\0\0\x04\0\0\0",
+        2 => b"mlcl\0\0\0",
+        _ => b"mlit\0\0\0\x0cmiid\0\0\0\x04\0\0\0",
+    }
+}
+
+/// The listing of at most nine ids: each row has 20 bytes.
+fn ids_listing(alloc: Global, ids: &[u8]) -> Result<Vec<u8>, AllocError> {
+    let count = ids.len() as u8;
+    let length = count.wrapping_mul(20);
+    let mut bytes = Vec::from_slice(alloc, b"adbs\0\0\0")?;
+    bytes.push(length.wrapping_add(65))?;
+    bytes.extend_from_slice(part(0))?;
+    bytes.push(count)?;
+    bytes.extend_from_slice(part(1))?;
+    bytes.push(count)?;
+    bytes.extend_from_slice(part(2))?;
+    bytes.push(length)?;
+    for id in ids {
+        bytes.extend_from_slice(part(3))?;
+        bytes.push(*id)?;
+    }
+    Ok(bytes)
+}
+
+/// Of the six items, the query lists those with these ids.
+fn holds_of(rt: &impl Abort, alloc: Global, query: &str, ids: &[u8]) -> Result<(), Fail> {
+    let words = ["list", "--query", query, "--meta", "dmap.itemid"];
+    let ran = ran_over(alloc, &words, records("six"))?;
+    assert_eq!(rt; ran.status, 0);
+    assert_eq!(rt; ran.output.as_slice(), ids_listing(alloc, ids)?.as_slice());
+    Ok(())
+}
+
+#[test]
+fn a_query_lists_the_items_of_which_it_holds(rt: HostRuntime) -> Result<(), Fail> {
+    let alloc = rt.alloc();
+    holds_of(
+        &rt,
+        alloc,
+        "(('com.apple.itunes.mediakind:1','com.apple.itunes.mediakind:32') 'daap.songalbum!:')",
+        &[1, 4, 6],
+    )?;
+    holds_of(&rt, alloc, "'dmap.itemname:*it\\'s*'", &[2])?;
+    holds_of(&rt, alloc, "'dmap.itemname:*late'", &[2, 6])?;
+    holds_of(&rt, alloc, "'daap.songartist:a*n'", &[1, 6])?;
+    holds_of(&rt, alloc, "'daap.songalbum:TWO'", &[5, 6])?;
+    holds_of(&rt, alloc, "'no.such!:x'", &[1, 2, 3, 4, 5, 6])?;
+    holds_of(&rt, alloc, "'daap.songyear:0'", &[1, 2, 3, 4, 5, 6])?;
+    holds_of(&rt, alloc, "'daap.songyear:abc'", &[])
+}
+
+/// The words list these bytes of one whole item.
+fn shows(rt: &impl Abort, alloc: Global, words: &[&str], output: &[u8]) -> Result<(), Fail> {
+    let ran = ran_over(alloc, words, records("whole"))?;
+    assert_eq!(rt; ran.status, 0);
+    assert_eq!(rt; ran.output.as_slice(), output);
+    Ok(())
+}
+
+#[test]
+fn properties_are_shown_as_they_are_asked_for(rt: HostRuntime) -> Result<(), Fail> {
+    let alloc = rt.alloc();
+    let names = "daap.songyear,dmap.itemname,no.such,daap.songyear";
+    shows(&rt, alloc, &["list", "--meta", names], year_and_name())?;
+    shows(
+        &rt,
+        alloc,
+        &["list", "--meta=daap.songyear,dmap.itemname"],
+        year_and_name(),
+    )?;
+    shows(&rt, alloc, &["list", "--meta", ""], whole_item())?;
+    shows(&rt, alloc, &["list", "--meta="], whole_item())?;
+    shows(&rt, alloc, &["list", "--"], whole_item())
+}
+
+/// The words end with 3 and this line, whatever the input is; it is not read.
+fn is_refused(rt: &impl Abort, alloc: Global, words: &[&str], line: &str) -> Result<(), Fail> {
+    let source = MemSource::new(alloc, records("bad header"), 4096, &[1])?;
+    let sink = MemSink::new(alloc, 4096, 4096, &[])?;
+    let ran = run_over(alloc, words, source, sink)?;
+    assert_eq!(rt; ran.status, 3);
+    assert_eq!(rt; ran.output.as_slice(), line.as_bytes());
+    Ok(())
+}
+
+#[test]
+fn a_query_is_refused_at_its_place(rt: HostRuntime) -> Result<(), Fail> {
+    let alloc = rt.alloc();
+    is_refused(
+        &rt,
+        alloc,
+        &["list", "--query", "'dmap.itemname:x"],
+        "query: at 16 end\n",
+    )?;
+    is_refused(
+        &rt,
+        alloc,
+        &["list", "--query", "'a:1''b:2'"],
+        "query: at 5 byte\n",
+    )?;
+    is_refused(
+        &rt,
+        alloc,
+        &["list", "--query", "'a;1'"],
+        "query: at 2 byte\n",
+    )?;
+    is_refused(&rt, alloc, &["list", "--query", ""], "query: at 0 end\n")?;
+    is_refused(&rt, alloc, &["list", "--query="], "query: at 0 end\n")
+}
+
+/// One name more than may be asked for, and 4,097 bytes.
+fn too_much(alloc: Global, byte: u8, count: usize) -> Result<Vec<u8>, AllocError> {
+    let mut bytes = Vec::new(alloc);
+    bytes.resize(count, byte)?;
+    Ok(bytes)
+}
+
+#[test]
+fn names_are_refused_behind_the_query(rt: HostRuntime) -> Result<(), Fail> {
+    let alloc = rt.alloc();
+    let commas = too_much(alloc, b',', 256)?;
+    let stars = too_much(alloc, b'*', 4097)?;
+    let names = str::from_utf8(commas.as_slice()).unwrap_or("");
+    let long = str::from_utf8(stars.as_slice()).unwrap_or("");
+    is_refused(
+        &rt,
+        alloc,
+        &["list", "--meta", names],
+        "meta: too many names\n",
+    )?;
+    is_refused(
+        &rt,
+        alloc,
+        &["list", "--meta", names, "--query", "x"],
+        "query: at 0 byte\n",
+    )?;
+    is_refused(
+        &rt,
+        alloc,
+        &["list", "--meta", names, "--query", long],
+        "query: too long\n",
+    )
+}
+
 /// The words get the usage text.
 fn are_refused(rt: &impl Abort, alloc: Global, words: &[&str]) -> Result<(), Fail> {
     let source = MemSource::new(alloc, b"", 1, &[])?;
@@ -157,6 +322,19 @@ fn words_that_are_no_command_get_the_usage(rt: HostRuntime) -> Result<(), Fail> 
     are_refused(&rt, alloc, &[])?;
     are_refused(&rt, alloc, &["lists"])?;
     are_refused(&rt, alloc, &["list", "x"])?;
+    are_refused(&rt, alloc, &["list", "--", "x"])?;
+    are_refused(&rt, alloc, &["list", "--none"])?;
+    are_refused(&rt, alloc, &["list", "--query"])?;
+    are_refused(
+        &rt,
+        alloc,
+        &["list", "--query", "'a:1'", "--query", "'a:1'"],
+    )?;
+    are_refused(&rt, alloc, &["list", "--query", "--meta"])?;
+    are_refused(&rt, alloc, &["list", "--list", "1"])?;
+    are_refused(&rt, alloc, &["show"])?;
+    are_refused(&rt, alloc, &["check"])?;
+    are_refused(&rt, alloc, &["codes", "--learn"])?;
     are_refused(&rt, alloc, &["--help"])
 }
 

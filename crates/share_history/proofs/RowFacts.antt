@@ -1,5 +1,5 @@
 -- The rows of a listing are the one ascending list that is right at each key.
-use Rattle.std.proofs.Common.{◌≡◌, ℕ, map, ◌+◌, ◌≤◌, length, length-append, fold, nat_cmp, Ordering, Less, Equal, Greater, arith, Bool, true, false, cond, ◌==◌, List, [], ◌∷◌, ◌++◌, unwrap_or, refl, sym, ap, ◌∙◌, Option, Some, None, is_some}
+use Rattle.std.proofs.Common.{◌≡◌, ℕ, map, ◌+◌, ◌≤◌, length, length-append, fold, nat_cmp, Ordering, Less, Equal, Greater, arith, Bool, true, false, cond, ◌==◌, List, [], ◌∷◌, ◌++◌, unwrap_or, refl, sym, ap, ◌∙◌, Option, Some, None, is_some, filter}
 use Rattle.std.specs.Option.{option_and_then, option_map}
 use Rattle.std.specs.List.{cons_option}
 use Rattle.std.specs.Ordering.{match_ordering}
@@ -17,7 +17,7 @@ use Rattle.share_history.specs.declared.selection.TheConstants.{BASE_LIST}
 use Rattle.share_history.specs.Keyed.{at, put_in, taken_out, IsAscending, AreAscending, ascending, pairs_at}
 use Rattle.share_history.specs.LastSaid.{Playlist, Plain, Ruled, only_if, says_item, item_at, list_at}
 use Rattle.share_history.specs.Named.{keys_in, named_keys, lists_in, named_lists}
-use Rattle.share_history.specs.Rows.{if_asked, in_list, in_target, row_at, rows, library, lists}
+use Rattle.share_history.specs.Rows.{is_asked, if_asked, in_list, in_target, row_at, rows, library, lists}
 use Rattle.share_history.proofs.KeyedFacts.{has, is_eq-cmp, at-put, ascending-put, at-out, ascending-out, same_pairs, same_keys_same, sorted-ascending, has-ascending, ascending-pairs_at, at-pairs_at, has-keys_of}
 use Rattle.share_history.proofs.EditFacts.{item_more, item_unnamed, member_unnamed, list_unnamed}
 
@@ -68,6 +68,28 @@ at-library es id = at-rows es Items None id ∙ row_at-item es id
 
 pub ascending-library : (es : List Edit) → IsAscending (library es)
 ascending-library es = ascending-rows es Items None
+
+-- one more key of a listing with a query
+asked_next : (q : Option Query) (k : ℕ) (o : Option Row) (found all : List (ℕ × Row)) → found ≡ filter (λ row. is_asked q row.1) all
+    → cons_option (option_map (λ row. (k, row)) (option_and_then (if_asked q) o)) found
+    ≡ filter (λ row. is_asked q row.1) (cons_option (option_map (λ row. (k, row)) (option_and_then (if_asked None) o)) all)
+asked_next q k None found all h = h
+asked_next q k (Some row) found all h = kept (is_asked q row)
+  where
+    kept : (b : Bool) → cons_option (option_map (λ row. (k, row)) (only_if b row)) found
+        ≡ cond b ((k, row) ∷ filter (λ row. is_asked q row.1) all) (filter (λ row. is_asked q row.1) all)
+    kept true = ap (λ rs. (k, row) ∷ rs) h
+    kept false = h
+
+asked_among : (es : List Edit) (q : Option Query) (ks : List ℕ)
+    → pairs_at (row_at es Items q) ks ≡ filter (λ row. is_asked q row.1) (pairs_at (row_at es Items None) ks)
+asked_among es q [] = refl
+asked_among es q (k ∷ ks) =
+    asked_next q k (item_at es k) (pairs_at (row_at es Items q) ks) (pairs_at (row_at es Items None) ks) (asked_among es q ks)
+
+-- the items of which a query holds are a filter of the library
+pub rows_asked : (es : List Edit) (q : Option Query) → rows es Items q ≡ filter (λ row. is_asked q row.1) (library es)
+rows_asked es q = asked_among es q (ascending (named_keys es))
 
 -- the library after one more edit: a put takes the place of the item's row, a drop takes it out
 abbrev pub with_edit : List (ℕ × Row) → Edit → List (ℕ × Row)

@@ -31,5 +31,5 @@ pub use listings::{Listing, delta_listing, full_listing, listing_for};
 pub use lists::{PlaylistRef, list, member};
 pub use names::{Named, is_named};
 pub use revisions::{FIRST_REVISION, revision};
-pub use selection::{BASE_LIST, library, row, rows};
+pub use selection::{BASE_LIST, is_asked, library, row, rows};
 pub use sessions::{LIVE_SESSIONS, is_live, is_stopped, next_session};

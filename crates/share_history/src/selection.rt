@@ -36,7 +36,8 @@ fn does_hold(query: &Query, row: &Row) -> bool
     does_hold_by::<Brand>(Blank::new(1), query, row)
 }
 
-fn is_asked(query: Option<&Query>, row: &Row) -> bool
+/// Whether a listing with that query shows the row. Without a query it shows every row.
+pub fn is_asked(query: Option<&Query>, row: &Row) -> bool
     ensures { result ≡ is_asked (option_copied query.entry) row.now }
 {
     match query {

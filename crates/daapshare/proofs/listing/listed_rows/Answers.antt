@@ -1,15 +1,19 @@
-use Rattle.std.proofs.Common.{◌≡◌, ap, ◌∙◌, None, length, arith}
-use Rattle.item_model.specs.declared.request.Meta.TheVariants.{Default}
-use Rattle.item_model.specs.Projection.{projection}
-use Rattle.daapshare.proofs.Listed.{values_listed, values_count, listed}
+use Rattle.std.proofs.Common.{◌≡◌, ap, sym, ◌∙◌, filter, length, arith}
+use Rattle.share_history.specs.Rows.{is_asked}
+use Rattle.share_history.proofs.RowFacts.{rows_asked}
+use Rattle.daapshare.specs.Library.{listed}
+use Rattle.daapshare.proofs.Listed.{values_listed, values_few}
 use Rattle.daapshare.proofs.listing.listed_rows.Goals as goal
 
 pub returns-clause-rows : goal.returns-clause-rows
 returns-clause-rows c =
-    c.in_ok-tags.ensures ∙ values_listed (λ row. projection row None Default) c.in_ok-rows.rows.entries ∙ ap listed c.in_ok-rows.ensures.library
+    let look = c.args.look.now in
+    c.in_ok-tags.ensures
+    ∙ values_listed look.query look.meta c.in_ok-rows.rows.entries
+    ∙ ap (λ rows. listed look.meta (filter (λ row. is_asked look.query row.1) rows)) c.in_ok-rows.ensures.library
+    ∙ ap (listed look.meta) (sym (rows_asked c.args.edits.now look.query))
 
 pub returns-clause-few : goal.returns-clause-few
 returns-clause-few c =
-    let same : length c.in_ok-tags.tags ≡ length c.in_ok-rows.rows.entries =
-    ap length c.in_ok-tags.ensures ∙ values_count (λ row. projection row None Default) c.in_ok-rows.rows.entries
-    in omega (arith, c.in_ok-rows.ensures.few)
+    let look = c.args.look.now in
+    omega (arith, ap length c.in_ok-tags.ensures, values_few look.query look.meta c.in_ok-rows.rows.entries, c.in_ok-rows.ensures.few)

@@ -8,4 +8,4 @@ returns c =
     c.in_ok-bytes.ensures
     ∙ ap spelling
     (c.in_ok-body.ensures
-    ∙ items_body_from c.args.edits.now c.opening_revision.result c.in_ok-rows.rows c.opening_revision.ensures c.in_ok-rows.ensures.rows)
+    ∙ items_body_from c.args.edits.now c.args.look.now c.opening_revision.result c.in_ok-rows.rows c.requires.whole c.opening_revision.ensures c.in_ok-rows.ensures.rows)

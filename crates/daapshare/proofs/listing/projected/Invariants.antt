@@ -1,11 +1,10 @@
-use Rattle.std.proofs.Common.{◌≡◌, ◌++◌, map, None}
+use Rattle.std.proofs.Common.{◌≡◌, ◌++◌}
 use Rattle.std.specs.Map.{values_of}
-use Rattle.item_model.specs.Projection.{projection}
-use Rattle.item_model.specs.declared.request.Meta.TheVariants.{Default}
+use Rattle.daapshare.specs.Library.{listed_behind}
 use Rattle.daapshare.proofs.listing.projected.Given as goal
 
--- the rows so far and those that are left are all rows
+-- what is listed so far and of the rows that are left is what is listed of all
 abbrev pub invariant-loop-row : goal.invariant-loop-row
 invariant-loop-row l =
-    l.tags ++ map (λ row. projection row.now None Default) l.row-iterator
-    ≡ map (λ row. projection row.now None Default) (values_of l.rows.entries)
+    l.tags ++ listed_behind l.look.query l.look.meta l.row-iterator
+    ≡ listed_behind l.look.query l.look.meta (values_of l.rows.entries)

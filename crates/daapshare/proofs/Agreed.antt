@@ -1,0 +1,123 @@
+-- Words and input that are told decide how a command ends: they say one status, and no fault where the command is done.
+use Rattle.std.proofs.Common.{◌≡◌, ◌≢◌, ◌<◌, ℕ, List, Option, Some, None, IfSome, length, refl, sym, subst, ap, ◌∙◌, arith}
+use Rattle.daapshare_words.specs.declared.words.Command.{Command}
+use Rattle.daapshare_words.specs.declared.words.Command.TheVariants as command
+use Rattle.item_model.specs.declared.changes.Entry.{Entry}
+use Rattle.item_model.specs.declared.query.Query.{Query}
+use Rattle.item_model.specs.declared.refusal.QueryError.{QueryError}
+use Rattle.item_model.specs.declared.refusal.QueryError.TheVariants as query_error
+use Rattle.records_import.specs.Table.{table_of}
+use Rattle.records_import.proofs.Once.{batch_once}
+use Rattle.song_query.proofs.Once.{answers_once}
+use Rattle.daapshare.specs.declared.fault.Fault.{Fault}
+use Rattle.daapshare.specs.declared.fault.Fault.TheVariants as fault
+use Rattle.daapshare.specs.declared.list.TheConstants.{RECORDS_LIMIT}
+use Rattle.daapshare.specs.Faults.{fault_status}
+use Rattle.daapshare.specs.Seen.{InputSeen}
+use Rattle.daapshare.specs.Looks.{AsksQuery, IsAsked, HasRefusal, IsQueryRefused, IsMetaRefused, meta_asked}
+use Rattle.daapshare.specs.Lists.{ReadsAs, IsRefused, IsListed, IsListable, ListSays}
+use Rattle.daapshare.specs.Commands.{Says, Gives, IsDone, IsUsage}
+
+-- a text that is read is not refused
+read_or_refused : (text : Option (List ℕ)) (asked : Option Query) (error : QueryError) → error ≢ query_error.Memory → AsksQuery text asked → HasRefusal text error → ⊥
+read_or_refused None asked error cause reads refused = refused
+read_or_refused (Some text) None error cause reads refused = reads
+read_or_refused (Some text) (Some asked) error cause reads refused = answers_once text asked error cause reads refused
+
+-- where both texts are read, neither is refused
+query_is_read : (query meta : Option (List ℕ)) (error : QueryError) → IsAsked query meta → IsQueryRefused query error → ⊥
+query_is_read query meta error asked refused = read_or_refused query asked.0.query error refused.cause asked.1.query refused.refused
+
+meta_is_read : (query meta : Option (List ℕ)) → IsAsked query meta → IsMetaRefused query meta → ⊥
+meta_is_read query meta asked refused = let read = asked.1.meta in let many = refused.many in absurd (cc)
+
+-- an input that is too long has no other fault
+long_only : (query meta : Option (List ℕ)) (input : List ℕ) (f : Fault) → IsAsked query meta → RECORDS_LIMIT < length input
+    → ListSays query meta (Some input) f → fault_status f ≡ 8
+long_only query meta input fault.Words asked long says = absurd says
+long_only query meta input (fault.Query error) asked long says = absurd (query_is_read query meta error asked says)
+long_only query meta input fault.Meta asked long says = absurd (meta_is_read query meta asked says)
+long_only query meta input (fault.Records error) asked long says = let within = says.1.within in absurd (omega arith)
+long_only query meta input fault.Read asked long says = absurd says
+long_only query meta input fault.Write asked long says = absurd says
+long_only query meta input fault.InputLimit asked long says = refl
+long_only query meta input fault.Memory asked long says = absurd says
+
+refused_status : (query meta : Option (List ℕ)) (input : List ℕ) (f g : Fault) → fault_status f ≡ 3 → ListSays query meta (Some input) f
+    → ListSays query meta (Some input) g → fault_status f ≡ fault_status g
+refused_status query meta input f fault.Words s f_says g_says = absurd g_says
+refused_status query meta input f (fault.Query error) s f_says g_says = s
+refused_status query meta input f fault.Meta s f_says g_says = s
+refused_status query meta input f (fault.Records error) s f_says g_says = s
+refused_status query meta input f fault.Read s f_says g_says = absurd g_says
+refused_status query meta input f fault.Write s f_says g_says = absurd g_says
+refused_status query meta input f fault.InputLimit s f_says g_says = long_only query meta input f g_says.0 g_says.1 f_says
+refused_status query meta input f fault.Memory s f_says g_says = absurd g_says
+
+list_status : (query meta : Option (List ℕ)) (input : List ℕ) (f g : Fault) → ListSays query meta (Some input) f → ListSays query meta (Some input) g
+    → fault_status f ≡ fault_status g
+list_status query meta input fault.Words g f_says g_says = absurd f_says
+list_status query meta input fault.Read g f_says g_says = absurd f_says
+list_status query meta input fault.Write g f_says g_says = absurd f_says
+list_status query meta input fault.Memory g f_says g_says = absurd f_says
+list_status query meta input fault.InputLimit g f_says g_says = sym (long_only query meta input g f_says.0 f_says.1 g_says)
+list_status query meta input (fault.Query error) g f_says g_says = refused_status query meta input (fault.Query error) g refl f_says g_says
+list_status query meta input fault.Meta g f_says g_says = refused_status query meta input fault.Meta g refl f_says g_says
+list_status query meta input (fault.Records error) g f_says g_says = refused_status query meta input (fault.Records error) g refl f_says g_says
+
+usage_status : (f g : Fault) → IsUsage f → IsUsage g → fault_status f ≡ fault_status g
+usage_status fault.Words fault.Words f_says g_says = refl
+usage_status fault.Words (fault.Query error) f_says g_says = absurd g_says
+usage_status fault.Words fault.Meta f_says g_says = absurd g_says
+usage_status fault.Words (fault.Records error) f_says g_says = absurd g_says
+usage_status fault.Words fault.Read f_says g_says = absurd g_says
+usage_status fault.Words fault.Write f_says g_says = absurd g_says
+usage_status fault.Words fault.InputLimit f_says g_says = absurd g_says
+usage_status fault.Words fault.Memory f_says g_says = absurd g_says
+usage_status (fault.Query error) g f_says g_says = absurd f_says
+usage_status fault.Meta g f_says g_says = absurd f_says
+usage_status (fault.Records error) g f_says g_says = absurd f_says
+usage_status fault.Read g f_says g_says = absurd f_says
+usage_status fault.Write g f_says g_says = absurd f_says
+usage_status fault.InputLimit g f_says g_says = absurd f_says
+usage_status fault.Memory g f_says g_says = absurd f_says
+
+-- two faults that are said have one status
+pub one_status : (asked : Option Command) (input : List ℕ) (f g : Fault) → Says asked (Some input) f → Says asked (Some input) g → fault_status f ≡ fault_status g
+one_status None input f g f_says g_says = usage_status f g f_says g_says
+one_status (Some (command.List query meta)) input f g f_says g_says = list_status query meta input f g f_says g_says
+one_status (Some (command.Show back)) input f g f_says g_says = usage_status f g f_says g_says
+one_status (Some command.Check) input f g f_says g_says = usage_status f g f_says g_says
+one_status (Some (command.Codes learn)) input f g f_says g_says = usage_status f g f_says g_says
+
+listed_or_refused : (query meta : Option (List ℕ)) (input : List ℕ) (f : Fault) → IsListable query meta input → ListSays query meta (Some input) f → ⊥
+listed_or_refused query meta input fault.Words listable says = says
+listed_or_refused query meta input (fault.Query error) listable says = query_is_read query meta error listable.asked says
+listed_or_refused query meta input fault.Meta listable says = meta_is_read query meta listable.asked says
+listed_or_refused query meta input (fault.Records error) listable says =
+    batch_once (table_of input) listable.edits error says.1.cause listable.read.read says.1.refused
+listed_or_refused query meta input fault.Read listable says = says
+listed_or_refused query meta input fault.Write listable says = says
+listed_or_refused query meta input fault.InputLimit listable says = let within = listable.read.within in let long = says.1 in absurd (omega arith)
+listed_or_refused query meta input fault.Memory listable says = says
+
+-- no fault is said where the command is done
+pub is_refused_or_given : (asked : Option Command) (input : List ℕ) (f : Fault) → Says asked (Some input) f → Gives asked input → ⊥
+is_refused_or_given None input f says gives = gives
+is_refused_or_given (Some (command.List query meta)) input f says gives = listed_or_refused query meta input f gives says
+is_refused_or_given (Some (command.Show back)) input f says gives = gives
+is_refused_or_given (Some command.Check) input f says gives = gives
+is_refused_or_given (Some (command.Codes learn)) input f says gives = gives
+
+-- a command that was done is one that words and input are done with
+pub given : (asked : Option Command) (input : List ℕ) (before after : InputSeen) (history : Option (List Entry)) (output : List ℕ) → before.left ≡ Some input
+    → IsDone asked before after history output → Gives asked input
+given None input before after history output told done = done
+given (Some (command.List query meta)) input before after history output told done = record {
+  asked = (done.look, done.asked);
+  edits = done.edits;
+  read = subst (λ left. IfSome left (ReadsAs done.edits)) told done.read;
+}
+given (Some (command.Show back)) input before after history output told done = done
+given (Some command.Check) input before after history output told done = done
+given (Some (command.Codes learn)) input before after history output told done = done

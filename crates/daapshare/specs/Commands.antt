@@ -1,0 +1,66 @@
+-- What each command does, by its words and its input, and which faults it ends by.
+use Rattle.std.specs.Prelude.{◌≡◌, ℕ, List, Option, Some, None}
+use Rattle.daap_outside.specs.Counts.{Rose}
+use Rattle.daapshare_words.specs.declared.words.Command.{Command}
+use Rattle.daapshare_words.specs.declared.words.Command.TheVariants as command
+use Rattle.item_model.specs.declared.changes.Entry.{Entry}
+use Rattle.daapshare.specs.declared.fault.Fault.{Fault}
+use Rattle.daapshare.specs.declared.fault.Fault.TheVariants.{Words, Query, Meta, Records, Read, Write, InputLimit, Memory}
+use Rattle.daapshare.specs.Seen.{InputSeen, IsUnread}
+use Rattle.daapshare.specs.Looks.{IsAsked}
+use Rattle.daapshare.specs.Lists.{IsListed, IsListable, ListSays}
+
+-- the fault of words that are no command's
+abbrev pub IsUsage : Fault → Type 0
+IsUsage Words = Unit {0}
+IsUsage (Query error) = ⊥
+IsUsage Meta = ⊥
+IsUsage (Records error) = ⊥
+IsUsage Read = ⊥
+IsUsage Write = ⊥
+IsUsage InputLimit = ⊥
+IsUsage Memory = ⊥
+
+-- the fault of the words, or of the input where it is told. Today `list` alone is done.
+abbrev pub Says : Option Command → Option (List ℕ) → Fault → Type 0
+Says None left fault = IsUsage fault
+Says (Some (command.List query meta)) left fault = ListSays query meta left fault
+Says (Some (command.Show back)) left fault = IsUsage fault
+Says (Some command.Check) left fault = IsUsage fault
+Says (Some (command.Codes learn)) left fault = IsUsage fault
+
+-- the command's words are in order, and it reads the input
+abbrev pub ReadsInput : Option Command → Type 0
+ReadsInput None = ⊥
+ReadsInput (Some (command.List query meta)) = IsAsked query meta
+ReadsInput (Some (command.Show back)) = ⊥
+ReadsInput (Some command.Check) = ⊥
+ReadsInput (Some (command.Codes learn)) = ⊥
+
+-- what has to hold where a command ends by a fault: a fault of the words comes before the input is read, and want of
+-- memory may always come
+abbrev pub IsCause : Option Command → InputSeen → InputSeen → Fault → Type 0
+IsCause asked before after Words = Says asked before.left Words × IsUnread before after
+IsCause asked before after (Query error) = Says asked before.left (Query error) × IsUnread before after
+IsCause asked before after Meta = Says asked before.left Meta × IsUnread before after
+IsCause asked before after (Records error) = Says asked before.left (Records error)
+IsCause asked before after Read = ReadsInput asked × Rose before.faults after.faults
+IsCause asked before after Write = ⊥
+IsCause asked before after InputLimit = Says asked before.left InputLimit
+IsCause asked before after Memory = Unit {0}
+
+-- a command that is done, with the history of the share that it opened and its output
+abbrev pub IsDone : Option Command → InputSeen → InputSeen → Option (List Entry) → List ℕ → Type 0
+IsDone None before after history output = ⊥
+IsDone (Some (command.List query meta)) before after history output = IsListed query meta before after history output
+IsDone (Some (command.Show back)) before after history output = ⊥
+IsDone (Some command.Check) before after history output = ⊥
+IsDone (Some (command.Codes learn)) before after history output = ⊥
+
+-- words and input with which a command is done
+abbrev pub Gives : Option Command → List ℕ → Type 0
+Gives None input = ⊥
+Gives (Some (command.List query meta)) input = IsListable query meta input
+Gives (Some (command.Show back)) input = ⊥
+Gives (Some command.Check) input = ⊥
+Gives (Some (command.Codes learn)) input = ⊥
