@@ -1,11 +1,15 @@
 -- Words and input that are told decide how a command ends: they say one status, and no fault where the command is done.
-use Rattle.std.proofs.Common.{◌≡◌, ◌≢◌, ◌<◌, ℕ, List, Option, Some, None, IfSome, length, refl, sym, subst, ap, ◌∙◌, arith}
+use Rattle.std.proofs.Common.{◌≡◌, ◌≢◌, ◌<◌, ℕ, List, Option, Some, None, IfSome, length, ◌++◌, take, inl, inr, refl, sym, subst, ap, ◌∙◌, arith}
+use Rattle.std.specs.Io.KnownBytes.{Consumes, IsAtEnd}
+use Rattle.std.proofs.lemmas.List.{append-nil, take_all}
 use Rattle.daapshare_words.specs.declared.words.Command.{Command}
 use Rattle.daapshare_words.specs.declared.words.Command.TheVariants as command
 use Rattle.item_model.specs.declared.changes.Entry.{Entry}
 use Rattle.item_model.specs.declared.query.Query.{Query}
 use Rattle.item_model.specs.declared.refusal.QueryError.{QueryError}
 use Rattle.item_model.specs.declared.refusal.QueryError.TheVariants as query_error
+use Rattle.dmap_stream.specs.Walk.{between, inside, broken}
+use Rattle.dmap_stream.specs.declared.refusal.StreamError.{StreamError}
 use Rattle.records_import.specs.Table.{table_of}
 use Rattle.records_import.proofs.Once.{batch_once}
 use Rattle.song_query.proofs.Once.{answers_once}
@@ -16,7 +20,9 @@ use Rattle.daapshare.specs.Faults.{fault_status}
 use Rattle.daapshare.specs.Seen.{InputSeen}
 use Rattle.daapshare.specs.Looks.{AsksQuery, IsAsked, HasRefusal, IsQueryRefused, IsMetaRefused, meta_asked}
 use Rattle.daapshare.specs.Lists.{ReadsAs, IsRefused, IsListed, IsListable, ListSays}
+use Rattle.daapshare.specs.Checks.{walked, IsSound, IsTooLong, HasTagFault, CheckSays}
 use Rattle.daapshare.specs.Commands.{Says, Gives, IsDone, IsUsage}
+use Rattle.daapshare.specs.declared.check.TheConstants.{TAGS_LIMIT}
 
 -- a text that is read is not refused
 read_or_refused : (text : Option (List ℕ)) (asked : Option Query) (error : QueryError) → error ≢ query_error.Memory → AsksQuery text asked → HasRefusal text error → ⊥
@@ -38,6 +44,7 @@ long_only query meta input fault.Words asked long says = absurd says
 long_only query meta input (fault.Query error) asked long says = absurd (query_is_read query meta error asked says)
 long_only query meta input fault.Meta asked long says = absurd (meta_is_read query meta asked says)
 long_only query meta input (fault.Records error) asked long says = let within = says.1.within in absurd (omega arith)
+long_only query meta input (fault.Tags error) asked long says = absurd says
 long_only query meta input fault.Read asked long says = absurd says
 long_only query meta input fault.Write asked long says = absurd says
 long_only query meta input fault.InputLimit asked long says = refl
@@ -49,6 +56,7 @@ refused_status query meta input f fault.Words s f_says g_says = absurd g_says
 refused_status query meta input f (fault.Query error) s f_says g_says = s
 refused_status query meta input f fault.Meta s f_says g_says = s
 refused_status query meta input f (fault.Records error) s f_says g_says = s
+refused_status query meta input f (fault.Tags error) s f_says g_says = absurd g_says
 refused_status query meta input f fault.Read s f_says g_says = absurd g_says
 refused_status query meta input f fault.Write s f_says g_says = absurd g_says
 refused_status query meta input f fault.InputLimit s f_says g_says = long_only query meta input f g_says.0 g_says.1 f_says
@@ -57,6 +65,7 @@ refused_status query meta input f fault.Memory s f_says g_says = absurd g_says
 list_status : (query meta : Option (List ℕ)) (input : List ℕ) (f g : Fault) → ListSays query meta (Some input) f → ListSays query meta (Some input) g
     → fault_status f ≡ fault_status g
 list_status query meta input fault.Words g f_says g_says = absurd f_says
+list_status query meta input (fault.Tags error) g f_says g_says = absurd f_says
 list_status query meta input fault.Read g f_says g_says = absurd f_says
 list_status query meta input fault.Write g f_says g_says = absurd f_says
 list_status query meta input fault.Memory g f_says g_says = absurd f_says
@@ -66,28 +75,69 @@ list_status query meta input fault.Meta g f_says g_says = refused_status query m
 list_status query meta input (fault.Records error) g f_says g_says = refused_status query meta input (fault.Records error) g refl f_says g_says
 
 usage_status : (f g : Fault) → IsUsage f → IsUsage g → fault_status f ≡ fault_status g
-usage_status fault.Words fault.Words f_says g_says = refl
-usage_status fault.Words (fault.Query error) f_says g_says = absurd g_says
-usage_status fault.Words fault.Meta f_says g_says = absurd g_says
-usage_status fault.Words (fault.Records error) f_says g_says = absurd g_says
-usage_status fault.Words fault.Read f_says g_says = absurd g_says
-usage_status fault.Words fault.Write f_says g_says = absurd g_says
-usage_status fault.Words fault.InputLimit f_says g_says = absurd g_says
-usage_status fault.Words fault.Memory f_says g_says = absurd g_says
-usage_status (fault.Query error) g f_says g_says = absurd f_says
-usage_status fault.Meta g f_says g_says = absurd f_says
-usage_status (fault.Records error) g f_says g_says = absurd f_says
-usage_status fault.Read g f_says g_says = absurd f_says
-usage_status fault.Write g f_says g_says = absurd f_says
-usage_status fault.InputLimit g f_says g_says = absurd f_says
-usage_status fault.Memory g f_says g_says = absurd f_says
+usage_status f g f_says g_says = ap fault_status (f_says ∙ sym g_says)
+
+-- bytes that are too long have no faulty place in those that are read
+long_or_faulty : (input : List ℕ) (error : StreamError) → HasTagFault error input → IsTooLong input → ⊥
+long_or_faulty input error faulty too_long = elim faulty.shown [
+  | inl shown ↦ too_long.sound error shown
+  | inr cut ↦ let within = cut.within in let long = too_long.long in absurd (omega arith)
+]
+
+check_status : (input : List ℕ) (f g : Fault) → CheckSays (Some input) f → CheckSays (Some input) g → fault_status f ≡ fault_status g
+check_status input (fault.Tags error) g f_says g_says = tags_status input error g f_says g_says
+  where
+    tags_status : (input : List ℕ) (error : StreamError) (g : Fault) → HasTagFault error input → CheckSays (Some input) g → 3 ≡ fault_status g
+    tags_status input error fault.Words f_says g_says = absurd g_says
+    tags_status input error (fault.Query e) f_says g_says = absurd g_says
+    tags_status input error fault.Meta f_says g_says = absurd g_says
+    tags_status input error (fault.Records e) f_says g_says = absurd g_says
+    tags_status input error (fault.Tags e) f_says g_says = refl
+    tags_status input error fault.Read f_says g_says = absurd g_says
+    tags_status input error fault.Write f_says g_says = absurd g_says
+    tags_status input error fault.InputLimit f_says g_says = absurd (long_or_faulty input error f_says g_says)
+    tags_status input error fault.Memory f_says g_says = absurd g_says
+check_status input fault.InputLimit g f_says g_says = long_status input g f_says g_says
+  where
+    long_status : (input : List ℕ) (g : Fault) → IsTooLong input → CheckSays (Some input) g → 8 ≡ fault_status g
+    long_status input fault.Words f_says g_says = absurd g_says
+    long_status input (fault.Query e) f_says g_says = absurd g_says
+    long_status input fault.Meta f_says g_says = absurd g_says
+    long_status input (fault.Records e) f_says g_says = absurd g_says
+    long_status input (fault.Tags e) f_says g_says = absurd (long_or_faulty input e g_says f_says)
+    long_status input fault.Read f_says g_says = absurd g_says
+    long_status input fault.Write f_says g_says = absurd g_says
+    long_status input fault.InputLimit f_says g_says = refl
+    long_status input fault.Memory f_says g_says = absurd g_says
+check_status input fault.Words g f_says g_says = absurd f_says
+check_status input (fault.Query error) g f_says g_says = absurd f_says
+check_status input fault.Meta g f_says g_says = absurd f_says
+check_status input (fault.Records error) g f_says g_says = absurd f_says
+check_status input fault.Read g f_says g_says = absurd f_says
+check_status input fault.Write g f_says g_says = absurd f_says
+check_status input fault.Memory g f_says g_says = absurd f_says
+
+-- whole top tags have no fault
+sound_or_faulty : (input : List ℕ) (f : Fault) → IsSound input → CheckSays (Some input) f → ⊥
+sound_or_faulty input fault.Words sound says = says
+sound_or_faulty input (fault.Query error) sound says = says
+sound_or_faulty input fault.Meta sound says = says
+sound_or_faulty input (fault.Records error) sound says = says
+sound_or_faulty input (fault.Tags error) sound says = elim says.shown [
+  | inl shown ↦ let ending : between ≡ broken error = sym sound.1 ∙ ap (λ bytes. (walked bytes).ending) (sym (take_all TAGS_LIMIT input sound.0)) ∙ shown in absurd (cc)
+  | inr cut ↦ let ending : between ≡ inside = sym sound.1 ∙ cut.ending in absurd (cc)
+]
+sound_or_faulty input fault.Read sound says = says
+sound_or_faulty input fault.Write sound says = says
+sound_or_faulty input fault.InputLimit sound says = let within = sound.0 in let long = says.long in absurd (omega arith)
+sound_or_faulty input fault.Memory sound says = says
 
 -- two faults that are said have one status
 pub one_status : (asked : Option Command) (input : List ℕ) (f g : Fault) → Says asked (Some input) f → Says asked (Some input) g → fault_status f ≡ fault_status g
 one_status None input f g f_says g_says = usage_status f g f_says g_says
 one_status (Some (command.List query meta)) input f g f_says g_says = list_status query meta input f g f_says g_says
 one_status (Some (command.Show back)) input f g f_says g_says = usage_status f g f_says g_says
-one_status (Some command.Check) input f g f_says g_says = usage_status f g f_says g_says
+one_status (Some command.Check) input f g f_says g_says = check_status input f g f_says g_says
 one_status (Some (command.Codes learn)) input f g f_says g_says = usage_status f g f_says g_says
 
 listed_or_refused : (query meta : Option (List ℕ)) (input : List ℕ) (f : Fault) → IsListable query meta input → ListSays query meta (Some input) f → ⊥
@@ -96,6 +146,7 @@ listed_or_refused query meta input (fault.Query error) listable says = query_is_
 listed_or_refused query meta input fault.Meta listable says = meta_is_read query meta listable.asked says
 listed_or_refused query meta input (fault.Records error) listable says =
     batch_once (table_of input) listable.edits error says.1.cause listable.read.read says.1.refused
+listed_or_refused query meta input (fault.Tags error) listable says = says
 listed_or_refused query meta input fault.Read listable says = says
 listed_or_refused query meta input fault.Write listable says = says
 listed_or_refused query meta input fault.InputLimit listable says = let within = listable.read.within in let long = says.1 in absurd (omega arith)
@@ -106,8 +157,16 @@ pub is_refused_or_given : (asked : Option Command) (input : List ℕ) (f : Fault
 is_refused_or_given None input f says gives = gives
 is_refused_or_given (Some (command.List query meta)) input f says gives = listed_or_refused query meta input f gives says
 is_refused_or_given (Some (command.Show back)) input f says gives = gives
-is_refused_or_given (Some command.Check) input f says gives = gives
+is_refused_or_given (Some command.Check) input f says gives = sound_or_faulty input f gives says
 is_refused_or_given (Some (command.Codes learn)) input f says gives = gives
+
+-- what was read up to the end is the whole input
+all_read : (input bytes : List ℕ) (after : Option (List ℕ)) → Consumes (Some input) after bytes → IsAtEnd after → input ≡ bytes
+all_read input bytes None read end = absurd read
+all_read input bytes (Some rest) read end = read ∙ ap (λ l. bytes ++ l) end ∙ append-nil bytes
+
+read_whole : (input : List ℕ) (before after : Option (List ℕ)) (bytes : List ℕ) → before ≡ Some input → Consumes before after bytes → IsAtEnd after → input ≡ bytes
+read_whole input before after bytes told read end = all_read input bytes after (subst (λ left. Consumes left after bytes) told read) end
 
 -- a command that was done is one that words and input are done with
 pub given : (asked : Option Command) (input : List ℕ) (before after : InputSeen) (history : Option (List Entry)) (output : List ℕ) → before.left ≡ Some input
@@ -119,5 +178,5 @@ given (Some (command.List query meta)) input before after history output told do
   read = subst (λ left. IfSome left (ReadsAs done.edits)) told done.read;
 }
 given (Some (command.Show back)) input before after history output told done = done
-given (Some command.Check) input before after history output told done = done
+given (Some command.Check) input before after history output told done = subst IsSound (sym (read_whole input before.left after.left done.bytes told done.read done.end)) done.sound
 given (Some (command.Codes learn)) input before after history output told done = done

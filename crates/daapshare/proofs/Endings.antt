@@ -4,7 +4,7 @@ use Rattle.daap_outside.specs.Counts.{Rose}
 use Rattle.daapshare_words.specs.declared.words.Command.{Command}
 use Rattle.item_model.specs.declared.changes.Entry.{Entry}
 use Rattle.daapshare.specs.declared.fault.Fault.{Fault}
-use Rattle.daapshare.specs.declared.fault.Fault.TheVariants.{Words, Query, Meta, Records, Read, Write, InputLimit, Memory}
+use Rattle.daapshare.specs.declared.fault.Fault.TheVariants.{Words, Query, Meta, Records, Tags, Read, Write, InputLimit, Memory}
 use Rattle.daapshare.specs.Faults.{fault_line, fault_status}
 use Rattle.daapshare.specs.Seen.{InputSeen}
 use Rattle.daapshare.specs.Commands.{Says, Gives, IsDone, IsCause}
@@ -35,6 +35,7 @@ said command input before after Words told steady cause = inr (subst (λ left. S
 said command input before after (Query error) told steady cause = inr (subst (λ left. Says command left (Query error)) told cause.0)
 said command input before after Meta told steady cause = inr (subst (λ left. Says command left Meta) told cause.0)
 said command input before after (Records error) told steady cause = inr (subst (λ left. Says command left (Records error)) told cause)
+said command input before after (Tags error) told steady cause = inr (subst (λ left. Says command left (Tags error)) told cause)
 said command input before after Read told steady cause = absurd (steady cause.1)
 said command input before after Write told steady cause = absurd cause
 said command input before after InputLimit told steady cause = inr (subst (λ left. Says command left InputLimit) told cause)

@@ -1,4 +1,6 @@
 pub mod Changes
 pub mod Listed
+pub mod Counting
+pub mod Counted
 pub mod Agreed
 pub mod Endings

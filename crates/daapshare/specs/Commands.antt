@@ -5,28 +5,22 @@ use Rattle.daapshare_words.specs.declared.words.Command.{Command}
 use Rattle.daapshare_words.specs.declared.words.Command.TheVariants as command
 use Rattle.item_model.specs.declared.changes.Entry.{Entry}
 use Rattle.daapshare.specs.declared.fault.Fault.{Fault}
-use Rattle.daapshare.specs.declared.fault.Fault.TheVariants.{Words, Query, Meta, Records, Read, Write, InputLimit, Memory}
+use Rattle.daapshare.specs.declared.fault.Fault.TheVariants.{Words, Query, Meta, Records, Tags, Read, Write, InputLimit, Memory}
 use Rattle.daapshare.specs.Seen.{InputSeen, IsUnread}
 use Rattle.daapshare.specs.Looks.{IsAsked}
 use Rattle.daapshare.specs.Lists.{IsListed, IsListable, ListSays}
+use Rattle.daapshare.specs.Checks.{IsSound, IsChecked, CheckSays}
 
 -- the fault of words that are no command's
 abbrev pub IsUsage : Fault → Type 0
-IsUsage Words = Unit {0}
-IsUsage (Query error) = ⊥
-IsUsage Meta = ⊥
-IsUsage (Records error) = ⊥
-IsUsage Read = ⊥
-IsUsage Write = ⊥
-IsUsage InputLimit = ⊥
-IsUsage Memory = ⊥
+IsUsage fault = fault ≡ Words
 
--- the fault of the words, or of the input where it is told. Today `list` alone is done.
+-- the fault of the words, or of the input where it is told. Today `list` and `check` are done.
 abbrev pub Says : Option Command → Option (List ℕ) → Fault → Type 0
 Says None left fault = IsUsage fault
 Says (Some (command.List query meta)) left fault = ListSays query meta left fault
 Says (Some (command.Show back)) left fault = IsUsage fault
-Says (Some command.Check) left fault = IsUsage fault
+Says (Some command.Check) left fault = CheckSays left fault
 Says (Some (command.Codes learn)) left fault = IsUsage fault
 
 -- the command's words are in order, and it reads the input
@@ -34,7 +28,7 @@ abbrev pub ReadsInput : Option Command → Type 0
 ReadsInput None = ⊥
 ReadsInput (Some (command.List query meta)) = IsAsked query meta
 ReadsInput (Some (command.Show back)) = ⊥
-ReadsInput (Some command.Check) = ⊥
+ReadsInput (Some command.Check) = Unit {0}
 ReadsInput (Some (command.Codes learn)) = ⊥
 
 -- what has to hold where a command ends by a fault: a fault of the words comes before the input is read, and want of
@@ -44,6 +38,7 @@ IsCause asked before after Words = Says asked before.left Words × IsUnread befo
 IsCause asked before after (Query error) = Says asked before.left (Query error) × IsUnread before after
 IsCause asked before after Meta = Says asked before.left Meta × IsUnread before after
 IsCause asked before after (Records error) = Says asked before.left (Records error)
+IsCause asked before after (Tags error) = Says asked before.left (Tags error)
 IsCause asked before after Read = ReadsInput asked × Rose before.faults after.faults
 IsCause asked before after Write = ⊥
 IsCause asked before after InputLimit = Says asked before.left InputLimit
@@ -54,7 +49,7 @@ abbrev pub IsDone : Option Command → InputSeen → InputSeen → Option (List 
 IsDone None before after history output = ⊥
 IsDone (Some (command.List query meta)) before after history output = IsListed query meta before after history output
 IsDone (Some (command.Show back)) before after history output = ⊥
-IsDone (Some command.Check) before after history output = ⊥
+IsDone (Some command.Check) before after history output = IsChecked before after history output
 IsDone (Some (command.Codes learn)) before after history output = ⊥
 
 -- words and input with which a command is done
@@ -62,5 +57,5 @@ abbrev pub Gives : Option Command → List ℕ → Type 0
 Gives None input = ⊥
 Gives (Some (command.List query meta)) input = IsListable query meta input
 Gives (Some (command.Show back)) input = ⊥
-Gives (Some command.Check) input = ⊥
+Gives (Some command.Check) input = IsSound input
 Gives (Some (command.Codes learn)) input = ⊥

@@ -10,12 +10,14 @@ use Rattle.records_import.specs.declared.refusal.RecordError.{RecordError}
 use Rattle.records_import.specs.declared.refusal.RecordError.TheVariants as records
 use Rattle.item_model.specs.declared.names.MetaError.{MetaError}
 use Rattle.item_model.specs.declared.names.MetaError.TheVariants as meta
+use Rattle.dmap_stream.specs.declared.refusal.StreamError.{StreamError}
+use Rattle.dmap_stream.specs.declared.refusal.StreamError.TheVariants as stream
 use Rattle.daapshare_words.specs.declared.words.WordsError.{WordsError}
 use Rattle.daapshare_words.specs.declared.words.WordsError.TheVariants as words
 use Rattle.daap_outside.specs.declared.reading.ReadError.{ReadError}
 use Rattle.daap_outside.specs.declared.reading.ReadError.TheVariants as reads
 use Rattle.daapshare.specs.declared.fault.Fault.{Fault}
-use Rattle.daapshare.specs.declared.fault.Fault.TheVariants.{Words, Query, Meta, Records, Read, Write, InputLimit, Memory}
+use Rattle.daapshare.specs.declared.fault.Fault.TheVariants.{Words, Query, Meta, Records, Tags, Read, Write, InputLimit, Memory}
 use Rattle.daapshare.specs.declared.fault.TheConstants.{USAGE}
 
 abbrev pub query_why_text : QueryWhy → List ℕ
@@ -46,12 +48,21 @@ records_text (records.Length row) = codes "records: record " ++ decimal row ++ c
 records_text (records.TooMany row) = codes "records: record " ++ decimal row ++ codes " too many"
 records_text records.Memory = codes "memory"
 
+abbrev pub tags_text : StreamError → List ℕ
+tags_text (stream.TooLarge at) = codes "tags: too large at " ++ decimal at
+tags_text (stream.TooDeep at) = codes "tags: too deep at " ++ decimal at
+tags_text (stream.Overrun at code) = codes "tags: overrun at " ++ decimal at
+tags_text (stream.ShortHead at) = codes "tags: short head at " ++ decimal at
+tags_text (stream.Truncated at) = codes "tags: truncated at " ++ decimal at
+tags_text stream.Memory = codes "memory"
+
 -- what is written for a fault: nothing where the output itself failed
 abbrev pub fault_line : Fault → List ℕ
 fault_line Words = USAGE.now
 fault_line (Query error) = query_text error ++ 10 ∷ []
 fault_line Meta = codes "meta: too many names" ++ 10 ∷ []
 fault_line (Records error) = records_text error ++ 10 ∷ []
+fault_line (Tags error) = tags_text error ++ 10 ∷ []
 fault_line Read = codes "read failed" ++ 10 ∷ []
 fault_line Write = []
 fault_line InputLimit = codes "limit: input" ++ 10 ∷ []
@@ -62,6 +73,7 @@ fault_status Words = 2
 fault_status (Query error) = 3
 fault_status Meta = 3
 fault_status (Records error) = 3
+fault_status (Tags error) = 3
 fault_status Read = 4
 fault_status Write = 5
 fault_status InputLimit = 8
@@ -97,3 +109,12 @@ record_fault (records.Field row column reason) = Records (records.Field row colu
 record_fault (records.Length row) = Records (records.Length row)
 record_fault (records.TooMany row) = Records (records.TooMany row)
 record_fault records.Memory = Memory
+
+-- that a refusal of tags is
+abbrev pub tags_fault : StreamError → Fault
+tags_fault (stream.TooLarge at) = Tags (stream.TooLarge at)
+tags_fault (stream.TooDeep at) = Tags (stream.TooDeep at)
+tags_fault (stream.Overrun at code) = Tags (stream.Overrun at code)
+tags_fault (stream.ShortHead at) = Tags (stream.ShortHead at)
+tags_fault (stream.Truncated at) = Tags (stream.Truncated at)
+tags_fault stream.Memory = Memory

@@ -5,5 +5,7 @@ pub mod Looks
 pub mod LookFaults
 pub mod Seen
 pub mod Lists
+pub mod Checks
 pub mod Commands
+pub mod Counting
 pub mod Runs

@@ -10,7 +10,7 @@ use Rattle.records_import.specs.Records.{BatchReads}
 use Rattle.records_import.specs.declared.refusal.RecordError.{RecordError}
 use Rattle.records_import.specs.declared.refusal.RecordError.TheVariants as records
 use Rattle.daapshare.specs.declared.fault.Fault.{Fault}
-use Rattle.daapshare.specs.declared.fault.Fault.TheVariants.{Words, Query, Meta, Records, Read, Write, InputLimit, Memory}
+use Rattle.daapshare.specs.declared.fault.Fault.TheVariants.{Words, Query, Meta, Records, Tags, Read, Write, InputLimit, Memory}
 use Rattle.daapshare.specs.declared.list.TheConstants.{RECORDS_LIMIT}
 use Rattle.daapshare.specs.Seen.{InputSeen}
 use Rattle.daapshare.specs.Looks.{AsksLook, IsAsked, IsQueryRefused, IsMetaRefused}
@@ -52,6 +52,7 @@ ListSays query meta left Words = ⊥
 ListSays query meta left (Query error) = IsQueryRefused query error
 ListSays query meta left Meta = IsMetaRefused query meta
 ListSays query meta left (Records error) = IsAsked query meta × IfSome left (IsRefused error)
+ListSays query meta left (Tags error) = ⊥
 ListSays query meta left Read = ⊥
 ListSays query meta left Write = ⊥
 ListSays query meta left InputLimit = IsAsked query meta × IfSome left (λ input. RECORDS_LIMIT < length input)

@@ -3,6 +3,7 @@
 ghost use Rattle.std.specs.Prelude.{Some, IfOk, IfErr};
 ghost use Rattle.daapshare.specs.Commands.{IsDone, IsCause};
 
+use crate::check::checked;
 use crate::fault::Fault;
 use crate::list::opened;
 use daap_outside::Source;
@@ -36,6 +37,10 @@ pub fn answered<I: Source>(alloc: Global, command: &Command, input: &mut I) -> R
                 output: opened.listing,
             })
         }
-        Command::Show { .. } | Command::Check | Command::Codes { .. } => Err(Fault::Words),
+        Command::Check => Ok(Answer {
+            history: None,
+            output: checked(alloc, input)?,
+        }),
+        Command::Show { .. } | Command::Codes { .. } => Err(Fault::Words),
     }
 }

@@ -1,10 +1,11 @@
 //! Why a command did not do its work: the line that the user sees, and the status.
 
 ghost use Rattle.std.specs.Prelude.{◌≡◌, ◌++◌, ◌∷◌, [], IfOk, OnOk, decimal};
-ghost use Rattle.daapshare.specs.Faults.{query_text, query_why_text, record_why_text, records_text, fault_line, fault_status};
+ghost use Rattle.daapshare.specs.Faults.{query_text, query_why_text, record_why_text, records_text, tags_text, fault_line, fault_status};
 
-use daap_outside::ReadError;
+use daap_outside::{Failed, ReadError};
 use daapshare_words::WordsError;
+use dmap_stream::StreamError;
 use item_model::{MetaError, QueryError, QueryWhy, RecordWhy};
 use itoa::Buffer;
 use records_import::RecordError;
@@ -34,6 +35,8 @@ pub enum Fault {
     Meta,
     /// The records don't read as a batch.
     Records(RecordError),
+    /// The input's bytes are no tags.
+    Tags(StreamError),
     /// The input could not be read.
     Read,
     /// The output took no more.
@@ -106,6 +109,29 @@ impl From<ReadError> for Fault {
     }
 }
 
+impl From<Failed> for Fault {
+    ghost use Rattle.daapshare.specs.declared.fault.Fault.TheVariants.{Read as read};
+
+    ghost from_gives = { λ _ f. f ≡ read };
+
+    fn from(_fault: Failed) -> Fault {
+        Fault::Read
+    }
+}
+
+impl From<StreamError> for Fault {
+    ghost use Rattle.daapshare.specs.Faults.{tags_fault};
+
+    ghost from_gives = { λ e f. f ≡ tags_fault e };
+
+    fn from(error: StreamError) -> Fault {
+        match error {
+            StreamError::Memory => Fault::Memory,
+            refusal => Fault::Tags(refusal),
+        }
+    }
+}
+
 impl From<RecordError> for Fault {
     ghost use Rattle.daapshare.specs.Faults.{record_fault};
 
@@ -126,7 +152,7 @@ impl Fault {
     {
         match self {
             Fault::Words => 2,
-            Fault::Query(_) | Fault::Meta | Fault::Records(_) => 3,
+            Fault::Query(_) | Fault::Meta | Fault::Records(_) | Fault::Tags(_) => 3,
             Fault::Read => 4,
             Fault::Write => 5,
             Fault::InputLimit => 8,
@@ -143,6 +169,7 @@ impl Fault {
             Fault::Query(error) => query_line(alloc, error),
             Fault::Meta => Vec::from_slice(alloc, b"meta: too many names\n"),
             Fault::Records(error) => records_line(alloc, error),
+            Fault::Tags(error) => tags_line(alloc, error),
             Fault::Read => Vec::from_slice(alloc, b"read failed\n"),
             Fault::Write => Ok(Vec::new(alloc)),
             Fault::InputLimit => Vec::from_slice(alloc, b"limit: input\n"),
@@ -167,6 +194,28 @@ fn records_line(alloc: Global, error: &RecordError) -> Result<Vec<u8>, AllocErro
     push_records(&mut line, error)?;
     line.push(b'\n')?;
     Ok(line)
+}
+
+fn tags_line(alloc: Global, error: &StreamError) -> Result<Vec<u8>, AllocError>
+    ensures { IfOk result (λ line. line.items ≡ tags_text error.now ++ 10 ∷ []) }
+{
+    let mut line = Vec::new(alloc);
+    push_tags(&mut line, error)?;
+    line.push(b'\n')?;
+    Ok(line)
+}
+
+fn push_tags(line: &mut Vec<u8>, error: &StreamError) -> Result<(), AllocError>
+    ensures { OnOk result (line.new.items ≡ line.old.items ++ tags_text error.now) }
+{
+    match error {
+        StreamError::TooLarge { at } => push_place(line, b"tags: too large at ", *at),
+        StreamError::TooDeep { at } => push_place(line, b"tags: too deep at ", *at),
+        StreamError::Overrun { at, .. } => push_place(line, b"tags: overrun at ", *at),
+        StreamError::ShortHead { at } => push_place(line, b"tags: short head at ", *at),
+        StreamError::Truncated { at } => push_place(line, b"tags: truncated at ", *at),
+        StreamError::Memory => line.extend_from_slice(b"memory"),
+    }
 }
 
 fn push_records(line: &mut Vec<u8>, error: &RecordError) -> Result<(), AllocError>
@@ -231,7 +280,7 @@ fn query_why(why: QueryWhy) -> &'static [u8]
 }
 
 /// Adds words and a number behind them.
-fn push_place(line: &mut Vec<u8>, words: &[u8], place: u64) -> Result<(), AllocError>
+pub fn push_place(line: &mut Vec<u8>, words: &[u8], place: u64) -> Result<(), AllocError>
     ensures { OnOk result (line.new.items ≡ line.old.items ++ (words.now ++ decimal place)) }
 {
     line.extend_from_slice(words)?;

@@ -3,6 +3,7 @@
 #![tactic(auto)]
 
 mod answer;
+mod check;
 mod fault;
 mod library;
 mod list;
@@ -11,6 +12,7 @@ mod look;
 mod run;
 #[cfg(test)]
 mod tests;
+mod tops;
 
 use crate::fault::Fault;
 use crate::run::{Outcome, refused, run};

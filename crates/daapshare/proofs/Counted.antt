@@ -1,0 +1,197 @@
+-- What a counter has counted, before and after a call.
+use Rattle.std.proofs.Common.{◌≡◌, ◌≢◌, ◌⊎◌, inl, inr, ℕ, ◌+◌, ◌-◌, ◌<◌, ◌≤◌, ◌^◌, List, [], ◌∷◌, ◌++◌, length, take, drop, fold, Bool, true, false, if◌then◌else◌, Option, Some, None, Result, Ok, Err, IfSome, MatchResult, refl, sym, ap, subst, ◌∙◌, arith, length-append, append_assoc}
+use Rattle.std.specs.Io.KnownBytes.{Consumes, IsAtEnd}
+use Rattle.std.proofs.lemmas.List.{append-nil, take-append-le, take_at}
+use Rattle.std.proofs.Math.Seq.{take-append-add}
+use Rattle.code_table.specs.Standard.{standard_rows}
+use Rattle.daapshare_words.specs.declared.words.Command.TheVariants as command
+use Rattle.dmap_stream.specs.declared.event.Event.{Event}
+use Rattle.dmap_stream.specs.declared.refusal.StreamError.{StreamError}
+use Rattle.dmap_stream.specs.declared.refusal.StreamError.TheVariants as stream
+use Rattle.dmap_stream.specs.Walk.{Walk, Ending, between, inside, broken, walk_of}
+use Rattle.dmap_stream.specs.Reading.{is_between}
+use Rattle.dmap_stream.specs.Reader.{Reader, ready, taken, ReadAs, HasRead, TellsAs}
+use Rattle.dmap_stream.proofs.Readings.{told, count_told}
+use Rattle.daapshare.specs.declared.check.TheConstants.{TAGS_LIMIT, TAG_LIMIT}
+use Rattle.daapshare.specs.declared.check.Counter.{Counter}
+use Rattle.daapshare.specs.declared.fault.Fault.{Fault}
+use Rattle.daapshare.specs.declared.fault.Fault.TheVariants.{Words, Query, Meta, Records, Tags, Read, Write, InputLimit, Memory}
+use Rattle.daapshare.specs.declared.tops.Tops.{Tops}
+use Rattle.daapshare.specs.Faults.{tags_fault}
+use Rattle.daapshare.specs.Seen.{InputSeen}
+use Rattle.daapshare.specs.Checks.{walked, after_event, no_tops, top_tags, IsSound, IsTooLong, IsCutShort, HasTagFault, CheckSays}
+use Rattle.daapshare.specs.Commands.{IsCause}
+use Rattle.daapshare.specs.Counting.{HasCounted, IsCounted, IsShown, StopsAt, Ends}
+use Rattle.daapshare.proofs.Counting.{total, few_tops, counted_more, takes_some}
+
+pub none_left : (bytes : List ℕ) → length bytes ≡ 0 → bytes ≡ []
+none_left [] h = refl
+none_left (b ∷ bytes) h = absurd (cc)
+
+-- the counts are far below the end of their type
+pub few_counted_tops : (fed : List ℕ) (r : Reader) (tops : Tops) → HasCounted fed r tops → length fed ≤ TAGS_LIMIT → tops.depth + tops.ended < 9223372036854775808
+few_counted_tops fed r tops h few = omega (arith, few_tops fed h.handed r h.read, ap total h.counted)
+
+-- one event more is handed out and counted
+pub counted_next : (fed : List ℕ) (old new : Reader) (tops tops_new : Tops) (event : Event) → HasCounted fed old tops
+    → (new.rows ≡ old.rows) × (new.limit ≡ old.limit) → new.error ≡ old.error
+    → ((bytes : List ℕ) (handed : List Event) → HasRead bytes handed old → HasRead bytes (handed ++ event ∷ []) new)
+    → tops_new ≡ after_event tops event → HasCounted fed new tops_new
+counted_next fed old new tops tops_new event h same error read is = record {
+  handed = h.handed ++ event ∷ [];
+  read = read fed h.handed h.read;
+  going = error ∙ h.going;
+  rows = same.0 ∙ h.rows;
+  limit = same.1 ∙ h.limit;
+  counted = is ∙ ap (λ t. after_event t event) h.counted ∙ sym (counted_more h.handed no_tops event);
+}
+
+-- more bytes are fed, and nothing is handed out
+pub counted_fed : (fed more bytes : List ℕ) (old new : Reader) (tops : Tops) → HasCounted fed old tops
+    → (new.rows ≡ old.rows) × (new.limit ≡ old.limit) → new.error ≡ None
+    → ((bytes : List ℕ) (handed : List Event) → HasRead bytes handed old → HasRead (bytes ++ more) handed new)
+    → fed ++ more ≡ bytes → HasCounted bytes new tops
+counted_fed fed more bytes old new tops h same going read is = record {
+  handed = h.handed;
+  read = subst (λ l. HasRead l h.handed new) is (read fed h.handed h.read);
+  going = going;
+  rows = same.0 ∙ h.rows;
+  limit = same.1 ∙ h.limit;
+  counted = h.counted;
+}
+
+-- how many bytes the reader took
+pub counted_taken : (fed : List ℕ) (r : Reader) (tops : Tops) → HasCounted fed r tops → taken r ≡ length fed
+counted_taken fed r tops h = count_told fed h.handed r h.read h.going
+
+-- a call of the reader takes a byte where nothing is ready
+pub counted_takes : (fed piece : List ℕ) (old new : Reader) (tops : Tops) (n : ℕ) → HasCounted fed old tops → ready old ≡ []
+    → (new.rows ≡ old.rows) × (new.limit ≡ old.limit) → new.error ≡ None
+    → ((bytes : List ℕ) (handed : List Event) → HasRead bytes handed old → HasRead (bytes ++ take n piece) handed new)
+    → (n < length piece → ready new ≢ []) → 0 < length piece → 0 < n
+counted_takes fed piece old new tops n h quiet same going read more some =
+    takes_some fed piece h.handed old new n h.read h.going quiet (read fed h.handed h.read) going same.0 same.1 more some
+
+walked_by : (bytes : List ℕ) (r : Reader) → r.rows ≡ standard_rows → r.limit ≡ TAG_LIMIT → walk_of r.rows r.limit bytes ≡ walked bytes
+walked_by bytes r rows limit = ap (λ rs. walk_of rs r.limit bytes) rows ∙ ap (λ l. walk_of standard_rows l bytes) limit
+
+-- a refusal is that of all bytes that begin with those that were fed
+pub shown : (fed piece bytes : List ℕ) (old new : Reader) (tops : Tops) (e : StreamError) → HasCounted fed old tops
+    → (new.rows ≡ old.rows) × (new.limit ≡ old.limit) → new.error ≡ Some e
+    → ((bytes : List ℕ) (handed : List Event) → HasRead bytes handed old → HasRead (bytes ++ piece) handed new)
+    → fed ++ piece ≡ bytes → IsShown bytes e
+shown fed piece bytes old new tops e h same stopped read is known rest =
+    let has : HasRead bytes h.handed new = subst (λ l. HasRead l h.handed new) is (read fed h.handed h.read) in
+    ap (λ w. w.ending)
+    (sym (walked_by (bytes ++ rest) new (same.0 ∙ h.rows) (same.1 ∙ h.limit)) ∙ (subst (ReadAs bytes h.handed new) stopped has).1 known rest)
+
+unbroken_end : (b : Bool) (e : StreamError) → (if b then between else inside) ≢ broken e
+unbroken_end true e h = absurd (cc)
+unbroken_end false e h = absurd (cc)
+
+told_as : (fed : List ℕ) (r : Reader) (tops : Tops) (h : HasCounted fed r tops) → TellsAs fed h.handed r None
+told_as fed r tops h = subst (TellsAs fed h.handed r) h.going (told fed h.handed r h.read)
+
+pub unbroken : (fed : List ℕ) (r : Reader) (tops : Tops) (e : StreamError) → HasCounted fed r tops → (walked fed).ending ≢ broken e
+unbroken fed r tops e h is =
+    unbroken_end (is_between r.position) e
+    (sym (ap (λ w. w.ending) (told_as fed r tops h)) ∙ ap (λ w. w.ending) (walked_by fed r h.rows h.limit) ∙ is)
+
+tops_are : (fed : List ℕ) (r : Reader) (tops : Tops) → HasCounted fed r tops → ready r ≡ [] → tops.ended ≡ top_tags (walked fed).events
+tops_are fed r tops h quiet =
+    ap (λ t. t.ended) h.counted
+    ∙ ap (λ es. top_tags es)
+    (sym (ap (λ w. w.events) (told_as fed r tops h) ∙ ap (λ es. h.handed ++ es) quiet ∙ append-nil h.handed) ∙ ap (λ w. w.events) (walked_by fed r h.rows h.limit))
+
+-- the end of the bytes
+pub ended_ok : (fed : List ℕ) (r : Reader) (tops : Tops) → HasCounted fed r tops → ready r ≡ [] → (walk_of r.rows r.limit fed).ending ≡ between
+    → Ends fed (Ok tops.ended)
+ended_ok fed r tops h quiet is = (sym (ap (λ w. w.ending) (walked_by fed r h.rows h.limit)) ∙ is, tops_are fed r tops h quiet)
+
+pub ended_err : (fed : List ℕ) (r : Reader) (tops : Tops) (e : StreamError) → HasCounted fed r tops
+    → ((walk_of r.rows r.limit fed).ending ≡ inside) × (e ≡ stream.Truncated (length fed)) → Ends fed (Err e)
+ended_err fed r tops e h is = (sym (ap (λ w. w.ending) (walked_by fed r h.rows h.limit)) ∙ is.0, is.1)
+
+-- bytes within the limit stand whole in what is read of an input that begins with them
+within_limit : (bytes more : List ℕ) → length bytes ≤ TAGS_LIMIT → take TAGS_LIMIT (bytes ++ more) ≡ bytes ++ take (TAGS_LIMIT - length bytes) more
+within_limit bytes more within =
+    ap (λ n. take n (bytes ++ more)) (let long : TAGS_LIMIT ≡ length bytes + (TAGS_LIMIT - length bytes) = omega (arith, within) in long)
+    ∙ take-append-add bytes more (TAGS_LIMIT - length bytes)
+
+stops_by : (bytes : List ℕ) (e : StreamError) → (e ≢ stream.Memory → (rest : List ℕ) → (walked (take TAGS_LIMIT (bytes ++ rest))).ending ≡ broken e)
+    → StopsAt bytes (tags_fault e)
+stops_by bytes (stream.TooLarge at) h = ((λ is. absurd (cc)), h (λ is. absurd (cc)))
+stops_by bytes (stream.TooDeep at) h = ((λ is. absurd (cc)), h (λ is. absurd (cc)))
+stops_by bytes (stream.Overrun at code) h = ((λ is. absurd (cc)), h (λ is. absurd (cc)))
+stops_by bytes (stream.ShortHead at) h = ((λ is. absurd (cc)), h (λ is. absurd (cc)))
+stops_by bytes (stream.Truncated at) h = ((λ is. absurd (cc)), h (λ is. absurd (cc)))
+stops_by bytes stream.Memory h = tt
+
+-- a refusal of the bytes up to the limit, or of some of them
+pub stops : (fed front piece : List ℕ) (e : StreamError) → length (fed ++ front) ≤ TAGS_LIMIT → IsShown (fed ++ front) e
+    → ((more : List ℕ) × (piece ≡ front ++ more)) → StopsAt (fed ++ piece) (tags_fault e)
+stops fed front piece e within h split = stops_by (fed ++ piece) e (λ known rest.
+    ap (λ l. (walked (take TAGS_LIMIT l)).ending)
+    (append_assoc fed piece rest ∙ ap (λ l. fed ++ (l ++ rest)) split.1 ∙ ap (λ l. fed ++ l) (append_assoc front split.0 rest) ∙ sym (append_assoc fed front (split.0 ++ rest)))
+    ∙ ap (λ l. (walked l).ending) (within_limit (fed ++ front) (split.0 ++ rest) within)
+    ∙ h known (take (TAGS_LIMIT - length (fed ++ front)) (split.0 ++ rest)))
+
+-- more bytes than are read, in which no place is faulty
+pub too_long : (fed front behind piece : List ℕ) (r : Reader) (tops : Tops) → length (fed ++ front) ≡ TAGS_LIMIT → 0 < length behind → piece ≡ front ++ behind
+    → HasCounted (fed ++ front) r tops → IsTooLong (fed ++ piece)
+too_long fed front behind piece r tops full more split h =
+    let same : fed ++ piece ≡ (fed ++ front) ++ behind = ap (λ l. fed ++ l) split ∙ sym (append_assoc fed front behind) in
+    record {
+      long = omega (arith, ap length same, length-append (fed ++ front) behind);
+      sound = λ e is. unbroken (fed ++ front) r tops e h (ap (λ l. (walked l).ending) (sym (ap (take TAGS_LIMIT) same ∙ take_at (fed ++ front) behind TAGS_LIMIT full)) ∙ is);
+    }
+
+-- the fault of an input, from that of the bytes that were read of it
+tags_cause : (left after : Option (List ℕ)) (bytes : List ℕ) (e : StreamError) → Consumes left after bytes → StopsAt bytes (Tags e) → IfSome left (HasTagFault e)
+tags_cause None after bytes e read stop = tt
+tags_cause (Some input) None bytes e read stop = absurd read
+tags_cause (Some input) (Some rest) bytes e read stop =
+    record { cause = stop.0; shown = inl (ap (λ l. (walked (take TAGS_LIMIT l)).ending) read ∙ stop.1 rest) }
+
+limit_cause : (left after : Option (List ℕ)) (bytes : List ℕ) → Consumes left after bytes → IsTooLong bytes → IfSome left IsTooLong
+limit_cause None after bytes read long = tt
+limit_cause (Some input) None bytes read long = absurd read
+limit_cause (Some input) (Some rest) bytes read long = record {
+  long = let more = long.long in omega (arith, ap length read, length-append bytes rest);
+  sound = λ e is. long.sound e
+      (ap (λ l. (walked l).ending) (sym (ap (take TAGS_LIMIT) read ∙ take-append-le TAGS_LIMIT bytes rest (let more = long.long in omega arith))) ∙ is);
+}
+
+pub stopped_cause : (before after : InputSeen) (bytes : List ℕ) (fault : Fault) → Consumes before.left after.left bytes → StopsAt bytes fault
+    → IsCause (Some command.Check) before after fault
+stopped_cause before after bytes Words read stop = absurd stop
+stopped_cause before after bytes (Query error) read stop = absurd stop
+stopped_cause before after bytes Meta read stop = absurd stop
+stopped_cause before after bytes (Records error) read stop = absurd stop
+stopped_cause before after bytes (Tags error) read stop = tags_cause before.left after.left bytes error read stop
+stopped_cause before after bytes Read read stop = absurd stop
+stopped_cause before after bytes Write read stop = absurd stop
+stopped_cause before after bytes InputLimit read stop = limit_cause before.left after.left bytes read stop
+stopped_cause before after bytes Memory read stop = tt
+
+cut_as : (left after : Option (List ℕ)) (bytes : List ℕ) (n : ℕ) → n ≡ length bytes → Consumes left after bytes → IsAtEnd after → length bytes ≤ TAGS_LIMIT
+    → (walked bytes).ending ≡ inside → IfSome left (HasTagFault (stream.Truncated n))
+cut_as None after bytes n is read end within ending = tt
+cut_as (Some input) None bytes n is read end within ending = absurd read
+cut_as (Some input) (Some rest) bytes n is read end within ending =
+    let same : input ≡ bytes = read ∙ ap (λ l. bytes ++ l) end ∙ append-nil bytes in
+    record {
+      cause = λ h. absurd (cc);
+      shown = inr (record {
+        within = omega (arith, ap length same);
+        ending = ap (λ l. (walked l).ending) same ∙ ending;
+        told = ap (λ k. stream.Truncated k) (is ∙ sym (ap length same));
+      });
+    }
+
+-- bytes that end inside a top tag, at the end of the input
+pub cut_cause : (before after : InputSeen) (bytes : List ℕ) (e : StreamError) (fault : Fault) → Consumes before.left after.left bytes → IsAtEnd after.left
+    → length bytes ≤ TAGS_LIMIT → Ends bytes (Err e) → fault ≡ tags_fault e → IsCause (Some command.Check) before after fault
+cut_cause before after bytes e fault read end within ends is =
+    subst (IsCause (Some command.Check) before after) (sym (is ∙ ap tags_fault ends.1))
+    (cut_as before.left after.left bytes (length bytes) refl read end within ends.0)

@@ -1,0 +1,33 @@
+use Rattle.std.proofs.Common.{rules, ◌≡◌, ◌+◌, ◌≤◌, ◌<◌, ◌++◌, length, take, drop, min, sym, subst, ap, ◌∙◌, arith, length-append}
+use Rattle.std.proofs.lemmas.List.{take-append-drop}
+use Rattle.daapshare.specs.declared.check.TheConstants.{TAGS_LIMIT}
+use Rattle.daapshare.specs.Counting.{StopsAt}
+use Rattle.daapshare.proofs.Counted.{stops, too_long}
+use Rattle.daapshare.proofs.check.Counter.take.Goals as goal
+
+pub returns-in-Ok-2-clause-stopped : goal.returns-in-Ok-2-clause-stopped
+returns-in-Ok-2-clause-stopped c =
+    let piece = c.args.piece.now in
+    let front = c.split_at.result.0.now in
+    let behind = c.split_at.result.1.now in
+    let n = c.min.result in
+    let split : piece ≡ front ++ behind =
+    sym (take-append-drop n piece) ∙ ap (λ l. l ++ drop n piece) (sym c.split_at.ensures.front) ∙ ap (λ l. front ++ l) (sym c.split_at.ensures.back) in
+    let more : 0 < length behind = search rules in
+    λ fed h.
+    let full : length (fed ++ front) ≡ TAGS_LIMIT =
+    omega (arith, h.bytes, c.requires.1.bytes, c.requires.2, c.min.ensures, c.split_at.ensures.front_len, ap length split, length-append front behind, more, length-append fed front) in
+    too_long fed front behind piece c.feed.new.self.reader c.feed.new.self.tops full more split (c.in-Ok-2.ensures.fed fed h).counted
+
+pub returns-in-Err-clause-stopped : goal.returns-in-Err-clause-stopped
+returns-in-Err-clause-stopped c =
+    let piece = c.args.piece.now in
+    let front = c.split_at.result.0.now in
+    let behind = c.split_at.result.1.now in
+    let n = c.min.result in
+    let split : piece ≡ front ++ behind =
+    sym (take-append-drop n piece) ∙ ap (λ l. l ++ drop n piece) (sym c.split_at.ensures.front) ∙ ap (λ l. front ++ l) (sym c.split_at.ensures.back) in
+    λ fed h.
+    let within : length (fed ++ front) ≤ TAGS_LIMIT =
+    omega (arith, h.bytes, c.requires.1.bytes, c.requires.2, c.min.ensures, c.split_at.ensures.front_len, length-append fed front) in
+    subst (StopsAt (fed ++ piece)) (sym c.from.ensures) (stops fed front piece c.in-Err.error within (c.in-Err.ensures.stopped fed h) (behind, split))

@@ -1,0 +1,18 @@
+use Rattle.std.proofs.Common.{◌≡◌, ◌-◌, ◌≤◌, ℕ, List, length}
+use Rattle.std.specs.Io.KnownBytes.{Consumes}
+use Rattle.daapshare.specs.declared.check.TheConstants.{TAGS_LIMIT}
+use Rattle.daapshare.specs.Counting.{IsCounted}
+use Rattle.daapshare.proofs.check.counted.Given as goal
+
+-- what was read is counted, within the limit, and no fault was counted
+abbrev pub invariant-loop-counter : goal.invariant-loop-counter
+invariant-loop-counter g l = record {
+  fed : List ℕ;
+  counted : IsCounted fed l.counter;
+  within : length fed ≤ TAGS_LIMIT;
+  read : Consumes (g.I.Source.left l.initial.input) (g.I.Source.left l.input) fed;
+  faultless : g.I.Faulted.faults l.input ≡ g.I.Faulted.faults l.initial.input;
+}
+
+abbrev pub decreases-loop-counter : goal.decreases-loop-counter
+decreases-loop-counter g l = TAGS_LIMIT - l.counter.bytes

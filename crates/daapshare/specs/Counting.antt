@@ -1,0 +1,50 @@
+-- What a counter of tags has counted of the bytes that it was given.
+use Rattle.std.specs.Prelude.{◌≡◌, ◌≢◌, ◌++◌, ◌<◌, [], ℕ, List, length, take, fold, None, Result, Ok, Err}
+use Rattle.code_table.specs.Standard.{standard_rows}
+use Rattle.dmap_stream.specs.Walk.{between, inside, broken}
+use Rattle.dmap_stream.specs.Reader.{Reader, ready, HasRead}
+use Rattle.dmap_stream.specs.declared.event.Event.{Event}
+use Rattle.dmap_stream.specs.declared.refusal.StreamError.{StreamError}
+use Rattle.dmap_stream.specs.declared.refusal.StreamError.TheVariants as stream
+use Rattle.daapshare.specs.declared.check.TheConstants.{TAGS_LIMIT, TAG_LIMIT}
+use Rattle.daapshare.specs.declared.check.Counter.{Counter}
+use Rattle.daapshare.specs.declared.fault.Fault.{Fault}
+use Rattle.daapshare.specs.declared.fault.Fault.TheVariants.{Words, Query, Meta, Records, Tags, Read, Write, InputLimit, Memory}
+use Rattle.daapshare.specs.declared.tops.Tops.{Tops}
+use Rattle.daapshare.specs.Checks.{walked, after_event, no_tops, top_tags, IsTooLong}
+
+-- the reader was fed these bytes, and all events that it handed out are counted
+pub record HasCounted (fed : List ℕ) (reader : Reader) (tops : Tops) : Type 0 where
+  pub handed : List Event
+  pub read : HasRead fed handed reader
+  pub going : reader.error ≡ None
+  pub rows : reader.rows ≡ standard_rows
+  pub limit : reader.limit ≡ TAG_LIMIT
+  pub counted : tops ≡ fold after_event no_tops handed
+
+-- the same of a counter, in which no event is left
+pub record IsCounted (fed : List ℕ) (counter : Counter) : Type 0 where
+  pub counted : HasCounted fed counter.reader counter.tops
+  pub quiet : ready counter.reader ≡ []
+  pub bytes : counter.bytes ≡ length fed
+
+-- the fault is that of all bytes that begin with these
+abbrev pub IsShown : List ℕ → StreamError → Type 0
+IsShown bytes error = (error ≢ stream.Memory) → (rest : List ℕ) → (walked (bytes ++ rest)).ending ≡ broken error
+
+-- the fault of these bytes, whatever follows them
+abbrev pub StopsAt : List ℕ → Fault → Type 0
+StopsAt bytes Words = ⊥
+StopsAt bytes (Query error) = ⊥
+StopsAt bytes Meta = ⊥
+StopsAt bytes (Records error) = ⊥
+StopsAt bytes (Tags error) = (error ≢ stream.Memory) × ((rest : List ℕ) → (walked (take TAGS_LIMIT (bytes ++ rest))).ending ≡ broken error)
+StopsAt bytes Read = ⊥
+StopsAt bytes Write = ⊥
+StopsAt bytes InputLimit = IsTooLong bytes
+StopsAt bytes Memory = Unit {0}
+
+-- the bytes end between two top tags, which are counted, or inside one
+abbrev pub Ends : List ℕ → Result ℕ StreamError → Type 0
+Ends bytes (Ok tags) = ((walked bytes).ending ≡ between) × (tags ≡ top_tags (walked bytes).events)
+Ends bytes (Err error) = ((walked bytes).ending ≡ inside) × (error ≡ stream.Truncated (length bytes))
