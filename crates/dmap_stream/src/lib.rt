@@ -9,6 +9,8 @@ mod event;
 mod position;
 mod reader;
 mod refusal;
+#[cfg(test)]
+mod tests;
 
 pub use event::Event;
 pub use reader::{DmapReader, Limits};
