@@ -20,7 +20,7 @@ pub record IsHead (head : List ℕ) (c : Four) (len : ℕ) : Type 0 where
   pub code : c ≡ code_of head
   pub told : len ≡ told_length head
 
-head_fault : (onward : Onward) (rows : List CodeRow) (limit at : ℕ) (around : List Container) (head rest : List ℕ) (c : Four) (len : ℕ) → IsHead head c len →
+pub head_fault : (onward : Onward) (rows : List CodeRow) (limit at : ℕ) (around : List Container) (head rest : List ℕ) (c : Four) (len : ℕ) → IsHead head c len →
     at_head onward rows limit at around (head ++ rest) ≡ unless_fault (fault_at limit at around c len) (at_body onward at around c (kind_in rows (parent_of around) c) len rest)
 unfolding behind_head
 head_fault onward rows limit at around head rest c len h =

@@ -5,3 +5,7 @@ pub mod Settled
 pub mod Takings
 pub mod Heads
 pub mod Readings
+pub mod Values
+pub mod Spelled
+pub mod WholeTags
+pub mod Members

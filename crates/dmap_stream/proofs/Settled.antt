@@ -17,7 +17,7 @@ second_empty : {A : Type 0} (o : Option A) (xs : List A) → option_to_list o ++
 second_empty None xs h = h
 second_empty (Some x) xs h = absurd (cc)
 
-none_end : (at : ℕ) (around : List Container) → closes at around ≡ [] → open_after at around ≡ around
+pub none_end : (at : ℕ) (around : List Container) → closes at around ≡ [] → open_after at around ≡ around
 none_end at [] h = refl
 none_end at (c ∷ around) h = same (c.end == at) h
   where

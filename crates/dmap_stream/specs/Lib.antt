@@ -1,3 +1,4 @@
 pub mod Walk
 pub mod Reading
 pub mod Reader
+pub mod WholeTag

@@ -6,12 +6,15 @@
 mod buffer;
 mod containers;
 mod event;
+mod head;
 mod position;
 mod reader;
 mod refusal;
 #[cfg(test)]
 mod tests;
+mod whole_tag;
 
 pub use event::Event;
 pub use reader::{DmapReader, Limits};
 pub use refusal::StreamError;
+pub use whole_tag::read_tag;
