@@ -184,8 +184,8 @@ pub short_refused : (rows : List CodeRow) (limit total at : ℕ) (around : List 
 short_refused rows limit total at around bytes front here rest p going short = record {
   tells = λ _.
       sym (
-        ap (refusal total) (p.goes ∙ place_ends rows limit here around rest)
-        ∙ ap (λ (w : Walk). refusal total w.ending) (cond-true (is_short here (open_after here around)) _ _ short)
+      ap (refusal total) (p.goes ∙ place_ends rows limit here around rest)
+      ∙ ap (λ (w : Walk). refusal total w.ending) (cond-true (is_short here (open_after here around)) _ _ short)
       );
   never = λ c us after accepted said. let o = p.only c us after accepted said in absurd (no_room c o.0 o.2);
 }
@@ -196,7 +196,7 @@ short_refused rows limit total at around bytes front here rest p going short = r
       where
         room : (around : List Container) → parent_of around ≡ Some c → here + length (spellings (more u us)) ≡ end_of around → is_short here around ≡ true → ⊥
         room [] inside is short = absurd (cc)
-        room (k ∷ around) inside is short = 
+        room (k ∷ around) inside is short =
             let parts = and_parts (nat_lt here k.end) (nat_lt k.end (here + 8)) short in
             absurd (let less : k.end < here + 8 = ltb-true k.end (here + 8) parts.1 in let long : length (payload u ++ spellings us) ≡ length (payload u) + length (spellings us) = length-append (payload u) (spellings us) in omega arith)
 

@@ -74,8 +74,8 @@ unfolding at_head
 no_head rows limit total at around bytes less = record {
   tells = λ _.
       sym (
-        ap (λ (w : Walk). refusal total w.ending) (cond-true (nat_lt (length bytes) 8) _ _ (lt-ltb (length bytes) 8 less))
-        ∙ early total (is_empty around && is_empty bytes)
+      ap (λ (w : Walk). refusal total w.ending) (cond-true (nat_lt (length bytes) 8) _ _ (lt-ltb (length bytes) 8 less))
+      ∙ early total (is_empty around && is_empty bytes)
       );
   never = λ u more room is. absurd (let long : length bytes ≡ length (spelling u ++ more) = ap length is in omega arith);
 }
@@ -85,9 +85,9 @@ pub faulty : (rows : List CodeRow) (limit total at : ℕ) (around : List Contain
 faulty rows limit total at around bytes head rest c len e o fault = record {
   tells = λ _.
       sym (
-        ap (λ b. refusal total (at_head (walk_from rows limit) rows limit at around b).ending) o.split
-        ∙ ap (λ (w : Walk). refusal total w.ending) (head_fault (walk_from rows limit) rows limit at around head rest c len o.whole)
-        ∙ ap (λ f. refusal total (unless_fault f (at_body (walk_from rows limit) at around c (kind_in rows (parent_of around) c) len rest)).ending) (sym fault)
+      ap (λ b. refusal total (at_head (walk_from rows limit) rows limit at around b).ending) o.split
+      ∙ ap (λ (w : Walk). refusal total w.ending) (head_fault (walk_from rows limit) rows limit at around head rest c len o.whole)
+      ∙ ap (λ f. refusal total (unless_fault f (at_body (walk_from rows limit) at around c (kind_in rows (parent_of around) c) len rest)).ending) (sym fault)
       );
   never = λ u more room is.
       let b = opened u more o room.told is in
@@ -99,10 +99,10 @@ pub cut_short : (rows : List CodeRow) (limit total at : ℕ) (around : List Cont
 cut_short rows limit total at around bytes head rest c len parent kind o i value less = record {
   tells = λ _.
       sym (
-        ap (λ b. refusal total (at_head (walk_from rows limit) rows limit at around b).ending) o.split
-        ∙ ap (λ (w : Walk). refusal total w.ending)
-        (head_value (walk_from rows limit) rows limit at around head rest c len parent kind o.whole i.fault i.inside i.told value
-        ∙ cond-true (nat_lt (length rest) len) _ _ (lt-ltb (length rest) len less))
+      ap (λ b. refusal total (at_head (walk_from rows limit) rows limit at around b).ending) o.split
+      ∙ ap (λ (w : Walk). refusal total w.ending)
+      (head_value (walk_from rows limit) rows limit at around head rest c len parent kind o.whole i.fault i.inside i.told value
+      ∙ cond-true (nat_lt (length rest) len) _ _ (lt-ltb (length rest) len less))
       );
   never = λ u more room is.
       let b = opened u more o room.told is in
@@ -143,17 +143,17 @@ value_read rows limit at around bytes head rest part later c len parent kind v o
       room = ap (fault_at limit at around c) (sym count) ∙ sym i.fault;
       goes = ap (λ b. (at_head (walk_from rows limit) rows limit at around b).ending) o.split
           ∙ ap (λ (w : Walk). w.ending) (
-            head_value (walk_from rows limit) rows limit at around head rest c len parent kind o.whole i.fault i.inside i.told value
-            ∙ ap (λ n. at_payload (walk_from rows limit) at around c kind n rest) long
-            ∙ ap (at_payload (walk_from rows limit) at around c kind (length part)) joined
-            ∙ payload_done (walk_from rows limit) at around c kind part later v (length part) is refl
+          head_value (walk_from rows limit) rows limit at around head rest c len parent kind o.whole i.fault i.inside i.told value
+          ∙ ap (λ n. at_payload (walk_from rows limit) at around c kind n rest) long
+          ∙ ap (at_payload (walk_from rows limit) at around c kind (length part)) joined
+          ∙ payload_done (walk_from rows limit) at around c kind part later v (length part) is refl
           )
           ∙ ap (λ n. (walk_from rows limit n around later).ending) (let same : length (leaf_payload l) ≡ length part = ap length again in omega arith);
       only = λ u more room said.
           let b = opened u more o room.told said in
           let mine : part ≡ payload u = front ∙ ap (take len) b.left ∙ ap (λ n. take n (payload u ++ more)) b.count ∙ take-append_seam (payload u) more in (
             value_only rows (parent_of around) kind u (kind_of u i b.code) value room.fit room.proper
-            ∙ ap (λ x. leaf x (leaf_at kind (payload u))) (sym b.code) ∙ ap (λ p. leaf c (leaf_at kind p)) (sym mine),
+                ∙ ap (λ x. leaf x (leaf_at kind (payload u))) (sym b.code) ∙ ap (λ p. leaf c (leaf_at kind p)) (sym mine),
             sym (back ∙ ap (drop len) b.left ∙ ap (λ n. drop n (payload u ++ more)) b.count ∙ drop-append_seam (payload u) more),
           );
     })
@@ -227,7 +227,7 @@ no_value (tree.Opaque bytes) = refl
 -- a tag that fits, where the kind is a list's, is a list of what its payload spells
 list_only : (rows : List CodeRow) (limit at : ℕ) (around : List Container) (kind : Kind) (u : Tree) → kind_in rows (parent_of around) (tree_code u) ≡ kind → is_list kind ≡ true → IsRoomFor rows limit at around u →
     (us : Trees) × (u ≡ list (tree_code u) us) × AreRest rows (at + 8) (container (tree_code u) at (length (payload u)) ∷ around) (tree_code u) us
-list_only rows limit at around kind (leaf c l) told holds room = 
+list_only rows limit at around kind (leaf c l) told holds room =
     absurd (let bad : false ≡ true = sym (no_value l) ∙ ap (λ k. leaf_fits k l) (sym (list_kind kind holds) ∙ sym told) ∙ room.fit in cc)
 list_only rows limit at around kind (list c ts) told holds room = (
   ts,
@@ -279,8 +279,8 @@ list_refused rows limit total at around bytes head rest c len parent kind e o i 
   tells = λ known.
       r.tells known
       ∙ sym (
-        ap (λ b. refusal total (at_head (walk_from rows limit) rows limit at around b).ending) o.split
-        ∙ ap (λ (w : Walk). refusal total w.ending) (head_list (walk_from rows limit) rows limit at around head rest c len parent kind o.whole i.fault i.inside i.told holds)
+      ap (λ b. refusal total (at_head (walk_from rows limit) rows limit at around b).ending) o.split
+      ∙ ap (λ (w : Walk). refusal total w.ending) (head_list (walk_from rows limit) rows limit at around head rest c len parent kind o.whole i.fault i.inside i.told holds)
       );
   never = λ u more room said.
       let b = opened u more o room.told said in

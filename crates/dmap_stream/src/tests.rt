@@ -3,9 +3,10 @@
 ghost use Rattle.std.specs.Prelude.{◌≡◌, Some};
 ghost use Rattle.dmap_stream.specs.Reader.{taken};
 
-use crate::{DmapReader, Event, Limits, StreamError};
+use crate::{DmapReader, Event, Limits, StreamError, WriteError, read_tag, write_tag};
 use code_table::CodeTable;
-use dmap_tags::{Code, Value};
+use daap_outside::MemSink;
+use dmap_tags::{Code, Tag, Value, encode_into};
 use std::alloc::{AllocError, Global};
 use std::process::Abort;
 use std::test::Fail;
@@ -143,7 +144,7 @@ fn events_come_in_order_however_the_bytes_are_cut(rt: HostRuntime) -> Result<(),
     Ok(())
 }
 
-/// Bytes with the number of events before their fault, and the fault.
+/// Bytes with the number of events before their fault, and the fault. It is in the first tag of all but the last.
 fn broken(case: u32) -> (&'static [u8], usize, StreamError) {
     match case {
         0 => (
@@ -166,14 +167,14 @@ fn broken(case: u32) -> (&'static [u8], usize, StreamError) {
             StreamError::ShortHead { at: 16 },
         ),
         4 => (b"mlcl\xff\xff\xff\xff", 0, StreamError::TooLarge { at: 0 }),
-        5 => (
+        5 => (b"mlog\0\0\0\x18ms", 1, StreamError::Truncated { at: 10 }),
+        6 => (b"minm\x40\0\0\0A", 0, StreamError::Truncated { at: 9 }),
+        7 => (b"mlo", 0, StreamError::Truncated { at: 3 }),
+        _ => (
             b"mlog\0\0\0\0minm\x40\0\0\x01",
             2,
             StreamError::TooLarge { at: 8 },
         ),
-        6 => (b"mlog\0\0\0\x18ms", 1, StreamError::Truncated { at: 10 }),
-        7 => (b"minm\x40\0\0\0A", 0, StreamError::Truncated { at: 9 }),
-        _ => (b"mlo", 0, StreamError::Truncated { at: 3 }),
     }
 }
 
@@ -285,5 +286,101 @@ fn tags_nest_to_32_levels(rt: HostRuntime) -> Result<(), Fail> {
     let reading = read(&rt, rt.alloc(), refused.as_slice(), 100)?;
     assert_eq!(rt; reading.events.len(), 32);
     assert_eq!(rt; reading.error, Some(StreamError::TooDeep { at: 256 }));
+    Ok(())
+}
+
+/// Bytes with the number of those that their first tag has.
+fn first_tag(case: u32) -> (&'static [u8], usize) {
+    match case {
+        0 => (b"mstt\0\0\0\x04\0\0\0\xc8", 12),
+        1 => (b"minm\0\0\0\x01\xffmst", 9),
+        2 => (b"mlog\0\0\0\0mlcl\xff\xff\xff\xff", 8),
+        3 => (b"mlcl\0\0\0\x10mlit\0\0\0\x08mlit\0\0\0\0mlog", 24),
+        _ => (
+            b"mlit\0\0\0\x15miid\0\0\0\x04\0\0\0\x07minm\0\0\0\x01Amlit\0\0\0\0",
+            29,
+        ),
+    }
+}
+
+#[test]
+fn the_first_tag_is_read_whole(rt: HostRuntime) -> Result<(), Fail> {
+    let table = CodeTable::standard(rt.alloc())?;
+    for case in 0..5 {
+        let (bytes, len) = first_tag(case);
+        let (tag, read) = read_tag(rt.alloc(), bytes, &table, limits())?;
+        let mut spelling = Vec::new(rt.alloc());
+        encode_into(&tag, &mut spelling)?;
+        assert_eq!(rt; read, len, "case {case}");
+        assert_eq!(rt; spelling.len(), len, "case {case}");
+        assert!(rt; bytes.starts_with(spelling.as_slice()), "case {case}");
+    }
+    Ok(())
+}
+
+/// The list's code and the text of its second member.
+fn is_row_of_a(tag: &Tag) -> bool {
+    match &tag.value {
+        Value::List(members) => match members.as_slice() {
+            [id, name] => {
+                matches!(id.value, Value::U32(7))
+                    && matches!(&name.value, Value::Text(text) if text.as_str() == "A")
+            }
+            _ => false,
+        },
+        _ => false,
+    }
+}
+
+#[test]
+fn a_list_is_read_with_its_members(rt: HostRuntime) -> Result<(), Fail> {
+    let table = CodeTable::standard(rt.alloc())?;
+    let (bytes, _) = first_tag(4);
+    let (tag, _) = read_tag(rt.alloc(), bytes, &table, limits())?;
+    assert!(rt; tag.code == Code(*b"mlit"));
+    assert!(rt; is_row_of_a(&tag));
+    Ok(())
+}
+
+/// Why no tag is read.
+fn refusal(alloc: Global, bytes: &[u8], table: &CodeTable) -> Option<StreamError> {
+    read_tag(alloc, bytes, table, limits()).err()
+}
+
+#[test]
+fn a_tag_with_a_fault_is_refused(rt: HostRuntime) -> Result<(), Fail> {
+    let table = CodeTable::standard(rt.alloc())?;
+    for case in 0..8 {
+        let (bytes, _, error) = broken(case);
+        assert_eq!(rt;
+            refusal(rt.alloc(), bytes, &table),
+            Some(error),
+            "case {case}"
+        );
+    }
+    let none = refusal(rt.alloc(), b"", &table);
+    assert_eq!(rt; none, Some(StreamError::Truncated { at: 0 }));
+    let accepted = nested(rt.alloc(), 32)?;
+    assert_eq!(rt; refusal(rt.alloc(), accepted.as_slice(), &table), None);
+    let deep = refusal(rt.alloc(), nested(rt.alloc(), 33)?.as_slice(), &table);
+    assert_eq!(rt; deep, Some(StreamError::TooDeep { at: 256 }));
+    Ok(())
+}
+
+fn shows(sink: &MemSink, bytes: &[u8]) -> bool {
+    sink.taken() == bytes
+}
+
+#[test]
+fn a_tag_is_written_as_it_was_read(rt: HostRuntime) -> Result<(), Fail> {
+    let table = CodeTable::standard(rt.alloc())?;
+    let (tag, _) = read_tag(rt.alloc(), b"minm\0\0\0\x01\xff", &table, limits())?;
+    let mut sink = MemSink::new(rt.alloc(), 100, 4, &[])?;
+    write_tag(rt.alloc(), &tag, &mut sink)?;
+    assert!(rt; shows(&sink, b"minm\0\0\0\x01\xff"));
+    let mut failing = MemSink::new(rt.alloc(), 100, 4, &[3])?;
+    let failed = write_tag(rt.alloc(), &tag, &mut failing);
+    assert!(rt; failed == Err(WriteError::Failed));
+    assert!(rt; shows(&failing, b"minm\0\0\0\x01"));
     Ok(())
 }
