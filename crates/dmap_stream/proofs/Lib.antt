@@ -9,3 +9,4 @@ pub mod Values
 pub mod Spelled
 pub mod WholeTags
 pub mod Members
+pub mod Faults

@@ -2,3 +2,4 @@ pub mod Walk
 pub mod Reading
 pub mod Reader
 pub mod WholeTag
+pub mod Faults

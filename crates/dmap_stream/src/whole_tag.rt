@@ -1,10 +1,10 @@
 //! Reading one tag whole.
 
-ghost use Rattle.std.specs.Prelude.{◌≡◌, ◌≢◌, ◌+◌, ◌≤◌, ◌<◌, ◌^◌, ◌++◌, ℕ, List, length, take, drop, true, IfOk, IfErr, OnOk, MatchResult};
+ghost use Rattle.std.specs.Prelude.{◌≡◌, ◌≢◌, ◌⊎◌, Err, ◌+◌, ◌≤◌, ◌<◌, ◌^◌, ◌++◌, ℕ, List, length, take, drop, true, IfOk, IfErr, OnOk, MatchResult};
 ghost use Rattle.dmap_tags.specs.Tree.{Tree, trees_of};
 ghost use Rattle.dmap_tags.specs.Spelling.{spelling};
 ghost use Rattle.dmap_tags.specs.Codes.{code_of};
-ghost use Rattle.dmap_stream.specs.Walk.{is_list, told_length, walk_of};
+ghost use Rattle.dmap_stream.specs.Walk.{is_list, told_length, between, inside, walk_of};
 ghost use Rattle.dmap_stream.specs.WholeTag.{is_accepted, IsProperTag, refusal, ReadsTag, RefusesTag, ReadsRest, RefusesRest};
 
 use crate::containers::{Container, Containers};
@@ -35,6 +35,9 @@ pub fn read_tag(
     ensures refused { IfErr result
         (λ e. e ≢ StreamError.Memory
         → e ≡ refusal (length bytes.now) (walk_of table.now limits.top bytes.now).ending) }
+    ensures truncated { (at : ℕ) → result ≡ Err (StreamError.Truncated at)
+        → ((walk_of table.now limits.top bytes.now).ending ≡ between)
+        ⊎ ((walk_of table.now limits.top bytes.now).ending ≡ inside) }
 {
     let total = bytes.len() as u64;
     let mut around = Containers::new(alloc);

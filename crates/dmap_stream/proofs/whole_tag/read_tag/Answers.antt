@@ -1,5 +1,7 @@
 use Rattle.std.proofs.Common.{rules, ◌≡◌, ◌≢◌, ◌+◌, ◌-◌, ◌<◌, ◌≤◌, ◌^◌, ◌++◌, ◌∷◌, [], ℕ, List, length, take, drop, true, IfOk, IfErr, MatchResult, Ok, Err, sym, ap, subst, ◌∙◌, arith}
+use Rattle.dmap_stream.specs.declared.refusal.StreamError.TheVariants.{Truncated, Memory}
 use Rattle.dmap_stream.specs.WholeTag.{ReadsTag, RefusesTag}
+use Rattle.dmap_stream.proofs.Faults.{ends_early}
 use Rattle.dmap_stream.proofs.WholeTags.{IsFound, found, count, room_at_top, top_refused}
 use Rattle.dmap_stream.proofs.whole_tag.read_tag.Goals as goal
 
@@ -25,3 +27,10 @@ pub returns-clause-refused : goal.returns-clause-refused
 returns-clause-refused c =
     top_refused c.args.table.now c.args.limits.top (length c.args.bytes.now) c.args.bytes.now c.in-Err.error
     (subst (λ a. RefusesTag c.args.table.now c.args.limits.top (length c.args.bytes.now) 0 a c.args.bytes.now c.in-Err.error) c.new-around.ensures c.in-Err.ensures.tells)
+
+pub returns-clause-truncated : goal.returns-clause-truncated
+returns-clause-truncated c =
+    λ at same.
+    let is : c.in-Err.error ≡ Truncated at = cc in
+    let known : c.in-Err.error ≢ Memory = (λ memory. let bad : Truncated at ≡ Memory = sym is ∙ memory in absurd (cc)) in
+    ends_early c.args.table.now c.args.limits.top (length c.args.bytes.now) at c.args.bytes.now c.in-Err.error (returns-clause-refused c known) is
