@@ -11,7 +11,7 @@ use Rattle.dmap_stream.specs.declared.refusal.StreamError.{StreamError}
 use Rattle.dmap_stream.specs.declared.refusal.StreamError.TheVariants.{TooLarge, TooDeep, Overrun, ShortHead, Truncated}
 use Rattle.dmap_stream.specs.Faults.{is_fault, BreaksByFault}
 use Rattle.dmap_stream.specs.WholeTag.{refusal}
-use Rattle.dmap_stream.specs.Walk.{Walk, Ending, between, inside, broken, ends, behind, is_empty, is_list, closes, open_after, is_short, parent_of, passes, fault_at, told_length, container, Onward, at_payload, at_body, unless_fault, behind_head, at_head, at_place, walk, walk_from, walk_of}
+use Rattle.dmap_stream.specs.Walk.{Walk, Ending, between, inside, broken, ends, behind, is_empty, is_list, open_after, is_short, parent_of, passes, fault_at, told_length, container, Onward, at_payload, at_body, unless_fault, behind_head, at_head, at_place, walk, walk_from, walk_of}
 
 abbrev pub Onwards : Onward → Type 0
 Onwards f = (at : ℕ) (around : List Container) (bytes : List ℕ) → BreaksByFault (f at around bytes).ending

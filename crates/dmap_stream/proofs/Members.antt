@@ -1,9 +1,9 @@
 -- Going through the tags of a list, one after another.
-use Rattle.std.proofs.Common.{◌≡◌, ◌≢◌, ℕ, suc, ◌+◌, ◌-◌, ◌<◌, ◌≤◌, ◌^◌, max, List, [], ◌∷◌, ◌++◌, length, Bool, true, false, not, ◌&&◌, ◌==◌, nat_lt, nat_le, if◌then◌else◌, Option, Some, None, refl, sym, ap, subst, ◌∙◌, arith, length-append, append_assoc}
+use Rattle.std.proofs.Common.{◌≡◌, ◌≢◌, ℕ, ◌+◌, ◌-◌, ◌<◌, ◌≤◌, List, [], ◌∷◌, ◌++◌, length, Bool, true, false, not, ◌==◌, nat_lt, if◌then◌else◌, Some, None, refl, sym, ap, subst, ◌∙◌, arith, length-append, append_assoc}
 use Rattle.std.proofs.lemmas.List.{append-nil}
 use Rattle.std.proofs.lemmas.Bool.{le-ltb, lt-leb, cond-false, cond-true, and_parts, and_from, eq-eqb, eqb-true, ltb-true}
 use Rattle.dmap_tags.specs.Codes.{Four}
-use Rattle.dmap_tags.specs.Tree.{Tree, leaf, list, Trees, none, more, trees_of, tree_code}
+use Rattle.dmap_tags.specs.Tree.{Tree, leaf, list, Trees, none, more, trees_of}
 use Rattle.dmap_tags.specs.Spelling.{payload, spelling, spellings}
 use Rattle.code_table.specs.declared.row.CodeRow.{CodeRow}
 use Rattle.code_table.specs.Fits.{fits, all_fit}
@@ -11,11 +11,11 @@ use Rattle.dmap_stream.specs.declared.containers.Container.{Container}
 use Rattle.dmap_stream.specs.declared.event.Event.{Event}
 use Rattle.dmap_stream.specs.declared.event.Event.TheVariants.{Close}
 use Rattle.dmap_stream.specs.declared.refusal.StreamError.{StreamError}
-use Rattle.dmap_stream.specs.declared.refusal.StreamError.TheVariants.{TooDeep, Overrun, ShortHead, Memory}
-use Rattle.dmap_stream.specs.Walk.{Walk, Ending, broken, ends, is_empty, closes, open_after, is_short, parent_of, fault_at, passes, at_head, walk_from}
-use Rattle.dmap_stream.specs.WholeTag.{levels, levels_in, AreProperTags, refusal, end_of, IsRoomFor, AreRest, ReadsTag, RefusesTag, ReadsRest, RefusesRest}
+use Rattle.dmap_stream.specs.declared.refusal.StreamError.TheVariants.{ShortHead, Memory}
+use Rattle.dmap_stream.specs.Walk.{Walk, is_empty, closes, open_after, is_short, parent_of, at_head, walk_from}
+use Rattle.dmap_stream.specs.WholeTag.{levels, levels_in, refusal, end_of, IsRoomFor, AreRest, ReadsTag, RefusesTag, ReadsRest, RefusesRest}
 use Rattle.dmap_stream.proofs.Settled.{none_end}
-use Rattle.dmap_stream.proofs.WholeTags.{ending_in, place_ends, count}
+use Rattle.dmap_stream.proofs.WholeTags.{place_ends, count}
 
 -- tags with others behind them
 abbrev pub joined : List Tree → Trees → Trees

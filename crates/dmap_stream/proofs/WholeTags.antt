@@ -1,14 +1,14 @@
 -- What becomes of a tag whose head is due at a place.
-use Rattle.std.proofs.Common.{◌≡◌, ◌≢◌, ℕ, suc, ◌+◌, ◌-◌, ◌<◌, ◌≤◌, ◌^◌, List, [], ◌∷◌, ◌++◌, length, take, drop, Bool, true, false, ◌&&◌, ◌==◌, nat_lt, nat_le, if◌then◌else◌, Option, Some, None, refl, sym, ap, subst, ◌∙◌, arith, length-append}
+use Rattle.std.proofs.Common.{◌≡◌, ◌≢◌, ℕ, ◌+◌, ◌-◌, ◌<◌, ◌≤◌, ◌^◌, List, [], ◌∷◌, ◌++◌, length, take, drop, Bool, true, false, ◌&&◌, ◌==◌, nat_lt, nat_le, if◌then◌else◌, Option, Some, None, refl, sym, ap, subst, ◌∙◌, arith, length-append}
 use Rattle.std.proofs.Math.Seq.{take-append_seam, drop-append_seam}
 use Rattle.std.proofs.lemmas.List.{take-append-drop, length-take}
 use Rattle.std.proofs.lemmas.Bool.{lt-ltb, le-ltb, ltb-false, le-leb, leb-true, leb-false, cond-true, cond-false, and_parts, and_from, eq-eqb}
-use Rattle.dmap_tags.specs.Codes.{Four, code_of, code_bytes}
+use Rattle.dmap_tags.specs.Codes.{Four, code_of}
 use Rattle.dmap_tags.specs.Tree as tree
 use Rattle.dmap_tags.specs.Tree.{Leaf, Tree, leaf, list, Trees, tree_code}
 use Rattle.dmap_tags.specs.Typed.{leaf_at, value_of}
 use Rattle.dmap_tags.specs.Seen.{tree_with}
-use Rattle.dmap_tags.specs.Spelling.{leaf_payload, payload, spelling, spellings}
+use Rattle.dmap_tags.specs.Spelling.{leaf_payload, payload, spelling}
 use Rattle.dmap_tags.specs.declared.kinds.Kind.{Kind}
 use Rattle.dmap_tags.specs.declared.kinds.Kind.TheVariants as kind
 use Rattle.dmap_tags.specs.declared.tree.Value.{Value}
@@ -17,11 +17,10 @@ use Rattle.code_table.specs.Rows.{kind_in}
 use Rattle.code_table.specs.Fits as table
 use Rattle.code_table.specs.Fits.{fits, all_fit, leaf_fits}
 use Rattle.dmap_stream.specs.declared.containers.Container.{Container}
-use Rattle.dmap_stream.specs.declared.event.Event.TheVariants.{Leaf as Told, Open}
 use Rattle.dmap_stream.specs.declared.refusal.StreamError.{StreamError}
 use Rattle.dmap_stream.specs.declared.refusal.StreamError.TheVariants.{TooLarge, TooDeep, Overrun, ShortHead, Truncated, Memory}
-use Rattle.dmap_stream.specs.Walk.{Walk, Ending, between, inside, broken, ends, behind, is_empty, is_list, closes, open_after, is_short, parent_of, fault_at, passes, told_length, container, Onward, at_payload, at_body, unless_fault, at_head, at_place, walk_from}
-use Rattle.dmap_stream.specs.WholeTag.{is_accepted, levels, levels_in, IsProper, IsProperTag, AreProperTags, refusal, end_of, IsRoomFor, AreRest, ReadsTag, RefusesTag, ReadsRest, RefusesRest}
+use Rattle.dmap_stream.specs.Walk.{Walk, Ending, between, inside, broken, ends, is_empty, is_list, open_after, is_short, parent_of, fault_at, passes, told_length, container, at_payload, at_body, unless_fault, at_head, at_place, walk_from}
+use Rattle.dmap_stream.specs.WholeTag.{is_accepted, levels, IsProperTag, refusal, IsRoomFor, AreRest, ReadsTag, RefusesTag, ReadsRest, RefusesRest}
 use Rattle.dmap_stream.proofs.Heads.{IsHead, head_fault, head_list, head_value}
 use Rattle.dmap_stream.proofs.Onward.{walk_on}
 use Rattle.dmap_stream.proofs.Spelled.{Begins, begins, spelled}

@@ -1,9 +1,9 @@
 -- Reading one whole tag off the front of bytes: which tags are accepted, and what a refusal tells.
-use Rattle.std.specs.Prelude.{◌≡◌, ◌≢◌, FitsSigned, ℕ, suc, ◌+◌, ◌<◌, ◌≤◌, ◌^◌, max, List, [], ◌∷◌, ◌++◌, length, Bool, true, ◌&&◌, nat_le, Option, Some, None}
+use Rattle.std.specs.Prelude.{◌≡◌, ◌≢◌, FitsSigned, ℕ, suc, ◌+◌, ◌<◌, ◌≤◌, ◌^◌, max, List, [], ◌∷◌, ◌++◌, length, Bool, true, ◌&&◌, nat_le, Some, None}
 use Rattle.std.specs.Int.{w8, w16, w32, w64}
 use Rattle.std.specs.Str.{is_utf8}
 use Rattle.dmap_tags.specs.Codes.{Four}
-use Rattle.dmap_tags.specs.Tree.{Leaf, U8, I8, U16, I16, U32, I32, U64, I64, Text, Date, Version, Opaque, Tree, leaf, list, Trees, none, more, trees_of, tree_code}
+use Rattle.dmap_tags.specs.Tree.{Leaf, U8, I8, U16, I16, U32, I32, U64, I64, Text, Date, Version, Opaque, Tree, leaf, list, Trees, none, more, tree_code}
 use Rattle.dmap_tags.specs.Spelling.{payload, spelling, spellings}
 use Rattle.code_table.specs.declared.row.CodeRow.{CodeRow}
 use Rattle.code_table.specs.Fits.{fits, all_fit}

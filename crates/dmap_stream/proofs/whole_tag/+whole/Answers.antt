@@ -1,8 +1,8 @@
-use Rattle.std.proofs.Common.{◌≡◌, ◌+◌, ◌-◌, ◌<◌, ◌≤◌, ◌++◌, ◌∷◌, [], List, length, take, drop, not, true, false, Ok, Err, sym, ap, subst, ◌∙◌, arith}
+use Rattle.std.proofs.Common.{◌≡◌, ◌+◌, not, true, false, sym, subst, ◌∙◌, arith}
 use Rattle.dmap_tags.specs.Tree.{trees_of}
 use Rattle.dmap_stream.specs.Walk.{is_empty, is_short, closes, open_after}
-use Rattle.dmap_stream.specs.WholeTag.{ReadsTag, RefusesTag, ReadsRest, RefusesRest}
-use Rattle.dmap_stream.proofs.Members.{Passed, IsDue, due, stepped, left_over, all_passed, short_refused, tag_refused}
+use Rattle.dmap_stream.specs.WholeTag.{RefusesTag, ReadsRest, RefusesRest}
+use Rattle.dmap_stream.proofs.Members.{IsDue, due, stepped, left_over, all_passed, short_refused, tag_refused}
 use Rattle.dmap_stream.proofs.Values.{AreBytes, bytes_take, bytes_drop}
 use Rattle.dmap_stream.proofs.WholeTags.{Opens, opening, Enters, no_head, faulty, cut_short, value_read, list_read, list_refused}
 use Rattle.dmap_stream.proofs.whole_tag.+whole.Goals as goal

@@ -1,8 +1,8 @@
-use Rattle.std.proofs.Common.{rules, ◌≡◌, ◌≢◌, ◌+◌, ◌-◌, ◌<◌, ◌≤◌, ◌^◌, ◌++◌, ◌∷◌, [], ℕ, List, length, take, drop, true, IfOk, IfErr, MatchResult, Ok, Err, sym, ap, subst, ◌∙◌, arith}
+use Rattle.std.proofs.Common.{rules, ◌≡◌, ◌≢◌, ◌-◌, [], length, sym, ap, subst, ◌∙◌}
 use Rattle.dmap_stream.specs.declared.refusal.StreamError.TheVariants.{Truncated, Memory}
 use Rattle.dmap_stream.specs.WholeTag.{ReadsTag, RefusesTag}
 use Rattle.dmap_stream.proofs.Faults.{ends_early}
-use Rattle.dmap_stream.proofs.WholeTags.{IsFound, found, count, room_at_top, top_refused}
+use Rattle.dmap_stream.proofs.WholeTags.{found, count, room_at_top, top_refused}
 use Rattle.dmap_stream.proofs.whole_tag.read_tag.Goals as goal
 
 pub returns-in-Ok-clause-found : goal.returns-in-Ok-clause-found
