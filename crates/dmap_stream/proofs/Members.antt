@@ -13,7 +13,7 @@ use Rattle.dmap_stream.specs.declared.event.Event.TheVariants.{Close}
 use Rattle.dmap_stream.specs.declared.refusal.StreamError.{StreamError}
 use Rattle.dmap_stream.specs.declared.refusal.StreamError.TheVariants.{ShortHead, Memory}
 use Rattle.dmap_stream.specs.Walk.{Walk, is_empty, closes, open_after, is_short, parent_of, at_head, walk_from}
-use Rattle.dmap_stream.specs.WholeTag.{levels, levels_in, refusal, end_of, IsRoomFor, AreRest, ReadsTag, RefusesTag, ReadsRest, RefusesRest}
+use Rattle.dmap_stream.specs.WholeTag.{levels, levels_in, IsProperTag, AreProperTags, refusal, end_of, IsRoomFor, AreRest, ReadsTag, RefusesTag, ReadsRest, RefusesRest}
 use Rattle.dmap_stream.proofs.Settled.{none_end}
 use Rattle.dmap_stream.proofs.WholeTags.{place_ends, count}
 
@@ -38,6 +38,10 @@ fit_more : (rows : List CodeRow) (c : Four) (ts : List Tree) (u : Tree) → all_
 fit_more rows c [] u h k = and_from _ _ k refl
 fit_more rows c (t ∷ ts) u h k = and_from _ _ (and_parts _ _ h).0 (fit_more rows c ts u (and_parts _ _ h).1 k)
 
+proper_more : (ts : List Tree) (u : Tree) → AreProperTags (trees_of ts) → IsProperTag u → AreProperTags (trees_of (ts ++ u ∷ []))
+proper_more [] u h k = (k, tt)
+proper_more (t ∷ ts) u h k = (h.0, proper_more ts u h.1 k)
+
 deep_more : (n : ℕ) (ts : List Tree) (u : Tree) → n + levels_in (trees_of ts) ≤ 32 → n + levels u ≤ 32 → n + levels_in (trees_of (ts ++ u ∷ [])) ≤ 32
 deep_more n [] u h k = omega arith
 deep_more n (t ∷ ts) u h k = let later = deep_more n ts u (omega arith) k in omega arith
@@ -50,6 +54,7 @@ some_level (list c ts) = omega arith
 pub record Passed (rows : List CodeRow) (limit at : ℕ) (around : List Container) (bytes : List ℕ) (front : List Tree) (here : ℕ) (rest : List ℕ) : Type 0 where
   pub spelled : bytes ≡ spellings (trees_of front) ++ rest
   pub fit : (c : Four) → parent_of around ≡ Some c → all_fit rows c (trees_of front) ≡ true
+  pub proper : AreProperTags (trees_of front)
   pub deep : length around + levels_in (trees_of front) ≤ 32
   pub place : here ≡ at + length (spellings (trees_of front))
   pub goes : (walk_from rows limit at around bytes).ending ≡ (walk_from rows limit here around rest).ending
@@ -60,6 +65,7 @@ pub none_passed : (rows : List CodeRow) (limit at : ℕ) (around : List Containe
 none_passed rows limit at around bytes within = record {
   spelled = refl;
   fit = λ c inside. refl;
+  proper = tt;
   deep = omega arith;
   place = omega arith;
   goes = refl;
@@ -130,6 +136,7 @@ more_passed rows limit at around bytes front here rest t later p due r = record 
       ∙ sym (append_assoc (spellings (trees_of front)) (spelling t) later)
       ∙ ap (λ l. l ++ later) (sym (spellings_more front t));
   fit = λ c inside. fit_more rows c front t (p.fit c inside) (ap (λ o. fits rows o t) (sym inside) ∙ r.fit);
+  proper = proper_more front t p.proper r.proper;
   deep = deep_more (length around) front t p.deep r.deep;
   place = let is = p.place in let long : length (spellings (trees_of (front ++ t ∷ []))) ≡ length (spellings (trees_of front)) + length (spelling t) = ap length (spellings_more front t) ∙ length-append (spellings (trees_of front)) (spelling t) in omega arith;
   goes = p.goes ∙ due_goes rows limit here around rest due ∙ r.goes;
@@ -158,6 +165,7 @@ all_passed rows limit at around bytes front here rest p over =
     record {
       spelled = p.spelled;
       fit = p.fit;
+      proper = p.proper;
       deep = p.deep;
       ends = omega arith;
       goes = p.goes ∙ ap (λ n. (walk_from rows limit n around rest).ending) is;

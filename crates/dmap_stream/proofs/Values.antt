@@ -1,7 +1,7 @@
 -- A value and its payload tell each other.
 use Rattle.std.proofs.Common.{◌≡◌, ◌<◌, ◌^◌, ◌%◌, ◌==◌, ℕ, zero, suc, List, [], ◌∷◌, length, take, drop, get_or, Bool, true, false, if◌then◌else◌, unwrap_or, Some, None, refl, sym, ap, ◌∙◌, arith}
 use mir.Val.{bits}
-use Rattle.std.proofs.Math.Facts.{Fits-of_z}
+use Rattle.std.proofs.Math.Facts.{Fits-of_z, Fits-of_lt, sfits_to_z}
 use Rattle.std.specs.Int.{Width, w8, w16, w32, w64, from_be_bytes, to_be_bytes, cast_signed, cast_unsigned}
 use Rattle.std.specs.Str.{is_utf8}
 use Rattle.std.proofs.lemmas.Nat.{from_be_bytes-to_be_bytes_2, from_be_bytes-to_be_bytes_4, from_be_bytes-to_be_bytes_8, be_bytes_2, be_bytes_4, be_bytes_8}
@@ -304,3 +304,27 @@ payload_back kind.Date p small = sized_back 4 p _ (length p == 4) refl (λ count
 payload_back kind.Version p small = sized_back 4 p _ (length p == 4) refl (λ count. be_bytes_4 p _ count small refl)
 payload_back kind.List p small = refl
 payload_back kind.Opaque p small = refl
+
+sized_proper : (p : List ℕ) (l : Leaf) (b : Bool) → IsProper l → IsProper (unwrap_or (if b then Some l else None) (tree.Opaque p))
+sized_proper p l true h = h
+sized_proper p l false h = tt
+
+text_proper : (p : List ℕ) (b : Bool) → is_utf8 p ≡ b → IsProper (if b then tree.Text p else tree.Opaque p)
+text_proper p true is = is
+text_proper p false is = tt
+
+-- what a kind reads in a payload is a value as a program has it
+pub leaf_proper : (k : Kind) (p : List ℕ) → AreBytes p → IsProper (leaf_at k p)
+leaf_proper kind.U8 p small = sized_proper p _ (length p == 1) (less_1 p small)
+leaf_proper kind.I8 p small = sized_proper p _ (length p == 1) (sfits_to_z (Fits-of_lt (less_1 p small)))
+leaf_proper kind.U16 p small = sized_proper p _ (length p == 2) (less_2 p small)
+leaf_proper kind.I16 p small = sized_proper p _ (length p == 2) (sfits_to_z (Fits-of_lt (less_2 p small)))
+leaf_proper kind.U32 p small = sized_proper p _ (length p == 4) (less_4 p small)
+leaf_proper kind.I32 p small = sized_proper p _ (length p == 4) (sfits_to_z (Fits-of_lt (less_4 p small)))
+leaf_proper kind.U64 p small = sized_proper p _ (length p == 8) (less_8 p small)
+leaf_proper kind.I64 p small = sized_proper p _ (length p == 8) (sfits_to_z (Fits-of_lt (less_8 p small)))
+leaf_proper kind.Text p small = text_proper p (is_utf8 p) refl
+leaf_proper kind.Date p small = sized_proper p _ (length p == 4) (less_4 p small)
+leaf_proper kind.Version p small = sized_proper p _ (length p == 4) (less_4 p small)
+leaf_proper kind.List p small = tt
+leaf_proper kind.Opaque p small = tt

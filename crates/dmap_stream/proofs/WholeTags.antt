@@ -24,7 +24,7 @@ use Rattle.dmap_stream.specs.WholeTag.{is_accepted, levels, IsProperTag, refusal
 use Rattle.dmap_stream.proofs.Heads.{IsHead, head_fault, head_list, head_value}
 use Rattle.dmap_stream.proofs.Onward.{walk_on}
 use Rattle.dmap_stream.proofs.Spelled.{Begins, begins, spelled}
-use Rattle.dmap_stream.proofs.Values.{AreBytes, bytes_take, leaf_again, leaf_fit, payload_back, seen_leaf}
+use Rattle.dmap_stream.proofs.Values.{AreBytes, bytes_take, leaf_again, leaf_fit, leaf_proper, payload_back, seen_leaf}
 use Rattle.dmap_stream.proofs.Wholes.{payload_done}
 
 -- the bytes begin with a whole head
@@ -138,6 +138,7 @@ value_read rows limit at around bytes head rest part later c len parent kind v o
     subst (λ t. ReadsTag rows limit at around bytes t later) (sym (ap (tree_with c) is ∙ seen_leaf c l)) (record {
       spelled = o.split ∙ spelled head rest later c len t o.whole o.small refl count left;
       fit = ap (λ k. leaf_fits k l) (kind_of t i refl) ∙ leaf_fit kind part value;
+      proper = leaf_proper kind part small;
       deep = let d = not_deep limit at around c len i.fault in omega arith;
       room = ap (fault_at limit at around c) (sym count) ∙ sym i.fault;
       goes = ap (λ b. (at_head (walk_from rows limit) rows limit at around b).ending) o.split
@@ -248,6 +249,7 @@ list_read rows limit at around bytes head rest later c len parent kind ts o i ho
     record {
       spelled = o.split ∙ spelled head rest later c len t o.whole o.small refl count r.spelled;
       fit = and_from _ _ (ap table.is_list (kind_of t i refl) ∙ same_kinds kind ∙ holds) (r.fit c refl);
+      proper = r.proper;
       deep = let d = r.deep in omega arith;
       room = ap (fault_at limit at around c) (sym count) ∙ sym i.fault;
       goes = ap (λ b. (at_head (walk_from rows limit) rows limit at around b).ending) o.split
@@ -301,6 +303,7 @@ pub record IsFound (rows : List CodeRow) (limit : ℕ) (bytes : List ℕ) (t : T
   pub within : n ≤ length bytes
   pub spells : take n bytes ≡ spelling t
   pub fine : is_accepted rows limit t ≡ true
+  pub proper : IsProperTag t
 
 pub count : (bytes : List ℕ) (t : Tree) (rest : List ℕ) → bytes ≡ spelling t ++ rest → length bytes - length rest ≡ length (spelling t)
 count bytes t rest is = let long : length bytes ≡ length (spelling t ++ rest) = ap length is in omega (arith, length-append (payload t) rest)
@@ -309,6 +312,7 @@ pub found : (rows : List CodeRow) (limit : ℕ) (bytes : List ℕ) (t : Tree) (r
 found rows limit bytes t rest r = record {
   within = omega arith;
   spells = ap (λ n. take n bytes) (count bytes t rest r.spelled) ∙ ap (take (length (spelling t))) r.spelled ∙ take-append_seam (spelling t) rest;
+  proper = r.proper;
   fine = and_from _ _ r.fit (and_from _ _ (le-leb (levels t) 32 (let d = r.deep in omega arith)) (le-leb (length (payload t)) limit (within_limit limit (length (payload t)) (tree_code t) _ refl r.room)));
 }
 

@@ -82,6 +82,7 @@ pub record AreRest (rows : List CodeRow) (at : ℕ) (around : List Container) (c
 pub record ReadsTag (rows : List CodeRow) (limit at : ℕ) (around : List Container) (bytes : List ℕ) (t : Tree) (rest : List ℕ) : Type 0 where
   pub spelled : bytes ≡ spelling t ++ rest
   pub fit : fits rows (parent_of around) t ≡ true
+  pub proper : IsProperTag t
   pub deep : length around + levels t ≤ 32
   pub room : fault_at limit at around (tree_code t) (length (payload t)) ≡ None
   pub goes : (at_head (walk_from rows limit) rows limit at around bytes).ending ≡ (walk_from rows limit (at + length (spelling t)) around rest).ending
@@ -96,6 +97,7 @@ pub record RefusesTag (rows : List CodeRow) (limit total at : ℕ) (around : Lis
 pub record ReadsRest (rows : List CodeRow) (limit at : ℕ) (around : List Container) (bytes : List ℕ) (ts : Trees) (rest : List ℕ) : Type 0 where
   pub spelled : bytes ≡ spellings ts ++ rest
   pub fit : (c : Four) → parent_of around ≡ Some c → all_fit rows c ts ≡ true
+  pub proper : AreProperTags ts
   pub deep : length around + levels_in ts ≤ 32
   pub ends : at + length (spellings ts) ≡ end_of around
   pub goes : (walk_from rows limit at around bytes).ending ≡ (walk_from rows limit (end_of around) around rest).ending

@@ -17,6 +17,7 @@ pub fn head_of(bytes: &[u8]) -> (Code, u32)
     (code, len)
 }
 
+/// Whether a tag of the kind holds tags.
 pub fn is_list(kind: Kind) -> bool
     ensures { result ≡ is_list kind }
 {

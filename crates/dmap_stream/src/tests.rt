@@ -318,7 +318,7 @@ fn the_first_tag_is_read_whole(rt: HostRuntime) -> Result<(), Fail> {
     Ok(())
 }
 
-/// The list's code and the text of its second member.
+/// A list of the number 7 and the text `A`.
 fn is_row_of_a(tag: &Tag) -> bool {
     match &tag.value {
         Value::List(members) => match members.as_slice() {

@@ -1,10 +1,9 @@
 //! Reading one tag whole.
 
-ghost use Rattle.std.specs.Prelude.{◌≡◌, ◌≢◌, ◌⊎◌, Err, ◌+◌, ◌≤◌, ◌<◌, ◌^◌, ◌++◌, ℕ, List, length, take, drop, true, IfOk, IfErr, OnOk, MatchResult};
+ghost use Rattle.std.specs.Prelude.{◌≡◌, ◌≢◌, ◌⊎◌, ◌+◌, ◌≤◌, ◌++◌, ℕ, List, length, take, true, Err, IfOk, IfErr, OnOk, MatchResult};
 ghost use Rattle.dmap_tags.specs.Tree.{Tree, trees_of};
 ghost use Rattle.dmap_tags.specs.Spelling.{spelling};
-ghost use Rattle.dmap_tags.specs.Codes.{code_of};
-ghost use Rattle.dmap_stream.specs.Walk.{is_list, told_length, between, inside, walk_of};
+ghost use Rattle.dmap_stream.specs.Walk.{between, inside, walk_of};
 ghost use Rattle.dmap_stream.specs.WholeTag.{is_accepted, IsProperTag, refusal, ReadsTag, RefusesTag, ReadsRest, RefusesRest};
 
 use crate::containers::{Container, Containers};
@@ -26,7 +25,7 @@ pub fn read_tag(
 ) -> Result<(Tag, usize), StreamError>
     ensures found { IfOk result
         (λ r. (r.1 ≤ length bytes.now) × (take r.1 bytes.now ≡ spelling r.0)
-        × (is_accepted table.now limits.top r.0 ≡ true)) }
+        × (is_accepted table.now limits.top r.0 ≡ true) × IsProperTag r.0) }
     ensures only { (t : Tree) (rest : List ℕ) → is_accepted table.now limits.top t ≡ true → IsProperTag t
         → bytes.now ≡ spelling t ++ rest
         → MatchResult result

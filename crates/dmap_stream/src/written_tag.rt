@@ -2,7 +2,7 @@
 
 ghost use Rattle.std.specs.Prelude.{◌≡◌, ◌≢◌, ◌↔◌, false, Err, IfErr, OnOk};
 ghost use Rattle.std.specs.Io.KnownBytes.{Appends};
-ghost use Rattle.daap_outside.specs.Counts.{CountsFaults, Rose};
+ghost use Rattle.daap_outside.specs.Counts.{Rose};
 ghost use Rattle.daap_outside.specs.Told.{AppendsPrefix};
 ghost use Rattle.dmap_tags.specs.Spelling.{spelling, is_spellable};
 

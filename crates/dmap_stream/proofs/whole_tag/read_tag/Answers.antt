@@ -9,7 +9,7 @@ pub returns-in-Ok-clause-found : goal.returns-in-Ok-clause-found
 returns-in-Ok-clause-found c =
     let r : ReadsTag c.args.table.now c.args.limits.top 0 [] c.args.bytes.now c.in-Ok.tag c.in-Ok.rest.now = subst (λ a. ReadsTag c.args.table.now c.args.limits.top 0 a c.args.bytes.now c.in-Ok.tag c.in-Ok.rest.now) c.new-around.ensures c.in-Ok.ensures.tells in
     let f = found c.args.table.now c.args.limits.top c.args.bytes.now c.in-Ok.tag c.in-Ok.rest.now r in
-    (f.within, f.spells, f.fine)
+    (f.within, f.spells, f.fine, f.proper)
 
 pub returns-in-Ok-clause-only : goal.returns-in-Ok-clause-only
 returns-in-Ok-clause-only c =
