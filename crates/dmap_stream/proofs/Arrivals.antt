@@ -1,6 +1,5 @@
 -- What a step that ends at a place leads to.
-use Rattle.std.proofs.Common.{◌≡◌, ◌≢◌, ℕ, ◌+◌, List, [], ◌∷◌, ◌++◌, length, Bool, true, false, if◌then◌else◌, Option, Some, None, Result, Ok, Err, MatchResult, refl, sym, ap, subst, ◌∙◌}
-use Rattle.dmap_tags.specs.Codes.{Four}
+use Rattle.std.proofs.Common.{◌≡◌, ℕ, List, [], ◌∷◌, Bool, true, false, if◌then◌else◌, Some, Result, Ok, Err, MatchResult, refl, sym, ap, subst, ◌∙◌}
 use Rattle.code_table.specs.declared.row.CodeRow.{CodeRow}
 use Rattle.dmap_stream.specs.declared.containers.Container.{Container}
 use Rattle.dmap_stream.specs.declared.event.Event.{Event}
@@ -9,7 +8,7 @@ use Rattle.dmap_stream.specs.declared.position.Phase.TheVariants.{Head}
 use Rattle.dmap_stream.specs.declared.refusal.StreamError.{StreamError}
 use Rattle.dmap_stream.specs.declared.refusal.StreamError.TheVariants.{ShortHead, Memory}
 use Rattle.dmap_stream.specs.Walk.{Walk, broken, ends, behind, closes, open_after, is_short, at_head, at_place, walk_from}
-use Rattle.dmap_stream.specs.Reading.{ready_at, resumed, is_due, Moves}
+use Rattle.dmap_stream.specs.Reading.{Moves}
 use Rattle.dmap_stream.proofs.Onward.{walk_on}
 
 -- a place where an event has just become ready

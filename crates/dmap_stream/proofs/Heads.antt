@@ -1,5 +1,5 @@
 -- What the code and the length of a whole head decide.
-use Rattle.std.proofs.Common.{◌≡◌, ℕ, List, [], ◌++◌, length, Bool, true, false, Option, Some, None, Result, Ok, Err, refl, sym, ap, ◌∙◌}
+use Rattle.std.proofs.Common.{◌≡◌, ℕ, List, [], ◌++◌, length, true, false, Option, Some, None, Err, sym, ap, ◌∙◌}
 use Rattle.std.proofs.lemmas.Bool.{cond-true, cond-false}
 use Rattle.dmap_tags.specs.Codes.{Four, code_of}
 use Rattle.dmap_tags.specs.declared.kinds.Kind.{Kind}
@@ -9,7 +9,7 @@ use Rattle.code_table.specs.Rows.{kind_in}
 use Rattle.dmap_stream.specs.declared.containers.Container.{Container}
 use Rattle.dmap_stream.specs.declared.position.Position.{Position}
 use Rattle.dmap_stream.specs.declared.refusal.StreamError.{StreamError}
-use Rattle.dmap_stream.specs.Walk.{Walk, broken, ends, behind, is_list, parent_of, fault_at, told_length, Onward, at_payload, at_body, unless_fault, behind_head, at_head, walk_from}
+use Rattle.dmap_stream.specs.Walk.{broken, ends, is_list, parent_of, fault_at, told_length, Onward, at_payload, at_body, unless_fault, behind_head, at_head, walk_from}
 use Rattle.dmap_stream.specs.Reading.{ready_at, Takes}
 use Rattle.dmap_stream.proofs.Takings.{behind_none}
 use Rattle.dmap_stream.proofs.Wholes.{head_done}
@@ -20,7 +20,7 @@ pub record IsHead (head : List ℕ) (c : Four) (len : ℕ) : Type 0 where
   pub code : c ≡ code_of head
   pub told : len ≡ told_length head
 
-head_fault : (onward : Onward) (rows : List CodeRow) (limit at : ℕ) (around : List Container) (head rest : List ℕ) (c : Four) (len : ℕ) → IsHead head c len →
+pub head_fault : (onward : Onward) (rows : List CodeRow) (limit at : ℕ) (around : List Container) (head rest : List ℕ) (c : Four) (len : ℕ) → IsHead head c len →
     at_head onward rows limit at around (head ++ rest) ≡ unless_fault (fault_at limit at around c len) (at_body onward at around c (kind_in rows (parent_of around) c) len rest)
 unfolding behind_head
 head_fault onward rows limit at around head rest c len h =

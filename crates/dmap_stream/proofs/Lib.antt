@@ -5,3 +5,8 @@ pub mod Settled
 pub mod Takings
 pub mod Heads
 pub mod Readings
+pub mod Values
+pub mod Spelled
+pub mod WholeTags
+pub mod Members
+pub mod Faults

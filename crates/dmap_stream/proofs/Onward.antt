@@ -10,8 +10,7 @@ use Rattle.code_table.specs.Rows.{kind_in}
 use Rattle.dmap_stream.specs.declared.containers.Container.{Container}
 use Rattle.dmap_stream.specs.declared.event.Event.TheVariants.{Open, Leaf}
 use Rattle.dmap_stream.specs.declared.refusal.StreamError.{StreamError}
-use Rattle.dmap_stream.specs.declared.refusal.StreamError.TheVariants.{ShortHead}
-use Rattle.dmap_stream.specs.Walk.{Walk, between, inside, broken, ends, behind, is_empty, is_list, closes, open_after, is_short, parent_of, fault_at, told_length, container, Onward, at_payload, at_body, unless_fault, behind_head, at_head, at_place, walk, walk_from}
+use Rattle.dmap_stream.specs.Walk.{Walk, behind, is_list, closes, open_after, is_short, parent_of, fault_at, told_length, container, Onward, at_payload, at_body, unless_fault, behind_head, at_head, at_place, walk, walk_from}
 
 -- two continuations that say the same where fewer than n bytes are left
 abbrev pub AgreeBelow : ℕ → Onward → Onward → Type 0

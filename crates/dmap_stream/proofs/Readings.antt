@@ -1,8 +1,8 @@
 -- What a reader has read, before and after a call.
-use Rattle.std.proofs.Common.{◌≡◌, ◌≢◌, ◌⊎◌, inl, inr, ℕ, ◌+◌, ◌<◌, ◌≤◌, List, [], ◌∷◌, ◌++◌, length, take, Bool, true, false, not, ◌&&◌, nat_lt, if◌then◌else◌, Option, Some, None, Result, Ok, Err, IfNone, IfSome, refl, sym, ap, subst, ◌∙◌, arith, length-append, append_assoc}
+use Rattle.std.proofs.Common.{◌≡◌, ◌≢◌, ◌⊎◌, inl, inr, ℕ, ◌+◌, ◌≤◌, List, [], ◌∷◌, ◌++◌, length, take, Bool, true, false, not, ◌&&◌, nat_lt, if◌then◌else◌, Option, Some, None, Ok, Err, IfNone, IfSome, refl, sym, ap, subst, ◌∙◌, arith, length-append, append_assoc}
 use Rattle.std.specs.Prelude.{option_to_list}
 use Rattle.std.proofs.lemmas.List.{append-nil, length-take}
-use Rattle.std.proofs.lemmas.Bool.{ltb-true, lt-ltb, cond-true, cond-false, and_parts}
+use Rattle.std.proofs.lemmas.Bool.{cond-true, and_parts}
 use Rattle.code_table.specs.declared.row.CodeRow.{CodeRow}
 use Rattle.dmap_stream.specs.declared.event.Event.{Event}
 use Rattle.dmap_stream.specs.declared.position.Position.{Position}
@@ -10,9 +10,9 @@ use Rattle.dmap_stream.specs.declared.position.Phase.{Phase}
 use Rattle.dmap_stream.specs.declared.position.Phase.TheVariants.{Head, Payload}
 use Rattle.dmap_stream.specs.declared.refusal.StreamError.{StreamError}
 use Rattle.dmap_stream.specs.declared.refusal.StreamError.TheVariants.{TooLarge, TooDeep, Overrun, ShortHead, Truncated, Memory}
-use Rattle.dmap_stream.specs.Walk.{Walk, Ending, between, inside, broken, ends, behind, is_empty, is_list, open_after, is_short, at_head, at_payload, at_place, walk_from, walk_of}
+use Rattle.dmap_stream.specs.Walk.{Walk, between, inside, broken, ends, behind, is_empty, open_after, at_head, at_place, walk_from, walk_of}
 use Rattle.dmap_stream.specs.Reading.{ready_at, resumed, is_due, is_between, bytes_taken, Takes}
-use Rattle.dmap_stream.specs.Reader.{Reader, ready, ending_at, ReadAs, HasRead, fed_with, TellsAs, Tells}
+use Rattle.dmap_stream.specs.Reader.{Reader, ready, ending_at, ReadAs, HasRead, TellsAs, Tells}
 use Rattle.dmap_stream.proofs.Onward.{walk_on}
 
 memory_or : (e : StreamError) → (e ≡ Memory) ⊎ (e ≢ Memory)

@@ -1,23 +1,22 @@
 -- Where no event is ready, no list ends at the place.
-use Rattle.std.proofs.Common.{◌≡◌, ℕ, ◌<◌, List, [], ◌∷◌, ◌++◌, length, Bool, true, false, not, ◌&&◌, nat_lt, ◌==◌, if◌then◌else◌, Option, Some, None, refl, sym, ap, ◌∙◌}
+use Rattle.std.proofs.Common.{◌≡◌, ℕ, ◌<◌, List, [], ◌∷◌, ◌++◌, length, Bool, true, false, not, ◌&&◌, nat_lt, ◌==◌, if◌then◌else◌, Option, Some, None, refl, ap}
 use Rattle.std.specs.Prelude.{option_to_list}
 use Rattle.std.proofs.lemmas.Bool.{lt-ltb}
 use Rattle.dmap_tags.specs.Codes.{Four}
 use Rattle.dmap_tags.specs.declared.kinds.Kind.{Kind}
 use Rattle.code_table.specs.declared.row.CodeRow.{CodeRow}
 use Rattle.dmap_stream.specs.declared.containers.Container.{Container}
-use Rattle.dmap_stream.specs.declared.event.Event.{Event}
 use Rattle.dmap_stream.specs.declared.event.Event.TheVariants.{Close}
 use Rattle.dmap_stream.specs.declared.position.Position.{Position}
 use Rattle.dmap_stream.specs.declared.position.Phase.TheVariants.{Head, Payload}
-use Rattle.dmap_stream.specs.Walk.{Walk, behind, closes, open_after, is_list, at_head, at_payload, walk_from}
+use Rattle.dmap_stream.specs.Walk.{closes, open_after, is_list, at_head, at_payload, walk_from}
 use Rattle.dmap_stream.specs.Reading.{ready_at, resumed, is_due}
 
 second_empty : {A : Type 0} (o : Option A) (xs : List A) → option_to_list o ++ xs ≡ [] → xs ≡ []
 second_empty None xs h = h
 second_empty (Some x) xs h = absurd (cc)
 
-none_end : (at : ℕ) (around : List Container) → closes at around ≡ [] → open_after at around ≡ around
+pub none_end : (at : ℕ) (around : List Container) → closes at around ≡ [] → open_after at around ≡ around
 none_end at [] h = refl
 none_end at (c ∷ around) h = same (c.end == at) h
   where

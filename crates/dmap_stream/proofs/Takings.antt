@@ -1,13 +1,12 @@
 -- Taking bytes from the front of a piece.
-use Rattle.std.proofs.Common.{◌≡◌, ◌≢◌, ℕ, ◌+◌, ◌-◌, ◌<◌, ◌≤◌, min, List, [], ◌∷◌, ◌++◌, length, take, drop, Bool, true, false, Result, Ok, Err, refl, sym, ap, subst, ◌∙◌, arith, length-append, append_assoc}
+use Rattle.std.proofs.Common.{◌≡◌, ℕ, ◌+◌, ◌-◌, ◌<◌, ◌≤◌, min, List, [], ◌++◌, length, take, drop, true, Result, Ok, Err, refl, sym, ap, subst, ◌∙◌, arith, length-append, append_assoc}
 use Rattle.std.proofs.Math.Seq.{take-add}
 use Rattle.std.proofs.lemmas.List.{length-drop, length-take, take-append-drop}
 use Rattle.code_table.specs.declared.row.CodeRow.{CodeRow}
 use Rattle.dmap_stream.specs.declared.event.Event.{Event}
 use Rattle.dmap_stream.specs.declared.position.Position.{Position}
 use Rattle.dmap_stream.specs.declared.refusal.StreamError.{StreamError}
-use Rattle.dmap_stream.specs.declared.refusal.StreamError.TheVariants.{Memory}
-use Rattle.dmap_stream.specs.Walk.{Walk, broken, ends, behind}
+use Rattle.dmap_stream.specs.Walk.{Walk, behind}
 use Rattle.dmap_stream.specs.Reading.{ready_at, resumed, is_due, Moves, Takes}
 
 pub behind_none : (es : List Event) (w : Walk) → es ≡ [] → behind es w ≡ w

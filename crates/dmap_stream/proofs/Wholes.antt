@@ -1,5 +1,5 @@
 -- What a whole head and a whole payload lead to, whatever follows them.
-use Rattle.std.proofs.Common.{◌≡◌, ◌≢◌, ℕ, zero, suc, ◌+◌, ◌<◌, ◌≤◌, List, [], ◌∷◌, ◌++◌, length, take, drop, Bool, true, false, nat_lt, if◌then◌else◌, refl, sym, ap, ◌∙◌, arith, length-append}
+use Rattle.std.proofs.Common.{◌≡◌, ℕ, ◌+◌, List, [], ◌∷◌, ◌++◌, length, refl, sym, ap, ◌∙◌, arith, length-append}
 use Rattle.std.proofs.Math.Seq.{take-append_seam, drop-append_seam}
 use Rattle.std.proofs.lemmas.Bool.{le-ltb, cond-false}
 use Rattle.dmap_tags.specs.Codes.{Four, code_of}
@@ -9,7 +9,7 @@ use Rattle.dmap_tags.specs.declared.tree.Value.{Value}
 use Rattle.code_table.specs.declared.row.CodeRow.{CodeRow}
 use Rattle.dmap_stream.specs.declared.containers.Container.{Container}
 use Rattle.dmap_stream.specs.declared.event.Event.TheVariants.{Leaf}
-use Rattle.dmap_stream.specs.Walk.{Walk, ends, inside, between, behind, is_empty, told_length, Onward, at_payload, behind_head, at_head}
+use Rattle.dmap_stream.specs.Walk.{behind, told_length, Onward, at_payload, behind_head, at_head}
 
 payload_whole : (onward : Onward) (at : ℕ) (around : List Container) (c : Four) (kind : Kind) (part rest : List ℕ) →
     at_payload onward at around c kind (length part) (part ++ rest) ≡ behind (Leaf c (value_of (leaf_at kind part)) at ∷ []) (onward (at + 8 + length part) around rest)

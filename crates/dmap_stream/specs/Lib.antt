@@ -1,3 +1,5 @@
 pub mod Walk
 pub mod Reading
 pub mod Reader
+pub mod WholeTag
+pub mod Faults

@@ -1,10 +1,10 @@
 //! The bytes of a head or of a payload that have come so far.
 
 ghost use Rattle.std.specs.Prelude.{◌≡◌, ◌≤◌, ◌-◌, [], ◌++◌, length, take, drop, min, IfOk, OnErr};
-ghost use Rattle.std.specs.Int.{from_be_bytes, w32};
 ghost use Rattle.dmap_tags.specs.Codes.{code_of};
 ghost use Rattle.dmap_stream.specs.Walk.{told_length};
 
+use crate::head::head_of;
 use dmap_tags::Code;
 use std::alloc::{AllocError, Global};
 use std::marker::Model;
@@ -70,8 +70,6 @@ impl Buffer {
         ensures code { result.0 ≡ code_of self.now }
         ensures len { result.1 ≡ told_length self.now }
     {
-        let b = self.bytes.as_slice();
-        let code = Code([b[0], b[1], b[2], b[3]]);
-        (code, u32::from_be_bytes([b[4], b[5], b[6], b[7]]))
+        head_of(self.bytes.as_slice())
     }
 }

@@ -1,6 +1,6 @@
 //! The lists that are open at a place.
 
-ghost use Rattle.std.specs.Prelude.{◌≡◌, [], ◌∷◌, not, OnOk, OnErr, IfNone, IfSome};
+ghost use Rattle.std.specs.Prelude.{◌≡◌, [], ◌∷◌, not, drop, OnOk, OnErr, IfNone, IfSome};
 ghost use Rattle.dmap_stream.specs.Walk.{closes, open_after, is_short, parent_of, fault_at, is_empty, first_of};
 
 use crate::refusal::StreamError;
@@ -48,6 +48,13 @@ impl Containers {
     {
         self.outermost_first.push(container)?;
         Ok(())
+    }
+
+    /// Takes the innermost list out.
+    pub fn leave(&mut self)
+        ensures { self.new ≡ drop 1 self.old }
+    {
+        self.outermost_first.pop();
     }
 
     /// The code of the innermost list.

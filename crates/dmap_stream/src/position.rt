@@ -9,6 +9,7 @@ ghost use Rattle.dmap_stream.specs.Reading.{ready_at, resumed, is_due, bytes_tak
 use crate::buffer::Buffer;
 use crate::containers::{Container, Containers};
 use crate::event::Event;
+use crate::head::is_list;
 use crate::refusal::StreamError;
 use code_table::CodeTable;
 use dmap_tags::{Code, Kind, Value, leaf};
@@ -294,14 +295,5 @@ impl Position {
             Phase::Head => self.start + self.part.len() as u64,
             Phase::Payload { .. } => self.start + 8 + self.part.len() as u64,
         }
-    }
-}
-
-fn is_list(kind: Kind) -> bool
-    ensures { result ≡ is_list kind }
-{
-    match kind {
-        Kind::List => true,
-        _ => false,
     }
 }

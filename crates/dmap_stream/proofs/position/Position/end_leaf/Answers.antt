@@ -2,7 +2,7 @@ use Rattle.std.proofs.Common.{refl}
 use Rattle.dmap_stream.specs.declared.event.Event.TheVariants.{Leaf}
 use Rattle.dmap_stream.specs.Walk.{walk_from}
 use Rattle.dmap_stream.proofs.Arrivals.{arrived}
-use Rattle.dmap_stream.proofs.Wholes.{payload_done, head_done}
+use Rattle.dmap_stream.proofs.Wholes.{payload_done}
 use Rattle.dmap_stream.proofs.position.Position.end_leaf.Goals as goal
 
 pub returns-clause-moves : goal.returns-clause-moves

@@ -1,8 +1,7 @@
-use Rattle.std.proofs.Common.{◌≡◌, ℕ, ◌<◌, ◌≤◌, List, ◌++◌, length, Result, Ok, Err, sym, subst, ◌∙◌, arith}
+use Rattle.std.proofs.Common.{◌++◌, Ok, Err, sym, subst, ◌∙◌}
 use Rattle.std.proofs.lemmas.Result.{err_from_is_err_and}
-use Rattle.dmap_stream.specs.declared.position.Position.{Position}
-use Rattle.dmap_stream.specs.Walk.{at_payload, at_body, walk_from}
-use Rattle.dmap_stream.specs.Reading.{Moves, Takes}
+use Rattle.dmap_stream.specs.Walk.{at_payload, walk_from}
+use Rattle.dmap_stream.specs.Reading.{Takes}
 use Rattle.dmap_stream.proofs.Heads.{IsHead, refused, head_list, head_value}
 use Rattle.dmap_stream.proofs.Takings.{takes_same, takes_none, takes_fault}
 use Rattle.dmap_stream.proofs.position.Position.enter.Goals as goal

@@ -1,6 +1,5 @@
 use Rattle.std.proofs.Common.{refl}
 use Rattle.dmap_stream.specs.declared.event.Event.TheVariants.{Open}
-use Rattle.dmap_stream.specs.Walk.{container}
 use Rattle.dmap_stream.proofs.Arrivals.{arrived}
 use Rattle.dmap_stream.proofs.position.Position.open_list.Goals as goal
 

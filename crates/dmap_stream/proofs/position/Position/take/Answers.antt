@@ -1,4 +1,3 @@
-use Rattle.std.proofs.Common.{◌≡◌}
 use Rattle.dmap_stream.proofs.Settled.{resumed_head, resumed_payload}
 use Rattle.dmap_stream.proofs.Takings.{takes_same}
 use Rattle.dmap_stream.proofs.position.Position.take.Goals as goal

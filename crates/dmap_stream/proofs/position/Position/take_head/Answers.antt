@@ -1,8 +1,7 @@
-use Rattle.std.proofs.Common.{◌≡◌, ℕ, ◌<◌, ◌≤◌, List, ◌++◌, length, Result, Ok, Err, sym, subst, ◌∙◌, arith}
+use Rattle.std.proofs.Common.{◌<◌, length, arith}
 use Rattle.std.proofs.lemmas.Result.{err_from_is_err_and}
 use Rattle.dmap_stream.specs.declared.position.Position.{Position}
 use Rattle.dmap_stream.specs.Walk.{at_head, walk_from}
-use Rattle.dmap_stream.specs.Reading.{Moves, Takes}
 use Rattle.dmap_stream.proofs.Settled.{resumed_head, due_head}
 use Rattle.dmap_stream.proofs.Takings.{held, takes_more, takes_fault_later}
 use Rattle.dmap_stream.proofs.position.Position.take_head.Goals as goal

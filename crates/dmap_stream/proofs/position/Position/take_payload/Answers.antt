@@ -1,8 +1,8 @@
-use Rattle.std.proofs.Common.{◌≡◌, ℕ, ◌<◌, ◌≤◌, List, ◌++◌, length, Result, Ok, Err, sym, subst, ◌∙◌, arith}
+use Rattle.std.proofs.Common.{◌<◌, ◌++◌, length, Ok, Err, subst, arith}
 use Rattle.std.proofs.lemmas.Result.{err_from_is_err_and}
 use Rattle.dmap_stream.specs.declared.position.Position.{Position}
 use Rattle.dmap_stream.specs.Walk.{at_payload, walk_from}
-use Rattle.dmap_stream.specs.Reading.{Moves, Takes}
+use Rattle.dmap_stream.specs.Reading.{Moves}
 use Rattle.dmap_stream.proofs.Settled.{resumed_payload, due_payload}
 use Rattle.dmap_stream.proofs.Takings.{held, takes_then, takes_then_fault, whole}
 use Rattle.dmap_stream.proofs.position.Position.take_payload.Goals as goal

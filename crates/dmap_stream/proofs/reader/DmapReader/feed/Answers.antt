@@ -1,5 +1,5 @@
-use Rattle.std.proofs.Common.{◌≡◌, Some, ◌++◌, take, sym, ap, ◌∙◌}
-use Rattle.dmap_stream.specs.Reader.{Reader, HasRead, Tells}
+use Rattle.std.proofs.Common.{Some, ◌++◌, take, sym, ap, ◌∙◌}
+use Rattle.dmap_stream.specs.Reader.{Reader}
 use Rattle.dmap_stream.proofs.Readings.{fed_none, fed_after, went_on, stopped, told}
 use Rattle.dmap_stream.proofs.reader.DmapReader.feed.Goals as goal
 

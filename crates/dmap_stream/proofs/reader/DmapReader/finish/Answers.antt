@@ -1,6 +1,6 @@
-use Rattle.std.proofs.Common.{◌≡◌, Some, sym, ap, ◌∙◌}
+use Rattle.std.proofs.Common.{sym, ap, ◌∙◌}
 use Rattle.dmap_stream.specs.declared.refusal.StreamError.TheVariants.{Truncated}
-use Rattle.dmap_stream.specs.Reader.{Reader, HasRead}
+use Rattle.dmap_stream.specs.Reader.{Reader}
 use Rattle.dmap_stream.specs.Reading.{bytes_taken, is_between}
 use Rattle.dmap_stream.proofs.Readings.{ending_told, count_told}
 use Rattle.dmap_stream.proofs.reader.DmapReader.finish.Goals as goal

@@ -1,4 +1,4 @@
-use Rattle.std.proofs.Common.{◌≡◌, Some, sym, subst, ◌∙◌}
+use Rattle.std.proofs.Common.{sym, subst}
 use Rattle.std.specs.Prelude.{option_to_list}
 use Rattle.dmap_stream.specs.Reader.{HasRead}
 use Rattle.dmap_stream.proofs.Readings.{handed_more, taken_out}

@@ -1,0 +1,108 @@
+-- Reading one whole tag off the front of bytes: which tags are accepted, and what a refusal tells.
+use Rattle.std.specs.Prelude.{◌≡◌, ◌≢◌, FitsSigned, ℕ, suc, ◌+◌, ◌<◌, ◌≤◌, ◌^◌, max, List, [], ◌∷◌, ◌++◌, length, Bool, true, ◌&&◌, nat_le, Some, None}
+use Rattle.std.specs.Int.{w8, w16, w32, w64}
+use Rattle.std.specs.Str.{is_utf8}
+use Rattle.dmap_tags.specs.Codes.{Four}
+use Rattle.dmap_tags.specs.Tree.{Leaf, U8, I8, U16, I16, U32, I32, U64, I64, Text, Date, Version, Opaque, Tree, leaf, list, Trees, none, more, tree_code}
+use Rattle.dmap_tags.specs.Spelling.{payload, spelling, spellings}
+use Rattle.code_table.specs.declared.row.CodeRow.{CodeRow}
+use Rattle.code_table.specs.Fits.{fits, all_fit}
+use Rattle.dmap_stream.specs.declared.containers.Container.{Container}
+use Rattle.dmap_stream.specs.declared.refusal.StreamError.{StreamError}
+use Rattle.dmap_stream.specs.declared.refusal.StreamError.TheVariants.{Truncated, Memory}
+use Rattle.dmap_stream.specs.Walk.{Ending, between, inside, broken, parent_of, fault_at, at_head, walk_from}
+
+-- how many levels of tags there are, a tag alone having one
+abbrev mutual
+  pub levels : Tree → ℕ
+  levels (leaf c l) = 1
+  levels (list c ts) = suc (levels_in ts)
+
+  pub levels_in : Trees → ℕ
+  levels_in none = 0
+  levels_in (more t ts) = max (levels t) (levels_in ts)
+
+-- a top tag that is accepted: it fits the table, has 32 levels at most, and its payload is within the limit
+abbrev pub is_accepted : List CodeRow → ℕ → Tree → Bool
+is_accepted rows limit t = fits rows None t && (nat_le (levels t) 32 && nat_le (length (payload t)) limit)
+
+-- a value as a program has it: a number in its kind's range, a text in UTF-8
+abbrev pub IsProper : Leaf → Type 0
+IsProper (U8 n) = n < 2 ^ 8
+IsProper (I8 z) = FitsSigned w8 z
+IsProper (U16 n) = n < 2 ^ 16
+IsProper (I16 z) = FitsSigned w16 z
+IsProper (U32 n) = n < 2 ^ 32
+IsProper (I32 z) = FitsSigned w32 z
+IsProper (U64 n) = n < 2 ^ 64
+IsProper (I64 z) = FitsSigned w64 z
+IsProper (Text bytes) = is_utf8 bytes ≡ true
+IsProper (Date n) = n < 2 ^ 32
+IsProper (Version n) = n < 2 ^ 32
+IsProper (Opaque bytes) = Unit {0}
+
+abbrev mutual
+  pub IsProperTag : Tree → Type 0
+  IsProperTag (leaf c l) = IsProper l
+  IsProperTag (list c ts) = AreProperTags ts
+
+  pub AreProperTags : Trees → Type 0
+  AreProperTags none = Unit {0}
+  AreProperTags (more t ts) = IsProperTag t × AreProperTags ts
+
+-- the error of bytes that are that many and end so, where the first tag of them is not whole
+abbrev pub refusal : ℕ → Ending → StreamError
+refusal total between = Truncated total
+refusal total inside = Truncated total
+refusal total (broken e) = e
+
+-- where the innermost list ends
+abbrev pub end_of : List Container → ℕ
+end_of [] = 0
+end_of (c ∷ around) = c.end
+
+-- a tag that is accepted with its head at that place
+pub record IsRoomFor (rows : List CodeRow) (limit at : ℕ) (around : List Container) (t : Tree) : Type 0 where
+  pub fit : fits rows (parent_of around) t ≡ true
+  pub proper : IsProperTag t
+  pub deep : length around + levels t ≤ 32
+  pub told : length (payload t) < 2 ^ 32
+  pub room : fault_at limit at around (tree_code t) (length (payload t)) ≡ None
+
+-- tags that are accepted from that place on, up to the end of the list there
+pub record AreRest (rows : List CodeRow) (at : ℕ) (around : List Container) (c : Four) (ts : Trees) : Type 0 where
+  pub list : parent_of around ≡ Some c
+  pub fit : all_fit rows c ts ≡ true
+  pub proper : AreProperTags ts
+  pub deep : length around + levels_in ts ≤ 32
+  pub told : length (spellings ts) < 2 ^ 32
+  pub ends : at + length (spellings ts) ≡ end_of around
+
+-- the tag whose head is due at that place was read, and those bytes are left
+pub record ReadsTag (rows : List CodeRow) (limit at : ℕ) (around : List Container) (bytes : List ℕ) (t : Tree) (rest : List ℕ) : Type 0 where
+  pub spelled : bytes ≡ spelling t ++ rest
+  pub fit : fits rows (parent_of around) t ≡ true
+  pub proper : IsProperTag t
+  pub deep : length around + levels t ≤ 32
+  pub room : fault_at limit at around (tree_code t) (length (payload t)) ≡ None
+  pub goes : (at_head (walk_from rows limit) rows limit at around bytes).ending ≡ (walk_from rows limit (at + length (spelling t)) around rest).ending
+  pub only : (u : Tree) (more : List ℕ) → IsRoomFor rows limit at around u → bytes ≡ spelling u ++ more → (u ≡ t) × (more ≡ rest)
+
+-- it was refused
+pub record RefusesTag (rows : List CodeRow) (limit total at : ℕ) (around : List Container) (bytes : List ℕ) (e : StreamError) : Type 0 where
+  pub tells : e ≢ Memory → e ≡ refusal total (at_head (walk_from rows limit) rows limit at around bytes).ending
+  pub never : (u : Tree) (more : List ℕ) → IsRoomFor rows limit at around u → bytes ≡ spelling u ++ more → e ≡ Memory
+
+-- the tags from that place up to the end of the list there were read, and those bytes are left
+pub record ReadsRest (rows : List CodeRow) (limit at : ℕ) (around : List Container) (bytes : List ℕ) (ts : Trees) (rest : List ℕ) : Type 0 where
+  pub spelled : bytes ≡ spellings ts ++ rest
+  pub fit : (c : Four) → parent_of around ≡ Some c → all_fit rows c ts ≡ true
+  pub proper : AreProperTags ts
+  pub deep : length around + levels_in ts ≤ 32
+  pub ends : at + length (spellings ts) ≡ end_of around
+  pub goes : (walk_from rows limit at around bytes).ending ≡ (walk_from rows limit (end_of around) around rest).ending
+  pub only : (c : Four) (us : Trees) (more : List ℕ) → AreRest rows at around c us → bytes ≡ spellings us ++ more → (us ≡ ts) × (more ≡ rest)
+
+pub record RefusesRest (rows : List CodeRow) (limit total at : ℕ) (around : List Container) (bytes : List ℕ) (e : StreamError) : Type 0 where
+  pub tells : e ≢ Memory → e ≡ refusal total (walk_from rows limit at around bytes).ending
+  pub never : (c : Four) (us : Trees) (more : List ℕ) → AreRest rows at around c us → bytes ≡ spellings us ++ more → e ≡ Memory
