@@ -1,4 +1,4 @@
-// Batches of edits, written as records.
+//! Batches of edits, written as records.
 
 ghost use Rattle.std.specs.Prelude.{◌≡◌, ◌++◌, ◌∷◌, [], IfOk, Ok, OnOk, codes, decimal, if◌then◌else◌, map, option_copied, string_bytes};
 ghost use Rattle.csv.specs.Records.{AllText, fields_of};
