@@ -1,6 +1,6 @@
 -- What records answer, one after another.
-use Rattle.std.proofs.Common.{◌≢◌, MatchResult, ◌≡◌, ◌≤◌, ◌<◌, ◌+◌, ◌∷◌, ◌++◌, ◌∙◌, [], ℕ, zero, suc, List, Option, Some, None, Bool, true, false, inl, inr, Result, Ok, Err, refl, sym, ap, subst, length, take, get_or, drop, map, nat_lt, append_assoc, append-nil, arith}
-use Rattle.std.proofs.lemmas.Bool.{cases_Bool, ltb-true, leb-false}
+use Rattle.std.proofs.Common.{◌≢◌, MatchResult, ◌≡◌, ◌≤◌, ◌<◌, ◌+◌, ◌∷◌, ◌++◌, ◌∙◌, [], ℕ, zero, suc, List, inl, inr, Result, Ok, Err, refl, sym, ap, subst, length, take, get_or, drop, map, nat_lt, append_assoc, append-nil, arith}
+use Rattle.std.proofs.lemmas.Bool.{cases_Bool, ltb-true}
 use Rattle.std.proofs.lemmas.List.{drop_all, drop_more}
 use Rattle.csv.specs.Records.{fields_of}
 use Rattle.csv.specs.declared.record.ByteRecord.{ByteRecord}

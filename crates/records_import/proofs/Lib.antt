@@ -7,4 +7,10 @@ mod Answering
 mod Proper
 mod ValidEdits
 mod Written
+mod Texts
+mod CellsBack
+mod ItemsBack
+mod RulesBack
+mod Kept
+mod RowsBack
 pub mod Once

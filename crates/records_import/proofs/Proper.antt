@@ -1,9 +1,9 @@
 -- What a text reads as is a proper query.
-use Rattle.std.proofs.Common.{◌≡◌, ◌∷◌, ◌++◌, ◌&&◌, [], ℕ, List, Bool, true, refl, map}
+use Rattle.std.proofs.Common.{◌≡◌, ◌∷◌, ◌++◌, ◌&&◌, [], ℕ, List, true, refl, map}
 use Rattle.std.proofs.lemmas.Bool.{and_from, and_parts}
 use Rattle.item_model.specs.Proper.{are_name_bytes, are_proper, has_one, is_name_byte, is_proper}
 use Rattle.item_model.specs.QueryTree.{QueryTree, and_of, or_of, queries_of}
-use Rattle.song_query.specs.Grammar.{Atom, AndForm, CondForm, OrForm, UnitForm, cond, group, one, more, only, either, cond_meaning, is_and, is_cond, is_or, is_unit, is_value, joined, members, piece_of, unit_meaning, units}
+use Rattle.song_query.specs.Grammar.{AndForm, CondForm, OrForm, UnitForm, cond, group, one, more, only, either, is_and, is_cond, is_or, is_unit, is_value, joined, members, piece_of, unit_meaning, units}
 use Rattle.song_query.specs.Reading.{QueryReads}
 
 one_behind : {A : Type 0} (xs : List A) (y : A) → has_one (xs ++ y ∷ []) ≡ true

@@ -1,15 +1,15 @@
 -- The edits that records give are valid, and not too many.
-use Rattle.std.proofs.Common.{◌≡◌, ◌≤◌, ◌<◌, ◌+◌, ◌^◌, ◌∷◌, ◌∙◌, ◌==◌, ◌&&◌, ◌||◌, not, [], ℕ, zero, suc, List, Option, Some, None, Bool, true, false, nat_le, nat_lt, Result, Ok, Err, IfOk, IfSome, MatchResult, refl, sym, ap, subst, inl, inr, length, get_or, drop, arith}
+use Rattle.std.proofs.Common.{◌≡◌, ◌≤◌, ◌<◌, ◌+◌, ◌^◌, ◌∷◌, ◌∙◌, ◌==◌, ◌&&◌, ◌||◌, not, [], ℕ, zero, suc, List, Option, Some, None, Bool, true, false, nat_le, nat_lt, Result, Ok, Err, IfOk, IfSome, refl, sym, subst, inl, inr, length, get_or, drop, arith}
 use Rattle.std.proofs.lemmas.Bool.{and_from, and_parts, cases_Bool, lt-ltb, ltb-true}
 use Rattle.std.specs.Str.{is_utf8}
 use Rattle.std.specs.Str.Parse.{digits_value}
 use Rattle.dmap_tags.specs.declared.kinds.Kind.{Kind}
 use Rattle.dmap_tags.specs.declared.kinds.Kind.TheVariants as kind
 use Rattle.item_model.proofs.Places.{stays_item, value_fits}
-use Rattle.item_model.specs.Items.{is_item, is_of_kind, is_value_of, value_of, with_value}
+use Rattle.item_model.specs.Items.{is_item, is_of_kind, is_value_of, value_of}
 use Rattle.item_model.specs.Properties.{property_kind}
 use Rattle.item_model.specs.QuerySeen.{tree_of}
-use Rattle.item_model.specs.Valid.{AreValid, IsValid, is_id, is_list_id, is_list_name, is_valid}
+use Rattle.item_model.specs.Valid.{AreValid, IsValid, is_id, is_list_id, is_list_name}
 use Rattle.item_model.specs.declared.changes.Edit.{Edit}
 use Rattle.item_model.specs.declared.item.PropValue.{PropValue}
 use Rattle.item_model.specs.declared.item.PropValue.TheVariants.{Number, Text}
@@ -19,17 +19,16 @@ use Rattle.item_model.specs.declared.property.Property.TheVariants.{Minm}
 use Rattle.item_model.specs.declared.refusal.RecordWhy.{RecordWhy}
 use Rattle.records_import.specs.Actions.{lacks, least_id, uses}
 use Rattle.records_import.specs.Columns.{has_column, header_of, is_same_column}
-use Rattle.records_import.specs.Number.{is_number, number_of}
-use Rattle.records_import.specs.Records.{AreSound, BatchReads, EditIs, FurtherAnswer, OfLength, Properties, RecordAnswers, RecordsAnswer, UnderHeader, WithAction, WithId, WithinBatch, action_of, cell_under, name_in, name_text, number_under, properties_of, with_cell, with_cells, with_property}
+use Rattle.records_import.specs.Number.{number_of}
+use Rattle.records_import.specs.Records.{AreSound, BatchReads, EditIs, OfLength, Properties, RecordsAnswer, UnderHeader, WithAction, WithId, WithinBatch, action_of, cell_under, name_in, name_text, number_under, properties_of, with_cell, with_cells, with_property}
 use Rattle.records_import.specs.Table.{Cells}
-use Rattle.records_import.specs.Values.{CellFlaw, FlawBy, by_kind, flaw_of, id_from, id_in, is_empty, needed_id, number_from, property_in, text_in}
+use Rattle.records_import.specs.Values.{FlawBy, by_kind, flaw_of, id_from, id_in, needed_id, number_from, property_in, text_in}
 use Rattle.records_import.specs.declared.action.Action.{Action}
 use Rattle.records_import.specs.declared.action.Action.TheVariants as does
 use Rattle.records_import.specs.declared.batch.TheConstants.{MOST_RECORDS}
 use Rattle.records_import.specs.declared.header.Column.{Column}
 use Rattle.records_import.specs.declared.header.Column.TheVariants as holds
 use Rattle.records_import.specs.declared.refusal.RecordError.{RecordError}
-use Rattle.records_import.specs.declared.refusal.RecordError.TheVariants.{Memory}
 use Rattle.records_import.proofs.Answering.{Told}
 use Rattle.records_import.proofs.Proper.{reads_proper}
 use Rattle.records_import.proofs.Walks.{entry_used, list_used, number_value}
@@ -169,7 +168,7 @@ cell_item holds.Query cell item h = h
 cell_item holds.List cell item h = h
 cell_item holds.Item cell item h = h
 
-cells_item : (columns : List Column) (cells : Cells) (item : Properties) → is_item item ≡ true → is_item (with_cells item columns cells) ≡ true
+pub cells_item : (columns : List Column) (cells : Cells) (item : Properties) → is_item item ≡ true → is_item (with_cells item columns cells) ≡ true
 cells_item [] cells item h = h
 cells_item (c ∷ columns) [] item h = h
 cells_item (c ∷ columns) (cell ∷ cells) item h = cells_item columns cells (with_cell c cell item) (cell_item c cell item h)

@@ -1,5 +1,5 @@
 -- What cells that were taken in one after another give.
-use Rattle.std.proofs.Common.{nat_lt, ◌==◌, ◌≡◌, ◌≤◌, ◌<◌, ◌+◌, ◌∷◌, ◌∙◌, [], ℕ, zero, suc, List, Option, Some, None, Bool, true, false, ◌||◌, not, ◌⊎◌, inl, inr, Result, Ok, Err, refl, sym, ap, subst, length, get_or, drop, arith, cond}
+use Rattle.std.proofs.Common.{nat_lt, ◌==◌, ◌≡◌, ◌≤◌, ◌<◌, ◌+◌, ◌∷◌, ◌∙◌, [], ℕ, suc, List, Option, Some, None, Bool, true, false, ◌||◌, inl, inr, Result, Ok, Err, refl, sym, ap, subst, length, get_or, drop, arith}
 use Rattle.std.proofs.lemmas.Bool.{cases_Bool}
 use Rattle.std.proofs.lemmas.List.{drop_all, drop_more}
 use Rattle.std.specs.Str.Parse.{digits_value}
@@ -8,7 +8,7 @@ use Rattle.item_model.specs.declared.changes.Edit.TheVariants as an_edit
 use Rattle.item_model.specs.declared.query.Query.{Query}
 use Rattle.item_model.specs.declared.refusal.RecordWhy.{RecordWhy}
 use Rattle.item_model.specs.declared.refusal.RecordWhy.TheVariants.{Missing}
-use Rattle.records_import.specs.Actions.{lacks, least_id, uses}
+use Rattle.records_import.specs.Actions.{least_id, uses}
 use Rattle.records_import.specs.Columns.{has_column, is_same_column}
 use Rattle.records_import.specs.Number.{is_number, number_of}
 use Rattle.records_import.specs.Records.{AreSound, FurtherAnswer, IsLeftmost, RecordAnswers, action_of, cell_under, name_in, number_under, properties_of, with_cell, with_cells}

@@ -6,5 +6,6 @@ pub mod Actions
 pub mod Rules
 pub mod Values
 pub mod Records
+pub mod Written
 pub mod Walk
 pub mod Laws

@@ -10,7 +10,6 @@ use Rattle.item_model.specs.declared.item.PropValue.TheVariants as value
 use Rattle.item_model.specs.declared.item.TheConstants.{TEXT_BYTES}
 use Rattle.item_model.specs.declared.property.Property.{Property}
 use Rattle.item_model.specs.declared.query.Query.{Query}
-use Rattle.item_model.specs.declared.refusal.QueryError.{QueryError}
 use Rattle.item_model.specs.declared.refusal.RecordWhy.{RecordWhy}
 use Rattle.item_model.specs.declared.refusal.RecordWhy.TheVariants as reason
 use Rattle.records_import.specs.Actions.{uses}

@@ -1,4 +1,5 @@
-//! Batches read from records: comma separated text, each row an edit, taken whole or not at all.
+//! Batches read from records and written as records: comma separated text, each row an edit, taken whole or
+//! not at all.
 #![tactic(auto)]
 
 mod action;
@@ -12,12 +13,14 @@ mod rule;
 mod table;
 mod table_text;
 mod values;
+mod writing;
 
 pub use batch::{MOST_RECORDS, read_batch};
 pub use number::read_number;
 pub use refusal::RecordError;
 pub use table::{cell, rows_of, width};
 pub use table_text::{table_writer, write_row, write_rows, written_text};
+pub use writing::write_batch;
 
 #[cfg(test)]
 mod tests;

@@ -2,9 +2,10 @@
 
 use crate::{
     MOST_RECORDS, RecordError, cell, read_batch, read_number, rows_of, table_writer, width,
-    write_row, write_rows, written_text,
+    write_batch, write_row, write_rows, written_text,
 };
 use csv::ByteRecord;
+use dmap_tags::Bytes;
 use item_model::{Batch, Edit, PropValue, Property, QueryError, QueryWhy, RecordWhy};
 use std::alloc::Global;
 use std::test::Fail;
@@ -304,5 +305,145 @@ fn each_line_of_the_table_makes_its_edit(rt: HostRuntime) -> Result<(), Fail> {
     for (edit, kind) in batch.edits.as_slice().iter().zip(0..7u32) {
         assert!(rt; numbers(edit) == expected(kind));
     }
+    Ok(())
+}
+
+/// The header of written records.
+fn written_header() -> &'static str {
+    "op,kind,id,dmap.itemname,dmap.itemkind,dmap.persistentid,daap.songartist,daap.songalbum,daap.songalbumartist,daap.songgenre,daap.songcomposer,daap.songcomment,daap.songgrouping,daap.songformat,daap.songyear,daap.songtracknumber,daap.songtrackcount,daap.songdiscnumber,daap.songdisccount,daap.songbitrate,daap.songbeatsperminute,daap.songtime,daap.songsamplerate,daap.songsize,daap.songuserrating,daap.songcompilation,com.apple.itunes.mediakind,daap.songdateadded,daap.songdatemodified,query,list,item\n"
+}
+
+/// What is written for the batch that a text reads as.
+fn rewritten(alloc: Global, text: &[u8]) -> Result<Bytes, Fail> {
+    let batch = read_batch(alloc, text)?;
+    Ok(write_batch(alloc, &batch)?)
+}
+
+fn below(alloc: Global, header: &str, records: &str) -> Result<String, Fail> {
+    let mut text = String::from_str(alloc, header)?;
+    text.push_str(records)?;
+    Ok(text)
+}
+
+/// A record below the short header, and what is written for it.
+fn written_record(number: u32) -> (&'static str, &'static str) {
+    match number {
+        0 => (
+            "put,item,7,A,,,,\n",
+            "put,item,7,A,,,,,,,,,,,,,,,,,,,,,,,,,,,,\n",
+        ),
+        1 => (
+            "put,item,1,A,1999,,,\n",
+            "put,item,1,A,,,,,,,,,,,1999,,,,,,,,,,,,,,,,,\n",
+        ),
+        2 => (
+            "put,item,4294967295,,0,,,\n",
+            "put,item,4294967295,,,,,,,,,,,,0,,,,,,,,,,,,,,,,,\n",
+        ),
+        3 => (
+            "put,item,007,,0065535,,,\n",
+            "put,item,7,,,,,,,,,,,,65535,,,,,,,,,,,,,,,,,\n",
+        ),
+        4 => (
+            "drop,item,2,,,,,\n",
+            "drop,item,2,,,,,,,,,,,,,,,,,,,,,,,,,,,,,\n",
+        ),
+        5 => (
+            "put,list,3,B,,,,\n",
+            "put,list,3,B,,,,,,,,,,,,,,,,,,,,,,,,,,,,\n",
+        ),
+        6 => (
+            "put,list,3,,,,,\n",
+            "put,list,3,,,,,,,,,,,,,,,,,,,,,,,,,,,,,\n",
+        ),
+        7 => (
+            "put,list,3,\"a,\"\"b\"\"\nc\",,,,\n",
+            "put,list,3,\"a,\"\"b\"\"\nc\",,,,,,,,,,,,,,,,,,,,,,,,,,,,\n",
+        ),
+        8 => (
+            "put,rule,4,,,'a:1',,\n",
+            "put,rule,4,,,,,,,,,,,,,,,,,,,,,,,,,,,'a:1',,\n",
+        ),
+        9 => (
+            "put,rule,4,C,, ( 'a:1' ++'b!:2*' ) ,,\n",
+            "put,rule,4,C,,,,,,,,,,,,,,,,,,,,,,,,,,'a:1' 'b!:2*',,\n",
+        ),
+        10 => (
+            "put,rule,4,,,\"(('a:1'),('b:2'))\",,\n",
+            "put,rule,4,,,,,,,,,,,,,,,,,,,,,,,,,,,\"'a:1','b:2'\",,\n",
+        ),
+        11 => (
+            "drop,list,5,,,,,\n",
+            "drop,list,5,,,,,,,,,,,,,,,,,,,,,,,,,,,,,\n",
+        ),
+        12 => (
+            "put,member,6,,,,7,8\n",
+            "put,member,6,,,,,,,,,,,,,,,,,,,,,,,,,,,,7,8\n",
+        ),
+        13 => (
+            "drop,member,9,,,,10,\n",
+            "drop,member,9,,,,,,,,,,,,,,,,,,,,,,,,,,,,10,\n",
+        ),
+        _ => ("", ""),
+    }
+}
+
+#[test]
+fn each_edit_is_written_by_its_line(rt: HostRuntime) -> Result<(), Fail> {
+    let alloc = rt.alloc();
+    for number in 0..14 {
+        let (record, written) = written_record(number);
+        let text = below(alloc, header(), record)?;
+        let want = below(alloc, written_header(), written)?;
+        let got = rewritten(alloc, text.as_bytes())?;
+        assert!(rt; got.as_slice() == want.as_bytes(), "{record}");
+        let again = rewritten(alloc, got.as_slice())?;
+        assert!(rt; again.as_slice() == want.as_bytes(), "{record}");
+    }
+    Ok(())
+}
+
+#[test]
+fn one_item_is_written_in_542_bytes(rt: HostRuntime) -> Result<(), Fail> {
+    let text = b"op,kind,id,dmap.itemname\r\nput,item,7,A\r\n";
+    assert!(rt; rewritten(rt.alloc(), text)?.as_slice().len() == 542);
+    Ok(())
+}
+
+#[test]
+fn a_batch_without_edits_is_a_header(rt: HostRuntime) -> Result<(), Fail> {
+    let text = rewritten(rt.alloc(), b"")?;
+    assert!(rt; text.as_slice() == written_header().as_bytes());
+    assert!(rt;
+        read_batch(rt.alloc(), text.as_slice())?
+            .edits
+            .as_slice()
+            .is_empty()
+    );
+    Ok(())
+}
+
+#[test]
+fn written_batches_read_back(rt: HostRuntime) -> Result<(), Fail> {
+    let text = rewritten(rt.alloc(), each_kind())?;
+    let batch = read_batch(rt.alloc(), text.as_slice())?;
+    assert_eq!(rt; batch.edits.as_slice().len(), 7);
+    for (edit, kind) in batch.edits.as_slice().iter().zip(0..7u32) {
+        assert!(rt; numbers(edit) == expected(kind));
+    }
+    assert!(rt; named(&batch, 0) == Some((1, Some("A"))));
+    Ok(())
+}
+
+#[test]
+fn a_text_of_255_bytes_is_written_whole(rt: HostRuntime) -> Result<(), Fail> {
+    let text = below(rt.alloc(), header(), named_long(rt.alloc(), 255)?.as_str())?;
+    let written = rewritten(rt.alloc(), text.as_bytes())?;
+    let batch = read_batch(rt.alloc(), written.as_slice())?;
+    let mut name = String::new(rt.alloc());
+    for _byte in 0..255 {
+        name.push('x')?;
+    }
+    assert!(rt; named(&batch, 0) == Some((7, Some(name.as_str()))));
     Ok(())
 }

@@ -1,4 +1,4 @@
-use Rattle.std.proofs.Common.{◌≡◌, ◌<◌, ◌+◌, Ok, Err, length, arith}
+use Rattle.std.proofs.Common.{Err}
 use Rattle.std.proofs.lemmas.Result.{err_from_is_err_and}
 use Rattle.records_import.proofs.Answering.{edit_more, edits_all, fault_here}
 use Rattle.records_import.proofs.batch.read_records.Goals as goal

@@ -1,5 +1,3 @@
-use Rattle.std.proofs.Common.{◌≡◌, ◌≤◌, ◌<◌, ◌+◌, [], length, get_or, drop, refl, arith}
-use Rattle.std.proofs.lemmas.List.{drop_all}
 use Rattle.csv.specs.Records.{fields_of}
 use Rattle.item_model.specs.declared.property.Property.TheVariants.{Minm}
 use Rattle.records_import.specs.declared.header.Column.TheVariants as holds

@@ -1,10 +1,7 @@
-use Rattle.std.proofs.Common.{◌≡◌, ◌≤◌, ◌<◌, ◌+◌, ◌∙◌, ◌==◌, [], suc, Some, None, Ok, Err, true, nat_lt, length, get_or, drop, sym, subst, arith}
+use Rattle.std.proofs.Common.{◌≡◌, ◌<◌, ◌+◌, ◌∙◌, suc, Ok, Err, length, drop, sym, subst, arith}
 use Rattle.std.proofs.lemmas.Bool.{eq-eqb, lt-ltb}
 use Rattle.csv.specs.Records.{fields_of}
 use Rattle.item_model.specs.declared.refusal.RecordWhy.TheVariants.{Missing}
-use Rattle.records_import.specs.Actions.{least_id}
-use Rattle.records_import.specs.Records.{action_of}
-use Rattle.records_import.specs.Values.{id_in}
 use Rattle.records_import.specs.declared.batch.TheConstants.{MOST_RECORDS}
 use Rattle.records_import.specs.declared.refusal.RecordError.TheVariants.{Field}
 use Rattle.records_import.proofs.Walks.{EditAnswer, record_answers, walked_edit}
