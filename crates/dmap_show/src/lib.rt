@@ -2,8 +2,12 @@
 #![tactic(auto)]
 
 mod adding;
+mod draft;
 pub mod laws;
 mod lines;
+mod pieces;
+mod row;
+mod spelled;
 #[cfg(test)]
 mod tests;
 mod values;
