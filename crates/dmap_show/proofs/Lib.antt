@@ -2,5 +2,6 @@ pub mod Utf8
 pub mod EventLines
 mod Taken
 mod Remaining
-mod Standing
+mod Stands
 mod Zipper
+mod Following

@@ -14,7 +14,9 @@ use Rattle.dmap_show.specs.Readable.{IsCode}
 use Rattle.dmap_show.specs.TextLines.{before, behind, has}
 use Rattle.dmap_show.specs.Parts.{bare_line, head_of, IsHead}
 use Rattle.dmap_show.proofs.Taken.{before_mark, behind_mark, has_mark, line_has}
-use Rattle.dmap_show.proofs.Standing.{Stands, AllStand, all_stand_append, HeadStands, head_stands}
+use Rattle.dmap_show.specs.Standing.{Stands, AllStand, HeadStands}
+use Rattle.dmap_show.specs.Ahead.{OpenStand, DraftStands, first_of, others_of, whole, ahead_lines, AheadStands, Goes}
+use Rattle.dmap_show.proofs.Stands.{all_stand_append, head_stands}
 
 -- where no more lists are open, none is closed
 pub lowered_low : (level : ℕ) (around : List OpenList) (here : List Tree) → length around ≤ level → lowered level around here ≡ record { around = around; here = here }
@@ -65,16 +67,6 @@ shown_closed (o ∷ around) here t =
     ∙ sym (append_assoc before (shown_tag n old) (shown_tag (suc n) t))
     ∙ ap (λ s. s ++ shown_tag (suc n) t) (sym (shown_closed around o.before old))
 
--- the open lists and what stands before them fit
-abbrev pub OpenStand : List CodeRow → List OpenList → Type 0
-OpenStand rows [] = Unit {0}
-OpenStand rows (o ∷ around) =
-    AllStand rows (length around) (parent_in around) (trees_of o.before)
-    × ((length around < 32) × (IsCode o.code × ((is_list (kind_in rows (parent_in around) o.code) ≡ true) × OpenStand rows around)))
-
-abbrev pub DraftStands : List CodeRow → List OpenList → List Tree → Type 0
-DraftStands rows around here = AllStand rows (length around) (parent_in around) (trees_of here) × OpenStand rows around
-
 closed_in_stands : (rows : List CodeRow) (o : OpenList) (around : List OpenList) (here : List Tree) → DraftStands rows (o ∷ around) here → DraftStands rows around (closed_in o here)
 closed_in_stands rows o around here h =
     let open_list : Stands rows (length around) (parent_in around) (list o.code (trees_of here)) = (h.1.1.0, (h.1.1.1.0, (h.1.1.1.1.0, h.0))) in
@@ -98,35 +90,6 @@ with_tag_stands rows (leaf c l) s e h d =
     (all_stand_append rows (length s.around) (parent_in s.around) s.here (leaf c l ∷ []) d.0 ((h.low, (h.head, h.fit)), tt), d.1)
 with_tag_stands rows (list c ts) s e h d =
     (tt, (d.0, (h.low, (h.head, ((and_parts _ _ h.fit).0, d.1)))))
-
--- the tags, with those that come ahead in each list around
-abbrev pub first_of : List (List Tree) → List Tree
-first_of [] = []
-first_of (m ∷ ms) = m
-
-abbrev pub others_of : List (List Tree) → List (List Tree)
-others_of [] = []
-others_of (m ∷ ms) = ms
-
-abbrev pub whole : List OpenList → List Tree → List (List Tree) → List Tree
-whole [] all ms = all
-whole (o ∷ around) all ms = whole around (o.before ++ list o.code (trees_of all) ∷ first_of ms) (others_of ms)
-
-abbrev pub ahead_lines : List OpenList → List Tree → List (List Tree) → List ℕ
-ahead_lines [] m ms = shown_tags 0 (trees_of m)
-ahead_lines (o ∷ around) m ms = shown_tags (suc (length around)) (trees_of m) ++ ahead_lines around (first_of ms) (others_of ms)
-
-abbrev pub AheadStands : List CodeRow → List OpenList → List Tree → List (List Tree) → Type 0
-AheadStands rows [] m ms = AllStand rows 0 None (trees_of m)
-AheadStands rows (o ∷ around) m ms = AllStand rows (suc (length around)) (Some o.code) (trees_of m) × AheadStands rows around (first_of ms) (others_of ms)
-
--- the tags us go on with the text z behind these lines
-pub record Goes (rows : List CodeRow) (around : List OpenList) (here us : List Tree) (z : List ℕ) : Type 0 where
-  pub m : List Tree
-  pub ms : List (List Tree)
-  pub stands : AheadStands rows around m ms
-  pub all : us ≡ whole around (here ++ m) ms
-  pub left : z ≡ ahead_lines around m ms
 
 pub goes_start : (rows : List CodeRow) (us : List Tree) → AllStand rows 0 None (trees_of us) → Goes rows [] [] us (shown_tags 0 (trees_of us))
 goes_start rows us h = record { m = us; ms = []; stands = h; all = refl; left = refl }

@@ -1,10 +1,11 @@
 -- Tags as lines add to them: the lists that are open, the innermost first, each with the members that stood before
 -- it around it, and the members of the innermost so far.
-use Rattle.std.specs.Prelude.{ℕ, suc, List, [], ◌∷◌, ◌++◌, length, Bool, true, false, ◌||◌, nat_lt, nat_le, if◌then◌else◌, Option, Some, None}
+use Rattle.std.specs.Prelude.{◌≡◌, ℕ, suc, List, [], ◌∷◌, ◌++◌, length, Bool, true, false, ◌||◌, nat_lt, nat_le, if◌then◌else◌, Option, Some, None}
 use Rattle.dmap_tags.specs.Codes.{Four}
 use Rattle.dmap_tags.specs.Tree.{Tree, leaf, list, trees_of, tree_code}
 use Rattle.code_table.specs.declared.row.CodeRow.{CodeRow}
 use Rattle.code_table.specs.Fits.{fits}
+use Rattle.dmap_show.specs.Parts.{bare_line, head_of, IsHead}
 use Rattle.dmap_show.specs.declared.draft.OpenList.{OpenList}
 
 -- an open list as the last of the members around it
@@ -49,3 +50,12 @@ abbrev pub taken : List CodeRow → ℕ → Tree → List OpenList → List Tree
 taken rows level t around here =
     if nat_lt (length around) level || nat_le 32 level then None
     else fitted rows t (lowered level around here)
+
+-- the line shows a tag without members, with which the draft becomes that
+pub record Took (rows : List CodeRow) (around : List OpenList) (here : List Tree) (bare : List ℕ) (s : State) : Type 0 where
+  pub level : ℕ
+  pub t : Tree
+  pub alone : head_of t ≡ t
+  pub head : IsHead t
+  pub line : bare ≡ bare_line level t
+  pub taken : taken rows level t around here ≡ Some s

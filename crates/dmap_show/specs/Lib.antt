@@ -4,3 +4,6 @@ pub mod Readable
 pub mod TextLines
 pub mod Parts
 pub mod Drafts
+pub mod Standing
+pub mod Ahead
+pub mod Follows

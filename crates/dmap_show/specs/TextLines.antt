@@ -2,6 +2,8 @@
 use Rattle.std.specs.Prelude.{◌≡◌, ◌+◌, ℕ, zero, suc, List, [], ◌∷◌, ◌++◌, Bool, true, false, ◌==◌, ◌||◌, if◌then◌else◌}
 use Rattle.dmap_tags.specs.Tree.{Tree}
 use Rattle.code_table.specs.declared.row.CodeRow.{CodeRow}
+use Rattle.dmap_show.specs.declared.reading.ShowError.{ShowError}
+use Rattle.dmap_show.specs.declared.reading.ShowError.TheVariants.{Line, Memory}
 use Rattle.dmap_show.specs.Readable.{Shows}
 
 -- the bytes before the first one of that value, and those behind it
@@ -37,6 +39,7 @@ pub record StopsBehind (rows : List CodeRow) (text : List ℕ) (n : ℕ) : Type 
   pub ended : has 10 (behind_lines n text) ≡ true → (more : List ℕ) (ts : List Tree) → Shows rows (first_lines (suc n) text ++ more) ts → ⊥
   pub unended : has 10 (behind_lines n text) ≡ false → (ts : List Tree) → Shows rows (first_lines (suc n) text) ts → ⊥
 
--- lines count from 1
-abbrev pub StopsAt : List CodeRow → List ℕ → ℕ → Type 0
-StopsAt rows text line = (n : ℕ) × ((line ≡ n + 1) × StopsBehind rows text n)
+-- the cause of a refusal, but for want of memory; lines count from 1
+abbrev pub Explains : List CodeRow → List ℕ → ShowError → Type 0
+Explains rows text (Line line) = (n : ℕ) × ((line ≡ n + 1) × StopsBehind rows text n)
+Explains rows text Memory = Unit {0}

@@ -6,6 +6,7 @@ mod draft;
 pub mod laws;
 mod lines;
 mod pieces;
+mod reading;
 mod row;
 mod spelled;
 #[cfg(test)]
@@ -13,3 +14,4 @@ mod tests;
 mod values;
 
 pub use lines::{show, show_event};
+pub use reading::{ShowError, read_show};

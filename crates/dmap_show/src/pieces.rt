@@ -1,6 +1,6 @@
 //! Lines taken apart.
 
-ghost use Rattle.std.specs.Prelude.{◌≡◌, ◌<◌, ◌≤◌, ◌+◌, ◌^◌, ◌∷◌, ◌++◌, ◌/◌, ◌%◌, ℕ, ℤ, List, decimal, flat_map, length, IfOk, IfSome, Some, None, ◌≢◌};
+ghost use Rattle.std.specs.Prelude.{◌≡◌, ◌<◌, ◌≤◌, ◌+◌, ◌^◌, ◌∷◌, ◌++◌, ◌/◌, ◌%◌, ℕ, ℤ, List, decimal, flat_map, length, IfOk, IfSome, Some, None, ◌≢◌, MatchOption, true, false};
 ghost use Rattle.std.specs.Char.{digit_char};
 ghost use Rattle.std.specs.Fmt.{signed_decimal};
 ghost use Rattle.std.specs.Int.{w64};
@@ -8,22 +8,34 @@ ghost use Rattle.std.specs.Int.RustNames.{FitsSigned};
 ghost use Rattle.dmap_tags.specs.Codes.{Four};
 ghost use Rattle.dmap_show.specs.Shown.{hex, escaped, shown_code};
 ghost use Rattle.dmap_show.specs.Readable.{AreBytes, IsCode};
-ghost use Rattle.dmap_show.specs.TextLines.{before, behind};
+ghost use Rattle.dmap_show.specs.TextLines.{before, behind, has};
 ghost use Rattle.dmap_show.specs.Parts.{pairs_in_front, behind_pairs, kind_named};
 
 use dmap_tags::{Code, Kind};
 use std::str::from_utf8;
 
-/// The bytes before the first `mark` and those behind it; all and none where there is none.
-pub(crate) fn split_at_byte(bytes: &[u8], mark: u8) -> (&[u8], &[u8])
-    ensures { (result.0.now ≡ before mark bytes.now) × (result.1.now ≡ behind mark bytes.now) }
+/// The bytes before the first `mark` and those behind it; `None` where there is none.
+pub(crate) fn split_once_at(bytes: &[u8], mark: u8) -> Option<(&[u8], &[u8])>
+    ensures { MatchOption result (has mark bytes.now ≡ false)
+        (λ r. (has mark bytes.now ≡ true) × ((r.0.now ≡ before mark bytes.now) × (r.1.now ≡ behind mark bytes.now))) }
 {
     for place in 0..bytes.len() {
         if bytes[place] == mark {
-            return (&bytes[..place], &bytes[place + 1..]);
+            return Some((&bytes[..place], &bytes[place + 1..]));
         }
     }
-    (bytes, &[])
+    None
+}
+
+/// The bytes before the first `mark` and those behind it; all and none where there is none.
+#[tactic(auto, using(crate::proofs::Taken::before_none, crate::proofs::Taken::behind_none))]
+pub(crate) fn split_at_byte(bytes: &[u8], mark: u8) -> (&[u8], &[u8])
+    ensures { (result.0.now ≡ before mark bytes.now) × (result.1.now ≡ behind mark bytes.now) }
+{
+    match split_once_at(bytes, mark) {
+        Some(parts) => parts,
+        None => (bytes, &[]),
+    }
 }
 
 /// The number of pairs of spaces in front, and what stands behind them.
@@ -152,7 +164,8 @@ pub(crate) fn first_quoted(bytes: &[u8]) -> Option<(u8, &[u8])>
 
 /// The content code that is shown so.
 pub(crate) fn read_code(bytes: &[u8]) -> Option<Code>
-    ensures { (c : Four) → IsCode c → bytes.now ≡ shown_code c → result ≡ Some c }
+    ensures only { (c : Four) → IsCode c → bytes.now ≡ shown_code c → result ≡ Some c }
+    ensures held { IfSome result IsCode }
 {
     match bytes {
         [a, b, c, d] => Some(Code([*a, *b, *c, *d])),

@@ -25,7 +25,7 @@ pub(crate) struct Row {
 
 /// What a line shows, if it is a shown line. Whatever the line was taken for counts only if it is shown so again.
 pub(crate) fn read_row(alloc: Global, bare: &[u8]) -> Result<Option<Row>, AllocError>
-    ensures row { IfOk result (λ r. IfSome r (λ row. (bare.now ≡ bare_line row.level (tree_with row.code row.value)) × IsHeadValue row.value)) }
+    ensures row { IfOk result (λ r. IfSome r (λ row. (bare.now ≡ bare_line row.level (tree_with row.code row.value)) × (IsCode row.code × IsHeadValue row.value))) }
     ensures only { (level : ℕ) (t : Tree) → IsHead t → bare.now ≡ bare_line level t → IfOk result (λ r. r ≡ Some (record { level = level; code = tree_code t; value = head_value t })) }
 {
     let Some(row) = guess(alloc, bare)? else {
@@ -51,7 +51,7 @@ fn is_shown(alloc: Global, row: &Row, bare: &[u8]) -> Result<bool, AllocError>
 
 /// What a line may show.
 fn guess(alloc: Global, bare: &[u8]) -> Result<Option<Row>, AllocError>
-    ensures held { IfOk result (λ r. IfSome r (λ row. IsHeadValue row.value)) }
+    ensures held { IfOk result (λ r. IfSome r (λ row. IsCode row.code × IsHeadValue row.value)) }
     ensures only { (level : ℕ) (t : Tree) → IsHead t → bare.now ≡ bare_line level t → IfOk result (λ r. r ≡ Some (record { level = level; code = tree_code t; value = head_value t })) }
 {
     let (level, line) = split_indent(bare);
@@ -68,7 +68,7 @@ fn guess_by(
     word: &[u8],
     text: &[u8],
 ) -> Result<Option<Row>, AllocError>
-    ensures held { IfOk result (λ r. IfSome r (λ row. IsHeadValue row.value)) }
+    ensures held { IfOk result (λ r. IfSome r (λ row. IsCode row.code × IsHeadValue row.value)) }
     ensures only { (c : Four) (v : Value) → IsCode c → code.now ≡ shown_code c → Spells (kind_named word.now) text.now v → IfOk result (λ r. r ≡ Some (record { level = level; code = c; value = v })) }
 {
     let Some(code) = read_code(code) else {

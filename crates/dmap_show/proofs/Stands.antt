@@ -8,16 +8,8 @@ use Rattle.code_table.specs.declared.row.CodeRow.{CodeRow}
 use Rattle.code_table.specs.Rows.{kind_in}
 use Rattle.code_table.specs.Fits.{is_list, leaf_fits, fits, all_fit}
 use Rattle.dmap_show.specs.Readable.{IsCode, IsValue, IsTag, AreTags, levels, levels_below, IsReadable}
+use Rattle.dmap_show.specs.Standing.{Stands, AllStand, HeadStands}
 use Rattle.dmap_show.specs.Parts.{head_of, IsHead}
-
-abbrev mutual
-  pub Stands : List CodeRow → ℕ → Option Four → Tree → Type 0
-  Stands rows level parent (leaf c l) = (level < 32) × ((IsCode c × IsValue l) × (leaf_fits (kind_in rows parent c) l ≡ true))
-  Stands rows level parent (list c ts) = (level < 32) × (IsCode c × ((is_list (kind_in rows parent c) ≡ true) × AllStand rows (suc level) (Some c) ts))
-
-  pub AllStand : List CodeRow → ℕ → Option Four → Trees → Type 0
-  AllStand rows level parent none = Unit {0}
-  AllStand rows level parent (more t ts) = Stands rows level parent t × AllStand rows level parent ts
 
 mutual
   stands : (rows : List CodeRow) (level : ℕ) (parent : Option Four) (t : Tree) → IsTag t → fits rows parent t ≡ true → level + levels t ≤ 32 → Stands rows level parent t
@@ -64,12 +56,6 @@ each_readable rows (t ∷ ts) h =
 pub all_stand_append : (rows : List CodeRow) (level : ℕ) (parent : Option Four) (xs ys : List Tree) → AllStand rows level parent (trees_of xs) → AllStand rows level parent (trees_of ys) → AllStand rows level parent (trees_of (xs ++ ys))
 all_stand_append rows level parent [] ys h k = k
 all_stand_append rows level parent (x ∷ xs) ys h k = (h.0, all_stand_append rows level parent xs ys h.1 k)
-
--- what a line tells of a tag that stands there
-pub record HeadStands (rows : List CodeRow) (level : ℕ) (parent : Option Four) (t : Tree) : Type 0 where
-  pub low : level < 32
-  pub head : IsHead t
-  pub fit : fits rows parent (head_of t) ≡ true
 
 pub head_stands : (rows : List CodeRow) (level : ℕ) (parent : Option Four) (t : Tree) → Stands rows level parent t → HeadStands rows level parent t
 head_stands rows level parent (leaf c l) h = record { low = h.0; head = h.1.0; fit = h.1.1 }
