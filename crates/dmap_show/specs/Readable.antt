@@ -31,6 +31,10 @@ IsValue (Date n) = n < 2 ^ 32
 IsValue (Version n) = n < 2 ^ 32
 IsValue (Opaque bytes) = AreBytes bytes
 
+abbrev pub HasValue : Tree → Type 0
+HasValue (leaf c l) = IsValue l
+HasValue (list c ts) = Unit {0}
+
 -- what a tag can be: its codes are bytes and its values in range
 abbrev mutual
   pub IsTag : Tree → Type 0

@@ -7,6 +7,7 @@ ghost use Rattle.std.specs.Fmt.{signed_decimal, decimal};
 ghost use Rattle.std.specs.Char.{digit_char, is_ascii_graphic};
 ghost use Rattle.std.specs.List.{list_all};
 ghost use Rattle.dmap_tags.specs.Begins.{Begins};
+ghost use Rattle.dmap_show.specs.Readable.{IsCode};
 ghost use Rattle.dmap_show.specs.Shown.{indent, hex, shown_code, escaped, quoted};
 
 use dmap_tags::{Code, Text};
@@ -104,6 +105,7 @@ fn is_graphic(bytes: &[u8]) -> bool
 /// Adds a content code: its four characters, or its hex digits where not all are from `!` to `~`.
 #[tactic(auto, using(dmap_tags::proofs::Fronts::begins_more, crate::proofs::Utf8::graphic_ascii))]
 pub(crate) fn push_code(code: Code, out: &mut Vec<u8>) -> Result<(), AllocError>
+    ensures held { IsCode code }
     ensures shown { OnOk result (out.new.items ≡ out.old.items ++ shown_code code) }
     ensures text { is_utf8 out.old.items ≡ true → OnOk result (is_utf8 out.new.items ≡ true) }
     ensures front { OnErr result (Begins out.old.items out.new.items) }
@@ -152,13 +154,22 @@ fn push_escaped_text(text: &str, out: &mut Vec<u8>) -> Result<(), AllocError>
     Ok(())
 }
 
+fn str_of(text: &Text) -> &str
+    ensures value { result.now ≡ text.now }
+    ensures held { is_utf8 text.now ≡ true }
+{
+    text.as_str()
+}
+
 /// Adds a text in quotes.
 pub(crate) fn push_quoted(text: &Text, out: &mut Vec<u8>) -> Result<(), AllocError>
     ensures shown { OnOk result (out.new.items ≡ out.old.items ++ quoted text.now) }
+    ensures held { is_utf8 text.now ≡ true }
     ensures text { is_utf8 out.old.items ≡ true → OnOk result (is_utf8 out.new.items ≡ true) }
     ensures front { OnErr result (Begins out.old.items out.new.items) }
 {
+    let text = str_of(text);
     push_str("\"", out)?;
-    push_escaped_text(text.as_str(), out)?;
+    push_escaped_text(text, out)?;
     push_str("\"", out)
 }

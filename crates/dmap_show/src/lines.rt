@@ -5,6 +5,7 @@ ghost use Rattle.std.specs.Str.{is_utf8};
 ghost use Rattle.dmap_tags.specs.Begins.{Begins};
 ghost use Rattle.dmap_tags.specs.Seen.{tree_with};
 ghost use Rattle.dmap_tags.specs.Tree.{trees_of};
+ghost use Rattle.dmap_show.specs.Readable.{IsTag, AreTags};
 ghost use Rattle.dmap_show.specs.Shown.{shown_tag, shown_tags};
 ghost use Rattle.dmap_show.specs.Events.{shown_event};
 
@@ -17,7 +18,8 @@ use std::alloc::{AllocError, Global};
 /// The lines of tags, the first of them at the top.
 #[tactic(auto, using(crate::proofs::Utf8::nothing_is_utf8))]
 pub fn show(alloc: Global, tags: &[Tag]) -> Result<Text, AllocError>
-    ensures { IfOk result (λ text. text ≡ shown_tags 0 (trees_of tags.now)) }
+    ensures shown { IfOk result (λ text. text ≡ shown_tags 0 (trees_of tags.now)) }
+    ensures tags { OnOk result (AreTags (trees_of tags.now)) }
 {
     let mut lines = Vec::new(alloc);
     push_tags(0, tags, &mut lines)?;
@@ -60,6 +62,7 @@ fn push_event(level: u64, event: &Event, out: &mut Vec<u8>) -> Result<(), AllocE
 #[cycle(push_tag)]
 fn push_tag(level: u64, code: Code, value: &Value, out: &mut Vec<u8>) -> Result<(), AllocError>
     ensures shown { OnOk result (out.new.items ≡ out.old.items ++ shown_tag level (tree_with code value.now)) }
+    ensures held { OnOk result (IsTag (tree_with code value.now)) }
     ensures text { is_utf8 out.old.items ≡ true → OnOk result (is_utf8 out.new.items ≡ true) }
     ensures front { OnErr result (Begins out.old.items out.new.items) }
 {
@@ -80,6 +83,7 @@ fn push_tag(level: u64, code: Code, value: &Value, out: &mut Vec<u8>) -> Result<
 #[tactic(auto, using(dmap_tags::proofs::Sizes::member_falls, dmap_tags::proofs::Fronts::begins_more))]
 fn push_tags(level: u64, tags: &[Tag], out: &mut Vec<u8>) -> Result<(), AllocError>
     ensures shown { OnOk result (out.new.items ≡ out.old.items ++ shown_tags level (trees_of tags.now)) }
+    ensures held { OnOk result (AreTags (trees_of tags.now)) }
     ensures text { is_utf8 out.old.items ≡ true → OnOk result (is_utf8 out.new.items ≡ true) }
     ensures front { OnErr result (Begins out.old.items out.new.items) }
 {

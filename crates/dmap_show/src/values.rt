@@ -5,6 +5,7 @@ ghost use Rattle.std.specs.Str.{is_utf8};
 ghost use Rattle.dmap_tags.specs.Codes.{Four};
 ghost use Rattle.dmap_tags.specs.Begins.{Begins};
 ghost use Rattle.dmap_tags.specs.Seen.{tree_with};
+ghost use Rattle.dmap_show.specs.Readable.{AreBytes, IsCode, HasValue};
 ghost use Rattle.dmap_show.specs.Shown.{hex, dotted, indent, shown_code, word_of, space_of, text_of, shown_line};
 
 use crate::adding::{
@@ -49,6 +50,7 @@ fn space(value: &Value) -> &'static str
 /// Adds bytes that have no meaning of their own.
 fn push_opaque(bytes: &[u8], out: &mut Vec<u8>) -> Result<(), AllocError>
     ensures shown { OnOk result (out.new.items ≡ out.old.items ++ 35 ∷ flat_map hex bytes.now) }
+    ensures held { AreBytes bytes.now }
     ensures text { is_utf8 out.old.items ≡ true → OnOk result (is_utf8 out.new.items ≡ true) }
     ensures front { OnErr result (Begins out.old.items out.new.items) }
 {
@@ -73,6 +75,7 @@ fn push_version(n: u32, out: &mut Vec<u8>) -> Result<(), AllocError>
 /// Adds what a tag's line says of its value: nothing for a list.
 fn push_value(value: &Value, out: &mut Vec<u8>) -> Result<(), AllocError>
     ensures shown { (c : Four) → OnOk result (out.new.items ≡ out.old.items ++ text_of (tree_with c value.now)) }
+    ensures held { (c : Four) → HasValue (tree_with c value.now) }
     ensures text { is_utf8 out.old.items ≡ true → OnOk result (is_utf8 out.new.items ≡ true) }
     ensures front { OnErr result (Begins out.old.items out.new.items) }
 {
@@ -96,6 +99,7 @@ fn push_value(value: &Value, out: &mut Vec<u8>) -> Result<(), AllocError>
 /// Adds what stands behind the word of a value's kind.
 fn push_rest(value: &Value, out: &mut Vec<u8>) -> Result<(), AllocError>
     ensures shown { (c : Four) → OnOk result (out.new.items ≡ out.old.items ++ (space_of (tree_with c value.now) ++ text_of (tree_with c value.now) ++ 10 ∷ [])) }
+    ensures held { (c : Four) → OnOk result (HasValue (tree_with c value.now)) }
     ensures text { is_utf8 out.old.items ≡ true → OnOk result (is_utf8 out.new.items ≡ true) }
     ensures front { OnErr result (Begins out.old.items out.new.items) }
 {
@@ -112,6 +116,7 @@ pub(crate) fn push_head(
     out: &mut Vec<u8>,
 ) -> Result<(), AllocError>
     ensures shown { OnOk result (out.new.items ≡ out.old.items ++ (indent level ++ shown_code code ++ 32 ∷ word.now)) }
+    ensures held { OnOk result (IsCode code) }
     ensures text { is_utf8 out.old.items ≡ true → OnOk result (is_utf8 out.new.items ≡ true) }
     ensures front { OnErr result (Begins out.old.items out.new.items) }
 {
@@ -129,6 +134,7 @@ pub(crate) fn push_line(
     out: &mut Vec<u8>,
 ) -> Result<(), AllocError>
     ensures shown { OnOk result (out.new.items ≡ out.old.items ++ shown_line level (tree_with code value.now)) }
+    ensures held { OnOk result (IsCode code × HasValue (tree_with code value.now)) }
     ensures text { is_utf8 out.old.items ≡ true → OnOk result (is_utf8 out.new.items ≡ true) }
     ensures front { OnErr result (Begins out.old.items out.new.items) }
 {

@@ -11,3 +11,6 @@ returns-clause-shown c =
     let code = c.args.code in
     let head = subst (λ w. c.push_head.new.out.items ≡ c.args.out.now.items ++ (indent c.args.level ++ shown_code code ++ 32 ∷ w)) (c.word.ensures code) c.in_ok-push_head.ensures.shown in
     on_ok_weaker c.push_rest.result (line_by_parts c.args.level code c.args.value.now _ _ _ head) (c.push_rest.ensures.shown code)
+
+pub returns-clause-held : goal.returns-clause-held
+returns-clause-held c = on_ok_weaker c.push_rest.result (λ v. (c.in_ok-push_head.ensures.held, v)) (c.push_rest.ensures.held c.args.code)
