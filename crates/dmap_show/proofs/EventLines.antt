@@ -1,0 +1,81 @@
+-- Lines of tags and of their events.
+use Rattle.std.proofs.Common.{◌≡◌, ℕ, zero, suc, ◌+◌, List, [], ◌∷◌, ◌++◌, length, refl, sym, ap, ap₂, ◌∙◌, append_assoc, append-nil, add-one}
+use Rattle.dmap_tags.specs.Codes.{Four}
+use Rattle.dmap_tags.specs.declared.tree.Value.{Value}
+use Rattle.dmap_tags.specs.declared.tree.Value.TheVariants as value
+use Rattle.dmap_tags.specs.Tree.{tree_code, Leaf, U8, I8, U16, I16, U32, I32, U64, I64, Text, Date, Version, Opaque, Tree, leaf, list, Trees, none, more}
+use Rattle.dmap_tags.specs.Seen.{tree_with}
+use Rattle.dmap_tags.specs.Spelling.{payload, spellings}
+use Rattle.dmap_tags.specs.Typed.{value_of}
+use Rattle.dmap_stream.specs.declared.event.Event.{Event}
+use Rattle.dmap_stream.specs.declared.event.Event.TheVariants.{Close}
+use Rattle.dmap_show.specs.Shown.{indent, shown_code, word_of, space_of, text_of, shown_line, shown_tag, shown_tags}
+use Rattle.dmap_show.specs.Events.{shown_events, events_of, events_of_all}
+
+-- one level more is two spaces more
+indent_suc : (n : ℕ) → indent (suc n) ≡ indent n ++ 32 ∷ 32 ∷ []
+indent_suc zero = refl
+indent_suc (suc n) = ap (λ s. 32 ∷ 32 ∷ s) (indent_suc n)
+
+pub indent_more : (n : ℕ) → indent (n + 1) ≡ indent n ++ 32 ∷ 32 ∷ []
+indent_more n = ap indent (add-one n) ∙ indent_suc n
+
+-- a value as the program has it stands for its leaf
+pub leaf_with : (c : Four) (l : Leaf) → tree_with c (value_of l) ≡ leaf c l
+leaf_with c (U8 n) = refl
+leaf_with c (I8 z) = refl
+leaf_with c (U16 n) = refl
+leaf_with c (I16 z) = refl
+leaf_with c (U32 n) = refl
+leaf_with c (I32 z) = refl
+leaf_with c (U64 n) = refl
+leaf_with c (I64 z) = refl
+leaf_with c (Text bytes) = refl
+leaf_with c (Date n) = refl
+leaf_with c (Version n) = refl
+leaf_with c (Opaque bytes) = refl
+
+pub code_with : (c : Four) (v : Value) → tree_code (tree_with c v) ≡ c
+code_with c (value.U8 n) = refl
+code_with c (value.I8 z) = refl
+code_with c (value.U16 n) = refl
+code_with c (value.I16 z) = refl
+code_with c (value.U32 n) = refl
+code_with c (value.I32 z) = refl
+code_with c (value.U64 n) = refl
+code_with c (value.I64 z) = refl
+code_with c (value.Text bytes) = refl
+code_with c (value.Date n) = refl
+code_with c (value.Version n) = refl
+code_with c (value.List ts) = refl
+code_with c (value.Opaque bytes) = refl
+
+regrouped : (old h s t e : List ℕ) → old ++ h ++ (s ++ t ++ e) ≡ old ++ (h ++ s ++ t ++ e)
+regrouped old h s t e = simp append_assoc refl
+
+-- a line is its head and its rest
+pub line_by_parts : (level : ℕ) (c : Four) (v : Value) (old head new : List ℕ)
+    → head ≡ old ++ (indent level ++ shown_code c ++ 32 ∷ word_of (tree_with c v))
+    → new ≡ head ++ (space_of (tree_with c v) ++ text_of (tree_with c v) ++ 10 ∷ [])
+    → new ≡ old ++ shown_line level (tree_with c v)
+line_by_parts level c v old head new e f =
+    let t = tree_with c v in
+    f ∙ ap (λ s. s ++ (space_of t ++ text_of t ++ 10 ∷ [])) e
+    ∙ regrouped old (indent level ++ shown_code c ++ 32 ∷ word_of t) (space_of t) (text_of t) (10 ∷ [])
+    ∙ ap (λ d. old ++ (indent level ++ shown_code d ++ 32 ∷ word_of t ++ space_of t ++ text_of t ++ 10 ∷ [])) (sym (code_with c v))
+
+-- the events of a tag show it, whatever comes behind them
+mutual
+  pub events_show : (level at : ℕ) (t : Tree) (rest : List Event) → shown_events level (events_of at t rest) ≡ shown_tag level t ++ shown_events level rest
+  events_show level at (leaf c l) rest = ap (λ t. shown_tag level t ++ shown_events level rest) (leaf_with c l)
+  events_show level at (list c ts) rest =
+      let line : shown_line level (list c none) ≡ shown_line level (list c ts) = refl in
+      ap₂ (λ (x y : List ℕ). x ++ y) line (all_events_show (suc level) (at + 8) ts (Close c at ∷ rest))
+      ∙ sym (append_assoc (shown_line level (list c ts)) (shown_tags (suc level) ts) (shown_events level rest))
+
+  pub all_events_show : (level at : ℕ) (ts : Trees) (rest : List Event) → shown_events level (events_of_all at ts rest) ≡ shown_tags level ts ++ shown_events level rest
+  all_events_show level at none rest = refl
+  all_events_show level at (more t ts) rest =
+      events_show level at t (events_of_all (at + 8 + length (payload t)) ts rest)
+      ∙ ap (λ lines. shown_tag level t ++ lines) (all_events_show level (at + 8 + length (payload t)) ts rest)
+      ∙ sym (append_assoc (shown_tag level t) (shown_tags level ts) (shown_events level rest))

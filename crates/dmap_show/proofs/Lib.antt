@@ -1,0 +1,7 @@
+pub mod Utf8
+pub mod EventLines
+mod Taken
+mod Remaining
+mod Stands
+mod Zipper
+mod Following

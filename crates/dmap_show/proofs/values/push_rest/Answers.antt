@@ -1,0 +1,12 @@
+-- What stood there is still in front.
+use Rattle.std.proofs.Common.{sym, subst}
+use Rattle.std.proofs.lemmas.Result.{on_err_weaker}
+use Rattle.dmap_tags.specs.Begins.{Begins}
+use Rattle.dmap_tags.proofs.Fronts.{begins_more, begins_append}
+use Rattle.dmap_show.proofs.values.push_rest.Goals as goal
+
+pub returns-clause-front : goal.returns-clause-front
+returns-clause-front c =
+    let space = subst (Begins _) (sym c.in_ok-push_str.ensures.shown) (begins_append _ _) in
+    let value = subst (Begins _) (sym (c.in_ok-push_value.ensures.shown (0, 0, 0, 0))) (begins_append _ _) in
+    on_err_weaker c.push_str-2.result (begins_more _ _ _ (begins_more _ _ _ space value)) c.push_str-2.ensures.front

@@ -1,0 +1,9 @@
+pub mod Shown
+pub mod Events
+pub mod Readable
+pub mod TextLines
+pub mod Parts
+pub mod Drafts
+pub mod Standing
+pub mod Ahead
+pub mod Follows

@@ -1,0 +1,175 @@
+//! Pieces of text added at the end of a buffer. Want of memory leaves what stood there, and maybe a part of the
+//! piece behind it.
+
+ghost use Rattle.std.specs.Prelude.{◌≡◌, ◌<◌, ◌++◌, OnOk, OnErr, IsAscii, flat_map, true};
+ghost use Rattle.std.specs.Str.{is_utf8};
+ghost use Rattle.std.specs.Fmt.{signed_decimal, decimal};
+ghost use Rattle.std.specs.Char.{digit_char, is_ascii_graphic};
+ghost use Rattle.std.specs.List.{list_all};
+ghost use Rattle.dmap_tags.specs.Begins.{Begins};
+ghost use Rattle.dmap_show.specs.Readable.{IsCode};
+ghost use Rattle.dmap_show.specs.Shown.{indent, hex, shown_code, escaped, quoted};
+
+use dmap_tags::{Code, Text};
+use itoa::Buffer;
+use std::alloc::AllocError;
+
+/// Adds a text as it is.
+pub(crate) fn push_str(text: &str, out: &mut Vec<u8>) -> Result<(), AllocError>
+    ensures shown { OnOk result (out.new.items ≡ out.old.items ++ text.now) }
+    ensures text { is_utf8 out.old.items ≡ true → OnOk result (is_utf8 out.new.items ≡ true) }
+    ensures front { OnErr result (Begins out.old.items out.new.items) }
+{
+    out.extend_from_slice(text.as_bytes())?;
+    Ok(())
+}
+
+/// Adds ASCII characters as they are.
+fn push_ascii(bytes: &[u8], out: &mut Vec<u8>) -> Result<(), AllocError>
+    requires { IsAscii bytes.now }
+    ensures shown { OnOk result (out.new.items ≡ out.old.items ++ bytes.now) }
+    ensures text { is_utf8 out.old.items ≡ true → OnOk result (is_utf8 out.new.items ≡ true) }
+    ensures front { OnErr result (Begins out.old.items out.new.items) }
+{
+    out.extend_from_slice(bytes)?;
+    Ok(())
+}
+
+/// Adds the spaces before a line of that level.
+pub(crate) fn push_indent(level: u64, out: &mut Vec<u8>) -> Result<(), AllocError>
+    ensures shown { OnOk result (out.new.items ≡ out.old.items ++ indent level) }
+    ensures text { is_utf8 out.old.items ≡ true → OnOk result (is_utf8 out.new.items ≡ true) }
+    ensures front { OnErr result (Begins out.old.items out.new.items) }
+{
+    for _ in 0..level {
+        push_str("  ", out)?;
+    }
+    Ok(())
+}
+
+/// Adds a number in decimal.
+pub(crate) fn push_number(n: u64, out: &mut Vec<u8>) -> Result<(), AllocError>
+    ensures shown { OnOk result (out.new.items ≡ out.old.items ++ decimal n) }
+    ensures text { is_utf8 out.old.items ≡ true → OnOk result (is_utf8 out.new.items ≡ true) }
+    ensures front { OnErr result (Begins out.old.items out.new.items) }
+{
+    push_str(Buffer::new().format(n), out)
+}
+
+/// Adds a number in decimal, with a sign where it is negative.
+pub(crate) fn push_signed(n: i64, out: &mut Vec<u8>) -> Result<(), AllocError>
+    ensures shown { OnOk result (out.new.items ≡ out.old.items ++ signed_decimal n) }
+    ensures text { is_utf8 out.old.items ≡ true → OnOk result (is_utf8 out.new.items ≡ true) }
+    ensures front { OnErr result (Begins out.old.items out.new.items) }
+{
+    push_str(Buffer::new().format(n), out)
+}
+
+/// The lower-case hex digit of a number below 16.
+fn hex_digit(n: u8) -> u8
+    requires { n < 16 }
+    ensures digit { result ≡ digit_char n }
+    ensures ascii { result < 128 }
+{
+    if n < 10 { b'0' + n } else { b'a' + (n - 10) }
+}
+
+/// Adds a byte as two hex digits.
+fn push_hex(byte: u8, out: &mut Vec<u8>) -> Result<(), AllocError>
+    ensures shown { OnOk result (out.new.items ≡ out.old.items ++ hex byte) }
+    ensures text { is_utf8 out.old.items ≡ true → OnOk result (is_utf8 out.new.items ≡ true) }
+    ensures front { OnErr result (Begins out.old.items out.new.items) }
+{
+    push_ascii(&[hex_digit(byte / 16), hex_digit(byte % 16)], out)
+}
+
+/// Adds each byte as two hex digits.
+pub(crate) fn push_hex_digits(bytes: &[u8], out: &mut Vec<u8>) -> Result<(), AllocError>
+    ensures shown { OnOk result (out.new.items ≡ out.old.items ++ flat_map hex bytes.now) }
+    ensures text { is_utf8 out.old.items ≡ true → OnOk result (is_utf8 out.new.items ≡ true) }
+    ensures front { OnErr result (Begins out.old.items out.new.items) }
+{
+    for byte in bytes {
+        push_hex(*byte, out)?;
+    }
+    Ok(())
+}
+
+/// Whether all characters are from `!` to `~`.
+fn is_graphic(bytes: &[u8]) -> bool
+    ensures { result ≡ list_all is_ascii_graphic bytes.now }
+{
+    bytes.iter().all(|byte| byte.is_ascii_graphic())
+}
+
+/// Adds a content code: its four characters, or its hex digits where not all are from `!` to `~`.
+#[tactic(auto, using(dmap_tags::proofs::Fronts::begins_more, crate::proofs::Utf8::graphic_ascii))]
+pub(crate) fn push_code(code: Code, out: &mut Vec<u8>) -> Result<(), AllocError>
+    ensures held { IsCode code }
+    ensures shown { OnOk result (out.new.items ≡ out.old.items ++ shown_code code) }
+    ensures text { is_utf8 out.old.items ≡ true → OnOk result (is_utf8 out.new.items ≡ true) }
+    ensures front { OnErr result (Begins out.old.items out.new.items) }
+{
+    let bytes = code.0;
+    if is_graphic(&bytes) {
+        return push_ascii(&bytes, out);
+    }
+    push_str("x", out)?;
+    push_hex_digits(&bytes, out)
+}
+
+/// Adds a byte of a text within quotes.
+fn push_escaped(byte: u8, out: &mut Vec<u8>) -> Result<(), AllocError>
+    ensures shown { OnOk result (out.new.items ≡ out.old.items ++ escaped byte) }
+    ensures front { OnErr result (Begins out.old.items out.new.items) }
+{
+    match byte {
+        b'"' => push_str("\\\"", out),
+        b'\\' => push_str("\\\\", out),
+        0..=31 | 127 => {
+            push_str("\\x", out)?;
+            push_hex(byte, out)
+        }
+        _ => out.extend_from_slice(&[byte]),
+    }
+}
+
+fn push_all_escaped(bytes: &[u8], out: &mut Vec<u8>) -> Result<(), AllocError>
+    ensures shown { OnOk result (out.new.items ≡ out.old.items ++ flat_map escaped bytes.now) }
+    ensures front { OnErr result (Begins out.old.items out.new.items) }
+{
+    for byte in bytes {
+        push_escaped(*byte, out)?;
+    }
+    Ok(())
+}
+
+/// Adds a text as it stands within quotes.
+fn push_escaped_text(text: &str, out: &mut Vec<u8>) -> Result<(), AllocError>
+    ensures shown { OnOk result (out.new.items ≡ out.old.items ++ flat_map escaped text.now) }
+    ensures text { is_utf8 out.old.items ≡ true → OnOk result (is_utf8 out.new.items ≡ true) }
+    ensures front { OnErr result (Begins out.old.items out.new.items) }
+{
+    push_all_escaped(text.as_bytes(), out)?;
+    Ok(())
+}
+
+fn str_of(text: &Text) -> &str
+    ensures value { result.now ≡ text.now }
+    ensures held { is_utf8 text.now ≡ true }
+{
+    text.as_str()
+}
+
+/// Adds a text in quotes.
+pub(crate) fn push_quoted(text: &Text, out: &mut Vec<u8>) -> Result<(), AllocError>
+    ensures shown { OnOk result (out.new.items ≡ out.old.items ++ quoted text.now) }
+    ensures held { is_utf8 text.now ≡ true }
+    ensures text { is_utf8 out.old.items ≡ true → OnOk result (is_utf8 out.new.items ≡ true) }
+    ensures front { OnErr result (Begins out.old.items out.new.items) }
+{
+    let text = str_of(text);
+    push_str("\"", out)?;
+    push_escaped_text(text, out)?;
+    push_str("\"", out)
+}

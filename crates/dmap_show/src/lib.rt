@@ -1,0 +1,17 @@
+//! Tags as text that people read: a line per tag, two spaces per level (`specs/Shown.antt`).
+#![tactic(auto)]
+
+mod adding;
+mod draft;
+pub mod laws;
+mod lines;
+mod pieces;
+mod reading;
+mod row;
+mod spelled;
+#[cfg(test)]
+mod tests;
+mod values;
+
+pub use lines::{show, show_event};
+pub use reading::{ShowError, read_show};
