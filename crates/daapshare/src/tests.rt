@@ -306,6 +306,84 @@ fn names_are_refused_behind_the_query(rt: HostRuntime) -> Result<(), Fail> {
     )
 }
 
+/// Bytes of tags, and what `check` says of them.
+fn tags(n: u32) -> (&'static [u8], u8, &'static str) {
+    match n {
+        0 => (b"", 0, "ok 0 tags 0 bytes\n"),
+        1 => (
+            b"mlcl\0\0\0\x0cmiid\0\0\0\x04\0\0\0\x01",
+            0,
+            "ok 1 tags 20 bytes\n",
+        ),
+        2 => (
+            b"mlcl\0\0\0\0mstt\0\0\0\x04\0\0\0\xc8mlcl\0\0\0\x10mlit\0\0\0\0mlit\0\0\0\0",
+            0,
+            "ok 3 tags 44 bytes\n",
+        ),
+        3 => (
+            b"mlcl\0\0\0\x0bmiid\0\0\0\x04\0\0\0",
+            3,
+            "tags: overrun at 8\n",
+        ),
+        4 => (
+            b"mlcl\0\0\0\x13miid\0\0\0\x04\0\0\0\x01\0\0\0\0\0\0\0",
+            3,
+            "tags: short head at 20\n",
+        ),
+        5 => (b"mlog\0\0\0\x18ms", 3, "tags: truncated at 10\n"),
+        _ => (b"mlcl\xff\xff\xff\xff", 3, "tags: too large at 0\n"),
+    }
+}
+
+/// `check` says this of the bytes, whole and one by one.
+fn is_checked(
+    rt: &impl Abort,
+    alloc: Global,
+    bytes: &[u8],
+    status: u8,
+    line: &str,
+) -> Result<(), Fail> {
+    let whole = ran_over(alloc, &["check"], bytes)?;
+    assert_eq!(rt; whole.status, status);
+    assert_eq!(rt; whole.output.as_slice(), line.as_bytes());
+    let source = MemSource::new(alloc, bytes, 1, &[])?;
+    let sink = MemSink::new(alloc, 4096, 4096, &[])?;
+    let single = run_over(alloc, &["check"], source, sink)?;
+    assert_eq!(rt; single.status, status);
+    assert_eq!(rt; single.output.as_slice(), line.as_bytes());
+    Ok(())
+}
+
+#[test]
+fn tags_are_counted_or_refused_at_their_place(rt: HostRuntime) -> Result<(), Fail> {
+    let alloc = rt.alloc();
+    for n in 0..7 {
+        let (bytes, status, line) = tags(n);
+        is_checked(&rt, alloc, bytes, status, line)?;
+    }
+    is_checked(&rt, alloc, one_item(), 0, "ok 1 tags 102 bytes\n")
+}
+
+/// As many lists, each in the one before it.
+fn nested(alloc: Global, count: u8) -> Result<Vec<u8>, AllocError> {
+    let mut bytes = Vec::new(alloc);
+    for outer in 0..count {
+        let within = u32::from(count - outer - 1) * 8;
+        bytes.extend_from_slice(b"mcon")?;
+        bytes.extend_from_slice(&within.to_be_bytes())?;
+    }
+    Ok(bytes)
+}
+
+#[test]
+fn tags_have_at_most_32_levels(rt: HostRuntime) -> Result<(), Fail> {
+    let alloc = rt.alloc();
+    let deepest = nested(alloc, 32)?;
+    is_checked(&rt, alloc, deepest.as_slice(), 0, "ok 1 tags 256 bytes\n")?;
+    let deeper = nested(alloc, 33)?;
+    is_checked(&rt, alloc, deeper.as_slice(), 3, "tags: too deep at 256\n")
+}
+
 /// The words get the usage text.
 fn are_refused(rt: &impl Abort, alloc: Global, words: &[&str]) -> Result<(), Fail> {
     let source = MemSource::new(alloc, b"", 1, &[])?;
@@ -333,7 +411,7 @@ fn words_that_are_no_command_get_the_usage(rt: HostRuntime) -> Result<(), Fail> 
     are_refused(&rt, alloc, &["list", "--query", "--meta"])?;
     are_refused(&rt, alloc, &["list", "--list", "1"])?;
     are_refused(&rt, alloc, &["show"])?;
-    are_refused(&rt, alloc, &["check"])?;
+    are_refused(&rt, alloc, &["check", "x"])?;
     are_refused(&rt, alloc, &["codes", "--learn"])?;
     are_refused(&rt, alloc, &["--help"])
 }
