@@ -4,6 +4,7 @@ use Rattle.std.specs.Io.KnownBytes.{Consumes, IsAtEnd}
 use Rattle.std.proofs.lemmas.List.{append-nil, take-append-le, take_at}
 use Rattle.std.proofs.Math.Seq.{take-append-add}
 use Rattle.code_table.specs.Standard.{standard_rows}
+use Rattle.daap_outside.specs.Counts.{Rose}
 use Rattle.daapshare_words.specs.declared.words.Command.TheVariants as command
 use Rattle.dmap_stream.specs.declared.event.Event.{Event}
 use Rattle.dmap_stream.specs.declared.refusal.StreamError.{StreamError}
@@ -162,17 +163,25 @@ limit_cause (Some input) (Some rest) bytes read long = record {
       (ap (λ l. (walked l).ending) (sym (ap (take TAGS_LIMIT) read ∙ take-append-le TAGS_LIMIT bytes rest (let more = long.long in omega arith))) ∙ is);
 }
 
-pub stopped_cause : (before after : InputSeen) (bytes : List ℕ) (fault : Fault) → Consumes before.left after.left bytes → StopsAt bytes fault
-    → IsCause (Some command.Check) before after fault
-stopped_cause before after bytes Words read stop = absurd stop
-stopped_cause before after bytes (Query error) read stop = absurd stop
-stopped_cause before after bytes Meta read stop = absurd stop
-stopped_cause before after bytes (Records error) read stop = absurd stop
-stopped_cause before after bytes (Tags error) read stop = tags_cause before.left after.left bytes error read stop
-stopped_cause before after bytes Read read stop = absurd stop
-stopped_cause before after bytes Write read stop = absurd stop
-stopped_cause before after bytes InputLimit read stop = limit_cause before.left after.left bytes read stop
-stopped_cause before after bytes Memory read stop = tt
+pub stopped_cause : (before after : InputSeen) (bytes : List ℕ) (fault : Fault) → Consumes before.left after.left bytes → after.faults ≡ before.faults
+    → StopsAt bytes fault → IsCause (Some command.Check) before after fault
+stopped_cause before after bytes Words read faultless stop = absurd stop
+stopped_cause before after bytes (Query error) read faultless stop = absurd stop
+stopped_cause before after bytes Meta read faultless stop = absurd stop
+stopped_cause before after bytes (Records error) read faultless stop = absurd stop
+stopped_cause before after bytes (Tags error) read faultless stop =
+    record { said = tags_cause before.left after.left bytes error read stop; faultless = faultless }
+stopped_cause before after bytes Read read faultless stop = absurd stop
+stopped_cause before after bytes Write read faultless stop = absurd stop
+stopped_cause before after bytes InputLimit read faultless stop =
+    record { said = limit_cause before.left after.left bytes read stop; faultless = faultless }
+stopped_cause before after bytes Memory read faultless stop = tt
+
+-- the input failed, behind bytes that are not refused
+pub failed_cause : (before after : InputSeen) (bytes : List ℕ) (counter : Counter) → Consumes before.left after.left bytes → IsCounted bytes counter
+    → Rose before.faults after.faults → IsCause (Some command.Check) before after Read
+failed_cause before after bytes counter read counted rose =
+    (record { bytes = bytes; read = read; sound = λ e is. unbroken bytes counter.reader counter.tops e counted.counted is }, rose)
 
 cut_as : (left after : Option (List ℕ)) (bytes : List ℕ) (n : ℕ) → n ≡ length bytes → Consumes left after bytes → IsAtEnd after → length bytes ≤ TAGS_LIMIT
     → (walked bytes).ending ≡ inside → IfSome left (HasTagFault (stream.Truncated n))
@@ -191,7 +200,7 @@ cut_as (Some input) (Some rest) bytes n is read end within ending =
 
 -- bytes that end inside a top tag, at the end of the input
 pub cut_cause : (before after : InputSeen) (bytes : List ℕ) (e : StreamError) (fault : Fault) → Consumes before.left after.left bytes → IsAtEnd after.left
-    → length bytes ≤ TAGS_LIMIT → Ends bytes (Err e) → fault ≡ tags_fault e → IsCause (Some command.Check) before after fault
-cut_cause before after bytes e fault read end within ends is =
+    → after.faults ≡ before.faults → length bytes ≤ TAGS_LIMIT → Ends bytes (Err e) → fault ≡ tags_fault e → IsCause (Some command.Check) before after fault
+cut_cause before after bytes e fault read end faultless within ends is =
     subst (IsCause (Some command.Check) before after) (sym (is ∙ ap tags_fault ends.1))
-    (cut_as before.left after.left bytes (length bytes) refl read end within ends.0)
+    (record { said = cut_as before.left after.left bytes (length bytes) refl read end within ends.0; faultless = faultless })

@@ -34,11 +34,11 @@ said : (command : Option Command) (input : List ℕ) (before after : InputSeen) 
 said command input before after Words told steady cause = inr (subst (λ left. Says command left Words) told cause.0)
 said command input before after (Query error) told steady cause = inr (subst (λ left. Says command left (Query error)) told cause.0)
 said command input before after Meta told steady cause = inr (subst (λ left. Says command left Meta) told cause.0)
-said command input before after (Records error) told steady cause = inr (subst (λ left. Says command left (Records error)) told cause)
-said command input before after (Tags error) told steady cause = inr (subst (λ left. Says command left (Tags error)) told cause)
+said command input before after (Records error) told steady cause = inr (subst (λ left. Says command left (Records error)) told cause.said)
+said command input before after (Tags error) told steady cause = inr (subst (λ left. Says command left (Tags error)) told cause.said)
 said command input before after Read told steady cause = absurd (steady cause.1)
 said command input before after Write told steady cause = absurd cause
-said command input before after InputLimit told steady cause = inr (subst (λ left. Says command left InputLimit) told cause)
+said command input before after InputLimit told steady cause = inr (subst (λ left. Says command left InputLimit) told cause.said)
 said command input before after Memory told steady cause = inl refl
 
 decided_by : (command : Option Command) (input : List ℕ) (fault : Fault) (status : ℕ) → status ≡ fault_status fault

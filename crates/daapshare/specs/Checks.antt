@@ -8,15 +8,15 @@ use Rattle.dmap_stream.specs.declared.event.Event.TheVariants.{Open, Leaf, Close
 use Rattle.dmap_stream.specs.declared.refusal.StreamError.{StreamError}
 use Rattle.dmap_stream.specs.declared.refusal.StreamError.TheVariants as stream
 use Rattle.item_model.specs.declared.changes.Entry.{Entry}
-use Rattle.daapshare.specs.declared.check.TheConstants.{TAGS_LIMIT, TAG_LIMIT}
 use Rattle.daapshare.specs.declared.tops.Tops.{Tops}
 use Rattle.daapshare.specs.declared.fault.Fault.{Fault}
 use Rattle.daapshare.specs.declared.fault.Fault.TheVariants.{Words, Query, Meta, Records, Tags, Read, Write, InputLimit, Memory}
+use Rattle.daapshare.specs.Limits.{tags_limit, tag_limit}
 use Rattle.daapshare.specs.Seen.{InputSeen}
 
 -- what bytes say as tags of the standard table
 abbrev pub walked : List ℕ → Walk
-walked bytes = walk_of standard_rows TAG_LIMIT bytes
+walked bytes = walk_of standard_rows tag_limit bytes
 
 -- no list is open, and no top tag has ended
 abbrev pub no_tops : Tops
@@ -37,7 +37,7 @@ top_tags events = (fold after_event no_tops events).ended
 
 -- the bytes are whole top tags
 abbrev pub IsSound : List ℕ → Type 0
-IsSound bytes = (length bytes ≤ TAGS_LIMIT) × ((walked bytes).ending ≡ between)
+IsSound bytes = (length bytes ≤ tags_limit) × ((walked bytes).ending ≡ between)
 
 abbrev pub check_text : List ℕ → List ℕ
 check_text bytes = codes "ok " ++ decimal (top_tags (walked bytes).events) ++ codes " tags " ++ decimal (length bytes) ++ codes " bytes" ++ 10 ∷ []
@@ -54,19 +54,25 @@ pub record IsChecked (before after : InputSeen) (history : Option (List Entry)) 
 
 -- the bytes end inside a top tag
 pub record IsCutShort (error : StreamError) (input : List ℕ) : Type 0 where
-  pub within : length input ≤ TAGS_LIMIT
+  pub within : length input ≤ tags_limit
   pub ending : (walked input).ending ≡ inside
   pub told : error ≡ stream.Truncated (length input)
 
 -- the fault of an input of tags: that of the first faulty place in as many bytes as are read, or of its end
 pub record HasTagFault (error : StreamError) (input : List ℕ) : Type 0 where
   pub cause : error ≢ stream.Memory
-  pub shown : ((walked (take TAGS_LIMIT input)).ending ≡ broken error) ⊎ IsCutShort error input
+  pub shown : ((walked (take tags_limit input)).ending ≡ broken error) ⊎ IsCutShort error input
 
 -- there are more bytes than are read, and no faulty place in those
 pub record IsTooLong (input : List ℕ) : Type 0 where
-  pub long : TAGS_LIMIT < length input
-  pub sound : (error : StreamError) → (walked (take TAGS_LIMIT input)).ending ≢ broken error
+  pub long : tags_limit < length input
+  pub sound : (error : StreamError) → (walked (take tags_limit input)).ending ≢ broken error
+
+-- no place in the bytes that were read is faulty
+pub record IsSoundSoFar (before after : InputSeen) : Type 0 where
+  pub bytes : List ℕ
+  pub read : Consumes before.left after.left bytes
+  pub sound : (error : StreamError) → (walked bytes).ending ≢ broken error
 
 -- the fault of the input, where it is told
 abbrev pub CheckSays : Option (List ℕ) → Fault → Type 0

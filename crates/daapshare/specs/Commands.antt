@@ -9,7 +9,7 @@ use Rattle.daapshare.specs.declared.fault.Fault.TheVariants.{Words, Query, Meta,
 use Rattle.daapshare.specs.Seen.{InputSeen, IsUnread}
 use Rattle.daapshare.specs.Looks.{IsAsked}
 use Rattle.daapshare.specs.Lists.{IsListed, IsListable, ListSays}
-use Rattle.daapshare.specs.Checks.{IsSound, IsChecked, CheckSays}
+use Rattle.daapshare.specs.Checks.{IsSound, IsSoundSoFar, IsChecked, CheckSays}
 
 -- the fault of words that are no command's
 abbrev pub IsUsage : Fault → Type 0
@@ -23,13 +23,18 @@ Says (Some (command.Show back)) left fault = IsUsage fault
 Says (Some command.Check) left fault = CheckSays left fault
 Says (Some (command.Codes learn)) left fault = IsUsage fault
 
--- the command's words are in order, and it reads the input
-abbrev pub ReadsInput : Option Command → Type 0
-ReadsInput None = ⊥
-ReadsInput (Some (command.List query meta)) = IsAsked query meta
-ReadsInput (Some (command.Show back)) = ⊥
-ReadsInput (Some command.Check) = Unit {0}
-ReadsInput (Some (command.Codes learn)) = ⊥
+-- the command's words are in order, and it reads on, as nothing that it has read is refused
+abbrev pub ReadsOn : Option Command → InputSeen → InputSeen → Type 0
+ReadsOn None before after = ⊥
+ReadsOn (Some (command.List query meta)) before after = IsAsked query meta
+ReadsOn (Some (command.Show back)) before after = ⊥
+ReadsOn (Some command.Check) before after = IsSoundSoFar before after
+ReadsOn (Some (command.Codes learn)) before after = ⊥
+
+-- a fault of what was read, with no fault of the input itself
+pub record IsFaultOf (asked : Option Command) (before after : InputSeen) (fault : Fault) : Type 0 where
+  pub said : Says asked before.left fault
+  pub faultless : after.faults ≡ before.faults
 
 -- what has to hold where a command ends by a fault: a fault of the words comes before the input is read, and want of
 -- memory may always come
@@ -37,11 +42,11 @@ abbrev pub IsCause : Option Command → InputSeen → InputSeen → Fault → Ty
 IsCause asked before after Words = Says asked before.left Words × IsUnread before after
 IsCause asked before after (Query error) = Says asked before.left (Query error) × IsUnread before after
 IsCause asked before after Meta = Says asked before.left Meta × IsUnread before after
-IsCause asked before after (Records error) = Says asked before.left (Records error)
-IsCause asked before after (Tags error) = Says asked before.left (Tags error)
-IsCause asked before after Read = ReadsInput asked × Rose before.faults after.faults
+IsCause asked before after (Records error) = IsFaultOf asked before after (Records error)
+IsCause asked before after (Tags error) = IsFaultOf asked before after (Tags error)
+IsCause asked before after Read = ReadsOn asked before after × Rose before.faults after.faults
 IsCause asked before after Write = ⊥
-IsCause asked before after InputLimit = Says asked before.left InputLimit
+IsCause asked before after InputLimit = IsFaultOf asked before after InputLimit
 IsCause asked before after Memory = Unit {0}
 
 -- a command that is done, with the history of the share that it opened and its output

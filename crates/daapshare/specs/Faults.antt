@@ -18,7 +18,6 @@ use Rattle.daap_outside.specs.declared.reading.ReadError.{ReadError}
 use Rattle.daap_outside.specs.declared.reading.ReadError.TheVariants as reads
 use Rattle.daapshare.specs.declared.fault.Fault.{Fault}
 use Rattle.daapshare.specs.declared.fault.Fault.TheVariants.{Words, Query, Meta, Records, Tags, Read, Write, InputLimit, Memory}
-use Rattle.daapshare.specs.declared.fault.TheConstants.{USAGE}
 
 abbrev pub query_why_text : QueryWhy → List ℕ
 query_why_text why.End = codes " end"
@@ -56,9 +55,22 @@ tags_text (stream.ShortHead at) = codes "tags: short head at " ++ decimal at
 tags_text (stream.Truncated at) = codes "tags: truncated at " ++ decimal at
 tags_text stream.Memory = codes "memory"
 
+-- how the program is called
+abbrev pub usage_text : List ℕ
+usage_text =
+    codes "usage: daapshare list [--query Q] [--meta M] [--list ID]" ++ 10 ∷
+    codes "       daapshare show [--back]" ++ 10 ∷
+    codes "       daapshare check" ++ 10 ∷
+    codes "       daapshare codes [--learn]" ++ 10 ∷
+    codes "       daapshare replay [--keep K] [--name N]" ++ 10 ∷
+    codes "       daapshare rehearse NUMBER BATCHES SIZE [--keep K]" ++ 10 ∷
+    codes "       daapshare serve LISTEN EDIT [--name N] [--keep K] [--workers W] [--editors E]" ++ 10 ∷
+    codes "       daapshare edit PLACE [--stop]" ++ 10 ∷
+    codes "       daapshare follow PLACE ROUNDS [--query Q] [--meta M] [--list ID]" ++ 10 ∷ []
+
 -- what is written for a fault: nothing where the output itself failed
 abbrev pub fault_line : Fault → List ℕ
-fault_line Words = USAGE.now
+fault_line Words = usage_text
 fault_line (Query error) = query_text error ++ 10 ∷ []
 fault_line Meta = codes "meta: too many names" ++ 10 ∷ []
 fault_line (Records error) = records_text error ++ 10 ∷ []

@@ -1,5 +1,6 @@
 pub mod Faults
 pub mod Library
+pub mod Limits
 pub mod Listing
 pub mod Looks
 pub mod LookFaults

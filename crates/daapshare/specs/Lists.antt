@@ -11,19 +11,19 @@ use Rattle.records_import.specs.declared.refusal.RecordError.{RecordError}
 use Rattle.records_import.specs.declared.refusal.RecordError.TheVariants as records
 use Rattle.daapshare.specs.declared.fault.Fault.{Fault}
 use Rattle.daapshare.specs.declared.fault.Fault.TheVariants.{Words, Query, Meta, Records, Tags, Read, Write, InputLimit, Memory}
-use Rattle.daapshare.specs.declared.list.TheConstants.{RECORDS_LIMIT}
+use Rattle.daapshare.specs.Limits.{records_limit}
 use Rattle.daapshare.specs.Seen.{InputSeen}
 use Rattle.daapshare.specs.Looks.{AsksLook, IsAsked, IsQueryRefused, IsMetaRefused}
 use Rattle.daapshare.specs.Listing.{listing_bytes}
 
 -- the input, within its limit, reads as the batch of these edits
 pub record ReadsAs (edits : List Edit) (input : List ℕ) : Type 0 where
-  pub within : length input ≤ RECORDS_LIMIT
+  pub within : length input ≤ records_limit
   pub read : BatchReads (table_of input) (Ok edits)
 
 -- the input is within its limit, and its records are refused for this
 pub record IsRefused (error : RecordError) (input : List ℕ) : Type 0 where
-  pub within : length input ≤ RECORDS_LIMIT
+  pub within : length input ≤ records_limit
   pub cause : error ≢ records.Memory
   pub refused : BatchReads (table_of input) (Err error)
 
@@ -55,5 +55,5 @@ ListSays query meta left (Records error) = IsAsked query meta × IfSome left (Is
 ListSays query meta left (Tags error) = ⊥
 ListSays query meta left Read = ⊥
 ListSays query meta left Write = ⊥
-ListSays query meta left InputLimit = IsAsked query meta × IfSome left (λ input. RECORDS_LIMIT < length input)
+ListSays query meta left InputLimit = IsAsked query meta × IfSome left (λ input. records_limit < length input)
 ListSays query meta left Memory = ⊥

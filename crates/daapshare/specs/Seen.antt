@@ -11,7 +11,7 @@ pub record OutputSeen : Type 0 where
   pub taken : Option (List ℕ)
   pub faults : ℕ
 
--- no byte of the input was read
+-- no byte of the input was read, and no fault of it counted
 pub record IsUnread (before after : InputSeen) : Type 0 where
   pub left : after.left ≡ before.left
   pub faults : after.faults ≡ before.faults

@@ -21,7 +21,7 @@ pub const TAGS_LIMIT: u64 = 4_294_967_296;
 /// The greatest payload of a top tag, in bytes.
 pub const TAG_LIMIT: u32 = 1_073_741_824;
 
-// How many bytes one read asks for.
+/// How many bytes one read asks for.
 const PIECE: usize = 65_536;
 
 /// What was read and counted so far.
@@ -123,7 +123,10 @@ fn counted<I: Source>(alloc: Global, input: &mut I) -> Result<Counter, Fault>
     let mut counter = Counter::new(alloc)?;
     let mut piece = [0; PIECE];
     loop {
-        let n = input.read(&mut piece)?;
+        let n = match input.read(&mut piece) {
+            Ok(n) => n,
+            Err(_) => return Err(Fault::Read),
+        };
         if n == 0 {
             return Ok(counter);
         }

@@ -1,5 +1,5 @@
 //! `daapshare`: a server and a mirror client for a shared music catalogue over DAAP.
-//! Today it lists: records of a library in, the bytes of the DMAP listing of its items out.
+//! Today it lists a library from records and checks tags.
 #![tactic(auto)]
 
 mod answer;

@@ -21,10 +21,10 @@ pub struct Outcome {
     pub history: Option<Entries>,
 }
 
-/// Does what the words ask for. The one command today is `list`.
+/// Does what the words ask for.
 ///
-/// The statuses are 0 where all was done, 2 for words that are no command's, 3 for a query, names of properties or
-/// records that are refused, 4 and 5 where the input or the output failed, 8 where the input is too long, and 9 for
+/// The statuses are 0 where all was done, 2 for words that are no command's, 3 for a query, names of properties,
+/// records or tags that are refused, 4 and 5 where the input or the output failed, 8 where the input is too long, and 9 for
 /// want of memory. Each but 0 and 5 has its line on the output.
 pub fn run<I: Source, W: Sink, F: Files, N: Net>(
     alloc: Global,

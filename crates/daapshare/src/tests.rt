@@ -3,7 +3,6 @@
 //! Known bytes stand in functions of their own: a proof of a test need not read them.
 
 use crate::fault::{Fault, USAGE};
-use crate::list::RECORDS_LIMIT;
 use crate::run::run;
 use daap_outside::{MemFiles, MemNet, MemSink, MemSource};
 use item_model::{QueryError, QueryWhy, RecordWhy};
@@ -272,7 +271,7 @@ fn a_query_is_refused_at_its_place(rt: HostRuntime) -> Result<(), Fail> {
     is_refused(&rt, alloc, &["list", "--query="], "query: at 0 end\n")
 }
 
-/// One name more than may be asked for, and 4,097 bytes.
+/// That many of a byte.
 fn too_much(alloc: Global, byte: u8, count: usize) -> Result<Vec<u8>, AllocError> {
     let mut bytes = Vec::new(alloc);
     bytes.resize(count, byte)?;
@@ -454,7 +453,7 @@ fn bytes_one_by_one_make_no_difference(rt: HostRuntime) -> Result<(), Fail> {
 fn an_input_has_at_most_four_mebibytes(rt: HostRuntime) -> Result<(), Fail> {
     let alloc = rt.alloc();
     let mut text = Vec::from_slice(alloc, records("header"))?;
-    text.resize(RECORDS_LIMIT as usize, b'\n')?;
+    text.resize(4_194_304, b'\n')?;
     lists(&rt, alloc, text.as_slice(), 0, no_items())?;
     text.push(b'\n')?;
     lists(&rt, alloc, text.as_slice(), 8, b"limit: input\n")

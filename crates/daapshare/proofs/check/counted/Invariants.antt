@@ -5,8 +5,8 @@ use Rattle.daapshare.specs.Counting.{IsCounted}
 use Rattle.daapshare.proofs.check.counted.Given as goal
 
 -- what was read is counted, within the limit, and no fault was counted
-abbrev pub invariant-loop-counter : goal.invariant-loop-counter
-invariant-loop-counter g l = record {
+abbrev pub invariant-loop-n : goal.invariant-loop-n
+invariant-loop-n g l = record {
   fed : List ℕ;
   counted : IsCounted fed l.counter;
   within : length fed ≤ TAGS_LIMIT;
@@ -14,5 +14,5 @@ invariant-loop-counter g l = record {
   faultless : g.I.Faulted.faults l.input ≡ g.I.Faulted.faults l.initial.input;
 }
 
-abbrev pub decreases-loop-counter : goal.decreases-loop-counter
-decreases-loop-counter g l = TAGS_LIMIT - l.counter.bytes
+abbrev pub decreases-loop-n : goal.decreases-loop-n
+decreases-loop-n g l = TAGS_LIMIT - l.counter.bytes

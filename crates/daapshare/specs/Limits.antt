@@ -1,0 +1,14 @@
+-- How much of its input a command reads, in bytes.
+use Rattle.std.specs.Prelude.{ℕ}
+
+-- records: 4 MiB
+abbrev pub records_limit : ℕ
+records_limit = 4194304
+
+-- tags: 4 GiB
+abbrev pub tags_limit : ℕ
+tags_limit = 4294967296
+
+-- the payload of a top tag: 1 GiB
+abbrev pub tag_limit : ℕ
+tag_limit = 1073741824
