@@ -1,11 +1,11 @@
 -- Lines of tags and of their events.
-use Rattle.std.proofs.Common.{◌≡◌, ℕ, zero, suc, ◌+◌, List, [], ◌∷◌, ◌++◌, length, refl, sym, ap, ap₂, ◌∙◌, append_assoc, append-nil, add-one}
+use Rattle.std.proofs.Common.{◌≡◌, ℕ, zero, suc, ◌+◌, List, [], ◌∷◌, ◌++◌, length, refl, sym, ap, ap₂, ◌∙◌, append_assoc, add-one}
 use Rattle.dmap_tags.specs.Codes.{Four}
 use Rattle.dmap_tags.specs.declared.tree.Value.{Value}
 use Rattle.dmap_tags.specs.declared.tree.Value.TheVariants as value
 use Rattle.dmap_tags.specs.Tree.{tree_code, Leaf, U8, I8, U16, I16, U32, I32, U64, I64, Text, Date, Version, Opaque, Tree, leaf, list, Trees, none, more}
 use Rattle.dmap_tags.specs.Seen.{tree_with}
-use Rattle.dmap_tags.specs.Spelling.{payload, spellings}
+use Rattle.dmap_tags.specs.Spelling.{payload}
 use Rattle.dmap_tags.specs.Typed.{value_of}
 use Rattle.dmap_stream.specs.declared.event.Event.{Event}
 use Rattle.dmap_stream.specs.declared.event.Event.TheVariants.{Close}

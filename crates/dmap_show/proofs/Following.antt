@@ -1,26 +1,26 @@
 -- Drafts that lines lead to, line by line.
-use Rattle.std.proofs.Common.{◌≡◌, ℕ, zero, suc, ◌+◌, ◌≤◌, ◌<◌, Bool, true, false, ◌||◌, ◌==◌, length, List, [], ◌∷◌, ◌++◌, Option, Some, None, inl, inr, refl, sym, ap, ◌∙◌, subst, arith, append_assoc, append-nil, add-one}
+use Rattle.std.proofs.Common.{◌≡◌, ℕ, zero, suc, ◌+◌, ◌≤◌, ◌<◌, true, false, ◌||◌, ◌==◌, length, List, [], ◌∷◌, ◌++◌, Some, None, inl, inr, refl, sym, ap, ◌∙◌, subst, arith, append_assoc, append-nil, add-one}
 use Rattle.std.proofs.lemmas.Bool.{true≢false, eqb-true, leb-false, ltb-false, cases_Bool, or_parts}
 use Rattle.std.specs.Prelude.{nat_lt, nat_le}
 use Rattle.dmap_tags.specs.Codes.{Four}
 use Rattle.dmap_tags.specs.Seen.{tree_with}
-use Rattle.dmap_tags.specs.Tree.{Tree, leaf, list, Trees, none, more, trees_of}
+use Rattle.dmap_tags.specs.Tree.{Tree, leaf, list, none, trees_of}
 use Rattle.dmap_tags.specs.declared.tree.Value.{Value}
 use Rattle.dmap_tags.specs.declared.tree.Value.TheVariants as value
 use Rattle.code_table.specs.declared.row.CodeRow.{CodeRow}
 use Rattle.code_table.specs.Fits.{fits}
 use Rattle.dmap_show.specs.declared.draft.OpenList.{OpenList}
-use Rattle.dmap_show.specs.Shown.{shown_line, shown_tag, shown_tags}
+use Rattle.dmap_show.specs.Shown.{shown_tag, shown_tags}
 use Rattle.dmap_show.specs.Readable.{IsCode, Shows}
 use Rattle.dmap_show.specs.TextLines.{before, behind, has, first_line, first_lines, behind_lines, StopsBehind, Explains}
 use Rattle.dmap_show.specs.declared.reading.ShowError.{ShowError}
 use Rattle.dmap_show.specs.declared.reading.ShowError.TheVariants.{Line, Memory}
 use Rattle.dmap_show.specs.Parts.{bare_line, head_of, IsHead, IsHeadValue}
 use Rattle.dmap_show.specs.Drafts.{State, closed, parent_in, lowered, with_tag, fitted, taken, Took}
-use Rattle.dmap_show.specs.Standing.{AllStand, HeadStands}
+use Rattle.dmap_show.specs.Standing.{HeadStands}
 use Rattle.dmap_show.specs.Ahead.{DraftStands, Goes}
 use Rattle.dmap_show.specs.Follows.{Follows}
-use Rattle.dmap_show.proofs.Taken.{before_none, behind_none, split_again}
+use Rattle.dmap_show.proofs.Taken.{behind_none, split_again}
 use Rattle.dmap_show.proofs.Stands.{each_stands, each_readable}
 use Rattle.dmap_show.proofs.Zipper.{lowered_length, lowered_closed, lowered_stands, with_tag_stands, shown_closed, draft_closed, goes_start, goes_end, goes_line, goes_ended}
 

@@ -1,15 +1,14 @@
 -- Tags that fit a table and are not too deep, told place by place.
-use Rattle.std.proofs.Common.{◌≡◌, ℕ, zero, suc, ◌+◌, ◌<◌, ◌≤◌, max, Bool, true, ◌&&◌, List, [], ◌∷◌, ◌++◌, Option, Some, None, refl, arith}
+use Rattle.std.proofs.Common.{◌≡◌, ℕ, suc, ◌+◌, ◌<◌, ◌≤◌, true, List, [], ◌∷◌, ◌++◌, Option, Some, None, refl, arith}
 use Rattle.std.proofs.lemmas.Bool.{and_parts, and_from}
 use Rattle.std.specs.List.{AllByRecursion}
 use Rattle.dmap_tags.specs.Codes.{Four}
 use Rattle.dmap_tags.specs.Tree.{Tree, leaf, list, Trees, none, more, trees_of}
 use Rattle.code_table.specs.declared.row.CodeRow.{CodeRow}
 use Rattle.code_table.specs.Rows.{kind_in}
-use Rattle.code_table.specs.Fits.{is_list, leaf_fits, fits, all_fit}
-use Rattle.dmap_show.specs.Readable.{IsCode, IsValue, IsTag, AreTags, levels, levels_below, IsReadable}
+use Rattle.code_table.specs.Fits.{is_list, fits, all_fit}
+use Rattle.dmap_show.specs.Readable.{IsTag, AreTags, levels, levels_below, IsReadable}
 use Rattle.dmap_show.specs.Standing.{Stands, AllStand, HeadStands}
-use Rattle.dmap_show.specs.Parts.{head_of, IsHead}
 
 mutual
   stands : (rows : List CodeRow) (level : ℕ) (parent : Option Four) (t : Tree) → IsTag t → fits rows parent t ≡ true → level + levels t ≤ 32 → Stands rows level parent t

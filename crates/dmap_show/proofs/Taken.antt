@@ -1,7 +1,6 @@
 -- Lines taken apart again.
-use Rattle.std.proofs.Common.{◌≡◌, ℕ, zero, suc, ◌+◌, ◌-◌, ◌*◌, ◌/◌, ◌%◌, ◌<◌, ◌≤◌, ◌^◌, Bool, true, false, ◌&&◌, ◌||◌, ◌==◌, not, nat_lt, nat_le, List, [], ◌∷◌, ◌++◌, length, get_or, flat_map, decimal, inl, inr, refl, sym, ap, ap₂, ◌∙◌, subst, arith, append_assoc, append-nil, ltb-true}
+use Rattle.std.proofs.Common.{◌≡◌, ℕ, zero, suc, ◌/◌, ◌%◌, ◌<◌, ◌≤◌, ◌^◌, true, false, ◌||◌, ◌==◌, nat_lt, nat_le, List, [], ◌∷◌, ◌++◌, flat_map, decimal, inl, inr, refl, sym, ap, ◌∙◌, arith, append_assoc}
 use Rattle.std.proofs.lemmas.Bool.{eqb-true, leb-true, ltb-false, and_parts, or_from, or_parts, cases_Bool, ne_eqb, eq-eqb, true≢false}
-use Rattle.std.proofs.lemmas.Bool.Decides.{nat_tests}
 use Rattle.std.proofs.lemmas.Fmt.{decimal_is_IsNumeral}
 use Rattle.std.proofs.lemmas.Str.Parse.{digit_from_value}
 use Rattle.std.specs.Char.{digit_char, is_ascii_graphic}
@@ -16,8 +15,8 @@ use Rattle.dmap_tags.specs.Tree as tree
 use Rattle.dmap_tags.specs.Tree.{Leaf, Tree, leaf, list, Trees, none, more, tree_code}
 use Rattle.dmap_tags.specs.Seen.{tree_with}
 use Rattle.dmap_show.proofs.EventLines.{leaf_with}
-use Rattle.dmap_show.specs.Shown.{indent, hex, escaped, quoted, dotted, shown_code, leaf_word, leaf_text, word_of, space_of, text_of, shown_line}
-use Rattle.dmap_show.specs.Readable.{AreBytes, IsCode, IsValue}
+use Rattle.dmap_show.specs.Shown.{indent, hex, escaped, dotted, shown_code, leaf_word, leaf_text, word_of, space_of, text_of}
+use Rattle.dmap_show.specs.Readable.{IsCode, IsValue}
 use Rattle.dmap_show.specs.TextLines.{before, behind, has}
 use Rattle.dmap_show.specs.Parts.{bare_line, head_of, IsHead, head_value, pairs_in_front, behind_pairs, kind_named, Spells}
 

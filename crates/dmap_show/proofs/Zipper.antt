@@ -1,21 +1,19 @@
 -- Open lists, and the tags that lines make.
-use Rattle.std.proofs.Common.{◌≡◌, ℕ, zero, suc, ◌≤◌, ◌<◌, Bool, true, false, length, List, [], ◌∷◌, ◌++◌, Option, Some, None, inl, inr, refl, sym, ap, ◌∙◌, subst, arith, append_assoc, append-nil}
+use Rattle.std.proofs.Common.{◌≡◌, ℕ, suc, ◌≤◌, ◌<◌, true, false, length, List, [], ◌∷◌, ◌++◌, Some, None, inl, inr, refl, sym, ap, ◌∙◌, subst, arith, append_assoc, append-nil}
 use Rattle.std.proofs.lemmas.Bool.{true≢false, lt-leb, le-ltb, lt-ltb, ltb-true, ltb-false, cases_Bool, and_parts}
 use Rattle.std.specs.Prelude.{nat_lt}
 use Rattle.dmap_tags.specs.Codes.{Four}
-use Rattle.dmap_tags.specs.Tree.{Tree, leaf, list, Trees, none, more, trees_of, tree_list, tree_code}
+use Rattle.dmap_tags.specs.Tree.{Tree, leaf, list, Trees, none, more, trees_of, tree_list}
 use Rattle.code_table.specs.declared.row.CodeRow.{CodeRow}
-use Rattle.code_table.specs.Rows.{kind_in}
-use Rattle.code_table.specs.Fits.{is_list, fits}
+use Rattle.code_table.specs.Fits.{fits}
 use Rattle.dmap_show.specs.declared.draft.OpenList.{OpenList}
 use Rattle.dmap_show.specs.Shown.{shown_line, shown_tag, shown_tags}
-use Rattle.dmap_show.specs.Drafts.{State, closed_in, closed, parent_in, lowered, is_group, with_tag, fitted, taken}
-use Rattle.dmap_show.specs.Readable.{IsCode}
+use Rattle.dmap_show.specs.Drafts.{State, closed_in, closed, parent_in, lowered, with_tag, taken}
 use Rattle.dmap_show.specs.TextLines.{before, behind, has}
 use Rattle.dmap_show.specs.Parts.{bare_line, head_of, IsHead}
 use Rattle.dmap_show.proofs.Taken.{before_mark, behind_mark, has_mark, line_has}
 use Rattle.dmap_show.specs.Standing.{Stands, AllStand, HeadStands}
-use Rattle.dmap_show.specs.Ahead.{OpenStand, DraftStands, first_of, others_of, whole, ahead_lines, AheadStands, Goes}
+use Rattle.dmap_show.specs.Ahead.{DraftStands, first_of, others_of, whole, ahead_lines, AheadStands, Goes}
 use Rattle.dmap_show.proofs.Stands.{all_stand_append, head_stands}
 
 -- where no more lists are open, none is closed

@@ -1,5 +1,5 @@
 -- What is shown as a reader hands out events: the lists that are open count as levels.
-use Rattle.std.specs.Prelude.{ℕ, zero, suc, pred, ◌+◌, List, [], ◌∷◌, ◌++◌, length}
+use Rattle.std.specs.Prelude.{ℕ, suc, pred, ◌+◌, List, [], ◌∷◌, ◌++◌, length}
 use Rattle.dmap_tags.specs.Tree.{Tree, leaf, list, Trees, none, more}
 use Rattle.dmap_tags.specs.Seen.{tree_with}
 use Rattle.dmap_tags.specs.Spelling.{payload, spellings}

@@ -1,10 +1,8 @@
 -- A draft that lines have led to.
-use Rattle.std.specs.Prelude.{◌≡◌, ◌<◌, ℕ, suc, length, List, [], ◌∷◌, ◌++◌, true, None, Option, Some}
-use Rattle.dmap_tags.specs.Codes.{Four}
-use Rattle.dmap_tags.specs.Tree.{Tree, leaf, list, Trees, none, more, trees_of}
+use Rattle.std.specs.Prelude.{◌≡◌, ℕ, List, ◌++◌, None}
+use Rattle.dmap_tags.specs.Tree.{Tree, trees_of}
 use Rattle.code_table.specs.declared.row.CodeRow.{CodeRow}
 use Rattle.dmap_show.specs.Shown.{shown_tags}
-use Rattle.dmap_show.specs.Readable.{Shows}
 use Rattle.dmap_show.specs.declared.draft.OpenList.{OpenList}
 use Rattle.dmap_show.specs.Drafts.{closed}
 use Rattle.dmap_show.specs.Standing.{AllStand}

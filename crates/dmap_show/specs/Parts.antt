@@ -1,12 +1,10 @@
 -- How a line is taken apart: its level, its code, the word of its kind and its value. Taking apart asks for nothing;
 -- whether a line is right is told by showing what was read.
-use Rattle.std.specs.Prelude.{◌≡◌, ◌<◌, ◌≤◌, ◌^◌, ℕ, zero, suc, ℤ, List, [], ◌∷◌, ◌++◌, flat_map, Bool, true, false, ◌==◌, ◌&&◌, if◌then◌else◌, codes, decimal}
+use Rattle.std.specs.Prelude.{◌≡◌, ◌<◌, ◌^◌, ℕ, suc, ℤ, List, [], ◌∷◌, ◌++◌, flat_map, Bool, true, false, ◌==◌, ◌&&◌, if◌then◌else◌, codes, decimal}
 use Rattle.std.specs.Fmt.{signed_decimal}
 use Rattle.std.specs.Int.{w8, w16, w32, w64}
 use Rattle.std.specs.Int.RustNames.{FitsSigned}
 use Rattle.std.specs.Str.{is_utf8, bytes_eq}
-use Rattle.dmap_tags.specs.Codes.{Four}
-use Rattle.dmap_tags.specs.Tree as tree
 use Rattle.dmap_tags.specs.Tree.{Tree, leaf, list, none, tree_code}
 use Rattle.dmap_tags.specs.Typed.{value_of}
 use Rattle.dmap_tags.specs.declared.kinds.Kind.{Kind}

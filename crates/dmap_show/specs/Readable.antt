@@ -1,5 +1,5 @@
 -- Which texts are read: those of tags that fit a table and have at most 32 levels.
-use Rattle.std.specs.Prelude.{◌≡◌, ◌<◌, ◌≤◌, ◌^◌, ◌+◌, ℕ, zero, suc, max, List, [], ◌∷◌, ◌++◌, Bool, true, false, ◌==◌, ◌||◌, if◌then◌else◌, None}
+use Rattle.std.specs.Prelude.{◌≡◌, ◌<◌, ◌≤◌, ◌^◌, ℕ, suc, max, List, true, None}
 use Rattle.std.specs.Int.{w8, w16, w32, w64}
 use Rattle.std.specs.Int.RustNames.{FitsSigned}
 use Rattle.std.specs.List.{AllByRecursion}
@@ -31,6 +31,7 @@ IsValue (Date n) = n < 2 ^ 32
 IsValue (Version n) = n < 2 ^ 32
 IsValue (Opaque bytes) = AreBytes bytes
 
+-- what is no list has a value in range
 abbrev pub HasValue : Tree → Type 0
 HasValue (leaf c l) = IsValue l
 HasValue (list c ts) = Unit {0}
@@ -55,6 +56,7 @@ abbrev mutual
   levels_below none = 0
   levels_below (more t ts) = max (levels t) (levels_below ts)
 
+-- a tag that can be and that, at the top, fits the table and is not too deep
 pub record IsReadable (rows : List CodeRow) (t : Tree) : Type 0 where
   pub tag : IsTag t
   pub fits : fits rows None t ≡ true

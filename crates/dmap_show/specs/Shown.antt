@@ -1,5 +1,5 @@
 -- How tags are shown as text: one line per tag, a list's members below it and one level deeper.
-use Rattle.std.specs.Prelude.{ℕ, zero, suc, ◌/◌, ◌%◌, List, [], ◌∷◌, ◌++◌, flat_map, Bool, ◌&&◌, ◌||◌, ◌==◌, nat_lt, if◌then◌else◌, codes, decimal}
+use Rattle.std.specs.Prelude.{ℕ, zero, suc, ◌/◌, ◌%◌, List, [], ◌∷◌, ◌++◌, flat_map, ◌||◌, ◌==◌, nat_lt, if◌then◌else◌, codes, decimal}
 use Rattle.std.specs.Fmt.{signed_decimal}
 use Rattle.std.specs.Char.{digit_char, is_ascii_graphic}
 use Rattle.std.specs.List.{list_all}

@@ -1,8 +1,9 @@
-//! Tags with the lines that they are known to be shown as.
+//! Tags with the lines that they are known to be shown as, and texts with the line at which they are refused.
 
-use crate::{show, show_event};
+use crate::{ShowError, read_show, show, show_event};
+use code_table::CodeTable;
 use dmap_stream::Event;
-use dmap_tags::{Bytes, Code, Kind, Tag, Tags, Text, Value, leaf};
+use dmap_tags::{Bytes, Code, Kind, Tag, Tags, Text, Value, encode_into, leaf};
 use std::alloc::{AllocError, Global};
 use std::test::Fail;
 
@@ -163,6 +164,113 @@ fn an_event_s_line_is_added_at_its_level(rt: HostRuntime) -> Result<(), Fail> {
     assert_eq!(rt;
         out.as_slice(),
         b"adbs list\n  mlcl list\n    miid u32 7\n".as_slice()
+    );
+    Ok(())
+}
+
+/// The tags whose lines a text is, under the standard table.
+fn read(alloc: Global, text: &str) -> Result<Tags, ShowError> {
+    let table = CodeTable::standard(alloc)?;
+    read_show(alloc, text, &table)
+}
+
+/// The line at which a text is refused.
+fn refused(alloc: Global, text: &str) -> Option<u64> {
+    match read(alloc, text) {
+        Err(ShowError::Line { line }) => Some(line),
+        _ => None,
+    }
+}
+
+/// The bytes of the listing of one item.
+fn one_item_bytes() -> &'static [u8] {
+    b"adbs\0\0\0\x5emstt\0\0\0\x04\0\0\0\xc8muty\0\0\0\x01\0musr\0\0\0\x04\0\0\0\x03mtco\0\0\0\x04\0\0\0\x01mrco\0\0\0\x04\0\0\0\x01mlcl\0\0\0\x1dmlit\0\0\0\x15miid\0\0\0\x04\0\0\0\x07minm\0\0\0\x01A"
+}
+
+#[test]
+fn a_shown_listing_is_read_back(rt: HostRuntime) -> Result<(), Fail> {
+    let tags = read(rt.alloc(), one_item_shown())?;
+    let mut out = Vec::new(rt.alloc());
+    for tag in tags.as_slice() {
+        encode_into(tag, &mut out)?;
+    }
+    assert_eq!(rt; out.as_slice(), one_item_bytes());
+    Ok(())
+}
+
+/// A text that is the text of tags.
+fn readable(place: u32) -> &'static str {
+    match place {
+        0 => "",
+        1 => "zzzz opaque #\nx61206221 opaque #00ff\nmlcl list\n",
+        2 => "abar list\n  mlit text \"A\"\n",
+        3 => "minm text \"a\\\"b\\\\c\\x0a\\x7f \u{e9}\"\nminm opaque #ff\n",
+        4 => "mpro version 65535.255.0\nmper u64 18446744073709551615\nasda date 0\n",
+        _ => "mcon list\n  mcon list\n    muty u8 255\n  muty u8 0\nasyr u16 65535\n",
+    }
+}
+
+#[test]
+fn a_shown_text_is_read_and_shown_again(rt: HostRuntime) -> Result<(), Fail> {
+    for place in 0..6 {
+        let tags = read(rt.alloc(), readable(place))?;
+        assert_eq!(rt;
+            show(rt.alloc(), tags.as_slice())?.as_str(),
+            readable(place)
+        );
+    }
+    Ok(())
+}
+
+/// A text that is refused, with the line.
+fn unreadable(place: u32) -> (&'static str, u64) {
+    match place {
+        0 => ("mstt u32 200", 1),
+        1 => ("mstt u32 200 \n", 1),
+        2 => ("zzzz opaque #0A\n", 1),
+        3 => ("mlcl list\n    miid u32 7\n", 2),
+        4 => ("muty u8 0\nmuty u8 256\n", 2),
+        5 => ("mstt u32 0200\n", 1),
+        6 => ("mstt u32 +200\n", 1),
+        7 => ("mstt u16 200\n", 1),
+        8 => ("miid opaque #00000007\n", 1),
+        9 => ("mlcl list\n  mlit text \"A\"\n", 2),
+        10 => ("minm text \"a\"b\"\n", 1),
+        11 => ("minm text \"\\x41\"\n", 1),
+        12 => ("mpro version 2.0\n", 1),
+        13 => ("mstt u32 200\n\n", 2),
+        14 => ("adbs list\n  mstt u32 200\n muty u8 0\n", 3),
+        15 => ("adbs list\n  mstt u32 200\n  muty u8 0", 3),
+        _ => ("x6d6c636c list\n", 1),
+    }
+}
+
+#[test]
+fn a_text_is_refused_at_its_first_bad_line(rt: HostRuntime) {
+    for place in 0..17 {
+        let (text, line) = unreadable(place);
+        assert_eq!(rt; refused(rt.alloc(), text), Some(line), "at {place}");
+    }
+}
+
+/// Lists in one another, a line for each.
+fn nested(alloc: Global, count: u32) -> Result<String, AllocError> {
+    let mut text = String::new(alloc);
+    for level in 0..count {
+        for _ in 0..level {
+            text.push_str("  ")?;
+        }
+        text.push_str("mcon list\n")?;
+    }
+    Ok(text)
+}
+
+#[test]
+fn no_tag_has_33_levels(rt: HostRuntime) -> Result<(), Fail> {
+    assert_eq!(rt; refused(rt.alloc(), nested(rt.alloc(), 32)?.as_str()), None);
+    assert_eq!(rt;
+        refused(rt.alloc(), nested(rt.alloc(), 33)?.as_str()),
+        Some(33)
     );
     Ok(())
 }

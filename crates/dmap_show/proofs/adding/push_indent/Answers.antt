@@ -1,5 +1,5 @@
 -- Two spaces more are one level more.
-use Rattle.std.proofs.Common.{◌≡◌, ◌++◌, ◌∷◌, [], ℕ, List, ap, sym, ◌∙◌, append_assoc}
+use Rattle.std.proofs.Common.{◌++◌, ◌∷◌, [], ℕ, List, ap, sym, ◌∙◌, append_assoc}
 use Rattle.dmap_tags.specs.Begins.{Begins}
 use Rattle.dmap_tags.proofs.Fronts.{begins_more, begins_append}
 use Rattle.std.proofs.Common.{subst}

@@ -1,5 +1,5 @@
 -- Decimal digits are UTF-8.
-use Rattle.std.proofs.Common.{sym, subst, IsUtf8, IsAscii}
+use Rattle.std.proofs.Common.{sym, subst, IsAscii}
 use Rattle.std.proofs.lemmas.Fmt.{IsAscii-decimal}
 use Rattle.std.proofs.lemmas.Str.{IsUtf8-from_ascii}
 use Rattle.dmap_show.proofs.pieces.number.Goals as goal

@@ -1,5 +1,5 @@
 -- Decimal digits and a sign are UTF-8.
-use Rattle.std.proofs.Common.{sym, subst, IsUtf8, IsAscii}
+use Rattle.std.proofs.Common.{sym, subst, IsAscii}
 use Rattle.std.proofs.lemmas.Fmt.{IsAscii-signed}
 use Rattle.std.proofs.lemmas.Str.{IsUtf8-from_ascii}
 use Rattle.dmap_show.proofs.pieces.signed_number.Goals as goal

@@ -1,5 +1,5 @@
 -- Each line leads on to a longer draft, or stops the text.
-use Rattle.std.proofs.Common.{◌≡◌, ◌<◌, ◌+◌, ◌++◌, ◌∷◌, [], true, false, length, refl, sym, ap, ◌∙◌, subst, arith}
+use Rattle.std.proofs.Common.{◌≡◌, ◌<◌, ◌+◌, ◌++◌, ◌∷◌, [], false, length, refl, sym, ap, ◌∙◌, subst, arith}
 use Rattle.dmap_show.specs.declared.draft.Draft.{Draft}
 use Rattle.dmap_show.specs.TextLines.{has, first_lines}
 use Rattle.dmap_show.specs.Follows.{Follows}

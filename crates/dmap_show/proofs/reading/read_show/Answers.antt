@@ -1,5 +1,5 @@
 -- The draft behind all lines has the one list of tags that the text shows.
-use Rattle.std.proofs.Common.{◌≡◌, sym, ◌∙◌, subst}
+use Rattle.std.proofs.Common.{sym, ◌∙◌, subst}
 use Rattle.std.proofs.lemmas.Result.{err_from_is_err_and}
 use Rattle.dmap_show.specs.Readable.{Shows}
 use Rattle.dmap_show.specs.TextLines.{Explains}

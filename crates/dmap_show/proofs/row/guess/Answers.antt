@@ -1,9 +1,9 @@
 -- A shown line is taken apart into what it was made of.
-use Rattle.std.proofs.Common.{◌≡◌, ap, sym, subst, ◌∙◌, Some, ℕ, List}
+use Rattle.std.proofs.Common.{◌≡◌, ap, sym, subst, ◌∙◌, Some, ℕ}
 use Rattle.std.specs.Prelude.{IfOk}
 use Rattle.dmap_tags.specs.Tree.{tree_code}
 use Rattle.dmap_show.specs.TextLines.{before, behind}
-use Rattle.dmap_show.specs.Shown.{word_of, text_of}
+use Rattle.dmap_show.specs.Shown.{word_of}
 use Rattle.dmap_show.specs.Parts.{head_value, Spells, kind_named}
 use Rattle.dmap_show.proofs.Taken.{parts_of, head_spells, head_code}
 use Rattle.dmap_show.proofs.row.guess.Goals as goal

@@ -1,5 +1,5 @@
 -- The text between the quotes.
-use Rattle.std.proofs.Common.{◌≡◌, List, ℕ, ap, sym, ◌∙◌, true, Some}
+use Rattle.std.proofs.Common.{ap, sym, ◌∙◌, Some}
 use Rattle.std.proofs.lemmas.Bool.{true≢false}
 use Rattle.std.specs.Str.{is_utf8}
 use Rattle.dmap_tags.specs.declared.tree.Value.TheVariants.{Text}

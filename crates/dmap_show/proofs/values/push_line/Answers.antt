@@ -1,8 +1,7 @@
 -- A line is its head and its rest.
 use Rattle.std.proofs.Common.{◌≡◌, ◌++◌, ◌∷◌, subst}
 use Rattle.std.proofs.lemmas.Result.{on_ok_weaker}
-use Rattle.dmap_tags.specs.Seen.{tree_with}
-use Rattle.dmap_show.specs.Shown.{indent, shown_code, word_of}
+use Rattle.dmap_show.specs.Shown.{indent, shown_code}
 use Rattle.dmap_show.proofs.EventLines.{line_by_parts}
 use Rattle.dmap_show.proofs.values.push_line.Goals as goal
 
