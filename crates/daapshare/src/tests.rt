@@ -168,7 +168,7 @@ fn part(n: u32) -> &'static [u8] {
 
 /// The listing of at most nine ids: each row has 20 bytes.
 fn ids_listing(alloc: Global, ids: &[u8]) -> Result<Vec<u8>, AllocError> {
-    let count = ids.len() as u8;
+    let count = ids.len().min(9) as u8;
     let length = count.wrapping_mul(20);
     let mut bytes = Vec::from_slice(alloc, b"adbs\0\0\0")?;
     bytes.push(length.wrapping_add(65))?;
