@@ -1,6 +1,5 @@
 -- How a run ends, put together from what its parts tell; and what the end says where nothing outside failed.
 use Rattle.std.proofs.Common.{◌≡◌, ◌≢◌, ◌<◌, ◌⊎◌, ℕ, List, [], ◌++◌, Option, Some, None, Result, Ok, Err, IfSome, IfOk, IfErr, true, false, length, refl, sym, subst, ap, ◌∙◌, inl, inr, arith}
-use Rattle.std.proofs.KnownBytes.{Consumes-nil}
 use Rattle.daap_outside.specs.Counts.{Rose}
 use Rattle.daapshare_words.specs.declared.words.Command.{Command}
 use Rattle.daapshare_words.specs.declared.words.Command.TheVariants as variant
@@ -15,9 +14,11 @@ use Rattle.daapshare.specs.Seen.{InputSeen, OutputSeen}
 use Rattle.daapshare.specs.Commands.{Says, Gives, IsDone, IsBegun, IsCause, IsFront}
 use Rattle.daapshare.specs.Runs.{Told, Ending, Done, OutputCut, Refused, LineCut, ending_status, Happens, Ends, Decides, IsDecided, IsWritten, Tells, TellsFault}
 use Rattle.daapshare.specs.Answers.{Answers}
+use Rattle.daapshare.specs.declared.show.Stop.TheVariants.{Input, Output}
+use Rattle.daapshare.specs.Shows.{IsShownWhole}
 use Rattle.daapshare.specs.Showing.{ShowStops}
 use Rattle.daapshare.proofs.Agreed.{one_status, is_refused_or_given, given}
-use Rattle.daapshare.proofs.Showing.{written_more, cut_more, none_written}
+use Rattle.daapshare.proofs.Showing.{written_more, cut_more, none_written, show_nothing}
 
 -- what was written before a fault may have been written before want of memory
 before_memory : (command : Option Command) (before after : InputSeen) (fault : Fault) (front : List ℕ) → IsFront command before after fault front
@@ -70,6 +71,21 @@ ends_answered command told status history (Ok answer) done begun cause before t 
     at_end (inr w) = (OutputCut answer.output.items, w.0, (begun history answer.output.items is_done, w.1))
 ends_answered command told status history (Err fault) done begun cause before t = ends_refused command told status history fault cause t.0 (before fault) t.1
 
+-- the ends of `show`
+pub ends_shown : (told : Told) (lines : List ℕ) → IsShownWhole told.input_before told.input_after None lines → IsWritten told.output_before told.output_after lines
+    → Ends (Some (variant.Show false)) told 0 None
+ends_shown told lines whole written = (Done lines, refl, (whole, written))
+
+pub ends_stopped : (told : Told) (mid : OutputSeen) (status : ℕ) (history : Option (List Entry)) (fault : Fault)
+    → ShowStops told.input_before told.input_after told.output_before mid (Input fault) → history ≡ None
+    → TellsFault fault mid told.output_after status → Ends (Some (variant.Show false)) told status history
+ends_stopped told mid status history fault stops h t =
+    ends_behind (Some (variant.Show false)) told mid status history fault stops.1.0 stops.0 h stops.1.1 stops.1.2 t
+
+pub ends_cut : (told : Told) → ShowStops told.input_before told.input_after told.output_before told.output_after Output
+    → Ends (Some (variant.Show false)) told 5 None
+ends_cut told stops = (OutputCut stops.0, refl, ((stops.1, refl), stops.2))
+
 -- no command has written anything where the words were refused
 pub unread : (command : Option Command) (input : InputSeen) (error : WordsError) → (error ≡ words.Usage → command ≡ None)
     → IsCause command input input (words_fault error) × IsFront command input input (words_fault error) []
@@ -80,10 +96,7 @@ unread command input words.Memory none = (tt, untouched command)
     untouched : (command : Option Command) → IsFront command input input Memory []
     untouched None = refl
     untouched (Some (variant.List query meta)) = refl
-    untouched (Some (variant.Show false)) = record {
-      some = record { bytes = []; read = Consumes-nil input.left; shown = (0, refl) };
-      all = tt;
-    }
+    untouched (Some (variant.Show false)) = show_nothing input
     untouched (Some (variant.Show true)) = refl
     untouched (Some variant.Check) = refl
     untouched (Some (variant.Codes learn)) = refl

@@ -1,7 +1,7 @@
 -- What a shower has shown, before and after a call.
 use Rattle.std.proofs.Common.{◌≡◌, ◌≢◌, ◌⊎◌, inl, inr, ℕ, zero, suc, pred, ◌+◌, ◌-◌, ◌<◌, ◌≤◌, List, [], ◌∷◌, ◌++◌, length, take, fold, Option, Some, None, Result, Ok, Err, IfSome, IfErr, false, refl, sym, ap, subst, ◌∙◌, arith, length-append, append_assoc}
 use Rattle.std.specs.Io.KnownBytes.{Consumes, Appends, IsAtEnd, Keeps}
-use Rattle.std.proofs.KnownBytes.{Appends-trans, Appends-nil}
+use Rattle.std.proofs.KnownBytes.{Appends-trans, Appends-nil, Consumes-nil}
 use Rattle.std.proofs.lemmas.List.{append-nil, take-append-le, take_at, take_all}
 use Rattle.std.proofs.Math.Seq.{take-append-add}
 use Rattle.daap_outside.specs.Told.{AppendsPrefix}
@@ -21,16 +21,18 @@ use Rattle.daapshare.specs.declared.fault.Fault.{Fault}
 use Rattle.daapshare.specs.declared.fault.Fault.TheVariants.{Words, Query, Meta, Records, Tags, Read, Write, InputLimit, Memory}
 use Rattle.daapshare.specs.declared.tops.Tops.{Tops}
 use Rattle.daapshare.specs.declared.show.Shower.{Shower}
+use Rattle.daapshare.specs.declared.show.Stop.{Stop}
+use Rattle.daapshare.specs.declared.show.Stop.TheVariants.{Input, Output}
 use Rattle.daapshare.specs.Faults.{tags_fault}
 use Rattle.daapshare.specs.Seen.{InputSeen, OutputSeen}
 use Rattle.daapshare.specs.Checks.{walked, after_event, no_tops, IsTooLong}
-use Rattle.daapshare.specs.Shows.{read_events, shown_text, BeginsShown, IsShownFront, ShowsAll, IsShownBefore}
+use Rattle.daapshare.specs.Shows.{read_events, shown_text, BeginsShown, IsShownWhole, IsShownFront, ShowsAll, IsShownBefore}
 use Rattle.daapshare.specs.Commands.{IsCause}
-use Rattle.daapshare.specs.Counting.{HasCounted, IsCounted, StopsAt}
+use Rattle.daapshare.specs.Counting.{HasCounted, IsCounted, StopsAt, Ends}
 use Rattle.daapshare.specs.Runs.{IsWritten, IsCut}
-use Rattle.daapshare.specs.Showing.{HasShown, IsShowing, ShowsSome, ShowsBroken, IsLast, StopsShowing}
+use Rattle.daapshare.specs.Showing.{HasShown, IsShowing, ShowsSome, ShowsBroken, IsLast, StopsShowing, StepStops, ShowStops}
 use Rattle.daapshare.proofs.Counting.{total, few_handed, few_counted}
-use Rattle.daapshare.proofs.Counted.{walked_by, within_limit, stopped_cause, too_long}
+use Rattle.daapshare.proofs.Counted.{walked_by, within_limit, stopped_cause, cut_cause, too_long}
 
 pred_is : (n : ℕ) → pred n ≡ n - 1
 pred_is zero = refl
@@ -345,3 +347,77 @@ pub more_some : (bytes more whole lines : List ℕ) → bytes ++ more ≡ whole 
 more_some bytes more whole lines is some rest =
     let s = some (more ++ rest) in
     (s.0, s.1 ∙ ap (λ l. shown_events 0 (take s.0 (walked l).events)) (sym (append_assoc bytes more rest) ∙ ap (λ l. l ++ rest) is))
+
+-- the lines after a call that took bytes, or stopped within them
+pub begins_taken : {A : Type 0} (r : Result A Fault) (bytes written : List ℕ) (shower : Shower)
+    → ((x : A) → r ≡ Ok x → IsShowing bytes written shower × (length bytes ≤ TAGS_LIMIT))
+    → ((fault : Fault) → r ≡ Err fault → StopsShowing bytes (written ++ shower.lines.items) fault)
+    → BeginsShown bytes (written ++ shower.lines.items)
+begins_taken (Ok x) bytes written shower took stopped = let t = took x refl in begins_showing bytes written shower t.0 t.1
+begins_taken (Err fault) bytes written shower took stopped = begins_stopped bytes (written ++ shower.lines.items) fault (stopped fault refl)
+
+-- nothing is read and nothing is shown
+pub show_nothing : (input : InputSeen) → IsShownBefore input input Memory []
+show_nothing input = record {
+  some = record { bytes = []; read = Consumes-nil input.left; shown = (0, refl) };
+  all = tt;
+}
+
+written_text : (fed written : List ℕ) (shower : Shower) → IsShowing fed written shower → shower.lines.items ≡ [] → length fed ≤ TAGS_LIMIT → written ≡ shown_text fed
+written_text fed written shower h empty within =
+    sym (append-nil written) ∙ ap (λ l. written ++ l) (sym empty) ∙ showing_text fed written shower h within
+
+-- what was read before a read that failed is shown
+pub show_read : (before after : InputSeen) (fed written : List ℕ) (shower : Shower) → IsShowing fed written shower → shower.lines.items ≡ [] → length fed ≤ TAGS_LIMIT
+    → Consumes before.left after.left fed → IsShownBefore before after Read written
+show_read before after fed written shower h empty within read =
+    let text = written_text fed written shower h empty within in
+    record {
+      some = record { bytes = fed; read = read; shown = begins_all fed written text };
+      all = (fed, read, text);
+    }
+
+-- a step stopped behind what was written
+pub step_stops : (input_before input_after : InputSeen) (before mid after : OutputSeen) (bytes written more : List ℕ) (stop : Stop)
+    → Consumes input_before.left input_after.left bytes → IsWritten before mid written → StepStops bytes (written ++ more) more mid after stop
+    → ShowStops input_before input_after before after stop
+step_stops input_before input_after before mid after bytes written more (Input fault) read told stops =
+    let cause = show_cause input_before input_after bytes (written ++ more) fault read stops.0 in
+    (cause.0, (written ++ more, cause.1, written_more before mid after written more told stops.1))
+step_stops input_before input_after before mid after bytes written more Output read told stops = (
+  written ++ more,
+  record { bytes = bytes; read = read; shown = stops.0 },
+  cut_more before mid after written more told stops.1,
+)
+
+-- the end of the input, between two top tags or inside one
+pub ended_whole : (before after : InputSeen) (fed written : List ℕ) (shower : Shower) (tags : ℕ) → IsShowing fed written shower → shower.lines.items ≡ []
+    → length fed ≤ TAGS_LIMIT → Consumes before.left after.left fed → IsAtEnd after.left → after.faults ≡ before.faults → Ends fed (Ok tags)
+    → IsShownWhole before after None written
+ended_whole before after fed written shower tags h empty within read end faultless ends = record {
+  bytes = fed;
+  read = read;
+  end = end;
+  faultless = faultless;
+  sound = (within, ends.0);
+  unopened = refl;
+  written = written_text fed written shower h empty within ∙ within_whole fed within;
+}
+
+end_text : (left after : Option (List ℕ)) (bytes lines : List ℕ) → Consumes left after bytes → IsAtEnd after → lines ≡ shown_text bytes
+    → IfSome left (λ input. lines ≡ shown_text input)
+end_text None after bytes lines read end is = tt
+end_text (Some input) None bytes lines read end is = absurd read
+end_text (Some input) (Some rest) bytes lines read end is = is ∙ ap shown_text (sym (read ∙ ap (λ l. bytes ++ l) end ∙ append-nil bytes))
+
+pub ended_inside : (before after : InputSeen) (fed written : List ℕ) (shower : Shower) (e : StreamError) (fault : Fault) → IsShowing fed written shower
+    → shower.lines.items ≡ [] → length fed ≤ TAGS_LIMIT → Consumes before.left after.left fed → IsAtEnd after.left → Ends fed (Err e) → fault ≡ tags_fault e
+    → IsCause (Some (command.Show false)) before after fault × IsShownBefore before after fault written
+ended_inside before after fed written shower e fault h empty within read end ends is =
+    let text = written_text fed written shower h empty within in (
+      as_check before after fault (cut_cause before after fed e fault read end within ends is),
+      subst (λ f. IsShownBefore before after f written) (sym (is ∙ ap tags_fault ends.1)) (record {
+        some = record { bytes = fed; read = read; shown = begins_all fed written text };
+        all = end_text before.left after.left fed written read end text;
+      }),
+    )
