@@ -1,5 +1,5 @@
 -- Words and input that are told decide how a command ends: they say one status, and no fault where the command is done.
-use Rattle.std.proofs.Common.{◌≡◌, ◌≢◌, ◌<◌, ℕ, List, Option, Some, None, IfSome, length, ◌++◌, take, inl, inr, refl, sym, subst, ap, ◌∙◌, arith}
+use Rattle.std.proofs.Common.{◌≡◌, ◌≢◌, ◌<◌, ℕ, List, Option, Some, None, IfSome, true, false, length, ◌++◌, take, inl, inr, refl, sym, subst, ap, ◌∙◌, arith}
 use Rattle.std.specs.Io.KnownBytes.{Consumes, IsAtEnd}
 use Rattle.std.proofs.lemmas.List.{append-nil, take_all}
 use Rattle.daapshare_words.specs.declared.words.Command.{Command}
@@ -136,7 +136,8 @@ sound_or_faulty input fault.Memory sound says = says
 pub one_status : (asked : Option Command) (input : List ℕ) (f g : Fault) → Says asked (Some input) f → Says asked (Some input) g → fault_status f ≡ fault_status g
 one_status None input f g f_says g_says = usage_status f g f_says g_says
 one_status (Some (command.List query meta)) input f g f_says g_says = list_status query meta input f g f_says g_says
-one_status (Some (command.Show back)) input f g f_says g_says = usage_status f g f_says g_says
+one_status (Some (command.Show false)) input f g f_says g_says = check_status input f g f_says g_says
+one_status (Some (command.Show true)) input f g f_says g_says = usage_status f g f_says g_says
 one_status (Some command.Check) input f g f_says g_says = check_status input f g f_says g_says
 one_status (Some (command.Codes learn)) input f g f_says g_says = usage_status f g f_says g_says
 
@@ -156,7 +157,8 @@ listed_or_refused query meta input fault.Memory listable says = says
 pub is_refused_or_given : (asked : Option Command) (input : List ℕ) (f : Fault) → Says asked (Some input) f → Gives asked input → ⊥
 is_refused_or_given None input f says gives = gives
 is_refused_or_given (Some (command.List query meta)) input f says gives = listed_or_refused query meta input f gives says
-is_refused_or_given (Some (command.Show back)) input f says gives = gives
+is_refused_or_given (Some (command.Show false)) input f says gives = sound_or_faulty input f gives says
+is_refused_or_given (Some (command.Show true)) input f says gives = gives
 is_refused_or_given (Some command.Check) input f says gives = sound_or_faulty input f gives says
 is_refused_or_given (Some (command.Codes learn)) input f says gives = gives
 
@@ -177,6 +179,7 @@ given (Some (command.List query meta)) input before after history output told do
   edits = done.edits;
   read = subst (λ left. IfSome left (ReadsAs done.edits)) told done.read;
 }
-given (Some (command.Show back)) input before after history output told done = done
+given (Some (command.Show false)) input before after history output told done = subst IsSound (sym (read_whole input before.left after.left done.bytes told done.read done.end)) done.sound
+given (Some (command.Show true)) input before after history output told done = done
 given (Some command.Check) input before after history output told done = subst IsSound (sym (read_whole input before.left after.left done.bytes told done.read done.end)) done.sound
 given (Some (command.Codes learn)) input before after history output told done = done

@@ -73,7 +73,7 @@ pub counted_takes : (fed piece : List ℕ) (old new : Reader) (tops : Tops) (n :
 counted_takes fed piece old new tops n h quiet same going read more some =
     takes_some fed piece h.handed old new n h.read h.going quiet (read fed h.handed h.read) going same.0 same.1 more some
 
-walked_by : (bytes : List ℕ) (r : Reader) → r.rows ≡ standard_rows → r.limit ≡ TAG_LIMIT → walk_of r.rows r.limit bytes ≡ walked bytes
+pub walked_by : (bytes : List ℕ) (r : Reader) → r.rows ≡ standard_rows → r.limit ≡ TAG_LIMIT → walk_of r.rows r.limit bytes ≡ walked bytes
 walked_by bytes r rows limit = ap (λ rs. walk_of rs r.limit bytes) rows ∙ ap (λ l. walk_of standard_rows l bytes) limit
 
 -- a refusal is that of all bytes that begin with those that were fed
@@ -114,7 +114,7 @@ pub ended_err : (fed : List ℕ) (r : Reader) (tops : Tops) (e : StreamError) �
 ended_err fed r tops e h is = (sym (ap (λ w. w.ending) (walked_by fed r h.rows h.limit)) ∙ is.0, is.1)
 
 -- bytes within the limit stand whole in what is read of an input that begins with them
-within_limit : (bytes more : List ℕ) → length bytes ≤ TAGS_LIMIT → take TAGS_LIMIT (bytes ++ more) ≡ bytes ++ take (TAGS_LIMIT - length bytes) more
+pub within_limit : (bytes more : List ℕ) → length bytes ≤ TAGS_LIMIT → take TAGS_LIMIT (bytes ++ more) ≡ bytes ++ take (TAGS_LIMIT - length bytes) more
 within_limit bytes more within =
     ap (λ n. take n (bytes ++ more)) (let long : TAGS_LIMIT ≡ length bytes + (TAGS_LIMIT - length bytes) = omega (arith, within) in long)
     ∙ take-append-add bytes more (TAGS_LIMIT - length bytes)

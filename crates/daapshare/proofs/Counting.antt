@@ -111,7 +111,7 @@ one_event tops (Open c len at) = omega arith
 one_event tops (Leaf c value at) = one_tag tops.depth tops.ended
 one_event tops (Close c at) = omega (arith, one_tag (tops.depth - 1) tops.ended)
 
-few_counted : (events : List Event) (tops : Tops) → total (fold after_event tops events) ≤ total tops + length events
+pub few_counted : (events : List Event) (tops : Tops) → total (fold after_event tops events) ≤ total tops + length events
 few_counted [] tops = omega arith
 few_counted (e ∷ es) tops = omega (arith, few_counted es (after_event tops e), one_event tops e)
 

@@ -1,32 +1,105 @@
 -- How a run ends, put together from what its parts tell; and what the end says where nothing outside failed.
-use Rattle.std.proofs.Common.{◌≡◌, ◌≢◌, ◌<◌, ◌⊎◌, ℕ, List, Option, Some, None, IfSome, length, refl, sym, subst, ap, ◌∙◌, inl, inr, arith}
+use Rattle.std.proofs.Common.{◌≡◌, ◌≢◌, ◌<◌, ◌⊎◌, ℕ, List, [], ◌++◌, Option, Some, None, Result, Ok, Err, IfSome, IfOk, IfErr, true, false, length, refl, sym, subst, ap, ◌∙◌, inl, inr, arith}
 use Rattle.daap_outside.specs.Counts.{Rose}
 use Rattle.daapshare_words.specs.declared.words.Command.{Command}
+use Rattle.daapshare_words.specs.declared.words.Command.TheVariants as variant
+use Rattle.daapshare_words.specs.declared.words.WordsError.{WordsError}
+use Rattle.daapshare_words.specs.declared.words.WordsError.TheVariants as words
 use Rattle.item_model.specs.declared.changes.Entry.{Entry}
+use Rattle.daapshare.specs.declared.answer.Answer.{Answer}
 use Rattle.daapshare.specs.declared.fault.Fault.{Fault}
 use Rattle.daapshare.specs.declared.fault.Fault.TheVariants.{Words, Query, Meta, Records, Tags, Read, Write, InputLimit, Memory}
-use Rattle.daapshare.specs.Faults.{fault_line, fault_status}
-use Rattle.daapshare.specs.Seen.{InputSeen}
-use Rattle.daapshare.specs.Commands.{Says, Gives, IsDone, IsCause}
-use Rattle.daapshare.specs.Runs.{Told, Ending, Done, OutputCut, Refused, LineCut, ending_status, Happens, Ends, Decides, IsDecided, Tells}
+use Rattle.daapshare.specs.Faults.{fault_line, fault_status, words_fault}
+use Rattle.daapshare.specs.Seen.{InputSeen, OutputSeen}
+use Rattle.daapshare.specs.Commands.{Says, Gives, IsDone, IsBegun, IsCause, IsFront}
+use Rattle.daapshare.specs.Runs.{Told, Ending, Done, OutputCut, Refused, LineCut, ending_status, Happens, Ends, Decides, IsDecided, IsWritten, Tells, TellsFault}
+use Rattle.daapshare.specs.Answers.{Answers}
+use Rattle.daapshare.specs.declared.show.Stop.TheVariants.{Input, Output}
+use Rattle.daapshare.specs.Shows.{IsShownWhole}
+use Rattle.daapshare.specs.Showing.{ShowStops}
 use Rattle.daapshare.proofs.Agreed.{one_status, is_refused_or_given, given}
+use Rattle.daapshare.proofs.Showing.{written_more, cut_more, none_written, show_nothing}
 
--- a fault's line ends a run
+-- what was written before a fault may have been written before want of memory
+before_memory : (command : Option Command) (before after : InputSeen) (fault : Fault) (front : List ℕ) → IsFront command before after fault front
+    → IsFront command before after Memory front
+before_memory None before after fault front h = h
+before_memory (Some (variant.List query meta)) before after fault front h = h
+before_memory (Some (variant.Show false)) before after fault front h = record { some = h.some; all = tt }
+before_memory (Some (variant.Show true)) before after fault front h = h
+before_memory (Some variant.Check) before after fault front h = h
+before_memory (Some (variant.Codes learn)) before after fault front h = h
+
+-- a fault's line ends a run, behind what was written before
+pub ends_behind : (command : Option Command) (told : Told) (mid : OutputSeen) (status : ℕ) (history : Option (List Entry)) (fault : Fault) (front : List ℕ)
+    → IsCause command told.input_before told.input_after fault → history ≡ None → IsFront command told.input_before told.input_after fault front
+    → IsWritten told.output_before mid front → TellsFault fault mid told.output_after status → Ends command told status history
+ends_behind command told mid status history fault front cause h before w (inl (inl t)) =
+    (Refused front fault, t.0, (cause, h, before, written_more told.output_before mid told.output_after front (fault_line fault) w t.1))
+ends_behind command told mid status history fault front cause h before w (inl (inr t)) =
+    (LineCut front fault, t.0, (cause, h, before, cut_more told.output_before mid told.output_after front (fault_line fault) w t.1))
+ends_behind command told mid status history fault front cause h before w (inr (inl t)) = (
+  Refused front Memory,
+  t.0,
+  (tt, h, before_memory command told.input_before told.input_after fault front before, written_more told.output_before mid told.output_after front (fault_line Memory) w t.1),
+)
+ends_behind command told mid status history fault front cause h before w (inr (inr t)) = (
+  LineCut front Memory,
+  t.0,
+  (tt, h, before_memory command told.input_before told.input_after fault front before, cut_more told.output_before mid told.output_after front (fault_line Memory) w t.1),
+)
+
 pub ends_refused : (command : Option Command) (told : Told) (status : ℕ) (history : Option (List Entry)) (fault : Fault)
-    → IsCause command told.input_before told.input_after fault → history ≡ None
-    → Tells (fault_status fault) (fault_line fault) told.output_before told.output_after status ⊎ Tells 9 (fault_line Memory) told.output_before told.output_after status
-    → Ends command told status history
-ends_refused command told status history fault cause h (inl (inl t)) = (Refused fault, t.0, (cause, h, t.1))
-ends_refused command told status history fault cause h (inl (inr t)) = (LineCut fault, t.0, (cause, h, t.1))
-ends_refused command told status history fault cause h (inr (inl t)) = (Refused Memory, t.0, (tt, h, t.1))
-ends_refused command told status history fault cause h (inr (inr t)) = (LineCut Memory, t.0, (tt, h, t.1))
+    → IsCause command told.input_before told.input_after fault → history ≡ None → IsFront command told.input_before told.input_after fault []
+    → TellsFault fault told.output_before told.output_after status → Ends command told status history
+ends_refused command told status history fault cause h before t =
+    ends_behind command told told.output_before status history fault [] cause h before (none_written told.output_before) t
 
--- so does an output
-pub ends_done : (command : Option Command) (told : Told) (status : ℕ) (history : Option (List Entry)) (output : List ℕ)
-    → IsDone command told.input_before told.input_after history output → Tells 0 output told.output_before told.output_after status
-    → Ends command told status history
-ends_done command told status history output done (inl t) = (Done output, t.0, (done, t.1))
-ends_done command told status history output done (inr t) = (OutputCut output, t.0, (done, t.1))
+-- so does an output that is written at once
+pub ends_answered : (command : Option Command) (told : Told) (status : ℕ) (history : Option (List Entry)) (answer : Result Answer Fault)
+    → IfOk answer (λ a. IsDone command told.input_before told.input_after a.history a.output.items)
+    → ((h : Option (List Entry)) (output : List ℕ) → IsDone command told.input_before told.input_after h output → IsBegun command told.input_before told.input_after h output)
+    → IfErr answer (λ fault. IsCause command told.input_before told.input_after fault)
+    → ((fault : Fault) → IsFront command told.input_before told.input_after fault [])
+    → Answers answer told.output_before told.output_after status history → Ends command told status history
+ends_answered command told status history (Ok answer) done begun cause before t = at_end t.1
+  where
+    is_done : IsDone command told.input_before told.input_after history answer.output.items
+    is_done = subst (λ h. IsDone command told.input_before told.input_after h answer.output.items) (sym t.0) done
+    at_end : Tells 0 answer.output.items told.output_before told.output_after status → Ends command told status history
+    at_end (inl w) = (Done answer.output.items, w.0, (is_done, w.1))
+    at_end (inr w) = (OutputCut answer.output.items, w.0, (begun history answer.output.items is_done, w.1))
+ends_answered command told status history (Err fault) done begun cause before t = ends_refused command told status history fault cause t.0 (before fault) t.1
+
+-- the ends of `show`
+pub ends_shown : (told : Told) (lines : List ℕ) → IsShownWhole told.input_before told.input_after None lines → IsWritten told.output_before told.output_after lines
+    → Ends (Some (variant.Show false)) told 0 None
+ends_shown told lines whole written = (Done lines, refl, (whole, written))
+
+pub ends_stopped : (told : Told) (mid : OutputSeen) (status : ℕ) (history : Option (List Entry)) (fault : Fault)
+    → ShowStops told.input_before told.input_after told.output_before mid (Input fault) → history ≡ None
+    → TellsFault fault mid told.output_after status → Ends (Some (variant.Show false)) told status history
+ends_stopped told mid status history fault stops h t =
+    ends_behind (Some (variant.Show false)) told mid status history fault stops.1.0 stops.0 h stops.1.1 stops.1.2 t
+
+pub ends_cut : (told : Told) → ShowStops told.input_before told.input_after told.output_before told.output_after Output
+    → Ends (Some (variant.Show false)) told 5 None
+ends_cut told stops = (OutputCut stops.0, refl, ((stops.1, refl), stops.2))
+
+-- no command has written anything where the words were refused
+pub unread : (command : Option Command) (input : InputSeen) (error : WordsError) → (error ≡ words.Usage → command ≡ None)
+    → IsCause command input input (words_fault error) × IsFront command input input (words_fault error) []
+unread command input words.Usage none =
+    subst (λ c. IsCause c input input Words × IsFront c input input Words []) (sym (none refl)) ((refl, record { left = refl; faults = refl }), refl)
+unread command input words.Memory none = (tt, untouched command)
+  where
+    untouched : (command : Option Command) → IsFront command input input Memory []
+    untouched None = refl
+    untouched (Some (variant.List query meta)) = refl
+    untouched (Some (variant.Show false)) = show_nothing input
+    untouched (Some (variant.Show true)) = refl
+    untouched (Some variant.Check) = refl
+    untouched (Some (variant.Codes learn)) = refl
 
 -- a cause that is no fault of the outside is said by the words and the input
 said : (command : Option Command) (input : List ℕ) (before after : InputSeen) (fault : Fault) → before.left ≡ Some input
@@ -60,8 +133,8 @@ decides command input told status history known steady open_ (Done output) s h =
       absurd (is_refused_or_given command input fault says (given command input told.input_before told.input_after history output known h.0));
 }
 decides command input told status history known steady open_ (OutputCut output) s h = absurd (open_ h.1.rose)
-decides command input told status history known steady open_ (LineCut fault) s h = absurd (open_ h.2.rose)
-decides command input told status history known steady open_ (Refused fault) s h =
+decides command input told status history known steady open_ (LineCut front fault) s h = absurd (open_ h.3.rose)
+decides command input told status history known steady open_ (Refused front fault) s h =
     decided_by command input fault status s (said command input told.input_before told.input_after fault known steady h.0)
 
 if_told : (command : Option Command) (status : ℕ) (left : Option (List ℕ))

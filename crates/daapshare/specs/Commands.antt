@@ -1,5 +1,5 @@
 -- What each command does, by its words and its input, and which faults it ends by.
-use Rattle.std.specs.Prelude.{◌≡◌, ℕ, List, Option, Some, None}
+use Rattle.std.specs.Prelude.{◌≡◌, ℕ, List, [], Option, Some, None, true, false}
 use Rattle.daap_outside.specs.Counts.{Rose}
 use Rattle.daapshare_words.specs.declared.words.Command.{Command}
 use Rattle.daapshare_words.specs.declared.words.Command.TheVariants as command
@@ -10,16 +10,18 @@ use Rattle.daapshare.specs.Seen.{InputSeen, IsUnread}
 use Rattle.daapshare.specs.Looks.{IsAsked}
 use Rattle.daapshare.specs.Lists.{IsListed, IsListable, ListSays}
 use Rattle.daapshare.specs.Checks.{IsSound, IsSoundSoFar, IsChecked, CheckSays}
+use Rattle.daapshare.specs.Shows.{IsShownWhole, IsShownFront, IsShownBefore}
 
 -- the fault of words that are no command's
 abbrev pub IsUsage : Fault → Type 0
 IsUsage fault = fault ≡ Words
 
--- the fault of the words, or of the input where it is told. Today `list` and `check` are done.
+-- the fault of the words, or of the input where it is told. Today `list`, `show` and `check` are done.
 abbrev pub Says : Option Command → Option (List ℕ) → Fault → Type 0
 Says None left fault = IsUsage fault
 Says (Some (command.List query meta)) left fault = ListSays query meta left fault
-Says (Some (command.Show back)) left fault = IsUsage fault
+Says (Some (command.Show false)) left fault = CheckSays left fault
+Says (Some (command.Show true)) left fault = IsUsage fault
 Says (Some command.Check) left fault = CheckSays left fault
 Says (Some (command.Codes learn)) left fault = IsUsage fault
 
@@ -27,7 +29,8 @@ Says (Some (command.Codes learn)) left fault = IsUsage fault
 abbrev pub ReadsOn : Option Command → InputSeen → InputSeen → Type 0
 ReadsOn None before after = ⊥
 ReadsOn (Some (command.List query meta)) before after = IsAsked query meta
-ReadsOn (Some (command.Show back)) before after = ⊥
+ReadsOn (Some (command.Show false)) before after = IsSoundSoFar before after
+ReadsOn (Some (command.Show true)) before after = ⊥
 ReadsOn (Some command.Check) before after = IsSoundSoFar before after
 ReadsOn (Some (command.Codes learn)) before after = ⊥
 
@@ -53,14 +56,34 @@ IsCause asked before after Memory = Unit {0}
 abbrev pub IsDone : Option Command → InputSeen → InputSeen → Option (List Entry) → List ℕ → Type 0
 IsDone None before after history output = ⊥
 IsDone (Some (command.List query meta)) before after history output = IsListed query meta before after history output
-IsDone (Some (command.Show back)) before after history output = ⊥
+IsDone (Some (command.Show false)) before after history output = IsShownWhole before after history output
+IsDone (Some (command.Show true)) before after history output = ⊥
 IsDone (Some command.Check) before after history output = IsChecked before after history output
 IsDone (Some (command.Codes learn)) before after history output = ⊥
+
+-- what a command had to write when its output failed: all of it, but `show` writes as it reads
+abbrev pub IsBegun : Option Command → InputSeen → InputSeen → Option (List Entry) → List ℕ → Type 0
+IsBegun None before after history output = ⊥
+IsBegun (Some (command.List query meta)) before after history output = IsDone (Some (command.List query meta)) before after history output
+IsBegun (Some (command.Show false)) before after history output = IsShownFront before after output × (history ≡ None)
+IsBegun (Some (command.Show true)) before after history output = ⊥
+IsBegun (Some command.Check) before after history output = IsDone (Some command.Check) before after history output
+IsBegun (Some (command.Codes learn)) before after history output = ⊥
+
+-- what a command has written before the line of its fault
+abbrev pub IsFront : Option Command → InputSeen → InputSeen → Fault → List ℕ → Type 0
+IsFront None before after fault front = front ≡ []
+IsFront (Some (command.List query meta)) before after fault front = front ≡ []
+IsFront (Some (command.Show false)) before after fault front = IsShownBefore before after fault front
+IsFront (Some (command.Show true)) before after fault front = front ≡ []
+IsFront (Some command.Check) before after fault front = front ≡ []
+IsFront (Some (command.Codes learn)) before after fault front = front ≡ []
 
 -- words and input with which a command is done
 abbrev pub Gives : Option Command → List ℕ → Type 0
 Gives None input = ⊥
 Gives (Some (command.List query meta)) input = IsListable query meta input
-Gives (Some (command.Show back)) input = ⊥
+Gives (Some (command.Show false)) input = IsSound input
+Gives (Some (command.Show true)) input = ⊥
 Gives (Some command.Check) input = IsSound input
 Gives (Some (command.Codes learn)) input = ⊥

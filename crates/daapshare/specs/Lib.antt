@@ -7,6 +7,9 @@ pub mod LookFaults
 pub mod Seen
 pub mod Lists
 pub mod Checks
+pub mod Shows
 pub mod Commands
 pub mod Counting
 pub mod Runs
+pub mod Answers
+pub mod Showing

@@ -1,13 +1,14 @@
 //! The commands that write once, at their end.
 
-ghost use Rattle.std.specs.Prelude.{Some, IfOk, IfErr};
+ghost use Rattle.std.specs.Prelude.{Some, option_copied, IfOk, IfErr};
+ghost use Rattle.daapshare_words.specs.declared.words.Command.TheVariants.{List as list_command, Check as check_command};
 ghost use Rattle.daapshare.specs.Commands.{IsDone, IsCause};
 
 use crate::check::checked;
 use crate::fault::Fault;
 use crate::list::opened;
 use daap_outside::Source;
-use daapshare_words::Command;
+use dmap_tags::Text;
 use item_model::Entries;
 use std::alloc::Global;
 
@@ -18,29 +19,42 @@ pub struct Answer {
     pub output: Vec<u8>,
 }
 
-/// Does what a command asks for, up to writing the output.
-pub fn answered<I: Source>(alloc: Global, command: &Command, input: &mut I) -> Result<Answer, Fault>
-    ensures done { IfOk result (λ answer. IsDone (Some command.now)
+/// Does `list`, up to writing the output.
+pub fn listed<I: Source>(
+    alloc: Global,
+    query: Option<&Text>,
+    meta: Option<&Text>,
+    input: &mut I,
+) -> Result<Answer, Fault>
+    ensures done { IfOk result (λ answer. IsDone (Some (list_command (option_copied query.entry) (option_copied meta.entry)))
         (record { left = I.left input.old; faults = I.faults input.old })
         (record { left = I.left input.new; faults = I.faults input.new })
         answer.history answer.output.items) }
-    ensures cause { IfErr result (λ fault. IsCause (Some command.now)
+    ensures cause { IfErr result (λ fault. IsCause (Some (list_command (option_copied query.entry) (option_copied meta.entry)))
         (record { left = I.left input.old; faults = I.faults input.old })
         (record { left = I.left input.new; faults = I.faults input.new })
         fault) }
 {
-    match command {
-        Command::List { query, meta } => {
-            let opened = opened(alloc, query.as_ref(), meta.as_ref(), input)?;
-            Ok(Answer {
-                history: Some(opened.history),
-                output: opened.listing,
-            })
-        }
-        Command::Check => Ok(Answer {
-            history: None,
-            output: checked(alloc, input)?,
-        }),
-        Command::Show { .. } | Command::Codes { .. } => Err(Fault::Words),
-    }
+    let opened = opened(alloc, query, meta, input)?;
+    Ok(Answer {
+        history: Some(opened.history),
+        output: opened.listing,
+    })
+}
+
+/// Does `check`, up to writing the output.
+pub fn counts<I: Source>(alloc: Global, input: &mut I) -> Result<Answer, Fault>
+    ensures done { IfOk result (λ answer. IsDone (Some check_command)
+        (record { left = I.left input.old; faults = I.faults input.old })
+        (record { left = I.left input.new; faults = I.faults input.new })
+        answer.history answer.output.items) }
+    ensures cause { IfErr result (λ fault. IsCause (Some check_command)
+        (record { left = I.left input.old; faults = I.faults input.old })
+        (record { left = I.left input.new; faults = I.faults input.new })
+        fault) }
+{
+    Ok(Answer {
+        history: None,
+        output: checked(alloc, input)?,
+    })
 }

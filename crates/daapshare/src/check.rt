@@ -22,7 +22,7 @@ pub const TAGS_LIMIT: u64 = 4_294_967_296;
 pub const TAG_LIMIT: u32 = 1_073_741_824;
 
 /// How many bytes one read asks for.
-const PIECE: usize = 65_536;
+pub const PIECE: usize = 65_536;
 
 /// What was read and counted so far.
 #[derive(Debug, Drop)]
@@ -34,7 +34,7 @@ pub struct Counter {
 
 impl Counter {
     /// Before the first byte.
-    fn new(alloc: Global) -> Result<Counter, AllocError>
+    pub fn new(alloc: Global) -> Result<Counter, AllocError>
         ensures { IfOk result (λ counter. IsCounted [] counter) }
     {
         let table = CodeTable::standard(alloc)?;
@@ -98,7 +98,7 @@ impl Counter {
     }
 
     /// The end of the bytes: how many top tags they are.
-    fn end(self) -> Result<u64, StreamError>
+    pub fn end(self) -> Result<u64, StreamError>
         ensures { (fed : List ℕ) → IsCounted fed self → Ends fed result }
     {
         let ended = self.tops.ended;

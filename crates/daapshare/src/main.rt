@@ -1,5 +1,5 @@
 //! `daapshare`: a server and a mirror client for a shared music catalogue over DAAP.
-//! Today it lists a library from records and checks tags.
+//! Today it lists a library from records, and checks and shows tags.
 #![tactic(auto)]
 
 mod answer;
@@ -10,6 +10,7 @@ mod list;
 mod listing;
 mod look;
 mod run;
+mod show;
 #[cfg(test)]
 mod tests;
 mod tops;

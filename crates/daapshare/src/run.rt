@@ -1,16 +1,17 @@
 //! A run of the program over any input, output, files and net.
 
-ghost use Rattle.std.specs.Prelude.{◌≡◌, ◌⊎◌, None, IfOk, IfErr};
+ghost use Rattle.std.specs.Prelude.{◌≡◌, None, Some, false};
 ghost use Rattle.daapshare_words.specs.Grammar.{texts_of};
 ghost use Rattle.daapshare_words.specs.Words.{command_of};
-ghost use Rattle.daapshare.specs.Faults.{fault_line, fault_status};
-ghost use Rattle.daapshare.specs.Commands.{IsDone, IsCause};
-ghost use Rattle.daapshare.specs.Runs.{Ends, IsDecided, Tells};
+ghost use Rattle.daapshare_words.specs.declared.words.Command.TheVariants.{Show as show_command};
+ghost use Rattle.daapshare.specs.Runs.{Ends, IsDecided, Tells, TellsFault};
+ghost use Rattle.daapshare.specs.Answers.{Answers};
 
-use crate::answer::{Answer, answered};
+use crate::answer::{Answer, counts, listed};
 use crate::fault::Fault;
+use crate::show::{Stop, shown};
 use daap_outside::{Files, Net, Sink, Source, put_all};
-use daapshare_words::read_words;
+use daapshare_words::{Command, read_words};
 use item_model::Entries;
 use std::alloc::Global;
 
@@ -54,26 +55,79 @@ pub fn run<I: Source, W: Sink, F: Files, N: Net>(
     // Files and sockets are left alone.
     ensures beside { (files.new ≡ files.old) × (net.new ≡ net.old) }
 {
-    match asked(alloc, words, input) {
-        Ok(answer) => done(output, answer),
-        Err(fault) => refused(alloc, output, &fault),
+    match read_words(alloc, words) {
+        Ok(command) => obeyed(alloc, &command, input, output),
+        Err(error) => refused(alloc, output, &Fault::from(error)),
     }
 }
 
-/// Does what the words ask for, up to writing the output.
-fn asked<I: Source>(alloc: Global, words: &[&str], input: &mut I) -> Result<Answer, Fault>
-    ensures done { IfOk result (λ answer. IsDone (command_of (texts_of words.now))
-        (record { left = I.left input.old; faults = I.faults input.old })
-        (record { left = I.left input.new; faults = I.faults input.new })
-        answer.history answer.output.items) }
-    ensures cause { IfErr result (λ fault. IsCause (command_of (texts_of words.now))
-        (record { left = I.left input.old; faults = I.faults input.old })
-        (record { left = I.left input.new; faults = I.faults input.new })
-        fault) }
+/// Does what a command asks for.
+fn obeyed<I: Source, W: Sink>(
+    alloc: Global,
+    command: &Command,
+    input: &mut I,
+    output: &mut W,
+) -> Outcome
+    ensures { Ends (Some command.now)
+        (record {
+          input_before = record { left = I.left input.old; faults = I.faults input.old };
+          input_after = record { left = I.left input.new; faults = I.faults input.new };
+          output_before = record { taken = W.taken output.old; faults = W.faults output.old };
+          output_after = record { taken = W.taken output.new; faults = W.faults output.new };
+        })
+        result.status result.history }
 {
-    let command = read_words(alloc, words)?;
-    let answer = answered(alloc, &command, input)?;
-    Ok(answer)
+    match command {
+        Command::List { query, meta } => {
+            let answer = listed(alloc, query.as_ref(), meta.as_ref(), input);
+            written(alloc, output, answer)
+        }
+        Command::Show { back: false } => showed(alloc, input, output),
+        Command::Check => {
+            let answer = counts(alloc, input);
+            written(alloc, output, answer)
+        }
+        Command::Show { back: true } | Command::Codes { .. } => {
+            refused(alloc, output, &Fault::Words)
+        }
+    }
+}
+
+/// Does `show`, which writes as it reads.
+fn showed<I: Source, W: Sink>(alloc: Global, input: &mut I, output: &mut W) -> Outcome
+    ensures { Ends (Some (show_command false))
+        (record {
+          input_before = record { left = I.left input.old; faults = I.faults input.old };
+          input_after = record { left = I.left input.new; faults = I.faults input.new };
+          output_before = record { taken = W.taken output.old; faults = W.faults output.old };
+          output_after = record { taken = W.taken output.new; faults = W.faults output.new };
+        })
+        result.status result.history }
+{
+    match shown(alloc, input, output) {
+        Ok(()) => Outcome {
+            status: 0,
+            history: None,
+        },
+        Err(Stop::Input(fault)) => refused(alloc, output, &fault),
+        Err(Stop::Output) => Outcome {
+            status: Fault::Write.status(),
+            history: None,
+        },
+    }
+}
+
+/// Writes what a command answered, or the line of its fault.
+fn written<W: Sink>(alloc: Global, output: &mut W, answer: Result<Answer, Fault>) -> Outcome
+    ensures { Answers answer
+        (record { taken = W.taken output.old; faults = W.faults output.old })
+        (record { taken = W.taken output.new; faults = W.faults output.new })
+        result.status result.history }
+{
+    match answer {
+        Ok(answer) => done(output, answer),
+        Err(fault) => refused(alloc, output, &fault),
+    }
 }
 
 /// Writes the output of a command that was done.
@@ -94,11 +148,7 @@ fn done<W: Sink>(output: &mut W, answer: Answer) -> Outcome
 /// Writes the line of a fault.
 pub fn refused<W: Sink>(alloc: Global, output: &mut W, fault: &Fault) -> Outcome
     ensures history { result.history ≡ None }
-    ensures told { Tells (fault_status fault.now) (fault_line fault.now)
-        (record { taken = W.taken output.old; faults = W.faults output.old })
-        (record { taken = W.taken output.new; faults = W.faults output.new })
-        result.status
-        ⊎ Tells 9 (fault_line Fault.Memory)
+    ensures told { TellsFault fault.now
         (record { taken = W.taken output.old; faults = W.faults output.old })
         (record { taken = W.taken output.new; faults = W.faults output.new })
         result.status }

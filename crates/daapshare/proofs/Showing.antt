@@ -1,0 +1,430 @@
+-- What a shower has shown, before and after a call.
+use Rattle.std.proofs.Common.{◌≡◌, ◌≢◌, ◌⊎◌, inl, inr, ℕ, zero, suc, pred, ◌+◌, ◌-◌, ◌<◌, ◌≤◌, List, [], ◌∷◌, ◌++◌, length, take, fold, Option, Some, None, Result, Ok, Err, IfSome, IfErr, false, refl, sym, ap, subst, ◌∙◌, arith, length-append, append_assoc}
+use Rattle.std.specs.Io.KnownBytes.{Consumes, Appends, IsAtEnd, Keeps}
+use Rattle.std.proofs.KnownBytes.{Appends-trans, Appends-nil, Consumes-nil}
+use Rattle.std.proofs.lemmas.List.{append-nil, take-append-le, take_at, take_all}
+use Rattle.std.proofs.Math.Seq.{take-append-add}
+use Rattle.daap_outside.specs.Told.{AppendsPrefix}
+use Rattle.daap_outside.specs.Counts.{Rose}
+use Rattle.daapshare_words.specs.declared.words.Command.TheVariants as command
+use Rattle.dmap_show.specs.Events.{shown_event, level_after, shown_events}
+use Rattle.dmap_stream.specs.declared.event.Event.{Event}
+use Rattle.dmap_stream.specs.declared.event.Event.TheVariants.{Open, Leaf, Close}
+use Rattle.dmap_stream.specs.declared.refusal.StreamError.{StreamError}
+use Rattle.dmap_stream.specs.declared.refusal.StreamError.TheVariants as stream
+use Rattle.dmap_stream.specs.Walk.{Walk, between, inside, broken, walk_of}
+use Rattle.dmap_stream.specs.Reading.{resumed}
+use Rattle.dmap_stream.specs.Reader.{Reader, ready, ReadAs, HasRead, TellsAs}
+use Rattle.dmap_stream.proofs.Readings.{told}
+use Rattle.daapshare.specs.declared.check.TheConstants.{TAGS_LIMIT, TAG_LIMIT}
+use Rattle.daapshare.specs.declared.check.Counter.{Counter}
+use Rattle.daapshare.specs.declared.fault.Fault.{Fault}
+use Rattle.daapshare.specs.declared.fault.Fault.TheVariants.{Words, Query, Meta, Records, Tags, Read, Write, InputLimit, Memory}
+use Rattle.daapshare.specs.declared.tops.Tops.{Tops}
+use Rattle.daapshare.specs.declared.show.Shower.{Shower}
+use Rattle.daapshare.specs.declared.show.Stop.{Stop}
+use Rattle.daapshare.specs.declared.show.Stop.TheVariants.{Input, Output}
+use Rattle.daapshare.specs.Faults.{tags_fault}
+use Rattle.daapshare.specs.Seen.{InputSeen, OutputSeen}
+use Rattle.daapshare.specs.Checks.{walked, after_event, no_tops, IsTooLong}
+use Rattle.daapshare.specs.Shows.{read_events, shown_text, BeginsShown, IsShownWhole, IsShownFront, ShowsAll, IsShownBefore}
+use Rattle.daapshare.specs.Commands.{IsCause}
+use Rattle.daapshare.specs.Counting.{HasCounted, IsCounted, StopsAt, Ends}
+use Rattle.daapshare.specs.Runs.{IsWritten, IsCut}
+use Rattle.daapshare.specs.Showing.{HasShown, IsShowing, ShowsSome, ShowsBroken, IsLast, StopsShowing, StepStops, ShowStops}
+use Rattle.daapshare.proofs.Counting.{total, few_handed, few_counted}
+use Rattle.daapshare.proofs.Counted.{walked_by, within_limit, stopped_cause, failed_cause, cut_cause, too_long}
+
+pred_is : (n : ℕ) → pred n ≡ n - 1
+pred_is zero = refl
+pred_is (suc n) = omega arith
+
+-- the level behind an event is the number of open lists
+level_is : (tops : Tops) (e : Event) → level_after tops.depth e ≡ (after_event tops e).depth
+level_is tops (Open c len at) = omega arith
+level_is tops (Leaf c value at) = refl
+level_is tops (Close c at) = pred_is tops.depth
+
+-- one event more, at the level of the open lists
+pub shown_more : (es : List Event) (tops : Tops) (e : Event)
+    → shown_events tops.depth (es ++ e ∷ []) ≡ shown_events tops.depth es ++ shown_event (fold after_event tops es).depth e
+shown_more [] tops e = append-nil (shown_event tops.depth e)
+shown_more (f ∷ es) tops e =
+    ap (λ l. shown_event tops.depth f ++ l)
+    (ap (λ n. shown_events n (es ++ e ∷ [])) (level_is tops f) ∙ shown_more es (after_event tops f) e
+    ∙ ap (λ n. shown_events n es ++ shown_event (fold after_event (after_event tops f) es).depth e) (sym (level_is tops f)))
+    ∙ sym (append_assoc (shown_event tops.depth f) (shown_events (level_after tops.depth f) es) (shown_event (fold after_event (after_event tops f) es).depth e))
+
+-- one event more is handed out, and its lines are made
+pub shown_next : (fed written lines lines_new : List ℕ) (old new : Reader) (tops tops_new : Tops) (event : Event) → HasShown fed written old tops lines
+    → (new.rows ≡ old.rows) × (new.limit ≡ old.limit)
+    → ((bytes : List ℕ) (handed : List Event) → HasRead bytes handed old → HasRead bytes (handed ++ event ∷ []) new)
+    → lines_new ≡ lines ++ shown_event tops.depth event → tops_new ≡ after_event tops event → HasShown fed written new tops_new lines_new
+shown_next fed written lines lines_new old new tops tops_new event h same read made is = record {
+  handed = h.handed ++ event ∷ [];
+  read = read fed h.handed h.read;
+  rows = same.0 ∙ h.rows;
+  limit = same.1 ∙ h.limit;
+  counted = is ∙ ap (λ t. after_event t event) h.counted ∙ sym (counted_more_of h.handed no_tops event);
+  shown =
+      ap (λ l. written ++ l) made ∙ sym (append_assoc written lines (shown_event tops.depth event)) ∙ ap (λ l. l ++ shown_event tops.depth event) h.shown
+      ∙ ap (λ (t : Tops). shown_events 0 h.handed ++ shown_event t.depth event) h.counted ∙ sym (shown_more h.handed no_tops event);
+}
+  where
+    counted_more_of : (events : List Event) (tops : Tops) (e : Event) → fold after_event tops (events ++ e ∷ []) ≡ after_event (fold after_event tops events) e
+    counted_more_of [] tops e = refl
+    counted_more_of (f ∷ es) tops e = counted_more_of es (after_event tops f) e
+
+-- an event that is handed out is one of few, so that the counts are small
+pub few_shown : (fed written lines : List ℕ) (old new : Reader) (tops : Tops) (event : Event) → HasShown fed written old tops lines
+    → ((bytes : List ℕ) (handed : List Event) → HasRead bytes handed old → HasRead bytes (handed ++ event ∷ []) new)
+    → length fed ≤ TAGS_LIMIT → tops.depth + tops.ended < 4294967296
+few_shown fed written lines old new tops event h read few =
+    omega (arith, few, few_handed fed (h.handed ++ event ∷ []) new (read fed h.handed h.read), length-append h.handed (event ∷ []), few_counted h.handed no_tops, ap total h.counted)
+
+-- more bytes are fed, and nothing is handed out
+pub shown_fed : (fed more bytes written lines : List ℕ) (old new : Reader) (tops : Tops) → HasShown fed written old tops lines
+    → (new.rows ≡ old.rows) × (new.limit ≡ old.limit)
+    → ((bytes : List ℕ) (handed : List Event) → HasRead bytes handed old → HasRead (bytes ++ more) handed new)
+    → fed ++ more ≡ bytes → HasShown bytes written new tops lines
+shown_fed fed more bytes written lines old new tops h same read is = record {
+  handed = h.handed;
+  read = subst (λ l. HasRead l h.handed new) is (read fed h.handed h.read);
+  rows = same.0 ∙ h.rows;
+  limit = same.1 ∙ h.limit;
+  counted = h.counted;
+  shown = h.shown;
+}
+
+-- what is shown is counted
+pub counted_of : (fed written lines : List ℕ) (r : Reader) (tops : Tops) → HasShown fed written r tops lines → r.error ≡ None → HasCounted fed r tops
+counted_of fed written lines r tops h going = record {
+  handed = h.handed;
+  read = h.read;
+  going = going;
+  rows = h.rows;
+  limit = h.limit;
+  counted = h.counted;
+}
+
+pub is_counted : (fed written : List ℕ) (shower : Shower) → IsShowing fed written shower → IsCounted fed shower.counter
+is_counted fed written shower h = record {
+  counted = counted_of fed written shower.lines.items shower.counter.reader shower.counter.tops h.shown h.going;
+  quiet = h.quiet;
+  bytes = h.bytes;
+}
+
+begun_as : (fed : List ℕ) (handed : List Event) (r : Reader) (error : Option StreamError) → ReadAs fed handed r error
+    → (rest : List ℕ) → (later : List Event) × ((walk_of r.rows r.limit (fed ++ rest)).events ≡ (handed ++ ready r) ++ later)
+begun_as fed handed r None h rest = ((resumed r.rows r.limit r.position rest).events, ap (λ w. w.events) (h.2 rest))
+begun_as fed handed r (Some e) h rest = ((h.0 rest).0.events, ap (λ w. w.events) (h.0 rest).1)
+
+-- whatever follows, these are the lines of its first events
+pub shows_some : (fed written lines : List ℕ) (r : Reader) (tops : Tops) → HasShown fed written r tops lines → ShowsSome fed (written ++ lines)
+shows_some fed written lines r tops h rest =
+    let later = begun_as fed h.handed r r.error h.read rest in
+    let events : (walked (fed ++ rest)).events ≡ h.handed ++ (ready r ++ later.0) =
+    ap (λ w. w.events) (sym (walked_by (fed ++ rest) r h.rows h.limit)) ∙ later.1 ∙ append_assoc h.handed (ready r) later.0 in
+    (length h.handed, h.shown ∙ ap (shown_events 0) (sym (ap (take (length h.handed)) events ∙ take_at h.handed (ready r ++ later.0) (length h.handed) refl)))
+
+all_events : (handed : List Event) (r : Reader) → ready r ≡ [] → handed ++ ready r ≡ handed
+all_events handed r quiet = ap (λ es. handed ++ es) quiet ∙ append-nil handed
+
+-- behind a refusal no event is left
+pub shows_broken : (bytes written lines : List ℕ) (r : Reader) (tops : Tops) (e : StreamError) → HasShown bytes written r tops lines → ready r ≡ []
+    → r.error ≡ Some e → e ≢ stream.Memory → ShowsBroken bytes (written ++ lines) e
+shows_broken bytes written lines r tops e h quiet stopped known rest =
+    let walk = sym (walked_by (bytes ++ rest) r h.rows h.limit) ∙ (subst (ReadAs bytes h.handed r) stopped h.read).1 known rest in
+    let events : (walked (bytes ++ rest)).events ≡ h.handed = ap (λ w. w.events) walk ∙ append-nil (h.handed ++ ready r) ∙ all_events h.handed r quiet in
+    (ap (λ w. w.ending) walk, h.shown ∙ ap (shown_events 0) (sym events))
+
+-- where all bytes were taken, the lines are those of all events
+pub shows_whole : (fed written lines : List ℕ) (r : Reader) (tops : Tops) → HasShown fed written r tops lines → r.error ≡ None → ready r ≡ []
+    → written ++ lines ≡ shown_events 0 (walked fed).events
+shows_whole fed written lines r tops h going quiet =
+    let walk : TellsAs fed h.handed r None = subst (TellsAs fed h.handed r) going (told fed h.handed r h.read) in
+    let events : (walked fed).events ≡ h.handed =
+    ap (λ w. w.events) (sym (walked_by fed r h.rows h.limit)) ∙ ap (λ w. w.events) walk ∙ all_events h.handed r quiet in
+    h.shown ∙ ap (shown_events 0) (sym events)
+
+-- bytes within the limit are read whole
+within_whole : (bytes : List ℕ) → length bytes ≤ TAGS_LIMIT → shown_text bytes ≡ shown_events 0 (walked bytes).events
+within_whole bytes within = ap (λ l. shown_events 0 (walked l).events) (take_all TAGS_LIMIT bytes within)
+
+pub showing_text : (fed written : List ℕ) (shower : Shower) → IsShowing fed written shower → length fed ≤ TAGS_LIMIT → written ++ shower.lines.items ≡ shown_text fed
+showing_text fed written shower h within =
+    shows_whole fed written shower.lines.items shower.counter.reader shower.counter.tops h.shown h.going h.quiet ∙ sym (within_whole fed within)
+
+begins_all : (bytes lines : List ℕ) → lines ≡ shown_text bytes → BeginsShown bytes lines
+begins_all bytes lines is =
+    (length (read_events bytes), is ∙ ap (shown_events 0) (sym (take_all (length (read_events bytes)) (read_events bytes) (omega arith))))
+
+pub begins_showing : (fed written : List ℕ) (shower : Shower) → IsShowing fed written shower → length fed ≤ TAGS_LIMIT → BeginsShown fed (written ++ shower.lines.items)
+begins_showing fed written shower h within = begins_all fed (written ++ shower.lines.items) (showing_text fed written shower h within)
+
+stops_as : (bytes lines : List ℕ) (e : StreamError)
+    → (e ≢ stream.Memory → (rest : List ℕ) → ((walked (take TAGS_LIMIT (bytes ++ rest))).ending ≡ broken e) × (lines ≡ shown_text (bytes ++ rest)))
+    → BeginsShown bytes lines → StopsShowing bytes lines (tags_fault e)
+stops_as bytes lines (stream.TooLarge at) all some = ((λ is. absurd (cc)), all (λ is. absurd (cc)))
+stops_as bytes lines (stream.TooDeep at) all some = ((λ is. absurd (cc)), all (λ is. absurd (cc)))
+stops_as bytes lines (stream.Overrun at code) all some = ((λ is. absurd (cc)), all (λ is. absurd (cc)))
+stops_as bytes lines (stream.ShortHead at) all some = ((λ is. absurd (cc)), all (λ is. absurd (cc)))
+stops_as bytes lines (stream.Truncated at) all some = ((λ is. absurd (cc)), all (λ is. absurd (cc)))
+stops_as bytes lines stream.Memory all some = some
+
+-- a refusal of the bytes up to the limit, or of some of them
+pub stops_showing : (fed front piece more lines : List ℕ) (e : StreamError) → length (fed ++ front) ≤ TAGS_LIMIT → IsLast (fed ++ front) lines e
+    → piece ≡ front ++ more → StopsShowing (fed ++ piece) lines (tags_fault e)
+stops_showing fed front piece more lines e within last split =
+    let same : fed ++ piece ≡ (fed ++ front) ++ more = ap (λ l. fed ++ l) split ∙ sym (append_assoc fed front more) in
+    let some = last.some (take (TAGS_LIMIT - length (fed ++ front)) more) in
+    let cut : (fed ++ front) ++ take (TAGS_LIMIT - length (fed ++ front)) more ≡ take TAGS_LIMIT (fed ++ piece) =
+    sym (ap (take TAGS_LIMIT) same ∙ within_limit (fed ++ front) more within) in
+    stops_as (fed ++ piece) lines e (λ known rest.
+    let behind = take (TAGS_LIMIT - length (fed ++ front)) (more ++ rest) in
+    let all = last.all known behind in
+    let whole : take TAGS_LIMIT ((fed ++ piece) ++ rest) ≡ (fed ++ front) ++ behind =
+    ap (λ l. take TAGS_LIMIT (l ++ rest)) same ∙ ap (take TAGS_LIMIT) (append_assoc (fed ++ front) more rest) ∙ within_limit (fed ++ front) (more ++ rest) within in
+    (ap (λ l. (walked l).ending) whole ∙ all.0, all.1 ∙ ap (λ l. shown_events 0 (walked l).events) (sym whole)))
+    (some.0, some.1 ∙ ap (λ l. shown_events 0 (take some.0 (walked l).events)) cut)
+
+-- more bytes than are read
+pub stops_long : (fed front behind piece written : List ℕ) (shower : Shower) → length (fed ++ front) ≡ TAGS_LIMIT → 0 < length behind → piece ≡ front ++ behind
+    → IsShowing (fed ++ front) written shower → StopsShowing (fed ++ piece) (written ++ shower.lines.items) InputLimit
+stops_long fed front behind piece written shower full more split h =
+    let same : fed ++ piece ≡ (fed ++ front) ++ behind = ap (λ l. fed ++ l) split ∙ sym (append_assoc fed front behind) in
+    let cut : take TAGS_LIMIT (fed ++ piece) ≡ fed ++ front = ap (take TAGS_LIMIT) same ∙ take_at (fed ++ front) behind TAGS_LIMIT full in (
+      too_long fed front behind piece shower.counter.reader shower.counter.tops full more split (is_counted (fed ++ front) written shower h).counted,
+      shows_whole (fed ++ front) written shower.lines.items shower.counter.reader shower.counter.tops h.shown h.going h.quiet
+      ∙ ap (λ l. shown_events 0 (walked l).events) (sym cut),
+    )
+
+-- what is shown where showing stops
+pub begins_stopped : (bytes lines : List ℕ) (fault : Fault) → StopsShowing bytes lines fault → BeginsShown bytes lines
+begins_stopped bytes lines Words stop = absurd stop
+begins_stopped bytes lines (Query error) stop = absurd stop
+begins_stopped bytes lines Meta stop = absurd stop
+begins_stopped bytes lines (Records error) stop = absurd stop
+begins_stopped bytes lines (Tags error) stop = begins_all bytes lines ((stop.1 []).1 ∙ ap shown_text (append-nil bytes))
+begins_stopped bytes lines Read stop = absurd stop
+begins_stopped bytes lines Write stop = absurd stop
+begins_stopped bytes lines InputLimit stop = begins_all bytes lines stop.1
+begins_stopped bytes lines Memory stop = stop
+
+stops_at : (bytes lines : List ℕ) (fault : Fault) → StopsShowing bytes lines fault → StopsAt bytes fault
+stops_at bytes lines Words stop = stop
+stops_at bytes lines (Query error) stop = stop
+stops_at bytes lines Meta stop = stop
+stops_at bytes lines (Records error) stop = stop
+stops_at bytes lines (Tags error) stop = (stop.0, λ rest. (stop.1 rest).0)
+stops_at bytes lines Read stop = stop
+stops_at bytes lines Write stop = stop
+stops_at bytes lines InputLimit stop = stop.0
+stops_at bytes lines Memory stop = tt
+
+-- the causes of `check` are those of `show`
+pub as_check : (before after : InputSeen) (fault : Fault) → IsCause (Some command.Check) before after fault → IsCause (Some (command.Show false)) before after fault
+as_check before after Words cause = cause
+as_check before after (Query error) cause = cause
+as_check before after Meta cause = cause
+as_check before after (Records error) cause = record { said = cause.said; faultless = cause.faultless }
+as_check before after (Tags error) cause = record { said = cause.said; faultless = cause.faultless }
+as_check before after Read cause = cause
+as_check before after Write cause = cause
+as_check before after InputLimit cause = record { said = cause.said; faultless = cause.faultless }
+as_check before after Memory cause = cause
+
+all_tags : (left after : Option (List ℕ)) (bytes lines : List ℕ) (error : StreamError) → Consumes left after bytes → StopsShowing bytes lines (Tags error)
+    → IfSome left (λ input. lines ≡ shown_text input)
+all_tags None after bytes lines error read stop = tt
+all_tags (Some input) None bytes lines error read stop = absurd read
+all_tags (Some input) (Some rest) bytes lines error read stop = (stop.1 rest).1 ∙ ap shown_text (sym read)
+
+all_long : (left after : Option (List ℕ)) (bytes lines : List ℕ) → Consumes left after bytes → StopsShowing bytes lines InputLimit
+    → IfSome left (λ input. lines ≡ shown_text input)
+all_long None after bytes lines read stop = tt
+all_long (Some input) None bytes lines read stop = absurd read
+all_long (Some input) (Some rest) bytes lines read stop =
+    stop.1 ∙ ap (λ l. shown_events 0 (walked l).events)
+    (sym (ap (take TAGS_LIMIT) read ∙ take-append-le TAGS_LIMIT bytes rest (let more = stop.0.long in omega arith)))
+
+shows_all : (before after : InputSeen) (bytes lines : List ℕ) (fault : Fault) → Consumes before.left after.left bytes → StopsShowing bytes lines fault
+    → ShowsAll fault before after lines
+shows_all before after bytes lines Words read stop = tt
+shows_all before after bytes lines (Query error) read stop = tt
+shows_all before after bytes lines Meta read stop = tt
+shows_all before after bytes lines (Records error) read stop = tt
+shows_all before after bytes lines (Tags error) read stop = all_tags before.left after.left bytes lines error read stop
+shows_all before after bytes lines Read read stop = absurd stop
+shows_all before after bytes lines Write read stop = tt
+shows_all before after bytes lines InputLimit read stop = all_long before.left after.left bytes lines read stop
+shows_all before after bytes lines Memory read stop = tt
+
+-- the cause of a fault, and the lines before it
+pub show_cause : (before after : InputSeen) (bytes lines : List ℕ) (fault : Fault) → Consumes before.left after.left bytes → after.faults ≡ before.faults
+    → StopsShowing bytes lines fault → IsCause (Some (command.Show false)) before after fault × IsShownBefore before after fault lines
+show_cause before after bytes lines fault read faultless stop = (
+  as_check before after fault (stopped_cause before after bytes fault read faultless (stops_at bytes lines fault stop)),
+  record {
+    some = record { bytes = bytes; read = read; shown = begins_stopped bytes lines fault stop };
+    all = shows_all before after bytes lines fault read stop;
+  },
+)
+
+-- bytes written one after another
+pub written_more : (before mid after : OutputSeen) (front more : List ℕ) → IsWritten before mid front → IsWritten mid after more → IsWritten before after (front ++ more)
+written_more before mid after front more h k = record {
+  taken = Appends-trans before.taken mid.taken after.taken front more h.taken k.taken;
+  faultless = k.faultless ∙ h.faultless;
+}
+
+-- the output fails behind bytes that were written
+pub cut_more : (before mid after : OutputSeen) (front more : List ℕ) → IsWritten before mid front → IsCut mid after more → IsCut before after (front ++ more)
+cut_more before mid after front more h k = record {
+  taken = (
+    length front + k.taken.0,
+    omega (arith, k.taken.1, length-append front more),
+    subst (Appends before.taken after.taken) (sym (take-append-add front more k.taken.0)) (Appends-trans before.taken mid.taken after.taken front (take k.taken.0 more) h.taken k.taken.2),
+  );
+  rose = let f = h.faultless in let r = k.rose in (omega (arith, f, r.0), omega (arith, f, r.1));
+}
+
+pub none_written : (output : OutputSeen) → IsWritten output output []
+none_written output = record { taken = Appends-nil output.taken; faultless = refl }
+
+none_handed : (es : List Event) → length es ≡ 0 → es ≡ []
+none_handed [] h = refl
+none_handed (e ∷ es) h = absurd (cc)
+
+-- before the first byte
+pub showing_first : (shower : Shower) → IsCounted [] shower.counter → shower.lines.items ≡ [] → IsShowing [] [] shower
+showing_first shower h empty =
+    let few = few_handed [] h.counted.handed shower.counter.reader h.counted.read in
+    let none : length h.counted.handed ≡ 0 = omega (arith, few) in
+    record {
+      shown = record {
+        handed = h.counted.handed;
+        read = h.counted.read;
+        rows = h.counted.rows;
+        limit = h.counted.limit;
+        counted = h.counted.counted;
+        shown = empty ∙ sym (ap (shown_events 0) (none_handed h.counted.handed none));
+      };
+      going = h.counted.going;
+      quiet = h.quiet;
+      bytes = h.bytes;
+    }
+
+-- lines that wait were written
+pub cleared : (fed written : List ℕ) (old new : Shower) → IsShowing fed written old → new.counter ≡ old.counter → new.lines.items ≡ []
+    → IsShowing fed (written ++ old.lines.items) new
+cleared fed written old new h same empty = record {
+  shown = subst (λ (k : Counter). HasShown fed (written ++ old.lines.items) k.reader k.tops new.lines.items) (sym same) (record {
+    handed = h.shown.handed;
+    read = h.shown.read;
+    rows = h.shown.rows;
+    limit = h.shown.limit;
+    counted = h.shown.counted;
+    shown = ap (λ l. (written ++ old.lines.items) ++ l) empty ∙ append-nil (written ++ old.lines.items) ∙ h.shown.shown;
+  });
+  going = ap (λ (k : Counter). k.reader.error) same ∙ h.going;
+  quiet = ap (λ (k : Counter). ready k.reader) same ∙ h.quiet;
+  bytes = ap (λ (k : Counter). k.bytes) same ∙ h.bytes;
+}
+
+-- what holds of any error holds of a result
+pub if_err : {A E : Type 0} (P : Type 0) (r : Result A E) → P → IfErr r (λ _. P)
+if_err P (Ok x) p = tt
+if_err P (Err e) p = p
+
+pub stopped_memory : {A : Type 0} (bytes lines : List ℕ) (r : Result A StreamError) (e : StreamError) → r ≡ Err e → e ≡ stream.Memory → ShowsSome bytes lines
+    → IfErr r (λ error. IsLast bytes lines error)
+stopped_memory {A} bytes lines r e is memory some =
+    subst (λ (q : Result A StreamError). IfErr q (λ error. IsLast bytes lines error)) (sym (is ∙ ap Err memory))
+    (record { some = some; all = λ known. absurd (known refl) })
+
+-- bytes that begin with others
+pub more_some : (bytes more whole lines : List ℕ) → bytes ++ more ≡ whole → ShowsSome bytes lines → ShowsSome whole lines
+more_some bytes more whole lines is some rest =
+    let s = some (more ++ rest) in
+    (s.0, s.1 ∙ ap (λ l. shown_events 0 (take s.0 (walked l).events)) (sym (append_assoc bytes more rest) ∙ ap (λ l. l ++ rest) is))
+
+-- the lines after a call that took bytes, or stopped within them
+pub begins_taken : {A : Type 0} (r : Result A Fault) (bytes written : List ℕ) (shower : Shower)
+    → ((x : A) → r ≡ Ok x → IsShowing bytes written shower × (length bytes ≤ TAGS_LIMIT))
+    → ((fault : Fault) → r ≡ Err fault → StopsShowing bytes (written ++ shower.lines.items) fault)
+    → BeginsShown bytes (written ++ shower.lines.items)
+begins_taken (Ok x) bytes written shower took stopped = let t = took x refl in begins_showing bytes written shower t.0 t.1
+begins_taken (Err fault) bytes written shower took stopped = begins_stopped bytes (written ++ shower.lines.items) fault (stopped fault refl)
+
+-- nothing is read and nothing is shown
+pub show_nothing : (input : InputSeen) → IsShownBefore input input Memory []
+show_nothing input = record {
+  some = record { bytes = []; read = Consumes-nil input.left; shown = (0, refl) };
+  all = tt;
+}
+
+written_text : (fed written : List ℕ) (shower : Shower) → IsShowing fed written shower → shower.lines.items ≡ [] → length fed ≤ TAGS_LIMIT → written ≡ shown_text fed
+written_text fed written shower h empty within =
+    sym (append-nil written) ∙ ap (λ l. written ++ l) (sym empty) ∙ showing_text fed written shower h within
+
+-- what was read before a read that failed is shown
+pub show_read : (before after : InputSeen) (fed written : List ℕ) (shower : Shower) → IsShowing fed written shower → shower.lines.items ≡ [] → length fed ≤ TAGS_LIMIT
+    → Consumes before.left after.left fed → IsShownBefore before after Read written
+show_read before after fed written shower h empty within read =
+    let text = written_text fed written shower h empty within in
+    record {
+      some = record { bytes = fed; read = read; shown = begins_all fed written text };
+      all = (fed, read, text);
+    }
+
+-- a read failed behind bytes that are not refused
+pub show_failed : (before after : InputSeen) (fed written : List ℕ) (shower : Shower) → IsShowing fed written shower → Consumes before.left after.left fed
+    → Rose before.faults after.faults → IsCause (Some (command.Show false)) before after Read
+show_failed before after fed written shower h read rose =
+    as_check before after Read (failed_cause before after fed shower.counter read (is_counted fed written shower h) rose)
+
+-- a step stopped behind what was written
+pub step_stops : (input_before input_after : InputSeen) (before mid after : OutputSeen) (bytes written more : List ℕ) (stop : Stop)
+    → Consumes input_before.left input_after.left bytes → input_after.faults ≡ input_before.faults → IsWritten before mid written → StepStops bytes (written ++ more) more mid after stop
+    → ShowStops input_before input_after before after stop
+step_stops input_before input_after before mid after bytes written more (Input fault) read faultless told stops =
+    let cause = show_cause input_before input_after bytes (written ++ more) fault read faultless stops.0 in
+    (cause.0, (written ++ more, cause.1, written_more before mid after written more told stops.1))
+step_stops input_before input_after before mid after bytes written more Output read faultless told stops = (
+  written ++ more,
+  record { bytes = bytes; read = read; shown = stops.0 },
+  cut_more before mid after written more told stops.1,
+)
+
+-- the end of the input, between two top tags or inside one
+pub ended_whole : (before after : InputSeen) (fed written : List ℕ) (shower : Shower) (tags : ℕ) → IsShowing fed written shower → shower.lines.items ≡ []
+    → length fed ≤ TAGS_LIMIT → Consumes before.left after.left fed → IsAtEnd after.left → after.faults ≡ before.faults → Ends fed (Ok tags)
+    → IsShownWhole before after None written
+ended_whole before after fed written shower tags h empty within read end faultless ends = record {
+  bytes = fed;
+  read = read;
+  end = end;
+  faultless = faultless;
+  sound = (within, ends.0);
+  unopened = refl;
+  written = written_text fed written shower h empty within ∙ within_whole fed within;
+}
+
+end_text : (left after : Option (List ℕ)) (bytes lines : List ℕ) → Consumes left after bytes → IsAtEnd after → lines ≡ shown_text bytes
+    → IfSome left (λ input. lines ≡ shown_text input)
+end_text None after bytes lines read end is = tt
+end_text (Some input) None bytes lines read end is = absurd read
+end_text (Some input) (Some rest) bytes lines read end is = is ∙ ap shown_text (sym (read ∙ ap (λ l. bytes ++ l) end ∙ append-nil bytes))
+
+pub ended_inside : (before after : InputSeen) (fed written : List ℕ) (shower : Shower) (e : StreamError) (fault : Fault) → IsShowing fed written shower
+    → shower.lines.items ≡ [] → length fed ≤ TAGS_LIMIT → Consumes before.left after.left fed → IsAtEnd after.left → after.faults ≡ before.faults → Ends fed (Err e)
+    → fault ≡ tags_fault e → IsCause (Some (command.Show false)) before after fault × IsShownBefore before after fault written
+ended_inside before after fed written shower e fault h empty within read end faultless ends is =
+    let text = written_text fed written shower h empty within in (
+      as_check before after fault (cut_cause before after fed e fault read end faultless within ends is),
+      subst (λ f. IsShownBefore before after f written) (sym (is ∙ ap tags_fault ends.1)) (record {
+        some = record { bytes = fed; read = read; shown = begins_all fed written text };
+        all = end_text before.left after.left fed written read end text;
+      }),
+    )
