@@ -66,6 +66,7 @@ ends_answered command told status history (Ok answer) done begun cause before t 
   where
     is_done : IsDone command told.input_before told.input_after history answer.output.items
     is_done = subst (λ h. IsDone command told.input_before told.input_after h answer.output.items) (sym t.0) done
+
     at_end : Tells 0 answer.output.items told.output_before told.output_after status → Ends command told status history
     at_end (inl w) = (Done answer.output.items, w.0, (is_done, w.1))
     at_end (inr w) = (OutputCut answer.output.items, w.0, (begun history answer.output.items is_done, w.1))

@@ -196,7 +196,7 @@ stops_long fed front behind piece written shower full more split h =
     let cut : take TAGS_LIMIT (fed ++ piece) ≡ fed ++ front = ap (take TAGS_LIMIT) same ∙ take_at (fed ++ front) behind TAGS_LIMIT full in (
       too_long fed front behind piece shower.counter.reader shower.counter.tops full more split (is_counted (fed ++ front) written shower h).counted,
       shows_whole (fed ++ front) written shower.lines.items shower.counter.reader shower.counter.tops h.shown h.going h.quiet
-      ∙ ap (λ l. shown_events 0 (walked l).events) (sym cut),
+          ∙ ap (λ l. shown_events 0 (walked l).events) (sym cut),
     )
 
 -- what is shown where showing stops

@@ -87,9 +87,8 @@ fn obeyed<I: Source, W: Sink>(
             let answer = counts(alloc, input);
             written(alloc, output, answer)
         }
-        Command::Show { back: true } | Command::Codes { .. } => {
-            refused(alloc, output, &Fault::Words)
-        }
+        Command::Show { back: true } => refused(alloc, output, &Fault::Words),
+        Command::Codes { .. } => refused(alloc, output, &Fault::Words),
     }
 }
 

@@ -409,7 +409,7 @@ fn words_that_are_no_command_get_the_usage(rt: HostRuntime) -> Result<(), Fail> 
     )?;
     are_refused(&rt, alloc, &["list", "--query", "--meta"])?;
     are_refused(&rt, alloc, &["list", "--list", "1"])?;
-    are_refused(&rt, alloc, &["show"])?;
+    are_refused(&rt, alloc, &["show", "--back"])?;
     are_refused(&rt, alloc, &["check", "x"])?;
     are_refused(&rt, alloc, &["codes", "--learn"])?;
     are_refused(&rt, alloc, &["--help"])
@@ -457,6 +457,82 @@ fn an_input_has_at_most_four_mebibytes(rt: HostRuntime) -> Result<(), Fail> {
     lists(&rt, alloc, text.as_slice(), 0, no_items())?;
     text.push(b'\n')?;
     lists(&rt, alloc, text.as_slice(), 8, b"limit: input\n")
+}
+
+/// Tags, by what is said of them.
+fn tags(name: &str) -> &'static [u8] {
+    match name {
+        "a tag and an overrun" => b"mstt\0\0\0\x04\0\0\0\xc8mlcl\0\0\0\x0bmiid\0\0\0\x04\0\0\0",
+        "three bytes for a number" => b"miid\0\0\0\x03\0\0\x01",
+        _ => b"",
+    }
+}
+
+/// The ten lines of the listing of one item.
+fn one_item_shown() -> &'static str {
+    "adbs list\n  mstt u32 200\n  muty u8 0\n  musr u32 3\n  mtco u32 1\n  mrco u32 1\n  mlcl list\n    mlit list\n      miid u32 7\n      minm text \"A\"\n"
+}
+
+/// `show` over the tags, in reads of so many bytes, ends with the status and this text.
+fn shows_tags(
+    rt: &impl Abort,
+    alloc: Global,
+    tags: &[u8],
+    read: usize,
+    status: u8,
+    text: &str,
+) -> Result<(), Fail> {
+    let source = MemSource::new(alloc, tags, read, &[])?;
+    let sink = MemSink::new(alloc, 4096, 4096, &[])?;
+    let ran = run_over(alloc, &["show"], source, sink)?;
+    assert_eq!(rt; ran.status, status);
+    assert_eq!(rt; ran.output.as_slice(), text.as_bytes());
+    Ok(())
+}
+
+#[test]
+fn tags_are_shown_line_by_line(rt: HostRuntime) -> Result<(), Fail> {
+    let alloc = rt.alloc();
+    shows_tags(&rt, alloc, one_item(), 4096, 0, one_item_shown())?;
+    shows_tags(&rt, alloc, one_item(), 7, 0, one_item_shown())?;
+    shows_tags(
+        &rt,
+        alloc,
+        tags("three bytes for a number"),
+        4096,
+        0,
+        "miid opaque #000001\n",
+    )?;
+    shows_tags(&rt, alloc, tags("none"), 4096, 0, "")
+}
+
+#[test]
+fn tags_before_a_faulty_place_are_shown(rt: HostRuntime) -> Result<(), Fail> {
+    let alloc = rt.alloc();
+    shows_tags(
+        &rt,
+        alloc,
+        tags("a tag and an overrun"),
+        4096,
+        3,
+        "mstt u32 200\nmlcl list\ntags: overrun at 20\n",
+    )
+}
+
+#[test]
+fn an_output_that_fails_has_a_front_of_the_lines(rt: HostRuntime) -> Result<(), Fail> {
+    let alloc = rt.alloc();
+    let source = MemSource::new(alloc, one_item(), 4096, &[])?;
+    let sink = MemSink::new(alloc, 4096, 40, &[2])?;
+    let ran = run_over(alloc, &["show"], source, sink)?;
+    assert_eq!(rt; ran.status, 5);
+    assert_eq!(rt; ran.output.len(), 40);
+    assert!(rt;
+        one_item_shown()
+            .as_bytes()
+            .starts_with(ran.output.as_slice())
+    );
+    Ok(())
 }
 
 /// The fault has this line.
