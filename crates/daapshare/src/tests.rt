@@ -460,7 +460,7 @@ fn an_input_has_at_most_four_mebibytes(rt: HostRuntime) -> Result<(), Fail> {
 }
 
 /// Tags, by what is said of them.
-fn tags(name: &str) -> &'static [u8] {
+fn shown_tags(name: &str) -> &'static [u8] {
     match name {
         "a tag and an overrun" => b"mstt\0\0\0\x04\0\0\0\xc8mlcl\0\0\0\x0bmiid\0\0\0\x04\0\0\0",
         "three bytes for a number" => b"miid\0\0\0\x03\0\0\x01",
@@ -498,12 +498,12 @@ fn tags_are_shown_line_by_line(rt: HostRuntime) -> Result<(), Fail> {
     shows_tags(
         &rt,
         alloc,
-        tags("three bytes for a number"),
+        shown_tags("three bytes for a number"),
         4096,
         0,
         "miid opaque #000001\n",
     )?;
-    shows_tags(&rt, alloc, tags("none"), 4096, 0, "")
+    shows_tags(&rt, alloc, shown_tags("none"), 4096, 0, "")
 }
 
 #[test]
@@ -512,7 +512,7 @@ fn tags_before_a_faulty_place_are_shown(rt: HostRuntime) -> Result<(), Fail> {
     shows_tags(
         &rt,
         alloc,
-        tags("a tag and an overrun"),
+        shown_tags("a tag and an overrun"),
         4096,
         3,
         "mstt u32 200\nmlcl list\ntags: overrun at 20\n",
