@@ -482,7 +482,7 @@ fn shows_tags(
     status: u8,
     text: &str,
 ) -> Result<(), Fail> {
-    let source = MemSource::new(alloc, tags, read, &[])?;
+    let source = MemSource::new(alloc, tags, read.max(1), &[])?;
     let sink = MemSink::new(alloc, 4096, 4096, &[])?;
     let ran = run_over(alloc, &["show"], source, sink)?;
     assert_eq!(rt; ran.status, status);
