@@ -8,5 +8,6 @@ pub mod Readings
 pub mod Values
 pub mod Spelled
 pub mod WholeTags
+pub mod OneTag
 pub mod Members
 pub mod Faults
