@@ -16,7 +16,7 @@ use Rattle.dmap_stream.proofs.Readings.{told, count_told}
 use Rattle.daapshare.specs.declared.check.TheConstants.{TAGS_LIMIT, TAG_LIMIT}
 use Rattle.daapshare.specs.declared.check.Counter.{Counter}
 use Rattle.daapshare.specs.declared.fault.Fault.{Fault}
-use Rattle.daapshare.specs.declared.fault.Fault.TheVariants.{Words, Query, Meta, Records, Tags, Read, Write, InputLimit, Memory}
+use Rattle.daapshare.specs.declared.fault.Fault.TheVariants.{Words, Query, Meta, Records, Tags, Text, Codes, Read, Write, InputLimit, Memory}
 use Rattle.daapshare.specs.declared.tops.Tops.{Tops}
 use Rattle.daapshare.specs.Faults.{tags_fault}
 use Rattle.daapshare.specs.Seen.{InputSeen}

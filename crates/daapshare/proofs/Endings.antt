@@ -8,7 +8,7 @@ use Rattle.daapshare_words.specs.declared.words.WordsError.TheVariants as words
 use Rattle.item_model.specs.declared.changes.Entry.{Entry}
 use Rattle.daapshare.specs.declared.answer.Answer.{Answer}
 use Rattle.daapshare.specs.declared.fault.Fault.{Fault}
-use Rattle.daapshare.specs.declared.fault.Fault.TheVariants.{Words, Query, Meta, Records, Tags, Read, Write, InputLimit, Memory}
+use Rattle.daapshare.specs.declared.fault.Fault.TheVariants.{Words, Query, Meta, Records, Tags, Text, Codes, Read, Write, InputLimit, Memory}
 use Rattle.daapshare.specs.Faults.{fault_line, fault_status, words_fault}
 use Rattle.daapshare.specs.Seen.{InputSeen, OutputSeen}
 use Rattle.daapshare.specs.Commands.{Says, Gives, IsDone, IsBegun, IsCause, IsFront}

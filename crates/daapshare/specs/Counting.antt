@@ -9,7 +9,7 @@ use Rattle.dmap_stream.specs.declared.refusal.StreamError.TheVariants as stream
 use Rattle.daapshare.specs.declared.check.TheConstants.{TAGS_LIMIT, TAG_LIMIT}
 use Rattle.daapshare.specs.declared.check.Counter.{Counter}
 use Rattle.daapshare.specs.declared.fault.Fault.{Fault}
-use Rattle.daapshare.specs.declared.fault.Fault.TheVariants.{Words, Query, Meta, Records, Tags, Read, Write, InputLimit, Memory}
+use Rattle.daapshare.specs.declared.fault.Fault.TheVariants.{Words, Query, Meta, Records, Tags, Text, Codes, Read, Write, InputLimit, Memory}
 use Rattle.daapshare.specs.declared.tops.Tops.{Tops}
 use Rattle.daapshare.specs.Checks.{walked, after_event, no_tops, top_tags, IsTooLong}
 
@@ -39,6 +39,8 @@ StopsAt bytes (Query error) = ⊥
 StopsAt bytes Meta = ⊥
 StopsAt bytes (Records error) = ⊥
 StopsAt bytes (Tags error) = (error ≢ stream.Memory) × ((rest : List ℕ) → (walked (take TAGS_LIMIT (bytes ++ rest))).ending ≡ broken error)
+StopsAt bytes (Text line) = ⊥
+StopsAt bytes (Codes error) = ⊥
 StopsAt bytes Read = ⊥
 StopsAt bytes Write = ⊥
 StopsAt bytes InputLimit = IsTooLong bytes

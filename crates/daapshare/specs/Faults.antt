@@ -12,12 +12,16 @@ use Rattle.item_model.specs.declared.names.MetaError.{MetaError}
 use Rattle.item_model.specs.declared.names.MetaError.TheVariants as meta
 use Rattle.dmap_stream.specs.declared.refusal.StreamError.{StreamError}
 use Rattle.dmap_stream.specs.declared.refusal.StreamError.TheVariants as stream
+use Rattle.code_table.specs.declared.reply.CodeError.{CodeError}
+use Rattle.code_table.specs.declared.reply.CodeError.TheVariants as table
+use Rattle.dmap_show.specs.declared.reading.ShowError.{ShowError}
+use Rattle.dmap_show.specs.declared.reading.ShowError.TheVariants as show
 use Rattle.daapshare_words.specs.declared.words.WordsError.{WordsError}
 use Rattle.daapshare_words.specs.declared.words.WordsError.TheVariants as words
 use Rattle.daap_outside.specs.declared.reading.ReadError.{ReadError}
 use Rattle.daap_outside.specs.declared.reading.ReadError.TheVariants as reads
 use Rattle.daapshare.specs.declared.fault.Fault.{Fault}
-use Rattle.daapshare.specs.declared.fault.Fault.TheVariants.{Words, Query, Meta, Records, Tags, Read, Write, InputLimit, Memory}
+use Rattle.daapshare.specs.declared.fault.Fault.TheVariants.{Words, Query, Meta, Records, Tags, Text, Codes, Read, Write, InputLimit, Memory}
 
 abbrev pub query_why_text : QueryWhy → List ℕ
 query_why_text why.End = codes " end"
@@ -55,6 +59,12 @@ tags_text (stream.ShortHead at) = codes "tags: short head at " ++ decimal at
 tags_text (stream.Truncated at) = codes "tags: truncated at " ++ decimal at
 tags_text stream.Memory = codes "memory"
 
+abbrev pub table_text : CodeError → List ℕ
+table_text table.NotReply = codes "codes: not a reply"
+table_text (table.Entry index) = codes "codes: entry " ++ decimal index
+table_text (table.Repeated index) = codes "codes: repeated " ++ decimal index
+table_text table.Memory = codes "memory"
+
 -- how the program is called
 abbrev pub usage_text : List ℕ
 usage_text =
@@ -75,6 +85,8 @@ fault_line (Query error) = query_text error ++ 10 ∷ []
 fault_line Meta = codes "meta: too many names" ++ 10 ∷ []
 fault_line (Records error) = records_text error ++ 10 ∷ []
 fault_line (Tags error) = tags_text error ++ 10 ∷ []
+fault_line (Text line) = codes "text: line " ++ decimal line ++ 10 ∷ []
+fault_line (Codes error) = table_text error ++ 10 ∷ []
 fault_line Read = codes "read failed" ++ 10 ∷ []
 fault_line Write = []
 fault_line InputLimit = codes "limit: input" ++ 10 ∷ []
@@ -86,6 +98,8 @@ fault_status (Query error) = 3
 fault_status Meta = 3
 fault_status (Records error) = 3
 fault_status (Tags error) = 3
+fault_status (Text line) = 3
+fault_status (Codes error) = 3
 fault_status Read = 4
 fault_status Write = 5
 fault_status InputLimit = 8
@@ -114,7 +128,7 @@ read_fault reads.Failed = Read
 read_fault reads.TooLong = InputLimit
 read_fault reads.Memory = Memory
 
--- and that a refusal of its records is
+-- that a refusal of its records is
 abbrev pub record_fault : RecordError → Fault
 record_fault (records.Header column) = Records (records.Header column)
 record_fault (records.Field row column reason) = Records (records.Field row column reason)
@@ -130,3 +144,15 @@ tags_fault (stream.Overrun at code) = Tags (stream.Overrun at code)
 tags_fault (stream.ShortHead at) = Tags (stream.ShortHead at)
 tags_fault (stream.Truncated at) = Tags (stream.Truncated at)
 tags_fault stream.Memory = Memory
+
+-- that a refusal of shown text is
+abbrev pub show_fault : ShowError → Fault
+show_fault (show.Line line) = Text line
+show_fault show.Memory = Memory
+
+-- and that a refusal of a reply of content codes is
+abbrev pub table_fault : CodeError → Fault
+table_fault table.NotReply = Codes table.NotReply
+table_fault (table.Entry index) = Codes (table.Entry index)
+table_fault (table.Repeated index) = Codes (table.Repeated index)
+table_fault table.Memory = Memory

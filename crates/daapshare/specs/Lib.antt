@@ -8,8 +8,13 @@ pub mod Seen
 pub mod Lists
 pub mod Checks
 pub mod Shows
+pub mod Backs
+pub mod Codes
+pub mod Learns
 pub mod Commands
 pub mod Counting
 pub mod Runs
 pub mod Answers
 pub mod Showing
+pub mod Backing
+pub mod Learning

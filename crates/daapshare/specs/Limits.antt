@@ -9,6 +9,10 @@ records_limit = 4194304
 abbrev pub tags_limit : ℕ
 tags_limit = 4294967296
 
+-- shown text: 64 MiB
+abbrev pub text_limit : ℕ
+text_limit = 67108864
+
 -- the payload of a top tag: 1 GiB
 abbrev pub tag_limit : ℕ
 tag_limit = 1073741824

@@ -6,7 +6,7 @@ use Rattle.dmap_show.specs.Events.{shown_events}
 use Rattle.item_model.specs.declared.changes.Entry.{Entry}
 use Rattle.daapshare.specs.Limits.{tags_limit}
 use Rattle.daapshare.specs.declared.fault.Fault.{Fault}
-use Rattle.daapshare.specs.declared.fault.Fault.TheVariants.{Words, Query, Meta, Records, Tags, Read, Write, InputLimit, Memory}
+use Rattle.daapshare.specs.declared.fault.Fault.TheVariants.{Words, Query, Meta, Records, Tags, Text, Codes, Read, Write, InputLimit, Memory}
 use Rattle.daapshare.specs.Seen.{InputSeen}
 use Rattle.daapshare.specs.Checks.{walked, IsSound}
 
@@ -46,6 +46,8 @@ ShowsAll (Query error) before after lines = Unit {0}
 ShowsAll Meta before after lines = Unit {0}
 ShowsAll (Records error) before after lines = Unit {0}
 ShowsAll (Tags error) before after lines = IfSome before.left (λ input. lines ≡ shown_text input)
+ShowsAll (Text line) before after lines = Unit {0}
+ShowsAll (Codes error) before after lines = Unit {0}
 ShowsAll Read before after lines = (bytes : List ℕ) × Consumes before.left after.left bytes × (lines ≡ shown_text bytes)
 ShowsAll Write before after lines = Unit {0}
 ShowsAll InputLimit before after lines = IfSome before.left (λ input. lines ≡ shown_text input)

@@ -1,11 +1,16 @@
 //! The commands that write once, at their end.
 
-ghost use Rattle.std.specs.Prelude.{Some, option_copied, IfOk, IfErr};
-ghost use Rattle.daapshare_words.specs.declared.words.Command.TheVariants.{List as list_command, Check as check_command};
+ghost use Rattle.std.specs.Prelude.{◌≡◌, true, Some, None, option_copied, IfOk, IfErr};
+ghost use Rattle.code_table.specs.Standard.{standard_rows};
+ghost use Rattle.daapshare_words.specs.declared.words.Command.TheVariants.{List as list_command, Show as show_command, Check as check_command, Codes as codes_command};
+ghost use Rattle.daapshare.specs.Codes.{code_lines};
 ghost use Rattle.daapshare.specs.Commands.{IsDone, IsCause};
 
+use crate::back::unshown;
 use crate::check::checked;
+use crate::codes::standard_lines;
 use crate::fault::Fault;
+use crate::learn::learned;
 use crate::list::opened;
 use daap_outside::Source;
 use dmap_tags::Text;
@@ -42,6 +47,59 @@ pub fn listed<I: Source>(
     })
 }
 
+/// Does `show --back`, up to writing the output.
+pub fn shown_back<I: Source>(alloc: Global, input: &mut I) -> Result<Answer, Fault>
+    ensures done { IfOk result (λ answer. IsDone (Some (show_command true))
+        (record { left = I.left input.old; faults = I.faults input.old })
+        (record { left = I.left input.new; faults = I.faults input.new })
+        answer.history answer.output.items) }
+    ensures cause { IfErr result (λ fault. IsCause (Some (show_command true))
+        (record { left = I.left input.old; faults = I.faults input.old })
+        (record { left = I.left input.new; faults = I.faults input.new })
+        fault) }
+{
+    match unshown(alloc, input) {
+        Ok(output) => Ok(unopened(output)),
+        Err(fault) => Err(fault),
+    }
+}
+
+/// Does `codes`, up to writing the output.
+pub fn codes(alloc: Global) -> Result<Answer, Fault>
+    ensures done { IfOk result (λ answer. (answer.history ≡ None) × (answer.output.items ≡ code_lines standard_rows)) }
+    ensures cause { IfErr result (λ fault. fault ≡ Fault.Memory) }
+{
+    let output = standard_lines(alloc)?;
+    Ok(unopened(output))
+}
+
+/// Does `codes --learn`, up to writing the output.
+pub fn learns<I: Source>(alloc: Global, input: &mut I) -> Result<Answer, Fault>
+    ensures done { IfOk result (λ answer. IsDone (Some (codes_command true))
+        (record { left = I.left input.old; faults = I.faults input.old })
+        (record { left = I.left input.new; faults = I.faults input.new })
+        answer.history answer.output.items) }
+    ensures cause { IfErr result (λ fault. IsCause (Some (codes_command true))
+        (record { left = I.left input.old; faults = I.faults input.old })
+        (record { left = I.left input.new; faults = I.faults input.new })
+        fault) }
+{
+    match learned(alloc, input) {
+        Ok(output) => Ok(unopened(output)),
+        Err(fault) => Err(fault),
+    }
+}
+
+/// The answer of a command that opens no share.
+fn unopened(output: Vec<u8>) -> Answer
+    ensures { (result.history ≡ None) × (result.output.items ≡ output.items) }
+{
+    Answer {
+        history: None,
+        output,
+    }
+}
+
 /// Does `check`, up to writing the output.
 pub fn counts<I: Source>(alloc: Global, input: &mut I) -> Result<Answer, Fault>
     ensures done { IfOk result (λ answer. IsDone (Some check_command)
@@ -53,8 +111,8 @@ pub fn counts<I: Source>(alloc: Global, input: &mut I) -> Result<Answer, Fault>
         (record { left = I.left input.new; faults = I.faults input.new })
         fault) }
 {
-    Ok(Answer {
-        history: None,
-        output: checked(alloc, input)?,
-    })
+    match checked(alloc, input) {
+        Ok(output) => Ok(unopened(output)),
+        Err(fault) => Err(fault),
+    }
 }

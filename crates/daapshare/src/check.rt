@@ -63,7 +63,7 @@ impl Counter {
     }
 
     /// Feeds all bytes to the reader, and counts their events.
-    fn feed(&mut self, piece: &[u8]) -> Result<(), StreamError>
+    pub fn feed(&mut self, piece: &[u8]) -> Result<(), StreamError>
         requires { (fed : List ℕ) × IsCounted fed self.old × (length fed + length piece.now ≤ TAGS_LIMIT) }
         ensures fed { (fed : List ℕ) → IsCounted fed self.old
             → IfOk result (λ _. IsCounted (fed ++ piece.now) self.new) }

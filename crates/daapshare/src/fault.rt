@@ -1,10 +1,12 @@
 //! Why a command did not do its work: the line that the user sees, and the status.
 
-ghost use Rattle.std.specs.Prelude.{◌≡◌, ◌++◌, ◌∷◌, [], IfOk, OnOk, decimal};
-ghost use Rattle.daapshare.specs.Faults.{query_text, query_why_text, record_why_text, records_text, tags_text, fault_line, fault_status};
+ghost use Rattle.std.specs.Prelude.{◌≡◌, ◌++◌, ◌∷◌, [], IfOk, OnOk, codes, decimal};
+ghost use Rattle.daapshare.specs.Faults.{query_text, query_why_text, record_why_text, records_text, tags_text, table_text, fault_line, fault_status};
 
+use code_table::CodeError;
 use daap_outside::{Failed, ReadError};
 use daapshare_words::WordsError;
+use dmap_show::ShowError;
 use dmap_stream::StreamError;
 use item_model::{MetaError, QueryError, QueryWhy, RecordWhy};
 use itoa::Buffer;
@@ -37,6 +39,12 @@ pub enum Fault {
     Records(RecordError),
     /// The input's bytes are no tags.
     Tags(StreamError),
+    /// The input is no shown text from this line on, counted from 1.
+    Text {
+        line: u64,
+    },
+    /// The input is no reply of content codes.
+    Codes(CodeError),
     /// The input could not be read.
     Read,
     /// The output took no more.
@@ -132,6 +140,32 @@ impl From<StreamError> for Fault {
     }
 }
 
+impl From<ShowError> for Fault {
+    ghost use Rattle.daapshare.specs.Faults.{show_fault};
+
+    ghost from_gives = { λ e f. f ≡ show_fault e };
+
+    fn from(error: ShowError) -> Fault {
+        match error {
+            ShowError::Line { line } => Fault::Text { line },
+            ShowError::Memory => Fault::Memory,
+        }
+    }
+}
+
+impl From<CodeError> for Fault {
+    ghost use Rattle.daapshare.specs.Faults.{table_fault};
+
+    ghost from_gives = { λ e f. f ≡ table_fault e };
+
+    fn from(error: CodeError) -> Fault {
+        match error {
+            CodeError::Memory => Fault::Memory,
+            refusal => Fault::Codes(refusal),
+        }
+    }
+}
+
 impl From<RecordError> for Fault {
     ghost use Rattle.daapshare.specs.Faults.{record_fault};
 
@@ -152,7 +186,8 @@ impl Fault {
     {
         match self {
             Fault::Words => 2,
-            Fault::Query(_) | Fault::Meta | Fault::Records(_) | Fault::Tags(_) => 3,
+            Fault::Query(_) | Fault::Meta | Fault::Records(_) => 3,
+            Fault::Tags(_) | Fault::Text { .. } | Fault::Codes(_) => 3,
             Fault::Read => 4,
             Fault::Write => 5,
             Fault::InputLimit => 8,
@@ -170,6 +205,8 @@ impl Fault {
             Fault::Meta => Vec::from_slice(alloc, b"meta: too many names\n"),
             Fault::Records(error) => records_line(alloc, error),
             Fault::Tags(error) => tags_line(alloc, error),
+            Fault::Text { line } => text_line(alloc, *line),
+            Fault::Codes(error) => table_line(alloc, error),
             Fault::Read => Vec::from_slice(alloc, b"read failed\n"),
             Fault::Write => Ok(Vec::new(alloc)),
             Fault::InputLimit => Vec::from_slice(alloc, b"limit: input\n"),
@@ -203,6 +240,35 @@ fn tags_line(alloc: Global, error: &StreamError) -> Result<Vec<u8>, AllocError>
     push_tags(&mut line, error)?;
     line.push(b'\n')?;
     Ok(line)
+}
+
+fn text_line(alloc: Global, at: u64) -> Result<Vec<u8>, AllocError>
+    ensures { IfOk result (λ line. line.items ≡ codes "text: line " ++ decimal at ++ 10 ∷ []) }
+{
+    let mut line = Vec::new(alloc);
+    push_place(&mut line, b"text: line ", at)?;
+    line.push(b'\n')?;
+    Ok(line)
+}
+
+fn table_line(alloc: Global, error: &CodeError) -> Result<Vec<u8>, AllocError>
+    ensures { IfOk result (λ line. line.items ≡ table_text error.now ++ 10 ∷ []) }
+{
+    let mut line = Vec::new(alloc);
+    push_table(&mut line, error)?;
+    line.push(b'\n')?;
+    Ok(line)
+}
+
+fn push_table(line: &mut Vec<u8>, error: &CodeError) -> Result<(), AllocError>
+    ensures { OnOk result (line.new.items ≡ line.old.items ++ table_text error.now) }
+{
+    match error {
+        CodeError::NotReply => line.extend_from_slice(b"codes: not a reply"),
+        CodeError::Entry { index } => push_place(line, b"codes: entry ", *index),
+        CodeError::Repeated { index } => push_place(line, b"codes: repeated ", *index),
+        CodeError::Memory => line.extend_from_slice(b"memory"),
+    }
 }
 
 fn push_tags(line: &mut Vec<u8>, error: &StreamError) -> Result<(), AllocError>

@@ -1,10 +1,14 @@
 //! `daapshare`: a server and a mirror client for a shared music catalogue over DAAP.
-//! Today it lists a library from records, and checks and shows tags.
+//! Today it lists a library from records, checks tags, shows them as text and reads that back, and tells and learns
+//! tables of content codes.
 #![tactic(auto)]
 
 mod answer;
+mod back;
 mod check;
+mod codes;
 mod fault;
+mod learn;
 mod library;
 mod list;
 mod listing;

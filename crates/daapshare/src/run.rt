@@ -7,7 +7,7 @@ ghost use Rattle.daapshare_words.specs.declared.words.Command.TheVariants.{Show 
 ghost use Rattle.daapshare.specs.Runs.{Ends, IsDecided, Tells, TellsFault};
 ghost use Rattle.daapshare.specs.Answers.{Answers};
 
-use crate::answer::{Answer, counts, listed};
+use crate::answer::{Answer, codes, counts, learns, listed, shown_back};
 use crate::fault::Fault;
 use crate::show::{Stop, shown};
 use daap_outside::{Files, Net, Sink, Source, put_all};
@@ -25,8 +25,8 @@ pub struct Outcome {
 /// Does what the words ask for.
 ///
 /// The statuses are 0 where all was done, 2 for words that are no command's, 3 for a query, names of properties,
-/// records or tags that are refused, 4 and 5 where the input or the output failed, 8 where the input is too long, and 9 for
-/// want of memory. Each but 0 and 5 has its line on the output.
+/// records, tags, shown text or a reply of content codes that are refused, 4 and 5 where the input or the output
+/// failed, 8 where the input is too long, and 9 for want of memory. Each but 0 and 5 has its line on the output.
 pub fn run<I: Source, W: Sink, F: Files, N: Net>(
     alloc: Global,
     words: &[&str],
@@ -83,12 +83,22 @@ fn obeyed<I: Source, W: Sink>(
             written(alloc, output, answer)
         }
         Command::Show { back: false } => showed(alloc, input, output),
+        Command::Show { back: true } => {
+            let answer = shown_back(alloc, input);
+            written(alloc, output, answer)
+        }
         Command::Check => {
             let answer = counts(alloc, input);
             written(alloc, output, answer)
         }
-        Command::Show { back: true } => refused(alloc, output, &Fault::Words),
-        Command::Codes { .. } => refused(alloc, output, &Fault::Words),
+        Command::Codes { learn: false } => {
+            let answer = codes(alloc);
+            written(alloc, output, answer)
+        }
+        Command::Codes { learn: true } => {
+            let answer = learns(alloc, input);
+            written(alloc, output, answer)
+        }
     }
 }
 

@@ -1,4 +1,5 @@
 pub mod Utf8
+pub mod Once
 pub mod EventLines
 mod Taken
 mod Remaining

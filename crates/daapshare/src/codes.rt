@@ -1,0 +1,40 @@
+//! The command `codes`: the rows of a table of content codes, a line each.
+
+ghost use Rattle.std.specs.Prelude.{◌≡◌, ◌++◌, IfOk, OnOk};
+ghost use Rattle.code_table.specs.Standard.{standard_rows};
+ghost use Rattle.daapshare.specs.Codes.{code_line, code_lines};
+
+use crate::fault::push_place;
+use code_table::{CodeRow, CodeTable};
+use dmap_show::show_code;
+use std::alloc::{AllocError, Global};
+
+/// The lines of the standard table.
+pub fn standard_lines(alloc: Global) -> Result<Vec<u8>, AllocError>
+    ensures { IfOk result (λ lines. lines.items ≡ code_lines standard_rows) }
+{
+    let table = CodeTable::standard(alloc)?;
+    lines_of(alloc, &table)
+}
+
+/// The lines of a table. A name stands as it is, whatever characters it has.
+pub fn lines_of(alloc: Global, table: &CodeTable) -> Result<Vec<u8>, AllocError>
+    ensures { IfOk result (λ lines. lines.items ≡ code_lines table.now) }
+{
+    let mut lines = Vec::new(alloc);
+    for row in table.rows() {
+        push_row(&mut lines, row)?;
+    }
+    Ok(lines)
+}
+
+fn push_row(lines: &mut Vec<u8>, row: &CodeRow) -> Result<(), AllocError>
+    ensures { OnOk result (lines.new.items ≡ lines.old.items ++ code_line row.now) }
+{
+    show_code(row.code, lines)?;
+    push_place(lines, b" ", u64::from(row.kind.number().unwrap_or(0)))?;
+    lines.push(b' ')?;
+    lines.extend_from_slice(row.name.as_str().as_bytes())?;
+    lines.push(b'\n')?;
+    Ok(())
+}
