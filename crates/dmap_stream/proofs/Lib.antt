@@ -10,3 +10,4 @@ pub mod Spelled
 pub mod WholeTags
 pub mod Members
 pub mod Faults
+pub mod TagsWalk

@@ -46,7 +46,7 @@ opening bytes head rest c len front back within small code told = record {
   small = subst AreBytes (sym front) (bytes_take 8 bytes small);
 }
 
-same_kinds : (k : Kind) → table.is_list k ≡ is_list k
+pub same_kinds : (k : Kind) → table.is_list k ≡ is_list k
 same_kinds kind.U8 = refl
 same_kinds kind.I8 = refl
 same_kinds kind.U16 = refl
@@ -194,7 +194,7 @@ closed rows limit at c around bytes is =
     ∙ ap (ending_in rows limit at bytes) (cond-true (c.end == at) _ _ (eq-eqb c.end at (sym is)))
     ∙ sym (place_ends rows limit at around bytes)
 
-list_kind : (k : Kind) → is_list k ≡ true → k ≡ kind.List
+pub list_kind : (k : Kind) → is_list k ≡ true → k ≡ kind.List
 list_kind kind.U8 h = absurd (cc)
 list_kind kind.I8 h = absurd (cc)
 list_kind kind.U16 h = absurd (cc)
@@ -210,7 +210,7 @@ list_kind kind.List h = refl
 list_kind kind.Opaque h = absurd (cc)
 
 -- no value has a list's kind
-no_value : (l : Leaf) → leaf_fits kind.List l ≡ false
+pub no_value : (l : Leaf) → leaf_fits kind.List l ≡ false
 no_value (tree.U8 n) = refl
 no_value (tree.I8 z) = refl
 no_value (tree.U16 n) = refl
@@ -316,8 +316,8 @@ found rows limit bytes t rest r = record {
   fine = and_from _ _ r.fit (and_from _ _ (le-leb (levels t) 32 (let d = r.deep in omega arith)) (le-leb (length (payload t)) limit (within_limit limit (length (payload t)) (tree_code t) _ refl r.room)));
 }
 
-pub room_at_top : (rows : List CodeRow) (limit : ℕ) (t : Tree) → limit < 2 ^ 32 → is_accepted rows limit t ≡ true → IsProperTag t → IsRoomFor rows limit 0 [] t
-room_at_top rows limit t small h proper =
+pub room_at_top : (rows : List CodeRow) (limit at : ℕ) (t : Tree) → limit < 2 ^ 32 → is_accepted rows limit t ≡ true → IsProperTag t → IsRoomFor rows limit at [] t
+room_at_top rows limit at t small h proper =
     let parts = and_parts (fits rows None t) (nat_le (levels t) 32 && nat_le (length (payload t)) limit) h in
     let rest = and_parts (nat_le (levels t) 32) (nat_le (length (payload t)) limit) parts.1 in
     let deep : levels t ≤ 32 = leb-true (levels t) 32 rest.0 in

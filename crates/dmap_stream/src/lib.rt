@@ -8,6 +8,7 @@ mod buffer;
 mod containers;
 mod event;
 mod head;
+pub mod laws;
 mod position;
 mod reader;
 mod refusal;
