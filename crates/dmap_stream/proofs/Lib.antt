@@ -11,3 +11,4 @@ pub mod WholeTags
 pub mod Members
 pub mod Faults
 pub mod TagsWalk
+pub mod Sound

@@ -84,7 +84,7 @@ none_closes here around h = none_end here around (empty (closes here around) h)
     empty [] h = refl
     empty (e ∷ es) h = absurd (cc)
 
-due_goes : (rows : List CodeRow) (limit here : ℕ) (around : List Container) (rest : List ℕ) → IsDue here around →
+pub due_goes : (rows : List CodeRow) (limit here : ℕ) (around : List Container) (rest : List ℕ) → IsDue here around →
     (walk_from rows limit here around rest).ending ≡ (at_head (walk_from rows limit) rows limit here around rest).ending
 due_goes rows limit here around rest due =
     place_ends rows limit here around rest

@@ -142,7 +142,7 @@ mutual
       ∙ then_tags rows limit at (k ∷ around) t ts rest
 
 -- at the top a head is due at once
-top_due : (rows : List CodeRow) (limit at : ℕ) (bytes : List ℕ) → walk_from rows limit at [] bytes ≡ at_head (walk_from rows limit) rows limit at [] bytes
+pub top_due : (rows : List CodeRow) (limit at : ℕ) (bytes : List ℕ) → walk_from rows limit at [] bytes ≡ at_head (walk_from rows limit) rows limit at [] bytes
 unfolding at_place
 top_due rows limit at bytes = walk_on rows limit at [] bytes
 

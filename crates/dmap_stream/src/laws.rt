@@ -2,6 +2,7 @@
 //! definitions.
 
 ghost use Rattle.std.specs.Prelude.{◌≡◌, ◌<◌, ◌^◌, ◌++◌, ℕ, List, [], length, true};
+ghost use Rattle.std.specs.List.{AllByRecursion};
 ghost use Rattle.dmap_tags.specs.Tree.{Tree, trees_of};
 ghost use Rattle.dmap_tags.specs.Spelling.{spelling, spellings};
 ghost use Rattle.code_table.specs.declared.row.CodeRow.{CodeRow};
@@ -22,4 +23,11 @@ pub fn tags_are_read()
     ensures { (rows : List CodeRow) (limit : ℕ) (ts : List Tree) → limit < 2 ^ 32 → AreAccepted rows limit ts
         → walk_of rows limit (spellings (trees_of ts))
         ≡ record { events = events_of_all 0 (trees_of ts) []; ending = between } }
+{}
+
+/// Bytes that end between two top tags are accepted tags, one behind another.
+pub fn sound_bytes_are_tags()
+    ensures { (rows : List CodeRow) (limit : ℕ) (bytes : List ℕ) → AllByRecursion (λ b. b < 256) bytes
+        → (walk_of rows limit bytes).ending ≡ between
+        → (ts : List Tree) × (bytes ≡ spellings (trees_of ts)) × AreAccepted rows limit ts }
 {}
