@@ -9,8 +9,9 @@ use Rattle.dmap_tags.specs.Spelling.{payload}
 use Rattle.dmap_tags.specs.Typed.{value_of}
 use Rattle.dmap_stream.specs.declared.event.Event.{Event}
 use Rattle.dmap_stream.specs.declared.event.Event.TheVariants.{Close}
+use Rattle.dmap_stream.specs.Events.{events_of, events_of_all}
 use Rattle.dmap_show.specs.Shown.{indent, shown_code, word_of, space_of, text_of, shown_line, shown_tag, shown_tags}
-use Rattle.dmap_show.specs.Events.{shown_events, events_of, events_of_all}
+use Rattle.dmap_show.specs.Events.{shown_events}
 
 -- one level more is two spaces more
 indent_suc : (n : ℕ) → indent (suc n) ≡ indent n ++ 32 ∷ 32 ∷ []

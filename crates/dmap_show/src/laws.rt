@@ -3,10 +3,11 @@
 ghost use Rattle.std.specs.Prelude.{◌≡◌, ℕ, List, []};
 ghost use Rattle.code_table.specs.declared.row.CodeRow.{CodeRow};
 ghost use Rattle.dmap_tags.specs.Tree.{Tree, trees_of};
+ghost use Rattle.dmap_stream.specs.Events.{events_of_all};
+ghost use Rattle.dmap_show.specs.Events.{shown_events};
 ghost use Rattle.dmap_show.specs.Readable.{Shows};
 ghost use Rattle.dmap_show.specs.Shown.{shown_tags};
 ghost use Rattle.dmap_show.specs.TextLines.{StopsBehind};
-ghost use Rattle.dmap_show.specs.Events.{shown_events, events_of_all};
 
 /// The lines of the events of tags are the lines of the tags.
 pub fn events_show_their_tags()

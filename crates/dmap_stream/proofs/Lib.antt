@@ -11,3 +11,5 @@ pub mod WholeTags
 pub mod OneTag
 pub mod Members
 pub mod Faults
+pub mod TagsWalk
+pub mod Sound

@@ -84,7 +84,7 @@ none_closes here around h = none_end here around (empty (closes here around) h)
     empty [] h = refl
     empty (e ∷ es) h = absurd (cc)
 
-due_goes : (rows : List CodeRow) (limit here : ℕ) (around : List Container) (rest : List ℕ) → IsDue here around →
+pub due_goes : (rows : List CodeRow) (limit here : ℕ) (around : List Container) (rest : List ℕ) → IsDue here around →
     (walk_from rows limit here around rest).ending ≡ (at_head (walk_from rows limit) rows limit here around rest).ending
 due_goes rows limit here around rest due =
     place_ends rows limit here around rest
@@ -97,7 +97,7 @@ not_end here [] c inside going is = absurd (cc)
 not_end here (k ∷ around) c inside going is = absurd (let bad : true ≡ false = sym (ap (λ b. not (is_empty (if b then Close k.code k.at ∷ closes here around else []))) (eq-eqb k.end here (sym is))) ∙ going in cc)
 
 -- the next of the tags that are accepted up to the list's end is accepted
-next_room : (rows : List CodeRow) (limit here : ℕ) (around : List Container) (c : Four) (u : Tree) (us : Trees) → AreRest rows here around c (more u us) → IsRoomFor rows limit here around u
+pub next_room : (rows : List CodeRow) (limit here : ℕ) (around : List Container) (c : Four) (u : Tree) (us : Trees) → AreRest rows here around c (more u us) → IsRoomFor rows limit here around u
 next_room rows limit here [] c u us r = absurd (let bad : None ≡ Some c = r.list in cc)
 next_room rows limit here (k ∷ around) c u us r =
     let long : length (payload u ++ spellings us) ≡ length (payload u) + length (spellings us) = length-append (payload u) (spellings us) in
@@ -113,7 +113,7 @@ next_room rows limit here (k ∷ around) c u us r =
       room = cond-false _ _ _ (lt-leb 32 (length (k ∷ around)) (omega arith)) ∙ cond-false _ _ _ (le-ltb k.end (here + 8 + length (payload u)) (omega arith));
     }
 
-next_rest : (rows : List CodeRow) (here : ℕ) (around : List Container) (c : Four) (u : Tree) (us : Trees) → AreRest rows here around c (more u us) → AreRest rows (here + length (spelling u)) around c us
+pub next_rest : (rows : List CodeRow) (here : ℕ) (around : List Container) (c : Four) (u : Tree) (us : Trees) → AreRest rows here around c (more u us) → AreRest rows (here + length (spelling u)) around c us
 next_rest rows here around c u us r =
     let long : length (payload u ++ spellings us) ≡ length (payload u) + length (spellings us) = length-append (payload u) (spellings us) in
     let less = r.told in

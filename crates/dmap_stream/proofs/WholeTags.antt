@@ -46,7 +46,7 @@ opening bytes head rest c len front back within small code told = record {
   small = subst AreBytes (sym front) (bytes_take 8 bytes small);
 }
 
-same_kinds : (k : Kind) → table.is_list k ≡ is_list k
+pub same_kinds : (k : Kind) → table.is_list k ≡ is_list k
 same_kinds kind.U8 = refl
 same_kinds kind.I8 = refl
 same_kinds kind.U16 = refl
@@ -120,7 +120,7 @@ value_only rows parent kind (list c ts) told value fit proper =
     absurd (let bad : true ≡ false = sym (and_parts _ _ fit).0 ∙ ap table.is_list told ∙ same_kinds kind ∙ value in cc)
 
 -- the levels that are there already
-not_deep : (limit at : ℕ) (around : List Container) (c : Four) (len : ℕ) → None ≡ fault_at limit at around c len → length around < 32
+pub not_deep : (limit at : ℕ) (around : List Container) (c : Four) (len : ℕ) → None ≡ fault_at limit at around c len → length around < 32
 not_deep limit at around c len h = first (is_empty around && nat_lt limit len) h
   where
     second : (b : Bool) → nat_le 32 (length around) ≡ b → None ≡ (if b then Some (TooDeep at) else (if passes (at + 8 + len) around then Some (Overrun at c) else None)) → length around < 32
@@ -194,7 +194,7 @@ closed rows limit at c around bytes is =
     ∙ ap (ending_in rows limit at bytes) (cond-true (c.end == at) _ _ (eq-eqb c.end at (sym is)))
     ∙ sym (place_ends rows limit at around bytes)
 
-list_kind : (k : Kind) → is_list k ≡ true → k ≡ kind.List
+pub list_kind : (k : Kind) → is_list k ≡ true → k ≡ kind.List
 list_kind kind.U8 h = absurd (cc)
 list_kind kind.I8 h = absurd (cc)
 list_kind kind.U16 h = absurd (cc)
@@ -210,7 +210,7 @@ list_kind kind.List h = refl
 list_kind kind.Opaque h = absurd (cc)
 
 -- no value has a list's kind
-no_value : (l : Leaf) → leaf_fits kind.List l ≡ false
+pub no_value : (l : Leaf) → leaf_fits kind.List l ≡ false
 no_value (tree.U8 n) = refl
 no_value (tree.I8 z) = refl
 no_value (tree.U16 n) = refl
@@ -294,9 +294,14 @@ list_refused rows limit total at around bytes head rest c len parent kind e o i 
 top_ends : (rows : List CodeRow) (limit : ℕ) (bytes : List ℕ) → (walk_from rows limit 0 [] bytes).ending ≡ (at_head (walk_from rows limit) rows limit 0 [] bytes).ending
 top_ends rows limit bytes = place_ends rows limit 0 [] bytes
 
-within_limit : (limit len : ℕ) (c : Four) (b : Bool) → nat_lt limit len ≡ b → (if b then Some (TooLarge 0) else None) ≡ None → len ≤ limit
-within_limit limit len c true is h = absurd (cc)
-within_limit limit len c false is h = ltb-false limit len is
+within_limit : (limit at len : ℕ) (b : Bool) → nat_lt limit len ≡ b → (if b then Some (TooLarge at) else None) ≡ None → len ≤ limit
+within_limit limit at len true is h = absurd (cc)
+within_limit limit at len false is h = ltb-false limit len is
+
+-- a top tag that was read is accepted
+pub accepted : (rows : List CodeRow) (limit at : ℕ) (bytes : List ℕ) (t : Tree) (rest : List ℕ) → ReadsTag rows limit at [] bytes t rest → is_accepted rows limit t ≡ true
+accepted rows limit at bytes t rest r =
+    and_from _ _ r.fit (and_from _ _ (le-leb (levels t) 32 (let d = r.deep in omega arith)) (le-leb (length (payload t)) limit (within_limit limit at (length (payload t)) _ refl r.room)))
 
 -- the first top tag, and the number of its bytes
 pub record IsFound (rows : List CodeRow) (limit : ℕ) (bytes : List ℕ) (t : Tree) (n : ℕ) : Type 0 where
@@ -313,11 +318,11 @@ found rows limit bytes t rest r = record {
   within = omega arith;
   spells = ap (λ n. take n bytes) (count bytes t rest r.spelled) ∙ ap (take (length (spelling t))) r.spelled ∙ take-append_seam (spelling t) rest;
   proper = r.proper;
-  fine = and_from _ _ r.fit (and_from _ _ (le-leb (levels t) 32 (let d = r.deep in omega arith)) (le-leb (length (payload t)) limit (within_limit limit (length (payload t)) (tree_code t) _ refl r.room)));
+  fine = accepted rows limit 0 bytes t rest r;
 }
 
-pub room_at_top : (rows : List CodeRow) (limit : ℕ) (t : Tree) → limit < 2 ^ 32 → is_accepted rows limit t ≡ true → IsProperTag t → IsRoomFor rows limit 0 [] t
-room_at_top rows limit t small h proper =
+pub room_at_top : (rows : List CodeRow) (limit at : ℕ) (t : Tree) → limit < 2 ^ 32 → is_accepted rows limit t ≡ true → IsProperTag t → IsRoomFor rows limit at [] t
+room_at_top rows limit at t small h proper =
     let parts = and_parts (fits rows None t) (nat_le (levels t) 32 && nat_le (length (payload t)) limit) h in
     let rest = and_parts (nat_le (levels t) 32) (nat_le (length (payload t)) limit) parts.1 in
     let deep : levels t ≤ 32 = leb-true (levels t) 32 rest.0 in

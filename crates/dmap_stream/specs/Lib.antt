@@ -3,3 +3,4 @@ pub mod Reading
 pub mod Reader
 pub mod WholeTag
 pub mod Faults
+pub mod Events

@@ -1,6 +1,7 @@
 -- Reading one whole tag off the front of bytes: which tags are accepted, and what a refusal tells.
 use Rattle.std.specs.Prelude.{◌≡◌, ◌≢◌, FitsSigned, ℕ, suc, ◌+◌, ◌<◌, ◌≤◌, ◌^◌, max, List, [], ◌∷◌, ◌++◌, length, Bool, true, ◌&&◌, nat_le, Some, None}
 use Rattle.std.specs.Int.{w8, w16, w32, w64}
+use Rattle.std.specs.List.{AllByRecursion}
 use Rattle.std.specs.Str.{is_utf8}
 use Rattle.dmap_tags.specs.Codes.{Four}
 use Rattle.dmap_tags.specs.Tree.{Leaf, U8, I8, U16, I16, U32, I32, U64, I64, Text, Date, Version, Opaque, Tree, leaf, list, Trees, none, more, tree_code}
@@ -49,6 +50,10 @@ abbrev mutual
   pub AreProperTags : Trees → Type 0
   AreProperTags none = Unit {0}
   AreProperTags (more t ts) = IsProperTag t × AreProperTags ts
+
+-- top tags that are accepted, each with values as a program has them
+abbrev pub AreAccepted : List CodeRow → ℕ → List Tree → Type 0
+AreAccepted rows limit ts = AllByRecursion (λ t. (is_accepted rows limit t ≡ true) × IsProperTag t) ts
 
 -- the error of bytes that are that many and end so, where the first tag of them is not whole
 abbrev pub refusal : ℕ → Ending → StreamError

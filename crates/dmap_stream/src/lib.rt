@@ -8,7 +8,7 @@ mod buffer;
 mod containers;
 mod event;
 mod head;
-pub mod one_tag;
+pub mod laws;
 mod position;
 mod reader;
 mod refusal;

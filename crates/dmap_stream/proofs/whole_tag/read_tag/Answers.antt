@@ -15,13 +15,13 @@ pub returns-in-Ok-clause-only : goal.returns-in-Ok-clause-only
 returns-in-Ok-clause-only c =
     λ t rest fine proper said.
     let r : ReadsTag c.args.table.now c.args.limits.top 0 [] c.args.bytes.now c.in-Ok.tag c.in-Ok.rest.now = subst (λ a. ReadsTag c.args.table.now c.args.limits.top 0 a c.args.bytes.now c.in-Ok.tag c.in-Ok.rest.now) c.new-around.ensures c.in-Ok.ensures.tells in
-    let same = r.only t rest (room_at_top c.args.table.now c.args.limits.top t (search rules) fine proper) said in
+    let same = r.only t rest (room_at_top c.args.table.now c.args.limits.top 0 t (search rules) fine proper) said in
     (sym same.0, ap (λ l. length c.args.bytes.now - length l) (sym same.1) ∙ count c.args.bytes.now t rest said)
 
 pub returns-clause-only : goal.returns-clause-only
 returns-clause-only c =
     let r : RefusesTag c.args.table.now c.args.limits.top (length c.args.bytes.now) 0 [] c.args.bytes.now c.in-Err.error = subst (λ a. RefusesTag c.args.table.now c.args.limits.top (length c.args.bytes.now) 0 a c.args.bytes.now c.in-Err.error) c.new-around.ensures c.in-Err.ensures.tells in
-    λ t rest fine proper said. r.never t rest (room_at_top c.args.table.now c.args.limits.top t (search rules) fine proper) said
+    λ t rest fine proper said. r.never t rest (room_at_top c.args.table.now c.args.limits.top 0 t (search rules) fine proper) said
 
 pub returns-clause-refused : goal.returns-clause-refused
 returns-clause-refused c =
