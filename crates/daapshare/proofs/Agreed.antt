@@ -1,5 +1,5 @@
 -- Words and input that are told decide how a command ends: they say one status, and no fault where the command is done.
-use Rattle.std.proofs.Common.{◌≡◌, ◌≢◌, ◌<◌, ℕ, List, Option, Some, None, IfSome, true, false, length, ◌++◌, take, inl, inr, refl, sym, subst, ap, ◌∙◌, arith}
+use Rattle.std.proofs.Common.{◌≡◌, ◌≢◌, ◌<◌, ℕ, List, [], Option, Some, None, Ok, Err, IfSome, true, false, length, ◌++◌, take, inl, inr, refl, sym, subst, ap, ◌∙◌, arith}
 use Rattle.std.specs.Io.KnownBytes.{Consumes, IsAtEnd}
 use Rattle.std.proofs.lemmas.List.{append-nil, take_all}
 use Rattle.daapshare_words.specs.declared.words.Command.{Command}
@@ -8,6 +8,13 @@ use Rattle.item_model.specs.declared.changes.Entry.{Entry}
 use Rattle.item_model.specs.declared.query.Query.{Query}
 use Rattle.item_model.specs.declared.refusal.QueryError.{QueryError}
 use Rattle.item_model.specs.declared.refusal.QueryError.TheVariants as query_error
+use Rattle.dmap_tags.specs.Tree.{Tree}
+use Rattle.code_table.specs.declared.reply.CodeError.{CodeError}
+use Rattle.code_table.specs.declared.row.CodeRow.{CodeRow}
+use Rattle.code_table.specs.Reply.{table_of}
+use Rattle.code_table.specs.Standard.{standard_rows}
+use Rattle.dmap_show.proofs.Once.{shown_once}
+use Rattle.dmap_stream.proofs.OneTag.{one_tag}
 use Rattle.dmap_stream.specs.Walk.{between, inside, broken}
 use Rattle.dmap_stream.specs.declared.refusal.StreamError.{StreamError}
 use Rattle.records_import.specs.Table.{table_of}
@@ -21,6 +28,9 @@ use Rattle.daapshare.specs.Seen.{InputSeen}
 use Rattle.daapshare.specs.Looks.{AsksQuery, IsAsked, HasRefusal, IsQueryRefused, IsMetaRefused, meta_asked}
 use Rattle.daapshare.specs.Lists.{ReadsAs, IsRefused, IsListed, IsListable, ListSays}
 use Rattle.daapshare.specs.Checks.{walked, IsSound, IsTooLong, HasTagFault, CheckSays}
+use Rattle.daapshare.specs.Limits.{text_limit, tag_limit}
+use Rattle.daapshare.specs.Backs.{ShowsBack, StopsOn, IsTextRefused, BackSays}
+use Rattle.daapshare.specs.Learns.{IsReply, TellsNone, IsReplyRefused, LearnSays}
 use Rattle.daapshare.specs.Commands.{Says, Gives, IsDone, IsUsage}
 use Rattle.daapshare.specs.declared.check.TheConstants.{TAGS_LIMIT}
 
@@ -45,6 +55,8 @@ long_only query meta input (fault.Query error) asked long says = absurd (query_i
 long_only query meta input fault.Meta asked long says = absurd (meta_is_read query meta asked says)
 long_only query meta input (fault.Records error) asked long says = let within = says.1.within in absurd (omega arith)
 long_only query meta input (fault.Tags error) asked long says = absurd says
+long_only query meta input (fault.Text line) asked long says = absurd says
+long_only query meta input (fault.Codes error) asked long says = absurd says
 long_only query meta input fault.Read asked long says = absurd says
 long_only query meta input fault.Write asked long says = absurd says
 long_only query meta input fault.InputLimit asked long says = refl
@@ -57,6 +69,8 @@ refused_status query meta input f (fault.Query error) s f_says g_says = s
 refused_status query meta input f fault.Meta s f_says g_says = s
 refused_status query meta input f (fault.Records error) s f_says g_says = s
 refused_status query meta input f (fault.Tags error) s f_says g_says = absurd g_says
+refused_status query meta input f (fault.Text line) s f_says g_says = absurd g_says
+refused_status query meta input f (fault.Codes error) s f_says g_says = absurd g_says
 refused_status query meta input f fault.Read s f_says g_says = absurd g_says
 refused_status query meta input f fault.Write s f_says g_says = absurd g_says
 refused_status query meta input f fault.InputLimit s f_says g_says = long_only query meta input f g_says.0 g_says.1 f_says
@@ -66,6 +80,8 @@ list_status : (query meta : Option (List ℕ)) (input : List ℕ) (f g : Fault) 
     → fault_status f ≡ fault_status g
 list_status query meta input fault.Words g f_says g_says = absurd f_says
 list_status query meta input (fault.Tags error) g f_says g_says = absurd f_says
+list_status query meta input (fault.Text line) g f_says g_says = absurd f_says
+list_status query meta input (fault.Codes error) g f_says g_says = absurd f_says
 list_status query meta input fault.Read g f_says g_says = absurd f_says
 list_status query meta input fault.Write g f_says g_says = absurd f_says
 list_status query meta input fault.Memory g f_says g_says = absurd f_says
@@ -93,6 +109,8 @@ check_status input (fault.Tags error) g f_says g_says = tags_status input error 
     tags_status input error fault.Meta f_says g_says = absurd g_says
     tags_status input error (fault.Records e) f_says g_says = absurd g_says
     tags_status input error (fault.Tags e) f_says g_says = refl
+    tags_status input error (fault.Text line) f_says g_says = absurd g_says
+    tags_status input error (fault.Codes e) f_says g_says = absurd g_says
     tags_status input error fault.Read f_says g_says = absurd g_says
     tags_status input error fault.Write f_says g_says = absurd g_says
     tags_status input error fault.InputLimit f_says g_says = absurd (long_or_faulty input error f_says g_says)
@@ -105,6 +123,8 @@ check_status input fault.InputLimit g f_says g_says = long_status input g f_says
     long_status input fault.Meta f_says g_says = absurd g_says
     long_status input (fault.Records e) f_says g_says = absurd g_says
     long_status input (fault.Tags e) f_says g_says = absurd (long_or_faulty input e g_says f_says)
+    long_status input (fault.Text line) f_says g_says = absurd g_says
+    long_status input (fault.Codes error) f_says g_says = absurd g_says
     long_status input fault.Read f_says g_says = absurd g_says
     long_status input fault.Write f_says g_says = absurd g_says
     long_status input fault.InputLimit f_says g_says = refl
@@ -113,6 +133,8 @@ check_status input fault.Words g f_says g_says = absurd f_says
 check_status input (fault.Query error) g f_says g_says = absurd f_says
 check_status input fault.Meta g f_says g_says = absurd f_says
 check_status input (fault.Records error) g f_says g_says = absurd f_says
+check_status input (fault.Text line) g f_says g_says = absurd f_says
+check_status input (fault.Codes error) g f_says g_says = absurd f_says
 check_status input fault.Read g f_says g_says = absurd f_says
 check_status input fault.Write g f_says g_says = absurd f_says
 check_status input fault.Memory g f_says g_says = absurd f_says
@@ -127,19 +149,118 @@ sound_or_faulty input (fault.Tags error) sound says = elim says.shown [
   | inl shown ↦ let ending : between ≡ broken error = sym sound.1 ∙ ap (λ bytes. (walked bytes).ending) (sym (take_all TAGS_LIMIT input sound.0)) ∙ shown in absurd (cc)
   | inr cut ↦ let ending : between ≡ inside = sym sound.1 ∙ cut.ending in absurd (cc)
 ]
+sound_or_faulty input (fault.Text line) sound says = says
+sound_or_faulty input (fault.Codes error) sound says = says
 sound_or_faulty input fault.Read sound says = says
 sound_or_faulty input fault.Write sound says = says
 sound_or_faulty input fault.InputLimit sound says = let within = sound.0 in let long = says.long in absurd (omega arith)
 sound_or_faulty input fault.Memory sound says = says
+
+-- a text within the limit is not too long
+back_status : (input : List ℕ) (f g : Fault) → BackSays (Some input) f → BackSays (Some input) g → fault_status f ≡ fault_status g
+back_status input (fault.Text line) g f_says g_says = text_status input line g f_says g_says
+  where
+    text_status : (input : List ℕ) (line : ℕ) (g : Fault) → IsTextRefused line input → BackSays (Some input) g → 3 ≡ fault_status g
+    text_status input line fault.Words f_says g_says = absurd g_says
+    text_status input line (fault.Query e) f_says g_says = absurd g_says
+    text_status input line fault.Meta f_says g_says = absurd g_says
+    text_status input line (fault.Records e) f_says g_says = absurd g_says
+    text_status input line (fault.Tags e) f_says g_says = absurd g_says
+    text_status input line (fault.Text other) f_says g_says = refl
+    text_status input line (fault.Codes e) f_says g_says = absurd g_says
+    text_status input line fault.Read f_says g_says = absurd g_says
+    text_status input line fault.Write f_says g_says = absurd g_says
+    text_status input line fault.InputLimit f_says g_says = let within = f_says.within in absurd (omega arith)
+    text_status input line fault.Memory f_says g_says = absurd g_says
+back_status input fault.InputLimit g f_says g_says = limit_status input g f_says g_says
+  where
+    limit_status : (input : List ℕ) (g : Fault) → text_limit < length input → BackSays (Some input) g → 8 ≡ fault_status g
+    limit_status input fault.Words f_says g_says = absurd g_says
+    limit_status input (fault.Query e) f_says g_says = absurd g_says
+    limit_status input fault.Meta f_says g_says = absurd g_says
+    limit_status input (fault.Records e) f_says g_says = absurd g_says
+    limit_status input (fault.Tags e) f_says g_says = absurd g_says
+    limit_status input (fault.Text line) f_says g_says = let within = g_says.within in absurd (omega arith)
+    limit_status input (fault.Codes e) f_says g_says = absurd g_says
+    limit_status input fault.Read f_says g_says = absurd g_says
+    limit_status input fault.Write f_says g_says = absurd g_says
+    limit_status input fault.InputLimit f_says g_says = refl
+    limit_status input fault.Memory f_says g_says = absurd g_says
+back_status input fault.Words g f_says g_says = absurd f_says
+back_status input (fault.Query error) g f_says g_says = absurd f_says
+back_status input fault.Meta g f_says g_says = absurd f_says
+back_status input (fault.Records error) g f_says g_says = absurd f_says
+back_status input (fault.Tags error) g f_says g_says = absurd f_says
+back_status input (fault.Codes error) g f_says g_says = absurd f_says
+back_status input fault.Read g f_says g_says = absurd f_says
+back_status input fault.Write g f_says g_says = absurd f_says
+back_status input fault.Memory g f_says g_says = absurd f_says
+
+-- each fault of a reply has the status of what is refused
+learn_status : (input : List ℕ) (f : Fault) → LearnSays (Some input) f → fault_status f ≡ 3
+learn_status input fault.Words says = absurd says
+learn_status input (fault.Query error) says = absurd says
+learn_status input fault.Meta says = absurd says
+learn_status input (fault.Records error) says = absurd says
+learn_status input (fault.Tags error) says = refl
+learn_status input (fault.Text line) says = absurd says
+learn_status input (fault.Codes error) says = refl
+learn_status input fault.Read says = absurd says
+learn_status input fault.Write says = absurd says
+learn_status input fault.InputLimit says = absurd says
+learn_status input fault.Memory says = absurd says
+
+-- a text that shows tags stops on no line
+stops_not : (input : List ℕ) (tags : List Tree) (line : ℕ) → ShowsBack tags input → StopsOn line input → ⊥
+stops_not input tags line back (inl bad) = let same : true ≡ false = sym back.text ∙ bad.0 in absurd (cc)
+stops_not input tags line back (inr bad) = shown_once standard_rows input bad.1.0 tags bad.1.1.1 back.shows
+
+back_or_refused : (input : List ℕ) (tags : List Tree) (f : Fault) → ShowsBack tags input → BackSays (Some input) f → ⊥
+back_or_refused input tags fault.Words back says = says
+back_or_refused input tags (fault.Query error) back says = says
+back_or_refused input tags fault.Meta back says = says
+back_or_refused input tags (fault.Records error) back says = says
+back_or_refused input tags (fault.Tags error) back says = says
+back_or_refused input tags (fault.Text line) back says = stops_not input tags line back says.stops
+back_or_refused input tags (fault.Codes error) back says = says
+back_or_refused input tags fault.Read back says = says
+back_or_refused input tags fault.Write back says = says
+back_or_refused input tags fault.InputLimit back says = let within = back.within in absurd (omega arith)
+back_or_refused input tags fault.Memory back says = says
+
+-- a reply is refused for nothing: its one tag tells a table, and is the whole input
+tells_not : (rows : List CodeRow) (error : CodeError) (tag : Tree) (rest : List ℕ) → table_of tag ≡ Ok rows → rest ≡ [] → TellsNone error tag rest → ⊥
+tells_not rows error tag rest told none (inl bad) = let same : Ok rows ≡ Err error = sym told ∙ bad in absurd (cc)
+tells_not rows error tag rest told none (inr bad) = bad.1.0 none
+
+reply_or_refused : (input : List ℕ) (rows : List CodeRow) (error : CodeError) → IsReply rows input → IsReplyRefused error input → ⊥
+reply_or_refused input rows error reply refused =
+    let one = one_tag standard_rows tag_limit reply.tag refused.tag [] refused.rest (omega arith) reply.whole.accepted reply.whole.proper
+    refused.whole.accepted refused.whole.proper (sym reply.whole.spelled ∙ refused.whole.spelled) in
+    tells_not rows error refused.tag refused.rest (ap table_of (sym one.0) ∙ reply.told) (sym one.1) refused.refused
+
+learned_or_refused : (input : List ℕ) (rows : List CodeRow) (f : Fault) → IsReply rows input → LearnSays (Some input) f → ⊥
+learned_or_refused input rows fault.Words reply says = says
+learned_or_refused input rows (fault.Query error) reply says = says
+learned_or_refused input rows fault.Meta reply says = says
+learned_or_refused input rows (fault.Records error) reply says = says
+learned_or_refused input rows (fault.Tags error) reply says = says.none reply.tag [] reply.whole
+learned_or_refused input rows (fault.Text line) reply says = says
+learned_or_refused input rows (fault.Codes error) reply says = reply_or_refused input rows error reply says
+learned_or_refused input rows fault.Read reply says = says
+learned_or_refused input rows fault.Write reply says = says
+learned_or_refused input rows fault.InputLimit reply says = says
+learned_or_refused input rows fault.Memory reply says = says
 
 -- two faults that are said have one status
 pub one_status : (asked : Option Command) (input : List ℕ) (f g : Fault) → Says asked (Some input) f → Says asked (Some input) g → fault_status f ≡ fault_status g
 one_status None input f g f_says g_says = usage_status f g f_says g_says
 one_status (Some (command.List query meta)) input f g f_says g_says = list_status query meta input f g f_says g_says
 one_status (Some (command.Show false)) input f g f_says g_says = check_status input f g f_says g_says
-one_status (Some (command.Show true)) input f g f_says g_says = usage_status f g f_says g_says
+one_status (Some (command.Show true)) input f g f_says g_says = back_status input f g f_says g_says
 one_status (Some command.Check) input f g f_says g_says = check_status input f g f_says g_says
-one_status (Some (command.Codes learn)) input f g f_says g_says = usage_status f g f_says g_says
+one_status (Some (command.Codes false)) input f g f_says g_says = absurd f_says
+one_status (Some (command.Codes true)) input f g f_says g_says = learn_status input f f_says ∙ sym (learn_status input g g_says)
 
 listed_or_refused : (query meta : Option (List ℕ)) (input : List ℕ) (f : Fault) → IsListable query meta input → ListSays query meta (Some input) f → ⊥
 listed_or_refused query meta input fault.Words listable says = says
@@ -148,6 +269,8 @@ listed_or_refused query meta input fault.Meta listable says = meta_is_read query
 listed_or_refused query meta input (fault.Records error) listable says =
     batch_once (table_of input) listable.edits error says.1.cause listable.read.read says.1.refused
 listed_or_refused query meta input (fault.Tags error) listable says = says
+listed_or_refused query meta input (fault.Text line) listable says = says
+listed_or_refused query meta input (fault.Codes error) listable says = says
 listed_or_refused query meta input fault.Read listable says = says
 listed_or_refused query meta input fault.Write listable says = says
 listed_or_refused query meta input fault.InputLimit listable says = let within = listable.read.within in let long = says.1 in absurd (omega arith)
@@ -158,9 +281,10 @@ pub is_refused_or_given : (asked : Option Command) (input : List ℕ) (f : Fault
 is_refused_or_given None input f says gives = gives
 is_refused_or_given (Some (command.List query meta)) input f says gives = listed_or_refused query meta input f gives says
 is_refused_or_given (Some (command.Show false)) input f says gives = sound_or_faulty input f gives says
-is_refused_or_given (Some (command.Show true)) input f says gives = gives
+is_refused_or_given (Some (command.Show true)) input f says gives = back_or_refused input gives.0 f gives.1 says
 is_refused_or_given (Some command.Check) input f says gives = sound_or_faulty input f gives says
-is_refused_or_given (Some (command.Codes learn)) input f says gives = gives
+is_refused_or_given (Some (command.Codes false)) input f says gives = says
+is_refused_or_given (Some (command.Codes true)) input f says gives = learned_or_refused input gives.0 f gives.1 says
 
 -- what was read up to the end is the whole input
 all_read : (input bytes : List ℕ) (after : Option (List ℕ)) → Consumes (Some input) after bytes → IsAtEnd after → input ≡ bytes
@@ -180,6 +304,9 @@ given (Some (command.List query meta)) input before after history output told do
   read = subst (λ left. IfSome left (ReadsAs done.edits)) told done.read;
 }
 given (Some (command.Show false)) input before after history output told done = subst IsSound (sym (read_whole input before.left after.left done.bytes told done.read done.end)) done.sound
-given (Some (command.Show true)) input before after history output told done = done
+given (Some (command.Show true)) input before after history output told done =
+    (done.tags, subst (ShowsBack done.tags) (sym (read_whole input before.left after.left done.bytes told done.read done.end)) done.back)
 given (Some command.Check) input before after history output told done = subst IsSound (sym (read_whole input before.left after.left done.bytes told done.read done.end)) done.sound
-given (Some (command.Codes learn)) input before after history output told done = done
+given (Some (command.Codes false)) input before after history output told done = tt
+given (Some (command.Codes true)) input before after history output told done =
+    (done.rows, subst (IsReply done.rows) (sym (read_whole input before.left after.left done.bytes told done.read done.end)) done.reply)

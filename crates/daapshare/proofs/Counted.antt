@@ -171,6 +171,8 @@ stopped_cause before after bytes Meta read faultless stop = absurd stop
 stopped_cause before after bytes (Records error) read faultless stop = absurd stop
 stopped_cause before after bytes (Tags error) read faultless stop =
     record { said = tags_cause before.left after.left bytes error read stop; faultless = faultless }
+stopped_cause before after bytes (Text line) read faultless stop = absurd stop
+stopped_cause before after bytes (Codes error) read faultless stop = absurd stop
 stopped_cause before after bytes Read read faultless stop = absurd stop
 stopped_cause before after bytes Write read faultless stop = absurd stop
 stopped_cause before after bytes InputLimit read faultless stop =

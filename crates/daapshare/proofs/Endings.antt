@@ -10,8 +10,8 @@ use Rattle.daapshare.specs.declared.answer.Answer.{Answer}
 use Rattle.daapshare.specs.declared.fault.Fault.{Fault}
 use Rattle.daapshare.specs.declared.fault.Fault.TheVariants.{Words, Query, Meta, Records, Tags, Text, Codes, Read, Write, InputLimit, Memory}
 use Rattle.daapshare.specs.Faults.{fault_line, fault_status, words_fault}
-use Rattle.daapshare.specs.Seen.{InputSeen, OutputSeen}
-use Rattle.daapshare.specs.Commands.{Says, Gives, IsDone, IsBegun, IsCause, IsFront}
+use Rattle.daapshare.specs.Seen.{InputSeen, OutputSeen, IsUnread}
+use Rattle.daapshare.specs.Commands.{Says, Gives, MayRead, IsDone, IsBegun, IsCause, IsFront}
 use Rattle.daapshare.specs.Runs.{Told, Ending, Done, OutputCut, Refused, LineCut, ending_status, Happens, Ends, Decides, IsDecided, IsWritten, Tells, TellsFault}
 use Rattle.daapshare.specs.Answers.{Answers}
 use Rattle.daapshare.specs.declared.show.Stop.TheVariants.{Input, Output}
@@ -30,6 +30,40 @@ before_memory (Some (variant.Show true)) before after fault front h = h
 before_memory (Some variant.Check) before after fault front h = h
 before_memory (Some (variant.Codes learn)) before after fault front h = h
 
+-- where a fault ended a command, want of memory might have
+memory_cause : (command : Option Command) (before after : InputSeen) (fault : Fault) → IsCause command before after fault
+    → IsCause command before after Memory
+memory_cause None before after Words cause = cause.1
+memory_cause None before after (Query error) cause = cause.1
+memory_cause None before after Meta cause = cause.1
+memory_cause None before after (Records error) cause = let is : Records error ≡ Words = cause.said in absurd (cc)
+memory_cause None before after (Tags error) cause = let is : Tags error ≡ Words = cause.said in absurd (cc)
+memory_cause None before after (Text line) cause = let is : Text line ≡ Words = cause.said in absurd (cc)
+memory_cause None before after (Codes error) cause = let is : Codes error ≡ Words = cause.said in absurd (cc)
+memory_cause None before after Read cause = absurd cause.0
+memory_cause None before after Write cause = absurd cause
+memory_cause None before after InputLimit cause = let is : InputLimit ≡ Words = cause.said in absurd (cc)
+memory_cause None before after Memory cause = cause
+memory_cause (Some (variant.List query meta)) before after fault cause = tt
+memory_cause (Some (variant.Show false)) before after fault cause = tt
+memory_cause (Some (variant.Show true)) before after fault cause = tt
+memory_cause (Some variant.Check) before after fault cause = tt
+memory_cause (Some (variant.Codes true)) before after fault cause = tt
+memory_cause (Some (variant.Codes false)) before after fault cause = untouched before after fault cause
+  where
+    untouched : (before after : InputSeen) (fault : Fault) → IsCause (Some (variant.Codes false)) before after fault → IsUnread before after
+    untouched before after Words cause = absurd cause.0
+    untouched before after (Query error) cause = absurd cause.0
+    untouched before after Meta cause = absurd cause.0
+    untouched before after (Records error) cause = absurd cause.said
+    untouched before after (Tags error) cause = absurd cause.said
+    untouched before after (Text line) cause = absurd cause.said
+    untouched before after (Codes error) cause = absurd cause.said
+    untouched before after Read cause = absurd cause.0
+    untouched before after Write cause = absurd cause
+    untouched before after InputLimit cause = absurd cause.said
+    untouched before after Memory cause = cause
+
 -- a fault's line ends a run, behind what was written before
 pub ends_behind : (command : Option Command) (told : Told) (mid : OutputSeen) (status : ℕ) (history : Option (List Entry)) (fault : Fault) (front : List ℕ)
     → IsCause command told.input_before told.input_after fault → history ≡ None → IsFront command told.input_before told.input_after fault front
@@ -41,12 +75,12 @@ ends_behind command told mid status history fault front cause h before w (inl (i
 ends_behind command told mid status history fault front cause h before w (inr (inl t)) = (
   Refused front Memory,
   t.0,
-  (tt, h, before_memory command told.input_before told.input_after fault front before, written_more told.output_before mid told.output_after front (fault_line Memory) w t.1),
+  (memory_cause command told.input_before told.input_after fault cause, h, before_memory command told.input_before told.input_after fault front before, written_more told.output_before mid told.output_after front (fault_line Memory) w t.1),
 )
 ends_behind command told mid status history fault front cause h before w (inr (inr t)) = (
   LineCut front Memory,
   t.0,
-  (tt, h, before_memory command told.input_before told.input_after fault front before, cut_more told.output_before mid told.output_after front (fault_line Memory) w t.1),
+  (memory_cause command told.input_before told.input_after fault cause, h, before_memory command told.input_before told.input_after fault front before, cut_more told.output_before mid told.output_after front (fault_line Memory) w t.1),
 )
 
 pub ends_refused : (command : Option Command) (told : Told) (status : ℕ) (history : Option (List Entry)) (fault : Fault)
@@ -92,8 +126,16 @@ pub unread : (command : Option Command) (input : InputSeen) (error : WordsError)
     → IsCause command input input (words_fault error) × IsFront command input input (words_fault error) []
 unread command input words.Usage none =
     subst (λ c. IsCause c input input Words × IsFront c input input Words []) (sym (none refl)) ((refl, record { left = refl; faults = refl }), refl)
-unread command input words.Memory none = (tt, untouched command)
+unread command input words.Memory none = (left_off command, untouched command)
   where
+    left_off : (command : Option Command) → MayRead command input input
+    left_off None = record { left = refl; faults = refl }
+    left_off (Some (variant.List query meta)) = tt
+    left_off (Some (variant.Show back)) = tt
+    left_off (Some variant.Check) = tt
+    left_off (Some (variant.Codes false)) = record { left = refl; faults = refl }
+    left_off (Some (variant.Codes true)) = tt
+
     untouched : (command : Option Command) → IsFront command input input Memory []
     untouched None = refl
     untouched (Some (variant.List query meta)) = refl
@@ -110,6 +152,8 @@ said command input before after (Query error) told steady cause = inr (subst (λ
 said command input before after Meta told steady cause = inr (subst (λ left. Says command left Meta) told cause.0)
 said command input before after (Records error) told steady cause = inr (subst (λ left. Says command left (Records error)) told cause.said)
 said command input before after (Tags error) told steady cause = inr (subst (λ left. Says command left (Tags error)) told cause.said)
+said command input before after (Text line) told steady cause = inr (subst (λ left. Says command left (Text line)) told cause.said)
+said command input before after (Codes error) told steady cause = inr (subst (λ left. Says command left (Codes error)) told cause.said)
 said command input before after Read told steady cause = absurd (steady cause.1)
 said command input before after Write told steady cause = absurd cause
 said command input before after InputLimit told steady cause = inr (subst (λ left. Says command left InputLimit) told cause.said)

@@ -206,6 +206,8 @@ begins_stopped bytes lines (Query error) stop = absurd stop
 begins_stopped bytes lines Meta stop = absurd stop
 begins_stopped bytes lines (Records error) stop = absurd stop
 begins_stopped bytes lines (Tags error) stop = begins_all bytes lines ((stop.1 []).1 ∙ ap shown_text (append-nil bytes))
+begins_stopped bytes lines (Text line) stop = absurd stop
+begins_stopped bytes lines (Codes error) stop = absurd stop
 begins_stopped bytes lines Read stop = absurd stop
 begins_stopped bytes lines Write stop = absurd stop
 begins_stopped bytes lines InputLimit stop = begins_all bytes lines stop.1
@@ -217,6 +219,8 @@ stops_at bytes lines (Query error) stop = stop
 stops_at bytes lines Meta stop = stop
 stops_at bytes lines (Records error) stop = stop
 stops_at bytes lines (Tags error) stop = (stop.0, λ rest. (stop.1 rest).0)
+stops_at bytes lines (Text line) stop = stop
+stops_at bytes lines (Codes error) stop = stop
 stops_at bytes lines Read stop = stop
 stops_at bytes lines Write stop = stop
 stops_at bytes lines InputLimit stop = stop.0
@@ -229,6 +233,8 @@ as_check before after (Query error) cause = cause
 as_check before after Meta cause = cause
 as_check before after (Records error) cause = record { said = cause.said; faultless = cause.faultless }
 as_check before after (Tags error) cause = record { said = cause.said; faultless = cause.faultless }
+as_check before after (Text line) cause = record { said = cause.said; faultless = cause.faultless }
+as_check before after (Codes error) cause = record { said = cause.said; faultless = cause.faultless }
 as_check before after Read cause = cause
 as_check before after Write cause = cause
 as_check before after InputLimit cause = record { said = cause.said; faultless = cause.faultless }
@@ -255,6 +261,8 @@ shows_all before after bytes lines (Query error) read stop = tt
 shows_all before after bytes lines Meta read stop = tt
 shows_all before after bytes lines (Records error) read stop = tt
 shows_all before after bytes lines (Tags error) read stop = all_tags before.left after.left bytes lines error read stop
+shows_all before after bytes lines (Text line) read stop = tt
+shows_all before after bytes lines (Codes error) read stop = tt
 shows_all before after bytes lines Read read stop = absurd stop
 shows_all before after bytes lines Write read stop = tt
 shows_all before after bytes lines InputLimit read stop = all_long before.left after.left bytes lines read stop

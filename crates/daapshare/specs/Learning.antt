@@ -1,5 +1,5 @@
 -- What was read of a reply of content codes before it is whole.
-use Rattle.std.specs.Prelude.{◌≡◌, ◌≢◌, ◌+◌, ◌++◌, ◌&&◌, nat_le, ℕ, List, length, Bool, false}
+use Rattle.std.specs.Prelude.{◌≡◌, ◌≢◌, ◌++◌, ◌&&◌, nat_le, ℕ, List, length, take, drop, Bool, false}
 use Rattle.dmap_stream.specs.Walk.{told_length, broken}
 use Rattle.dmap_stream.specs.declared.refusal.StreamError.TheVariants as stream
 use Rattle.daapshare.specs.declared.fault.Fault.{Fault}
@@ -11,7 +11,7 @@ use Rattle.daapshare.specs.Learns.{HasNoTag, HasNoReply, IsReplyRefused}
 
 -- a whole head, and as many bytes behind it as it tells
 abbrev pub is_whole : List ℕ → Bool
-is_whole bytes = nat_le 8 (length bytes) && nat_le (told_length bytes + 8) (length bytes)
+is_whole bytes = nat_le 8 (length bytes) && nat_le (told_length (take 8 bytes)) (length (drop 8 bytes))
 
 -- the learner has these bytes, and its reader was fed them; there are fewer than their head tells
 pub record IsLearning (fed : List ℕ) (learner : Learner) : Type 0 where

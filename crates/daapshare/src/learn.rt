@@ -59,8 +59,9 @@ fn is_whole(bytes: &[u8]) -> bool
     if bytes.len() < 8 {
         return false;
     }
-    let told = u32::from_be_bytes([bytes[4], bytes[5], bytes[6], bytes[7]]);
-    told as usize <= bytes.len() - 8
+    let (head, payload) = bytes.split_at(8);
+    let told = u32::from_be_bytes([head[4], head[5], head[6], head[7]]);
+    told as usize <= payload.len()
 }
 
 /// The table that the first tag of the bytes tells, where the tag is whole and nothing stands behind it.
