@@ -13,5 +13,5 @@ mod spelled;
 mod tests;
 mod values;
 
-pub use lines::{show, show_event};
+pub use lines::{show, show_code, show_event};
 pub use reading::{ShowError, read_show};

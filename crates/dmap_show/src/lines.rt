@@ -1,4 +1,4 @@
-//! The lines of tags and of events.
+//! The lines of tags and of events, and the codes in them.
 
 ghost use Rattle.std.specs.Prelude.{◌≡◌, ◌++◌, IfOk, OnOk, OnErr, true};
 ghost use Rattle.std.specs.Str.{is_utf8};
@@ -6,10 +6,10 @@ ghost use Rattle.dmap_tags.specs.Begins.{Begins};
 ghost use Rattle.dmap_tags.specs.Seen.{tree_with};
 ghost use Rattle.dmap_tags.specs.Tree.{trees_of};
 ghost use Rattle.dmap_show.specs.Readable.{IsTag, AreTags};
-ghost use Rattle.dmap_show.specs.Shown.{shown_tag, shown_tags};
+ghost use Rattle.dmap_show.specs.Shown.{shown_code, shown_tag, shown_tags};
 ghost use Rattle.dmap_show.specs.Events.{shown_event};
 
-use crate::adding::push_str;
+use crate::adding::{push_code, push_str};
 use crate::values::{push_head, push_line};
 use dmap_stream::Event;
 use dmap_tags::{Code, Tag, Text, Value};
@@ -37,6 +37,19 @@ pub fn show_event(event: &Event, level: u32, out: &mut Vec<u8>) -> Result<(), Al
 {
     let before = out.len();
     if let Err(error) = push_event(u64::from(level), event, out) {
+        out.truncate(before);
+        return Err(error);
+    }
+    Ok(())
+}
+
+/// Adds a content code at the end of `out`, as a line has it.
+pub fn show_code(code: Code, out: &mut Vec<u8>) -> Result<(), AllocError>
+    ensures shown { OnOk result (out.new.items ≡ out.old.items ++ shown_code code) }
+    ensures unchanged { OnErr result (out.new.items ≡ out.old.items) }
+{
+    let before = out.len();
+    if let Err(error) = push_code(code, out) {
         out.truncate(before);
         return Err(error);
     }
