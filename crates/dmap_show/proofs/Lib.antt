@@ -1,5 +1,6 @@
 pub mod Utf8
 pub mod EventLines
+pub mod TextLengths
 mod Taken
 mod Remaining
 mod Stands
