@@ -1,6 +1,7 @@
 pub mod Utf8
 pub mod Once
 pub mod EventLines
+pub mod TextLengths
 mod Taken
 mod Remaining
 mod Stands

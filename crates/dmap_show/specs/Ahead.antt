@@ -20,15 +20,17 @@ OpenStand rows (o ∷ around) =
 abbrev pub DraftStands : List CodeRow → List OpenList → List Tree → Type 0
 DraftStands rows around here = AllStand rows (length around) (parent_in around) (trees_of here) × OpenStand rows around
 
--- the tags, with those that come ahead in each list around
+-- of what comes ahead in the lists around, that of the innermost
 abbrev pub first_of : List (List Tree) → List Tree
 first_of [] = []
 first_of (m ∷ ms) = m
 
+-- and that of the others
 abbrev pub others_of : List (List Tree) → List (List Tree)
 others_of [] = []
 others_of (m ∷ ms) = ms
 
+-- the tags, with those that come ahead in each list around
 abbrev pub whole : List OpenList → List Tree → List (List Tree) → List Tree
 whole [] all ms = all
 whole (o ∷ around) all ms = whole around (o.before ++ list o.code (trees_of all) ∷ first_of ms) (others_of ms)

@@ -1,4 +1,4 @@
-//! The lines of tags and of events.
+//! The lines of tags and of events, and the codes in them.
 
 ghost use Rattle.std.specs.Prelude.{◌≡◌, ◌++◌, IfOk, OnOk, OnErr, true};
 ghost use Rattle.std.specs.Str.{is_utf8};
@@ -43,7 +43,7 @@ pub fn show_event(event: &Event, level: u32, out: &mut Vec<u8>) -> Result<(), Al
     Ok(())
 }
 
-/// Adds a content code at the end of `out`, as shown text has it.
+/// Adds a content code at the end of `out`, as a line has it.
 pub fn show_code(code: Code, out: &mut Vec<u8>) -> Result<(), AllocError>
     ensures shown { OnOk result (out.new.items ≡ out.old.items ++ shown_code code) }
     ensures unchanged { OnErr result (out.new.items ≡ out.old.items) }

@@ -17,7 +17,7 @@ use std::alloc::{AllocError, Global};
 use thiserror::Error;
 
 /// Why a text was not read.
-#[derive(Debug, Drop, Error)]
+#[derive(Debug, Drop, PartialEq, Eq, Error)]
 pub enum ShowError {
     /// The first line, counted from 1, with which no shown text goes on. A last line without a line feed is one.
     #[error("line {line} is no line of shown tags")]

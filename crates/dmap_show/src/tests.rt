@@ -1,65 +1,156 @@
 //! Tags with the lines that they are known to be shown as, and texts with the line at which they are refused.
 
-use crate::{ShowError, read_show, show, show_event};
-use code_table::CodeTable;
-use dmap_stream::Event;
-use dmap_tags::{Bytes, Code, Kind, Tag, Tags, Text, Value, encode_into, leaf};
+use crate::{ShowError, read_show, show, show_code, show_event};
+use code_table::{CodeError, CodeTable};
+use dmap_stream::{Event, Limits, read_tag};
+use dmap_tags::{Code, Tag, Tags, Text, Value, encode_into};
 use std::alloc::{AllocError, Global};
 use std::test::Fail;
-
-fn status() -> Code {
-    Code(*b"mstt")
-}
 
 fn tag(code: Code, value: Value) -> Tag {
     Tag { code, value }
 }
 
-/// The line of one tag.
-fn line(alloc: Global, code: Code, value: Value) -> Result<Text, AllocError> {
-    show(alloc, &[tag(code, value)])
+/// A code with the number of its kind, as a reply to `/content-codes` tells them.
+fn coded(place: u32) -> ([u8; 4], u16) {
+    match place {
+        0 => (*b"zzzz", 3),
+        1 => (*b"zzz1", 1),
+        2 => (*b"zzz2", 2),
+        3 => (*b"zzz3", 3),
+        4 => (*b"zzz4", 4),
+        5 => (*b"zzz5", 5),
+        6 => (*b"zzz6", 6),
+        7 => (*b"zzz7", 7),
+        8 => (*b"zzz8", 8),
+        9 => (*b"zzz9", 9),
+        10 => (*b"zzza", 10),
+        11 => (*b"zzzb", 11),
+        _ => (*b"zzzc", 12),
+    }
 }
 
-/// A number with the line that it is shown as.
-fn number(place: u32) -> (Value, &'static str) {
+/// An entry of such a reply.
+fn entry(alloc: Global, code: [u8; 4], number: u16) -> Result<Tag, AllocError> {
+    let mut parts = Tags::new(alloc);
+    parts.push(tag(Code(*b"mcnm"), Value::U32(u32::from_be_bytes(code))))?;
+    let name = Text::of(alloc, "test.value")?;
+    parts.push(tag(Code(*b"mcna"), Value::Text(name)))?;
+    parts.push(tag(Code(*b"mcty"), Value::U16(number)))?;
+    Ok(tag(Code(*b"mdcl"), Value::List(parts)))
+}
+
+/// The table that such a reply tells, with a code of each kind.
+fn learned(alloc: Global) -> Result<CodeTable, CodeError> {
+    let mut members = Tags::new(alloc);
+    for place in 0..13 {
+        let (code, number) = coded(place);
+        members.push(entry(alloc, code, number)?)?;
+    }
+    CodeTable::from_reply(alloc, &tag(Code(*b"mccr"), Value::List(members)))
+}
+
+/// The text of the tag that bytes spell.
+fn text_of(alloc: Global, bytes: &[u8], table: &CodeTable) -> Result<Text, Fail> {
+    let (tag, _) = read_tag(alloc, bytes, table, Limits { top: 1000 })?;
+    Ok(show(alloc, &[tag])?)
+}
+
+/// The bytes of the tags that a text shows.
+fn bytes_of(alloc: Global, text: &str, table: &CodeTable) -> Result<Vec<u8>, Fail> {
+    let tags = read_show(alloc, text, table)?;
+    let mut bytes = Vec::new(alloc);
+    for tag in tags.as_slice() {
+        encode_into(tag, &mut bytes)?;
+    }
+    Ok(bytes)
+}
+
+/// The text of a tag of a learned kind, with the bytes of the tag.
+fn of_each_kind(place: u32) -> (&'static str, &'static [u8]) {
     match place {
-        0 => (Value::U8(255), "mstt u8 255\n"),
-        1 => (Value::I8(-128), "mstt i8 -128\n"),
-        2 => (Value::U16(65535), "mstt u16 65535\n"),
-        3 => (Value::I16(-1), "mstt i16 -1\n"),
-        4 => (Value::U32(200), "mstt u32 200\n"),
-        5 => (Value::I32(-2147483648), "mstt i32 -2147483648\n"),
-        6 => (
-            Value::U64(18446744073709551615),
-            "mstt u64 18446744073709551615\n",
+        0 => ("zzzz u16 258\n", b"zzzz\0\0\0\x02\x01\x02"),
+        1 => ("zzz1 u8 255\n", b"zzz1\0\0\0\x01\xff"),
+        2 => ("zzz2 i8 -128\n", b"zzz2\0\0\0\x01\x80"),
+        3 => ("zzz2 i8 127\n", b"zzz2\0\0\0\x01\x7f"),
+        4 => ("zzz3 u16 65535\n", b"zzz3\0\0\0\x02\xff\xff"),
+        5 => ("zzz4 i16 -1\n", b"zzz4\0\0\0\x02\xff\xff"),
+        6 => ("zzz5 u32 4294967295\n", b"zzz5\0\0\0\x04\xff\xff\xff\xff"),
+        7 => ("zzz6 i32 -2147483648\n", b"zzz6\0\0\0\x04\x80\0\0\0"),
+        8 => (
+            "zzz7 u64 18446744073709551615\n",
+            b"zzz7\0\0\0\x08\xff\xff\xff\xff\xff\xff\xff\xff",
         ),
-        7 => (
-            Value::I64(-9223372036854775808),
-            "mstt i64 -9223372036854775808\n",
+        9 => (
+            "zzz8 i64 -9223372036854775808\n",
+            b"zzz8\0\0\0\x08\x80\0\0\0\0\0\0\0",
         ),
-        8 => (Value::Date(0), "mstt date 0\n"),
-        9 => (Value::Version(0x0002_0003), "mstt version 2.0.3\n"),
-        _ => (Value::Version(0xffff_ff00), "mstt version 65535.255.0\n"),
+        10 => (
+            "zzz9 text \"a\\\"b\\\\c\\x0a\\x00\\x1f\\x7f \u{e9}\"\n",
+            b"zzz9\0\0\0\x0ca\"b\\c\n\0\x1f\x7f \xc3\xa9",
+        ),
+        11 => ("zzz9 text \"\"\n", b"zzz9\0\0\0\0"),
+        12 => ("zzza date 0\n", b"zzza\0\0\0\x04\0\0\0\0"),
+        13 => ("zzza date 1700000000\n", b"zzza\0\0\0\x04\x65\x53\xf1\0"),
+        14 => ("zzzb version 2.0.3\n", b"zzzb\0\0\0\x04\0\x02\0\x03"),
+        15 => (
+            "zzzb version 65535.255.0\n",
+            b"zzzb\0\0\0\x04\xff\xff\xff\0",
+        ),
+        16 => ("zzzc list\n", b"zzzc\0\0\0\0"),
+        _ => (
+            "zzzc list\n  zzzc list\n    zzz2 i8 0\n  zzz1 u8 7\n",
+            b"zzzc\0\0\0\x1azzzc\0\0\0\x09zzz2\0\0\0\x01\0zzz1\0\0\0\x01\x07",
+        ),
     }
 }
 
 #[test]
-fn numbers_are_decimal_behind_the_word_of_their_kind(rt: HostRuntime) -> Result<(), Fail> {
-    for place in 0..11 {
-        let (value, want) = number(place);
-        assert_eq!(rt; line(rt.alloc(), status(), value)?.as_str(), want);
+fn a_tag_of_each_kind_is_shown_and_read_back(rt: HostRuntime) -> Result<(), Fail> {
+    let table = learned(rt.alloc())?;
+    for place in 0..18 {
+        let (text, bytes) = of_each_kind(place);
+        let shown = text_of(rt.alloc(), bytes, &table)?;
+        assert_eq!(rt; shown.as_str(), text, "at {place}");
+        let read = bytes_of(rt.alloc(), text, &table)?;
+        assert_eq!(rt; read.as_slice(), bytes, "at {place}");
     }
     Ok(())
 }
 
-/// A code with the line of an empty list of that code.
+/// The text of a tag whose payload has no meaning in the standard table, with the bytes of the tag.
+fn without_a_meaning(place: u32) -> (&'static str, &'static [u8]) {
+    match place {
+        0 => ("miid opaque #000001\n", b"miid\0\0\0\x03\0\0\x01"),
+        1 => ("minm opaque #ff\n", b"minm\0\0\0\x01\xff"),
+        2 => ("zzzz opaque #0102\n", b"zzzz\0\0\0\x02\x01\x02"),
+        3 => ("!~09 opaque #\n", b"!~09\0\0\0\0"),
+        4 => ("x61206221 opaque #00ff\n", b"a b!\0\0\0\x02\0\xff"),
+        _ => ("xff0001ab opaque #\n", b"\xff\0\x01\xab\0\0\0\0"),
+    }
+}
+
+#[test]
+fn bytes_without_a_meaning_are_shown_in_hex_and_read_back(rt: HostRuntime) -> Result<(), Fail> {
+    let table = CodeTable::standard(rt.alloc())?;
+    for place in 0..6 {
+        let (text, bytes) = without_a_meaning(place);
+        let shown = text_of(rt.alloc(), bytes, &table)?;
+        assert_eq!(rt; shown.as_str(), text, "at {place}");
+        let read = bytes_of(rt.alloc(), text, &table)?;
+        assert_eq!(rt; read.as_slice(), bytes, "at {place}");
+    }
+    Ok(())
+}
+
+/// A code as lines have it, behind a word.
 fn shown_code(place: u32) -> (Code, &'static str) {
     match place {
-        0 => (Code(*b"mlcl"), "mlcl list\n"),
-        1 => (Code(*b"!~09"), "!~09 list\n"),
-        2 => (Code(*b"a b!"), "x61206221 list\n"),
-        3 => (Code(*b"abc\x7f"), "x6162637f list\n"),
-        _ => (Code([255, 0, 1, 171]), "xff0001ab list\n"),
+        0 => (Code(*b"mlcl"), "code mlcl"),
+        1 => (Code(*b"!~09"), "code !~09"),
+        2 => (Code(*b"a b!"), "code x61206221"),
+        3 => (Code(*b"abc\x7f"), "code x6162637f"),
+        _ => (Code([255, 0, 1, 171]), "code xff0001ab"),
     }
 }
 
@@ -67,44 +158,10 @@ fn shown_code(place: u32) -> (Code, &'static str) {
 fn a_code_with_other_bytes_is_shown_in_hex(rt: HostRuntime) -> Result<(), Fail> {
     for place in 0..5 {
         let (code, want) = shown_code(place);
-        let members = Value::List(Tags::new(rt.alloc()));
-        assert_eq!(rt; line(rt.alloc(), code, members)?.as_str(), want);
+        let mut out = Vec::from_slice(rt.alloc(), b"code ")?;
+        show_code(code, &mut out)?;
+        assert_eq!(rt; out.as_slice(), want.as_bytes(), "at {place}");
     }
-    Ok(())
-}
-
-#[test]
-fn texts_are_quoted_with_escapes(rt: HostRuntime) -> Result<(), Fail> {
-    let text = Text::of(rt.alloc(), "a\"b\\c\n\x00\x1f\x7f \u{e9}")?;
-    assert_eq!(rt;
-        line(rt.alloc(), status(), Value::Text(text))?.as_str(),
-        "mstt text \"a\\\"b\\\\c\\x0a\\x00\\x1f\\x7f \u{e9}\"\n"
-    );
-    let empty = Text::of(rt.alloc(), "")?;
-    assert_eq!(rt;
-        line(rt.alloc(), status(), Value::Text(empty))?.as_str(),
-        "mstt text \"\"\n"
-    );
-    Ok(())
-}
-
-#[test]
-fn bytes_without_a_meaning_are_shown_in_hex(rt: HostRuntime) -> Result<(), Fail> {
-    let short = leaf(rt.alloc(), Kind::U32, &[0, 0, 1])?;
-    assert_eq!(rt;
-        line(rt.alloc(), Code(*b"miid"), short)?.as_str(),
-        "miid opaque #000001\n"
-    );
-    let latin = leaf(rt.alloc(), Kind::Text, &[255])?;
-    assert_eq!(rt;
-        line(rt.alloc(), Code(*b"minm"), latin)?.as_str(),
-        "minm opaque #ff\n"
-    );
-    let unknown = Value::Opaque(Bytes::of(rt.alloc(), &[1, 2])?);
-    assert_eq!(rt;
-        line(rt.alloc(), Code(*b"zzzz"), unknown)?.as_str(),
-        "zzzz opaque #0102\n"
-    );
     Ok(())
 }
 
@@ -120,7 +177,7 @@ fn one_item(alloc: Global) -> Result<Tag, AllocError> {
     let mut rows = Tags::new(alloc);
     rows.push(item(alloc)?)?;
     let mut body = Tags::new(alloc);
-    body.push(tag(status(), Value::U32(200)))?;
+    body.push(tag(Code(*b"mstt"), Value::U32(200)))?;
     body.push(tag(Code(*b"muty"), Value::U8(0)))?;
     body.push(tag(Code(*b"musr"), Value::U32(3)))?;
     body.push(tag(Code(*b"mtco"), Value::U32(1)))?;
@@ -168,20 +225,6 @@ fn an_event_s_line_is_added_at_its_level(rt: HostRuntime) -> Result<(), Fail> {
     Ok(())
 }
 
-/// The tags whose lines a text is, under the standard table.
-fn read(alloc: Global, text: &str) -> Result<Tags, ShowError> {
-    let table = CodeTable::standard(alloc)?;
-    read_show(alloc, text, &table)
-}
-
-/// The line at which a text is refused.
-fn refused(alloc: Global, text: &str) -> Option<u64> {
-    match read(alloc, text) {
-        Err(ShowError::Line { line }) => Some(line),
-        _ => None,
-    }
-}
-
 /// The bytes of the listing of one item.
 fn one_item_bytes() -> &'static [u8] {
     b"adbs\0\0\0\x5emstt\0\0\0\x04\0\0\0\xc8muty\0\0\0\x01\0musr\0\0\0\x04\0\0\0\x03mtco\0\0\0\x04\0\0\0\x01mrco\0\0\0\x04\0\0\0\x01mlcl\0\0\0\x1dmlit\0\0\0\x15miid\0\0\0\x04\0\0\0\x07minm\0\0\0\x01A"
@@ -189,12 +232,9 @@ fn one_item_bytes() -> &'static [u8] {
 
 #[test]
 fn a_shown_listing_is_read_back(rt: HostRuntime) -> Result<(), Fail> {
-    let tags = read(rt.alloc(), one_item_shown())?;
-    let mut out = Vec::new(rt.alloc());
-    for tag in tags.as_slice() {
-        encode_into(tag, &mut out)?;
-    }
-    assert_eq!(rt; out.as_slice(), one_item_bytes());
+    let table = CodeTable::standard(rt.alloc())?;
+    let read = bytes_of(rt.alloc(), one_item_shown(), &table)?;
+    assert_eq!(rt; read.as_slice(), one_item_bytes());
     Ok(())
 }
 
@@ -212,14 +252,20 @@ fn readable(place: u32) -> &'static str {
 
 #[test]
 fn a_shown_text_is_read_and_shown_again(rt: HostRuntime) -> Result<(), Fail> {
+    let table = CodeTable::standard(rt.alloc())?;
     for place in 0..6 {
-        let tags = read(rt.alloc(), readable(place))?;
+        let tags = read_show(rt.alloc(), readable(place), &table)?;
         assert_eq!(rt;
             show(rt.alloc(), tags.as_slice())?.as_str(),
             readable(place)
         );
     }
     Ok(())
+}
+
+/// Why a text is not read.
+fn refusal(alloc: Global, text: &str, table: &CodeTable) -> Option<ShowError> {
+    read_show(alloc, text, table).err()
 }
 
 /// A text that is refused, with the line.
@@ -241,16 +287,54 @@ fn unreadable(place: u32) -> (&'static str, u64) {
         13 => ("mstt u32 200\n\n", 2),
         14 => ("adbs list\n  mstt u32 200\n muty u8 0\n", 3),
         15 => ("adbs list\n  mstt u32 200\n  muty u8 0", 3),
-        _ => ("x6d6c636c list\n", 1),
+        16 => ("x6d6c636c list\n", 1),
+        17 => ("zzzz opaque #00\nzzzz bytes #0102\n", 2),
+        18 => ("mlcl list\n  mstt u32 -0\n", 2),
+        19 => ("minm text \"\\x1F\"\n", 1),
+        20 => ("x6162637F opaque #\n", 1),
+        21 => ("mlog list\nmlcl list \n", 2),
+        22 => ("mpro version 2.256.0\n", 1),
+        _ => ("mstt u32 4294967296\n", 1),
     }
 }
 
 #[test]
-fn a_text_is_refused_at_its_first_bad_line(rt: HostRuntime) {
-    for place in 0..17 {
+fn a_text_is_refused_at_its_first_bad_line(rt: HostRuntime) -> Result<(), Fail> {
+    let table = CodeTable::standard(rt.alloc())?;
+    for place in 0..24 {
         let (text, line) = unreadable(place);
-        assert_eq!(rt; refused(rt.alloc(), text), Some(line), "at {place}");
+        let want = Some(ShowError::Line { line });
+        assert_eq!(rt; refusal(rt.alloc(), text, &table), want, "at {place}");
     }
+    Ok(())
+}
+
+/// A text that is refused under the learned table, with the line.
+fn unreadable_as_learned(place: u32) -> (&'static str, u64) {
+    match place {
+        0 => ("zzzz opaque #0102\n", 1),
+        1 => ("zzz2 i8 127\nzzz2 i8 128\n", 2),
+        2 => ("zzz2 i8 -129\n", 1),
+        3 => ("zzz2 i8 1\nzzz2 i8 +1\n", 2),
+        4 => ("zzzc list\n  zzz2 i8 0\n  zzz2 i8 -0\n", 3),
+        5 => ("zzz3 u16 65536\n", 1),
+        6 => ("zzz4 i16 32768\n", 1),
+        7 => ("zzz6 i32 -2147483649\n", 1),
+        8 => ("zzz7 u64 18446744073709551616\n", 1),
+        9 => ("zzz8 i64 9223372036854775808\n", 1),
+        _ => ("zzza date 4294967296\n", 1),
+    }
+}
+
+#[test]
+fn a_text_is_refused_by_the_learned_kinds(rt: HostRuntime) -> Result<(), Fail> {
+    let table = learned(rt.alloc())?;
+    for place in 0..11 {
+        let (text, line) = unreadable_as_learned(place);
+        let want = Some(ShowError::Line { line });
+        assert_eq!(rt; refusal(rt.alloc(), text, &table), want, "at {place}");
+    }
+    Ok(())
 }
 
 /// Lists in one another, a line for each.
@@ -267,10 +351,11 @@ fn nested(alloc: Global, count: u32) -> Result<String, AllocError> {
 
 #[test]
 fn no_tag_has_33_levels(rt: HostRuntime) -> Result<(), Fail> {
-    assert_eq!(rt; refused(rt.alloc(), nested(rt.alloc(), 32)?.as_str()), None);
-    assert_eq!(rt;
-        refused(rt.alloc(), nested(rt.alloc(), 33)?.as_str()),
-        Some(33)
-    );
+    let table = CodeTable::standard(rt.alloc())?;
+    let accepted = nested(rt.alloc(), 32)?;
+    assert_eq!(rt; refusal(rt.alloc(), accepted.as_str(), &table), None);
+    let deep = nested(rt.alloc(), 33)?;
+    let want = Some(ShowError::Line { line: 33 });
+    assert_eq!(rt; refusal(rt.alloc(), deep.as_str(), &table), want);
     Ok(())
 }
