@@ -23,6 +23,7 @@ use Rattle.dmap_stream.specs.WholeTag.{is_accepted, IsProperTag, refusal}
 use Rattle.dmap_stream.specs.declared.refusal.StreamError.{StreamError}
 use Rattle.dmap_stream.specs.declared.refusal.StreamError.TheVariants as stream
 use Rattle.daapshare.specs.declared.fault.Fault.{Fault}
+use Rattle.daapshare.specs.declared.learn.Learner.{Learner}
 use Rattle.daapshare.specs.declared.fault.Fault.TheVariants.{Words, Query, Meta, Records, Tags, Text, Codes, Read, Write, InputLimit, Memory}
 use Rattle.daapshare.specs.Limits.{tag_limit}
 use Rattle.daapshare.specs.Faults.{tags_fault, table_fault}
@@ -105,3 +106,169 @@ none_in_all bytes e none breaks rest t more h = elim (cases_lt (length bytes) (l
         proper = h.proper;
       })
 ]
+
+-- a tag that was read off the front
+pub front_tag : (tag : Tree) (len : ℕ) (bytes : List ℕ) → take len bytes ≡ spelling tag → is_accepted standard_rows tag_limit tag ≡ true → IsProperTag tag
+    → BeginsWith tag (drop len bytes) bytes
+front_tag tag len bytes is accepted proper = record {
+  spelled = sym (take-append-drop len bytes) ∙ ap (λ l. l ++ drop len bytes) is;
+  accepted = accepted;
+  proper = proper;
+}
+
+none_behind : (len : ℕ) (bytes : List ℕ) → length bytes ≤ len → drop len bytes ≡ []
+none_behind len bytes all = empty (drop len bytes) (omega (arith, length-drop len bytes))
+  where
+    empty : (l : List ℕ) → length l ≡ 0 → l ≡ []
+    empty [] h = refl
+    empty (x ∷ l) h = absurd (omega arith)
+
+some_behind : (len : ℕ) (bytes : List ℕ) → len < length bytes → drop len bytes ≢ []
+some_behind len bytes more is = absurd (omega (arith, length-drop len bytes, ap length is))
+
+pub whole_reply : (tag : Tree) (len : ℕ) (bytes : List ℕ) (rows : List CodeRow) → BeginsWith tag (drop len bytes) bytes → length bytes ≤ len
+    → table_of tag ≡ Ok rows → IsReply rows bytes
+whole_reply tag len bytes rows h all told = record { tag = tag; whole = subst (λ rest. BeginsWith tag rest bytes) (none_behind len bytes all) h; told = told }
+
+pub more_behind : (tag : Tree) (len : ℕ) (bytes : List ℕ) (rows : List CodeRow) → BeginsWith tag (drop len bytes) bytes → len < length bytes
+    → table_of tag ≡ Ok rows → IsReplyRefused table.NotReply bytes
+more_behind tag len bytes rows h more told =
+    record { tag = tag; rest = drop len bytes; whole = h; refused = inr (refl, (some_behind len bytes more, (rows, told))) }
+
+pub no_table : (tag : Tree) (rest bytes : List ℕ) (e : CodeError) → BeginsWith tag rest bytes → (e ≢ table.Memory → table_of tag ≡ Err e) → IsRefusal bytes (table_fault e)
+no_table tag rest bytes table.NotReply h told = record { tag = tag; rest = rest; whole = h; refused = inl (told (λ is. absurd (cc))) }
+no_table tag rest bytes (table.Entry index) h told = record { tag = tag; rest = rest; whole = h; refused = inl (told (λ is. absurd (cc))) }
+no_table tag rest bytes (table.Repeated index) h told = record { tag = tag; rest = rest; whole = h; refused = inl (told (λ is. absurd (cc))) }
+no_table tag rest bytes table.Memory h told = tt
+
+pub begun_by : (bytes : List ℕ) → HasNoTag bytes → ((walked bytes).ending ≡ between) ⊎ ((walked bytes).ending ≡ inside) → IsBegun bytes
+begun_by bytes none (inl is) = record { open_ = none; sound = λ e broke. let same : between ≡ broken e = sym is ∙ broke in absurd (cc) }
+begun_by bytes none (inr is) = record { open_ = none; sound = λ e broke. let same : inside ≡ broken e = sym is ∙ broke in absurd (cc) }
+
+-- a refusal of bytes that are not merely too few
+broken_by : (n : ℕ) (ending : Ending) (e : StreamError) → e ≡ refusal n ending → ((at : ℕ) → e ≢ stream.Truncated at) → ending ≡ broken e
+broken_by n between e is more = absurd (more n is)
+broken_by n inside e is more = absurd (more n is)
+broken_by n (broken f) e is more = ap broken (sym is)
+
+pub no_tag : (bytes : List ℕ) (e : StreamError) → (e ≢ stream.Memory → HasNoTag bytes) → (e ≢ stream.Memory → e ≡ refusal (length bytes) (walked bytes).ending)
+    → ((at : ℕ) → e ≢ stream.Truncated at) → IsRefusal bytes (tags_fault e)
+no_tag bytes (stream.TooLarge at) none told more =
+    let known = λ (is : stream.TooLarge at ≡ stream.Memory). absurd (cc) in (none known, (known, broken_by (length bytes) (walked bytes).ending (stream.TooLarge at) (told known) more))
+no_tag bytes (stream.TooDeep at) none told more =
+    let known = λ (is : stream.TooDeep at ≡ stream.Memory). absurd (cc) in (none known, (known, broken_by (length bytes) (walked bytes).ending (stream.TooDeep at) (told known) more))
+no_tag bytes (stream.Overrun at code) none told more =
+    let known = λ (is : stream.Overrun at code ≡ stream.Memory). absurd (cc) in (none known, (known, broken_by (length bytes) (walked bytes).ending (stream.Overrun at code) (told known) more))
+no_tag bytes (stream.ShortHead at) none told more =
+    let known = λ (is : stream.ShortHead at ≡ stream.Memory). absurd (cc) in (none known, (known, broken_by (length bytes) (walked bytes).ending (stream.ShortHead at) (told known) more))
+no_tag bytes (stream.Truncated at) none told more = absurd (more at refl)
+no_tag bytes stream.Memory none told more = tt
+
+-- what is said of a tag in front of bytes is said of it in front of more
+begins_more : (tag : Tree) (rest bytes more : List ℕ) → BeginsWith tag rest bytes → BeginsWith tag (rest ++ more) (bytes ++ more)
+begins_more tag rest bytes more h =
+    record { spelled = ap (λ l. l ++ more) h.spelled ∙ append_assoc (spelling tag) rest more; accepted = h.accepted; proper = h.proper }
+
+not_empty : (rest more : List ℕ) → rest ≢ [] → rest ++ more ≢ []
+not_empty [] more some is = some refl
+not_empty (x ∷ rest) more some is = absurd (cc)
+
+refused_more : (error : CodeError) (bytes more : List ℕ) → IsReplyRefused error bytes → IsReplyRefused error (bytes ++ more)
+refused_more error bytes more h = record {
+  tag = h.tag;
+  rest = h.rest ++ more;
+  whole = begins_more h.tag h.rest bytes more h.whole;
+  refused = elim h.refused [ inl bad ↦ inl bad | inr bad ↦ inr (bad.0, (not_empty h.rest more bad.1.0, bad.1.1)) ];
+}
+
+pub broken_whole : (bytes : List ℕ) (d e : StreamError) → IsShown bytes d → d ≢ stream.Memory → (walked bytes).ending ≡ broken e
+    → (rest : List ℕ) → (walked (bytes ++ rest)).ending ≡ broken e
+broken_whole bytes d e shown known is rest =
+    let same : broken d ≡ broken e = sym (shown known []) ∙ ap (λ l. (walked l).ending) (append-nil bytes) ∙ is in
+    shown known rest ∙ same
+
+-- a fault of the bytes is one of all that begin with them
+pub stops_all : (bytes : List ℕ) (f : Fault) → ((e : StreamError) → (walked bytes).ending ≡ broken e → (rest : List ℕ) → (walked (bytes ++ rest)).ending ≡ broken e)
+    → IsRefusal bytes f → LearnStops bytes f
+stops_all bytes Words breaks h = h
+stops_all bytes (Query error) breaks h = h
+stops_all bytes Meta breaks h = h
+stops_all bytes (Records error) breaks h = h
+stops_all bytes (Tags error) breaks h = λ rest. record {
+  none = none_in_all bytes error h.0 (breaks error h.1.1) rest;
+  cause = h.1.0;
+  told = sym (ap (refusal (length (bytes ++ rest))) (breaks error h.1.1 rest));
+}
+stops_all bytes (Text line) breaks h = h
+stops_all bytes (Codes error) breaks h = λ rest. refused_more error bytes rest h
+stops_all bytes Read breaks h = h
+stops_all bytes Write breaks h = h
+stops_all bytes InputLimit breaks h = h
+stops_all bytes Memory breaks h = h
+
+-- the fault of the input, from that of the bytes that were read of it
+tags_said : (left after : Option (List ℕ)) (bytes : List ℕ) (e : StreamError) → Consumes left after bytes → LearnStops bytes (Tags e) → IfSome left (HasNoReply e)
+tags_said None after bytes e read stop = tt
+tags_said (Some input) None bytes e read stop = absurd read
+tags_said (Some input) (Some rest) bytes e read stop = subst (HasNoReply e) (sym read) (stop rest)
+
+codes_said : (left after : Option (List ℕ)) (bytes : List ℕ) (e : CodeError) → Consumes left after bytes → LearnStops bytes (Codes e) → IfSome left (IsReplyRefused e)
+codes_said None after bytes e read stop = tt
+codes_said (Some input) None bytes e read stop = absurd read
+codes_said (Some input) (Some rest) bytes e read stop = subst (IsReplyRefused e) (sym read) (stop rest)
+
+pub learn_cause : (before after : InputSeen) (bytes : List ℕ) (f : Fault) → Consumes before.left after.left bytes → after.faults ≡ before.faults
+    → LearnStops bytes f → IsCause (Some (command.Codes true)) before after f
+learn_cause before after bytes Words read faultless stop = absurd stop
+learn_cause before after bytes (Query error) read faultless stop = absurd stop
+learn_cause before after bytes Meta read faultless stop = absurd stop
+learn_cause before after bytes (Records error) read faultless stop = absurd stop
+learn_cause before after bytes (Tags error) read faultless stop = record { said = tags_said before.left after.left bytes error read stop; faultless = faultless }
+learn_cause before after bytes (Text line) read faultless stop = absurd stop
+learn_cause before after bytes (Codes error) read faultless stop = record { said = codes_said before.left after.left bytes error read stop; faultless = faultless }
+learn_cause before after bytes Read read faultless stop = absurd stop
+learn_cause before after bytes Write read faultless stop = absurd stop
+learn_cause before after bytes InputLimit read faultless stop = absurd stop
+learn_cause before after bytes Memory read faultless stop = tt
+
+pub begun : (bytes : List ℕ) (learner : Learner) → IsLearning bytes learner → IsBegun bytes
+begun bytes learner h = record {
+  open_ = none_yet bytes h.short;
+  sound = λ e is. unbroken bytes learner.counter.reader learner.counter.tops e h.counted.counted is;
+}
+
+-- the bytes ended before the reply was whole
+early_said : (left after : Option (List ℕ)) (bytes : List ℕ) → Consumes left after bytes → IsAtEnd after → IsBegun bytes → IfSome left (HasNoReply (stream.Truncated (length bytes)))
+early_said None after bytes read end h = tt
+early_said (Some input) None bytes read end h = absurd read
+early_said (Some input) (Some rest) bytes read end h =
+    subst (HasNoReply (stream.Truncated (length bytes))) (sym (read ∙ ap (λ l. bytes ++ l) end ∙ append-nil bytes))
+    (record { none = h.open_; cause = λ is. absurd (cc); told = cut (walked bytes).ending refl })
+  where
+    cut : (ending : Ending) → (walked bytes).ending ≡ ending → stream.Truncated (length bytes) ≡ refusal (length bytes) ending
+    cut between is = refl
+    cut inside is = refl
+    cut (broken e) is = absurd (h.sound e is)
+
+pub early_cause : (before after : InputSeen) (bytes : List ℕ) → Consumes before.left after.left bytes → IsAtEnd after.left → after.faults ≡ before.faults
+    → IsBegun bytes → IsCause (Some (command.Codes true)) before after (Tags (stream.Truncated (length bytes)))
+early_cause before after bytes read end faultless h = record { said = early_said before.left after.left bytes read end h; faultless = faultless }
+
+-- more bytes were read behind the reply
+pub behind_cause : (before after : InputSeen) (bytes more : List ℕ) (rows : List CodeRow) → Consumes before.left after.left (bytes ++ more) → more ≢ []
+    → after.faults ≡ before.faults → IsReply rows bytes → IsCause (Some (command.Codes true)) before after (Codes table.NotReply)
+behind_cause before after bytes more rows read some faultless reply =
+    learn_cause before after (bytes ++ more) (Codes table.NotReply) read faultless (λ rest. refused_more table.NotReply (bytes ++ more) rest (record {
+      tag = reply.tag;
+      rest = [] ++ more;
+      whole = begins_more reply.tag [] bytes more reply.whole;
+      refused = inr (refl, (some, (rows, reply.told)));
+    }))
+
+pub failed_begun : (before after : InputSeen) (bytes : List ℕ) → Consumes before.left after.left bytes → IsBegun bytes → Rose before.faults after.faults
+    → IsCause (Some (command.Codes true)) before after Read
+failed_begun before after bytes read h rose = (record { bytes = bytes; read = read; good = inl h }, rose)
+
+pub failed_behind : (before after : InputSeen) (bytes : List ℕ) (rows : List CodeRow) → Consumes before.left after.left bytes → IsReply rows bytes
+    → Rose before.faults after.faults → IsCause (Some (command.Codes true)) before after Read
+failed_behind before after bytes rows read reply rose = (record { bytes = bytes; read = read; good = inr (rows, reply) }, rose)

@@ -5,3 +5,4 @@ pub mod Counted
 pub mod Showing
 pub mod Agreed
 pub mod Endings
+pub mod Learned

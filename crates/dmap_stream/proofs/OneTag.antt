@@ -110,7 +110,7 @@ mutual
 -- a top tag that is accepted
 at_top : (rows : List CodeRow) (limit : ℕ) (t : Tree) → limit < 2 ^ 32 → is_accepted rows limit t ≡ true → IsProperTag t → IsSound rows None t
 at_top rows limit t small accepted proper =
-    let room : IsRoomFor rows limit 0 [] t = room_at_top rows limit t small accepted proper in
+    let room : IsRoomFor rows limit 0 [] t = room_at_top rows limit 0 t small accepted proper in
     record { fit = room.fit; proper = proper; told = room.told }
 
 -- bytes begin with at most one tag that is accepted
