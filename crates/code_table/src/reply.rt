@@ -12,7 +12,7 @@ use std::alloc::{AllocError, AllocFailed, Global};
 use thiserror::Error;
 
 /// Why a tag tells no table. `index` counts the members of the reply from 0.
-#[derive(Debug, Drop, Error)]
+#[derive(Clone, Copy, Debug, PartialEq, Eq, Error)]
 pub enum CodeError {
     #[error("the tag is no list of content codes")]
     NotReply,
@@ -47,9 +47,11 @@ impl<T: Drop> From<AllocFailed<T>> for CodeError {
 }
 
 impl CodeTable {
-    /// The body of the reply to `/content-codes`: a status and an entry for each row.
+    /// The body of the reply to `/content-codes`: a status and an entry for each row. `from_reply` reads the same
+    /// table out of it.
     pub fn reply(&self) -> Result<Tag, AllocError>
-        ensures { IfOk result (λ tag. tag ≡ table_reply self.now) }
+        ensures told { IfOk result (λ tag. tag ≡ table_reply self.now) }
+        ensures reads_back { IfOk result (λ tag. table_of tag ≡ Ok self.now) }
     {
         let rows = self.rows();
         let alloc = self.allocator();
@@ -87,13 +89,13 @@ impl CodeTable {
 
 /// A row as a member of the reply.
 fn entry(alloc: Global, row: &CodeRow) -> Result<Tag, AllocError>
-    ensures { IfOk result (λ tag. tag ≡ entry_of row.now) }
+    ensures told { IfOk result (λ tag. tag ≡ entry_of row.now) }
+    ensures reads_back { IfOk result (λ tag. entry_row tag ≡ Some row.now) }
 {
     let mut parts = Tags::new(alloc);
-    let code = row.code.0;
     parts.push(Tag {
         code: Code(*b"mcnm"),
-        value: Value::U32(u32::from_be_bytes([code[0], code[1], code[2], code[3]])),
+        value: Value::U32(number_of(row.code)),
     })?;
     parts.push(Tag {
         code: Code(*b"mcna"),
@@ -107,6 +109,15 @@ fn entry(alloc: Global, row: &CodeRow) -> Result<Tag, AllocError>
         code: Code(*b"mdcl"),
         value: Value::List(parts),
     })
+}
+
+/// The number that the four bytes of a code spell.
+fn number_of(code: Code) -> u32
+    ensures told { result ≡ number_of code }
+    ensures reads_back { numbered result ≡ code }
+{
+    let b = code.0;
+    u32::from_be_bytes([b[0], b[1], b[2], b[3]])
 }
 
 /// The rows that the entries among the members tell.

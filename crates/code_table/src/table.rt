@@ -50,8 +50,10 @@ impl CodeTable {
         *self.rows.allocator()
     }
 
+    /// The rows, in the order in which a reply tells them.
     pub fn rows(&self) -> &[CodeRow]
-        ensures { result.now ≡ self.now }
+        ensures value { result.now ≡ self.now }
+        ensures differ { codes_differ result.now ≡ true }
     {
         self.rows.as_slice()
     }

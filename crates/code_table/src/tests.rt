@@ -91,16 +91,8 @@ fn a_reply_reads_as_the_table_that_it_tells(rt: HostRuntime) -> Result<(), Fail>
 fn a_client_learns_the_kind_of_a_code(rt: HostRuntime) -> Result<(), Fail> {
     let learned = CodeTable::from_reply(rt.alloc(), &reply(rt.alloc(), &[*b"zzzz"])?)?;
     assert_eq!(rt; learned.kind_of(None, Code(*b"zzzz")), Kind::U16);
+    assert_eq!(rt; learned.by_name("test.value"), Some(Code(*b"zzzz")));
     Ok(())
-}
-
-/// The place of the refused entry, and whether it repeats a code.
-fn refused(read: &Result<CodeTable, CodeError>) -> Option<(u64, bool)> {
-    match read {
-        Err(CodeError::Entry { index }) => Some((*index, false)),
-        Err(CodeError::Repeated { index }) => Some((*index, true)),
-        _ => None,
-    }
 }
 
 #[test]
@@ -110,18 +102,159 @@ fn a_reply_is_refused_at_its_first_bad_entry(rt: HostRuntime) -> Result<(), Fail
         &[*b"aaaa", *b"bbbb", *b"cccc", *b"dddd", *b"cccc"],
     )?;
     assert_eq!(rt;
-        refused(&CodeTable::from_reply(rt.alloc(), &twice)),
-        Some((5, true))
+        CodeTable::from_reply(rt.alloc(), &twice).err(),
+        Some(CodeError::Repeated { index: 5 })
     );
     let mut members = Tags::new(rt.alloc());
     members.push(entry(rt.alloc(), b"aaaa", "a", 1)?)?;
     members.push(tag(Code(*b"mdcl"), Value::List(Tags::new(rt.alloc()))))?;
     let bad = tag(Code(*b"mccr"), Value::List(members));
     assert_eq!(rt;
-        refused(&CodeTable::from_reply(rt.alloc(), &bad)),
-        Some((1, false))
+        CodeTable::from_reply(rt.alloc(), &bad).err(),
+        Some(CodeError::Entry { index: 1 })
     );
-    let other = tag(Code(*b"mlog"), Value::List(Tags::new(rt.alloc())));
-    assert_eq!(rt; refused(&CodeTable::from_reply(rt.alloc(), &other)), None);
+    Ok(())
+}
+
+/// A member of a reply. Each entry tells the code `zzzz`, where it tells one.
+#[derive(Clone, Copy)]
+enum Member {
+    Status,
+    /// A code, a name and that type.
+    Typed(u16),
+    /// The same with a second name.
+    TwoNames,
+    /// The type is a number of four bytes.
+    WideType,
+    NoCode,
+    NoName,
+    NoType,
+    /// A number under an entry's code.
+    Leaf,
+    /// A list like an entry, with another code.
+    NoEntry,
+}
+
+/// The parts of a list by number.
+fn part(alloc: Global, number: usize) -> Result<Tag, AllocError> {
+    Ok(match number {
+        0 => tag(Code(*b"mcnm"), Value::U32(0x7a7a_7a7a)),
+        1 => tag(Code(*b"mcna"), Value::Text(Text::of(alloc, "test.value")?)),
+        2 => tag(Code(*b"mcna"), Value::Text(Text::of(alloc, "test.second")?)),
+        3 => tag(Code(*b"mcty"), Value::U32(3)),
+        _ => tag(Code(*b"mcty"), Value::U16(3)),
+    })
+}
+
+/// A list of parts.
+fn list(alloc: Global, code: Code, numbers: &[usize]) -> Result<Tag, AllocError> {
+    let mut parts = Tags::new(alloc);
+    for number in numbers {
+        parts.push(part(alloc, *number)?)?;
+    }
+    Ok(tag(code, Value::List(parts)))
+}
+
+fn tag_of(alloc: Global, member: Member) -> Result<Tag, AllocError> {
+    match member {
+        Member::Status => Ok(tag(Code(*b"mstt"), Value::U32(200))),
+        Member::Typed(number) => entry(alloc, b"zzzz", "test.value", number),
+        Member::TwoNames => list(alloc, Code(*b"mdcl"), &[0, 1, 2, 4]),
+        Member::WideType => list(alloc, Code(*b"mdcl"), &[0, 1, 3]),
+        Member::NoCode => list(alloc, Code(*b"mdcl"), &[1, 4]),
+        Member::NoName => list(alloc, Code(*b"mdcl"), &[0, 4]),
+        Member::NoType => list(alloc, Code(*b"mdcl"), &[0, 1]),
+        Member::Leaf => Ok(tag(Code(*b"mdcl"), Value::U32(3))),
+        Member::NoEntry => list(alloc, Code(*b"mlit"), &[0, 1, 4]),
+    }
+}
+
+/// A list of members under a code, read as a reply.
+fn read(
+    alloc: Global,
+    code: Code,
+    members: &[Member],
+) -> Result<Result<CodeTable, CodeError>, AllocError> {
+    let mut tags = Tags::new(alloc);
+    for member in members {
+        tags.push(tag_of(alloc, *member)?)?;
+    }
+    Ok(CodeTable::from_reply(alloc, &tag(code, Value::List(tags))))
+}
+
+/// Replies that tell one row, with its kind.
+fn one_row(case: usize) -> (&'static [Member], Kind) {
+    match case {
+        0 => (&[Member::Status, Member::Typed(3)], Kind::U16),
+        1 => (&[Member::Typed(3), Member::Status], Kind::U16),
+        2 => (&[Member::TwoNames], Kind::U16),
+        3 => (
+            &[Member::NoEntry, Member::Typed(9), Member::NoEntry],
+            Kind::Text,
+        ),
+        4 => (&[Member::Typed(0)], Kind::Opaque),
+        5 => (&[Member::Typed(1)], Kind::U8),
+        6 => (&[Member::Typed(12)], Kind::List),
+        7 => (&[Member::Typed(13)], Kind::Opaque),
+        _ => (&[Member::Typed(65_535)], Kind::Opaque),
+    }
+}
+
+#[test]
+fn a_row_has_the_first_name_and_the_kind_of_its_type(rt: HostRuntime) -> Result<(), Fail> {
+    for case in 0..9 {
+        let (members, kind) = one_row(case);
+        let table = read(rt.alloc(), Code(*b"mccr"), members)??;
+        assert_eq!(rt; table.rows().len(), 1);
+        assert_eq!(rt; table.by_name("test.value"), Some(Code(*b"zzzz")));
+        assert_eq!(rt; table.by_name("test.second"), None);
+        assert_eq!(rt; table.rows()[0].kind, kind);
+    }
+    Ok(())
+}
+
+/// Members that tell no table, with the reason.
+fn no_table(case: usize) -> (&'static [Member], CodeError) {
+    match case {
+        0 => (&[Member::NoCode], CodeError::Entry { index: 0 }),
+        1 => (&[Member::NoName], CodeError::Entry { index: 0 }),
+        2 => (&[Member::NoType], CodeError::Entry { index: 0 }),
+        3 => (&[Member::Leaf], CodeError::Entry { index: 0 }),
+        4 => (
+            &[Member::Status, Member::WideType],
+            CodeError::Entry { index: 1 },
+        ),
+        5 => (
+            &[Member::NoEntry, Member::Status, Member::NoType],
+            CodeError::Entry { index: 2 },
+        ),
+        6 => (
+            &[Member::Typed(3), Member::NoEntry, Member::Typed(4)],
+            CodeError::Repeated { index: 2 },
+        ),
+        _ => (
+            &[Member::Status, Member::Typed(3), Member::NoName],
+            CodeError::Entry { index: 2 },
+        ),
+    }
+}
+
+#[test]
+fn a_member_that_tells_no_row_is_named_by_its_index(rt: HostRuntime) -> Result<(), Fail> {
+    for case in 0..8 {
+        let (members, error) = no_table(case);
+        let refused = read(rt.alloc(), Code(*b"mccr"), members)?.err();
+        assert_eq!(rt; refused, Some(error));
+    }
+    Ok(())
+}
+
+#[test]
+fn only_a_list_of_content_codes_tells_a_table(rt: HostRuntime) -> Result<(), Fail> {
+    let other = read(rt.alloc(), Code(*b"mlog"), &[Member::Typed(3)])?.err();
+    assert_eq!(rt; other, Some(CodeError::NotReply));
+    let leaf = tag(Code(*b"mccr"), Value::U32(200));
+    let refused = CodeTable::from_reply(rt.alloc(), &leaf).err();
+    assert_eq!(rt; refused, Some(CodeError::NotReply));
     Ok(())
 }
