@@ -11,8 +11,11 @@ use std::alloc::{AllocError, Global};
 use std::process::Abort;
 use std::test::Fail;
 
+mod back;
+mod codes;
+
 /// The listing of one item with id 7 and name `A`, at revision 3.
-fn one_item() -> &'static [u8] {
+pub(crate) fn one_item() -> &'static [u8] {
     b"adbs\0\0\0\x5emstt\0\0\0\x04\0\0\0\xc8muty\0\0\0\x01\0musr\0\0\0\x04\0\0\0\x03mtco\0\0\0\x04\0\0\0\x01mrco\0\0\0\x04\0\0\0\x01mlcl\0\0\0\x1dmlit\0\0\0\x15miid\0\0\0\x04\0\0\0\x07minm\0\0\0\x01A"
 }
 
@@ -60,12 +63,12 @@ fn records(name: &str) -> &'static [u8] {
 
 /// What a run left: its status, and the bytes on the output.
 #[derive(Drop)]
-struct Ran {
-    status: u8,
-    output: Vec<u8>,
+pub(crate) struct Ran {
+    pub(crate) status: u8,
+    pub(crate) output: Vec<u8>,
 }
 
-fn run_over(
+pub(crate) fn run_over(
     alloc: Global,
     words: &[&str],
     mut input: MemSource,
@@ -148,7 +151,7 @@ fn records_that_are_refused_have_one_line_and_no_listing(rt: HostRuntime) -> Res
 }
 
 /// What the words get over the records.
-fn ran_over(alloc: Global, words: &[&str], records: &[u8]) -> Result<Ran, AllocError> {
+pub(crate) fn ran_over(alloc: Global, words: &[&str], records: &[u8]) -> Result<Ran, AllocError> {
     let source = MemSource::new(alloc, records, 32_768, &[])?;
     let sink = MemSink::new(alloc, 4096, 4096, &[])?;
     run_over(alloc, words, source, sink)
@@ -409,9 +412,9 @@ fn words_that_are_no_command_get_the_usage(rt: HostRuntime) -> Result<(), Fail> 
     )?;
     are_refused(&rt, alloc, &["list", "--query", "--meta"])?;
     are_refused(&rt, alloc, &["list", "--list", "1"])?;
-    are_refused(&rt, alloc, &["show", "--back"])?;
+    are_refused(&rt, alloc, &["show", "--back", "x"])?;
     are_refused(&rt, alloc, &["check", "x"])?;
-    are_refused(&rt, alloc, &["codes", "--learn"])?;
+    are_refused(&rt, alloc, &["codes", "--learn=x"])?;
     are_refused(&rt, alloc, &["--help"])
 }
 
@@ -469,7 +472,7 @@ fn shown_tags(name: &str) -> &'static [u8] {
 }
 
 /// The ten lines of the listing of one item.
-fn one_item_shown() -> &'static str {
+pub(crate) fn one_item_shown() -> &'static str {
     "adbs list\n  mstt u32 200\n  muty u8 0\n  musr u32 3\n  mtco u32 1\n  mrco u32 1\n  mlcl list\n    mlit list\n      miid u32 7\n      minm text \"A\"\n"
 }
 
