@@ -11,7 +11,7 @@ use Rattle.item_model.specs.declared.refusal.QueryError.TheVariants as query_err
 use Rattle.dmap_tags.specs.Tree.{Tree}
 use Rattle.code_table.specs.declared.reply.CodeError.{CodeError}
 use Rattle.code_table.specs.declared.row.CodeRow.{CodeRow}
-use Rattle.code_table.specs.Reply.{table_of}
+use Rattle.code_table.specs.Reply as reply
 use Rattle.code_table.specs.Standard.{standard_rows}
 use Rattle.dmap_show.proofs.Once.{shown_once}
 use Rattle.dmap_stream.proofs.OneTag.{one_tag}
@@ -229,28 +229,28 @@ back_or_refused input tags fault.InputLimit back says = let within = back.within
 back_or_refused input tags fault.Memory back says = says
 
 -- a reply is refused for nothing: its one tag tells a table, and is the whole input
-tells_not : (rows : List CodeRow) (error : CodeError) (tag : Tree) (rest : List ℕ) → table_of tag ≡ Ok rows → rest ≡ [] → TellsNone error tag rest → ⊥
+tells_not : (rows : List CodeRow) (error : CodeError) (tag : Tree) (rest : List ℕ) → reply.table_of tag ≡ Ok rows → rest ≡ [] → TellsNone error tag rest → ⊥
 tells_not rows error tag rest told none (inl bad) = let same : Ok rows ≡ Err error = sym told ∙ bad in absurd (cc)
 tells_not rows error tag rest told none (inr bad) = bad.1.0 none
 
 reply_or_refused : (input : List ℕ) (rows : List CodeRow) (error : CodeError) → IsReply rows input → IsReplyRefused error input → ⊥
-reply_or_refused input rows error reply refused =
-    let one = one_tag standard_rows tag_limit reply.tag refused.tag [] refused.rest (omega arith) reply.whole.accepted reply.whole.proper
-    refused.whole.accepted refused.whole.proper (sym reply.whole.spelled ∙ refused.whole.spelled) in
-    tells_not rows error refused.tag refused.rest (ap table_of (sym one.0) ∙ reply.told) (sym one.1) refused.refused
+reply_or_refused input rows error told refused =
+    let one = one_tag standard_rows tag_limit told.tag refused.tag [] refused.rest (omega arith) told.whole.accepted told.whole.proper
+    refused.whole.accepted refused.whole.proper (sym told.whole.spelled ∙ refused.whole.spelled) in
+    tells_not rows error refused.tag refused.rest (ap reply.table_of (sym one.0) ∙ told.told) (sym one.1) refused.refused
 
 learned_or_refused : (input : List ℕ) (rows : List CodeRow) (f : Fault) → IsReply rows input → LearnSays (Some input) f → ⊥
-learned_or_refused input rows fault.Words reply says = says
-learned_or_refused input rows (fault.Query error) reply says = says
-learned_or_refused input rows fault.Meta reply says = says
-learned_or_refused input rows (fault.Records error) reply says = says
-learned_or_refused input rows (fault.Tags error) reply says = says.none reply.tag [] reply.whole
-learned_or_refused input rows (fault.Text line) reply says = says
-learned_or_refused input rows (fault.Codes error) reply says = reply_or_refused input rows error reply says
-learned_or_refused input rows fault.Read reply says = says
-learned_or_refused input rows fault.Write reply says = says
-learned_or_refused input rows fault.InputLimit reply says = says
-learned_or_refused input rows fault.Memory reply says = says
+learned_or_refused input rows fault.Words told says = says
+learned_or_refused input rows (fault.Query error) told says = says
+learned_or_refused input rows fault.Meta told says = says
+learned_or_refused input rows (fault.Records error) told says = says
+learned_or_refused input rows (fault.Tags error) told says = says.none told.tag [] told.whole
+learned_or_refused input rows (fault.Text line) told says = says
+learned_or_refused input rows (fault.Codes error) told says = reply_or_refused input rows error told says
+learned_or_refused input rows fault.Read told says = says
+learned_or_refused input rows fault.Write told says = says
+learned_or_refused input rows fault.InputLimit told says = says
+learned_or_refused input rows fault.Memory told says = says
 
 -- two faults that are said have one status
 pub one_status : (asked : Option Command) (input : List ℕ) (f g : Fault) → Says asked (Some input) f → Says asked (Some input) g → fault_status f ≡ fault_status g

@@ -30,7 +30,7 @@ none_left [] h = refl
 none_left (b ∷ bytes) h = absurd (cc)
 
 -- the counts are far below the end of their type
-pub few_counted_tops : (fed : List ℕ) (r : Reader) (tops : Tops) → HasCounted fed r tops → length fed ≤ TAGS_LIMIT → tops.depth + tops.ended < 9223372036854775808
+pub few_counted_tops : (fed : List ℕ) (r : Reader) (tops : Tops) → HasCounted fed r tops → length fed < 2 ^ 63 → tops.depth + tops.ended < 2 ^ 63
 few_counted_tops fed r tops h few = omega (arith, few_tops fed h.handed r h.read, ap total h.counted)
 
 -- one event more is handed out and counted

@@ -11,6 +11,8 @@ use Rattle.daapshare.specs.declared.fault.Fault.{Fault}
 use Rattle.daapshare.specs.declared.fault.Fault.TheVariants.{Words, Query, Meta, Records, Tags, Text, Codes, Read, Write, InputLimit, Memory}
 use Rattle.daapshare.specs.Faults.{fault_line, fault_status, words_fault}
 use Rattle.daapshare.specs.Seen.{InputSeen, OutputSeen, IsUnread}
+use Rattle.code_table.specs.Standard.{standard_rows}
+use Rattle.daapshare.specs.Codes.{code_lines}
 use Rattle.daapshare.specs.Commands.{Says, Gives, MayRead, IsDone, IsBegun, IsCause, IsFront}
 use Rattle.daapshare.specs.Runs.{Told, Ending, Done, OutputCut, Refused, LineCut, ending_status, Happens, Ends, Decides, IsDecided, IsWritten, Tells, TellsFault}
 use Rattle.daapshare.specs.Answers.{Answers}
@@ -105,6 +107,18 @@ ends_answered command told status history (Ok answer) done begun cause before t 
     at_end (inl w) = (Done answer.output.items, w.0, (is_done, w.1))
     at_end (inr w) = (OutputCut answer.output.items, w.0, (begun history answer.output.items is_done, w.1))
 ends_answered command told status history (Err fault) done begun cause before t = ends_refused command told status history fault cause t.0 (before fault) t.1
+
+-- `codes` leaves the input as it was, and its output is the standard table
+pub codes_done : (input : InputSeen) (answer : Result Answer Fault)
+    → IfOk answer (λ a. (a.history ≡ None) × (a.output.items ≡ code_lines standard_rows))
+    → IfOk answer (λ a. IsDone (Some (variant.Codes false)) input input a.history a.output.items)
+codes_done input (Ok answer) done = record { unread = record { left = refl; faults = refl }; unopened = done.0; written = done.1 }
+codes_done input (Err fault) done = tt
+
+pub codes_failed : (input : InputSeen) (answer : Result Answer Fault) → IfErr answer (λ fault. fault ≡ Memory)
+    → IfErr answer (λ fault. IsCause (Some (variant.Codes false)) input input fault)
+codes_failed input (Ok answer) cause = tt
+codes_failed input (Err fault) cause = subst (IsCause (Some (variant.Codes false)) input input) (sym cause) (record { left = refl; faults = refl })
 
 -- the ends of `show`
 pub ends_shown : (told : Told) (lines : List ℕ) → IsShownWhole told.input_before told.input_after None lines → IsWritten told.output_before told.output_after lines

@@ -1,5 +1,5 @@
 -- What the bytes of a reply, read so far, tell of the whole input.
-use Rattle.std.proofs.Common.{◌≡◌, ◌≢◌, ◌+◌, ◌<◌, ◌≤◌, ◌⊎◌, ◌++◌, ◌&&◌, nat_lt, nat_le, ℕ, List, [], ◌∷◌, length, take, drop, Bool, true, false, if◌then◌else◌, Option, Some, None, IfSome, Ok, Err, inl, inr, refl, sym, ap, subst, ◌∙◌, arith, length-append, append_assoc, append-nil}
+use Rattle.std.proofs.Common.{◌≡◌, ◌≢◌, ◌+◌, ◌<◌, ◌≤◌, ◌⊎◌, ◌++◌, ◌&&◌, nat_lt, nat_le, ℕ, List, [], ◌∷◌, length, take, drop, Bool, true, false, if◌then◌else◌, Option, Some, None, IfSome, IfOk, IfErr, MatchOption, Result, Ok, Err, inl, inr, refl, sym, ap, subst, ◌∙◌, arith, length-append, append_assoc, append-nil}
 use Rattle.std.specs.Io.KnownBytes.{Consumes, IsAtEnd}
 use Rattle.std.proofs.Math.Seq.{take-append_seam, drop-append_seam}
 use Rattle.std.proofs.lemmas.List.{take-append-drop, length-take, length-drop, take-append-le}
@@ -54,34 +54,6 @@ whole_in_front t rest bytes h =
 
 pub none_yet : (bytes : List ℕ) → is_whole bytes ≡ false → HasNoTag bytes
 none_yet bytes short t rest h = let same : true ≡ false = sym (whole_in_front t rest bytes h) ∙ short in absurd (cc)
-
--- bytes in which no place is faulty tell a payload within the limit
-told_within : (bytes : List ℕ) → 8 ≤ length bytes → ((e : StreamError) → (walked bytes).ending ≢ broken e) → told_length (take 8 bytes) ≤ tag_limit
-told_within bytes many sound = at_limit (nat_lt tag_limit (told_length (take 8 bytes))) refl
-  where
-    head : IsHead (take 8 bytes) (code_of (take 8 bytes)) (told_length (take 8 bytes))
-    head = head_in_front bytes many
-
-    at_limit : (b : Bool) → nat_lt tag_limit (told_length (take 8 bytes)) ≡ b → told_length (take 8 bytes) ≤ tag_limit
-    at_limit false is = ltb-false tag_limit (told_length (take 8 bytes)) is
-    at_limit true is = absurd (sound (stream.TooLarge 0) (
-        ap (λ l. (walked l).ending) (sym (take-append-drop 8 bytes))
-        ∙ place_ends standard_rows tag_limit 0 [] (take 8 bytes ++ drop 8 bytes)
-        ∙ ap (λ (w : Walk). w.ending) (head_fault (walk_from standard_rows tag_limit) standard_rows tag_limit 0 [] (take 8 bytes) (drop 8 bytes) _ _ head)
-        ∙ (rw is refl)))
-
--- there are fewer bytes than a top tag may have
-pub short_is_small : (bytes : List ℕ) → is_whole bytes ≡ false → ((e : StreamError) → (walked bytes).ending ≢ broken e) → length bytes < tag_limit + 8
-short_is_small bytes short sound = elim (cases_lt (length bytes) 8) [
-  | inl few ↦ omega arith
-  | inr many ↦ at_told many (cases_lt (length (drop 8 bytes)) (told_length (take 8 bytes)))
-]
-  where
-    at_told : 8 ≤ length bytes → (length (drop 8 bytes) < told_length (take 8 bytes)) ⊎ (told_length (take 8 bytes) ≤ length (drop 8 bytes)) → length bytes < tag_limit + 8
-    at_told many (inl less) = let told = told_within bytes many sound in omega (arith, length-drop 8 bytes)
-    at_told many (inr whole) =
-        let same : true ≡ false = sym (and_from (nat_le 8 (length bytes)) (nat_le (told_length (take 8 bytes)) (length (drop 8 bytes)))
-        (le-leb 8 (length bytes) many) (le-leb (told_length (take 8 bytes)) (length (drop 8 bytes)) whole)) ∙ short in absurd (cc)
 
 -- a tag alone ends between two
 alone : (t : Tree) (bytes : List ℕ) → spelling t ≡ bytes → is_accepted standard_rows tag_limit t ≡ true → IsProperTag t → (walked bytes).ending ≡ between
@@ -233,7 +205,7 @@ learn_cause before after bytes Memory read faultless stop = tt
 
 pub begun : (bytes : List ℕ) (learner : Learner) → IsLearning bytes learner → IsBegun bytes
 begun bytes learner h = record {
-  open_ = none_yet bytes h.short;
+  open_ = h.open_;
   sound = λ e is. unbroken bytes learner.counter.reader learner.counter.tops e h.counted.counted is;
 }
 
@@ -272,3 +244,16 @@ failed_begun before after bytes read h rose = (record { bytes = bytes; read = re
 pub failed_behind : (before after : InputSeen) (bytes : List ℕ) (rows : List CodeRow) → Consumes before.left after.left bytes → IsReply rows bytes
     → Rose before.faults after.faults → IsCause (Some (command.Codes true)) before after Read
 failed_behind before after bytes rows read reply rose = (record { bytes = bytes; read = read; good = inr (rows, reply) }, rose)
+
+-- what judging the bytes says, where they are broken
+pub told_broken : (P : Type 0) (bytes : List ℕ) (r : Result (Option (List CodeRow)) Fault) → (IsBegun bytes → ⊥)
+    → IfOk r (λ learned. MatchOption learned (IsBegun bytes) (λ rows. IsReply rows bytes)) → IfOk r (λ learned. MatchOption learned P (λ rows. IsReply rows bytes))
+told_broken P bytes (Ok None) sound told = absurd (sound told)
+told_broken P bytes (Ok (Some rows)) sound told = told
+told_broken P bytes (Err f) sound told = tt
+
+pub all_stop : (bytes : List ℕ) (r : Result (Option (List CodeRow)) Fault)
+    → ((e : StreamError) → (walked bytes).ending ≡ broken e → (rest : List ℕ) → (walked (bytes ++ rest)).ending ≡ broken e)
+    → IfErr r (IsRefusal bytes) → IfErr r (LearnStops bytes)
+all_stop bytes (Ok learned) breaks refused = tt
+all_stop bytes (Err f) breaks refused = stops_all bytes f breaks refused

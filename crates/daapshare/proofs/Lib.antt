@@ -6,3 +6,4 @@ pub mod Showing
 pub mod Agreed
 pub mod Endings
 pub mod Learned
+pub mod Backed

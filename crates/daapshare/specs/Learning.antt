@@ -1,5 +1,5 @@
 -- What was read of a reply of content codes before it is whole.
-use Rattle.std.specs.Prelude.{◌≡◌, ◌≢◌, ◌++◌, ◌&&◌, nat_le, ℕ, List, length, take, drop, Bool, false}
+use Rattle.std.specs.Prelude.{◌≡◌, ◌≢◌, ◌++◌, ◌&&◌, nat_le, ℕ, List, length, take, drop, Bool}
 use Rattle.dmap_stream.specs.Walk.{told_length, broken}
 use Rattle.dmap_stream.specs.declared.refusal.StreamError.TheVariants as stream
 use Rattle.daapshare.specs.declared.fault.Fault.{Fault}
@@ -13,11 +13,11 @@ use Rattle.daapshare.specs.Learns.{HasNoTag, HasNoReply, IsReplyRefused}
 abbrev pub is_whole : List ℕ → Bool
 is_whole bytes = nat_le 8 (length bytes) && nat_le (told_length (take 8 bytes)) (length (drop 8 bytes))
 
--- the learner has these bytes, and its reader was fed them; there are fewer than their head tells
+-- the learner has these bytes, in front of which no whole tag stands, and its reader was fed them
 pub record IsLearning (fed : List ℕ) (learner : Learner) : Type 0 where
   pub bytes : learner.bytes.items ≡ fed
   pub counted : IsCounted fed learner.counter
-  pub short : is_whole fed ≡ false
+  pub open_ : HasNoTag fed
 
 -- the fault of these bytes alone
 abbrev pub IsRefusal : List ℕ → Fault → Type 0

@@ -43,6 +43,7 @@ pub fn unshown<I: Source>(alloc: Global, input: &mut I) -> Result<Vec<u8>, Fault
 
 /// The tags that a text shows.
 fn tags_shown(alloc: Global, bytes: &[u8]) -> Result<Tags, Fault>
+    requires { length bytes.now ≤ TEXT_LIMIT }
     ensures text { IfOk result (λ _. is_utf8 bytes.now ≡ true) }
     ensures shown { IfOk result (λ tags. Shows standard_rows bytes.now tags) }
     ensures refused { IfErr result (λ fault. IsTextFault bytes.now fault) }
@@ -63,7 +64,8 @@ fn tags_shown(alloc: Global, bytes: &[u8]) -> Result<Tags, Fault>
 
 /// The line, counted from 1, that a place of a text stands on.
 fn line_at(text: &[u8], place: usize) -> u64
-    requires { place ≤ length text.now }
+    requires within { length text.now ≤ TEXT_LIMIT }
+    requires there { place ≤ length text.now }
     ensures { result ≡ line_at place text.now }
 {
     let (front, _) = text.split_at(place);
@@ -77,6 +79,7 @@ fn line_at(text: &[u8], place: usize) -> u64
 }
 
 /// The bytes of tags, none of which is too long.
+#[tactic(auto, using(dmap_tags::proofs::Lengths::spellable_at))]
 fn bytes_of(alloc: Global, tags: &[Tag]) -> Result<Vec<u8>, AllocError>
     requires { are_spellable (trees_of tags.now) ≡ true }
     ensures { IfOk result (λ bytes. bytes.items ≡ spellings (trees_of tags.now)) }

@@ -1,6 +1,6 @@
 //! The command `check`: tags are read as they come, and counted.
 
-ghost use Rattle.std.specs.Prelude.{◌≡◌, ◌+◌, ◌≤◌, ◌++◌, ◌∷◌, [], ℕ, List, length, codes, decimal, Some, None, IfOk, IfErr};
+ghost use Rattle.std.specs.Prelude.{◌≡◌, ◌+◌, ◌<◌, ◌≤◌, ◌^◌, ◌++◌, ◌∷◌, [], ℕ, List, length, codes, decimal, Some, None, IfOk, IfErr};
 ghost use Rattle.std.specs.Io.KnownBytes.{Consumes, IsAtEnd};
 ghost use Rattle.dmap_stream.specs.Reader.{ready};
 ghost use Rattle.daapshare_words.specs.declared.words.Command.TheVariants.{Check as check_command};
@@ -64,7 +64,7 @@ impl Counter {
 
     /// Feeds all bytes to the reader, and counts their events.
     pub fn feed(&mut self, piece: &[u8]) -> Result<(), StreamError>
-        requires { (fed : List ℕ) × IsCounted fed self.old × (length fed + length piece.now ≤ TAGS_LIMIT) }
+        requires { (fed : List ℕ) × IsCounted fed self.old × (length fed + length piece.now < 2 ^ 63) }
         ensures fed { (fed : List ℕ) → IsCounted fed self.old
             → IfOk result (λ _. IsCounted (fed ++ piece.now) self.new) }
         ensures stopped { (fed : List ℕ) → IsCounted fed self.old
@@ -86,7 +86,7 @@ impl Counter {
 
     /// Counts all events that are ready.
     fn count_ready(&mut self)
-        requires { (fed : List ℕ) × HasCounted fed self.old.reader self.old.tops × (length fed ≤ TAGS_LIMIT) }
+        requires { (fed : List ℕ) × HasCounted fed self.old.reader self.old.tops × (length fed < 2 ^ 63) }
         ensures counted { (fed : List ℕ) → HasCounted fed self.old.reader self.old.tops
             → HasCounted fed self.new.reader self.new.tops }
         ensures quiet { ready self.new.reader ≡ [] }

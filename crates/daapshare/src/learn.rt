@@ -1,6 +1,6 @@
 //! The command `codes --learn`: the table that a reply to `/content-codes` tells.
 
-ghost use Rattle.std.specs.Prelude.{◌≡◌, ◌≤◌, ◌++◌, [], ℕ, List, length, true, None, Some, IfOk, IfErr, MatchOption};
+ghost use Rattle.std.specs.Prelude.{◌≡◌, ◌++◌, [], ℕ, List, length, true, None, Some, IfOk, IfErr, MatchOption};
 ghost use Rattle.std.specs.Io.KnownBytes.{Consumes};
 ghost use Rattle.daapshare_words.specs.declared.words.Command.TheVariants.{Codes as codes_command};
 ghost use Rattle.daapshare.specs.Commands.{IsCause};
@@ -35,8 +35,7 @@ impl Learner {
 
     /// Takes more bytes, and answers the table where they end its reply.
     fn take(&mut self, alloc: Global, piece: &[u8]) -> Result<Option<CodeTable>, Fault>
-        requires learning { (fed : List ℕ) × IsLearning fed self.old }
-        requires few { length piece.now ≤ PIECE }
+        requires { (fed : List ℕ) × IsLearning fed self.old }
         ensures took { (fed : List ℕ) → IsLearning fed self.old → IfOk result (λ learned. MatchOption learned
             (IsLearning (fed ++ piece.now) self.new)
             (λ table. IsReply table (fed ++ piece.now))) }
@@ -45,9 +44,11 @@ impl Learner {
     {
         self.bytes.extend_from_slice(piece)?;
         match self.counter.feed(piece) {
-            Err(StreamError::Memory) => Err(Fault::Memory),
             Ok(()) if !is_whole(self.bytes.as_slice()) => Ok(None),
-            _ => judged(alloc, self.bytes.as_slice()),
+            Ok(()) => judged(alloc, self.bytes.as_slice()),
+            Err(StreamError::Memory) => Err(Fault::Memory),
+            // The faulty place may lie behind the first tag.
+            Err(_) => judged(alloc, self.bytes.as_slice()),
         }
     }
 }
@@ -72,7 +73,10 @@ fn judged(alloc: Global, bytes: &[u8]) -> Result<Option<CodeTable>, Fault>
     let standard = CodeTable::standard(alloc)?;
     match read_tag(alloc, bytes, &standard, Limits { top: TAG_LIMIT }) {
         Ok((tag, len)) => {
-            let table = CodeTable::from_reply(alloc, &tag)?;
+            let table = match CodeTable::from_reply(alloc, &tag) {
+                Ok(table) => table,
+                Err(error) => return Err(Fault::from(error)),
+            };
             if len < bytes.len() {
                 return Err(Fault::Codes(CodeError::NotReply));
             }
@@ -100,7 +104,7 @@ fn told_table<I: Source>(alloc: Global, input: &mut I) -> Result<CodeTable, Faul
             Err(Failed) => return Err(Fault::Read),
         };
         if n == 0 {
-            let at = learner.bytes.len() as u64;
+            let at = learner.counter.bytes;
             return Err(Fault::Tags(StreamError::Truncated { at }));
         }
         let (read, _) = piece.split_at(n);

@@ -1,6 +1,5 @@
-use Rattle.std.proofs.Common.{◌≡◌, ◌-◌, ℕ, List}
+use Rattle.std.proofs.Common.{◌≡◌, ◌-◌, ◌^◌, ℕ, List}
 use Rattle.std.specs.Io.KnownBytes.{Consumes}
-use Rattle.daapshare.specs.declared.check.TheConstants.{TAGS_LIMIT}
 use Rattle.daapshare.specs.Learning.{IsLearning}
 use Rattle.daapshare.proofs.learn.told_table.Given as goal
 
@@ -14,4 +13,4 @@ invariant-loop-n g l = record {
 }
 
 abbrev pub decreases-loop-n : goal.decreases-loop-n
-decreases-loop-n g l = TAGS_LIMIT - l.learner.counter.bytes
+decreases-loop-n g l = 2 ^ 64 - l.learner.counter.bytes

@@ -1,9 +1,9 @@
-use Rattle.std.proofs.Common.{rules, ◌≡◌, ℕ, Bool, List, [], Option, Some, true, option_copied, refl, sym, subst}
+use Rattle.std.proofs.Common.{rules, ◌≡◌, ℕ, Bool, List, Option, Some, true, false, option_copied, refl, sym, subst}
 use Rattle.daapshare_words.specs.declared.words.Command.{Command}
 use Rattle.daapshare_words.specs.declared.words.Command.TheVariants as command
-use Rattle.daapshare.specs.declared.fault.Fault.TheVariants.{Words}
+use Rattle.daapshare.specs.Seen.{InputSeen}
 use Rattle.daapshare.specs.Runs.{Told, Ends}
-use Rattle.daapshare.proofs.Endings.{ends_answered, ends_refused}
+use Rattle.daapshare.proofs.Endings.{ends_answered, codes_done, codes_failed}
 use Rattle.daapshare.proofs.run.obeyed.Goals as goal
 
 pub returns-in-List : goal.returns-in-List
@@ -39,24 +39,47 @@ pub returns-in-Show-true : goal.returns-in-Show-true
 returns-in-Show-true g c =
     let told : Told = record {
       input_before = record { left = g.I.Source.left c.args.input.now; faults = g.I.Faulted.faults c.args.input.now };
-      input_after = record { left = g.I.Source.left c.args.input.now; faults = g.I.Faulted.faults c.args.input.now };
+      input_after = record { left = g.I.Source.left c.shown_back-answer.new.input; faults = g.I.Faulted.faults c.shown_back-answer.new.input };
       output_before = record { taken = g.W.Sink.taken c.args.output.now; faults = g.W.Faulted.faults c.args.output.now };
-      output_after = record { taken = g.W.Sink.taken c.refused.new.output; faults = g.W.Faulted.faults c.refused.new.output };
+      output_after = record { taken = g.W.Sink.taken c.written-in-Show-true.new.output; faults = g.W.Faulted.faults c.written-in-Show-true.new.output };
     } in
+    let status = c.written-in-Show-true.result.status in
+    let history = c.written-in-Show-true.result.history in
     let back : c.in-Show-true.back ≡ true = search rules in
-    subst (λ (asked : Command). Ends (Some asked) told c.refused.result.status c.refused.result.history) (sym c.in-Show-true.is)
-    (subst (λ (b : Bool). Ends (Some (command.Show b)) told c.refused.result.status c.refused.result.history) (sym back)
-    (ends_refused (Some (command.Show true)) told c.refused.result.status c.refused.result.history Words (refl, record { left = refl; faults = refl }) c.refused.ensures.history refl
-    c.refused.ensures.told))
+    subst (λ (asked : Command). Ends (Some asked) told status history) (sym c.in-Show-true.is)
+    (subst (λ (b : Bool). Ends (Some (command.Show b)) told status history) (sym back)
+    (ends_answered (Some (command.Show true)) told status history c.shown_back-answer.result c.shown_back-answer.ensures.done (λ _ _ done. done) c.shown_back-answer.ensures.cause
+    (λ _. refl) c.written-in-Show-true.ensures))
 
-pub returns-in-Codes : goal.returns-in-Codes
-returns-in-Codes g c =
+pub returns-in-Codes-true : goal.returns-in-Codes-true
+returns-in-Codes-true g c =
     let told : Told = record {
       input_before = record { left = g.I.Source.left c.args.input.now; faults = g.I.Faulted.faults c.args.input.now };
-      input_after = record { left = g.I.Source.left c.args.input.now; faults = g.I.Faulted.faults c.args.input.now };
+      input_after = record { left = g.I.Source.left c.learns-answer.new.input; faults = g.I.Faulted.faults c.learns-answer.new.input };
       output_before = record { taken = g.W.Sink.taken c.args.output.now; faults = g.W.Faulted.faults c.args.output.now };
-      output_after = record { taken = g.W.Sink.taken c.refused-in-Codes.new.output; faults = g.W.Faulted.faults c.refused-in-Codes.new.output };
+      output_after = record { taken = g.W.Sink.taken c.written-in-Codes-true.new.output; faults = g.W.Faulted.faults c.written-in-Codes-true.new.output };
     } in
-    subst (λ (asked : Command). Ends (Some asked) told c.refused-in-Codes.result.status c.refused-in-Codes.result.history) (sym c.in-Codes.is)
-    (ends_refused (Some (command.Codes c.in-Codes.learn)) told c.refused-in-Codes.result.status c.refused-in-Codes.result.history Words (refl, record { left = refl; faults = refl }) c.refused-in-Codes.ensures.history refl
-    c.refused-in-Codes.ensures.told)
+    let status = c.written-in-Codes-true.result.status in
+    let history = c.written-in-Codes-true.result.history in
+    let learn : c.in-Codes-true.learn ≡ true = search rules in
+    subst (λ (asked : Command). Ends (Some asked) told status history) (sym c.in-Codes-true.is)
+    (subst (λ (b : Bool). Ends (Some (command.Codes b)) told status history) (sym learn)
+    (ends_answered (Some (command.Codes true)) told status history c.learns-answer.result c.learns-answer.ensures.done (λ _ _ done. done) c.learns-answer.ensures.cause
+    (λ _. refl) c.written-in-Codes-true.ensures))
+
+pub returns-in-Codes-false : goal.returns-in-Codes-false
+returns-in-Codes-false g c =
+    let input : InputSeen = record { left = g.I.Source.left c.args.input.now; faults = g.I.Faulted.faults c.args.input.now } in
+    let told : Told = record {
+      input_before = input;
+      input_after = input;
+      output_before = record { taken = g.W.Sink.taken c.args.output.now; faults = g.W.Faulted.faults c.args.output.now };
+      output_after = record { taken = g.W.Sink.taken c.written-in-Codes-false.new.output; faults = g.W.Faulted.faults c.written-in-Codes-false.new.output };
+    } in
+    let status = c.written-in-Codes-false.result.status in
+    let history = c.written-in-Codes-false.result.history in
+    let learn : c.in-Codes-false.learn ≡ false = search rules in
+    subst (λ (asked : Command). Ends (Some asked) told status history) (sym c.in-Codes-false.is)
+    (subst (λ (b : Bool). Ends (Some (command.Codes b)) told status history) (sym learn)
+    (ends_answered (Some (command.Codes false)) told status history c.codes-answer.result (codes_done input c.codes-answer.result c.codes-answer.ensures.done)
+    (λ _ _ done. done) (codes_failed input c.codes-answer.result c.codes-answer.ensures.cause) (λ _. refl) c.written-in-Codes-false.ensures))

@@ -1,6 +1,5 @@
-use Rattle.std.proofs.Common.{rules, ◌≡◌, ◌+◌, ◌≤◌, ◌<◌, ◌++◌, [], ℕ, List, length, take, drop, refl, sym, subst, ap, ◌∙◌, arith, length-append, append_assoc}
+use Rattle.std.proofs.Common.{rules, ◌≡◌, ◌+◌, ◌<◌, ◌^◌, ◌++◌, [], ℕ, List, length, take, drop, refl, sym, subst, ap, ◌∙◌, arith, length-append, append_assoc}
 use Rattle.std.proofs.lemmas.List.{append-nil, length-take, length-drop, take-append-drop}
-use Rattle.daapshare.specs.declared.check.TheConstants.{TAGS_LIMIT}
 use Rattle.daapshare.specs.Counting.{HasCounted, IsCounted}
 use Rattle.daapshare.proofs.Counted.{none_left, counted_fed, counted_takes, shown}
 use Rattle.daapshare.proofs.check.Counter.feed.Goals as goal
@@ -29,7 +28,7 @@ count_ready-requires c =
     let front = c.loop-rest.invariant.front in
     let rest = c.loop-rest.rest.now in
     let more = take c.in-Ok.taken rest in
-    let within : length (fed ++ (front ++ more)) ≤ TAGS_LIMIT =
+    let within : length (fed ++ (front ++ more)) < 2 ^ 63 =
     omega (arith, c.requires.2, length-append fed (front ++ more), length-append front more, length-take c.in-Ok.taken rest, ap length c.loop-rest.invariant.split, length-append front rest) in (
       fed ++ (front ++ more),
       counted_fed (fed ++ front) more (fed ++ (front ++ more)) c.loop-rest.self.reader c.feed.new.self c.loop-rest.self.tops (c.loop-rest.invariant.counted fed c.requires.1)
