@@ -15,7 +15,7 @@ use Rattle.dmap_stream.specs.declared.refusal.StreamError.TheVariants.{ShortHead
 use Rattle.dmap_stream.specs.Walk.{Walk, between, inside, ends, behind, container, is_empty, broken, is_list, closes, open_after, is_short, parent_of, fault_at, told_length, Onward, at_payload, at_body, unless_fault, behind_head, at_head, at_place, walk, walk_from, walk_of}
 use Rattle.dmap_stream.specs.Reader.{Reader, ready, HasRead, TellsAs}
 use Rattle.dmap_stream.proofs.Readings.{told}
-use Rattle.daapshare.specs.Checks.{with_tag, after_event, no_tops}
+use Rattle.daapshare.specs.Counting.{with_tag, after_event, no_tops}
 use Rattle.daapshare.specs.declared.tops.Tops.{Tops}
 
 abbrev events_in : Walk → ℕ
