@@ -17,7 +17,7 @@ use Rattle.dmap_show.proofs.Once.{shown_once}
 use Rattle.dmap_stream.proofs.OneTag.{one_tag}
 use Rattle.dmap_stream.specs.Walk.{Walk, between, inside, broken}
 use Rattle.dmap_stream.specs.declared.refusal.StreamError.{StreamError}
-use Rattle.records_import.specs.Table.{table_of}
+use Rattle.records_import.specs.Table.{table_of as records_of}
 use Rattle.records_import.proofs.Once.{batch_once}
 use Rattle.song_query.proofs.Once.{answers_once}
 use Rattle.daapshare.specs.declared.fault.Fault.{Fault}
@@ -274,7 +274,7 @@ listed_or_refused query meta input fault.Words listable says = says
 listed_or_refused query meta input (fault.Query error) listable says = query_is_read query meta error listable.asked says
 listed_or_refused query meta input fault.Meta listable says = meta_is_read query meta listable.asked says
 listed_or_refused query meta input (fault.Records error) listable says =
-    batch_once (table_of input) listable.edits error says.1.cause listable.read.read says.1.refused
+    batch_once (records_of input) listable.edits error says.1.cause listable.read.read says.1.refused
 listed_or_refused query meta input (fault.Tags error) listable says = says
 listed_or_refused query meta input (fault.Text line) listable says = says
 listed_or_refused query meta input (fault.Codes error) listable says = says
