@@ -1,10 +1,9 @@
 -- What a shower has shown, before and after a call.
-use Rattle.std.proofs.Common.{◌≡◌, ◌≢◌, ◌⊎◌, inl, inr, ℕ, zero, suc, pred, ◌+◌, ◌-◌, ◌<◌, ◌≤◌, List, [], ◌∷◌, ◌++◌, length, take, fold, Option, Some, None, Result, Ok, Err, IfSome, IfErr, false, refl, sym, ap, subst, ◌∙◌, arith, length-append, append_assoc}
-use Rattle.std.specs.Io.KnownBytes.{Consumes, Appends, IsAtEnd, Keeps}
+use Rattle.std.proofs.Common.{◌≡◌, ◌≢◌, ℕ, zero, suc, pred, ◌+◌, ◌-◌, ◌<◌, ◌≤◌, List, [], ◌∷◌, ◌++◌, length, take, fold, Option, Some, None, Result, Ok, Err, IfSome, IfErr, false, refl, sym, ap, subst, ◌∙◌, arith, length-append, append_assoc}
+use Rattle.std.specs.Io.KnownBytes.{Consumes, Appends, IsAtEnd}
 use Rattle.std.proofs.KnownBytes.{Appends-trans, Appends-nil, Consumes-nil}
 use Rattle.std.proofs.lemmas.List.{append-nil, take-append-le, take_at, take_all}
 use Rattle.std.proofs.Math.Seq.{take-append-add}
-use Rattle.daap_outside.specs.Told.{AppendsPrefix}
 use Rattle.daap_outside.specs.Counts.{Rose}
 use Rattle.daapshare_words.specs.declared.words.Command.TheVariants as command
 use Rattle.dmap_show.specs.Events.{shown_event, level_after, shown_events}
@@ -12,11 +11,11 @@ use Rattle.dmap_stream.specs.declared.event.Event.{Event}
 use Rattle.dmap_stream.specs.declared.event.Event.TheVariants.{Open, Leaf, Close}
 use Rattle.dmap_stream.specs.declared.refusal.StreamError.{StreamError}
 use Rattle.dmap_stream.specs.declared.refusal.StreamError.TheVariants as stream
-use Rattle.dmap_stream.specs.Walk.{Walk, between, inside, broken, walk_of}
+use Rattle.dmap_stream.specs.Walk.{broken, walk_of}
 use Rattle.dmap_stream.specs.Reading.{resumed}
 use Rattle.dmap_stream.specs.Reader.{Reader, ready, ReadAs, HasRead, TellsAs}
 use Rattle.dmap_stream.proofs.Readings.{told}
-use Rattle.daapshare.specs.declared.check.TheConstants.{TAGS_LIMIT, TAG_LIMIT}
+use Rattle.daapshare.specs.declared.check.TheConstants.{TAGS_LIMIT}
 use Rattle.daapshare.specs.declared.check.Counter.{Counter}
 use Rattle.daapshare.specs.declared.fault.Fault.{Fault}
 use Rattle.daapshare.specs.declared.fault.Fault.TheVariants.{Words, Query, Meta, Records, Tags, Text, Codes, Read, Write, InputLimit, Memory}
@@ -26,8 +25,8 @@ use Rattle.daapshare.specs.declared.show.Stop.{Stop}
 use Rattle.daapshare.specs.declared.show.Stop.TheVariants.{Input, Output}
 use Rattle.daapshare.specs.Faults.{tags_fault}
 use Rattle.daapshare.specs.Seen.{InputSeen, OutputSeen}
-use Rattle.daapshare.specs.Checks.{walked, IsTooLong}
-use Rattle.daapshare.specs.Shows.{read_events, shown_text, BeginsShown, IsShownWhole, IsShownFront, ShowsAll, IsShownBefore}
+use Rattle.daapshare.specs.Checks.{walked}
+use Rattle.daapshare.specs.Shows.{read_events, shown_text, BeginsShown, IsShownWhole, ShowsAll, IsShownBefore}
 use Rattle.daapshare.specs.Commands.{IsCause}
 use Rattle.daapshare.specs.Counting.{after_event, no_tops, HasCounted, IsCounted, StopsAt, Ends}
 use Rattle.daapshare.specs.Runs.{IsWritten, IsCut}

@@ -24,6 +24,7 @@ pub each_small : (bytes : List ℕ) → ((i : ℕ) → get_or bytes i 0 < 256) �
 each_small [] h = tt
 each_small (b ∷ bytes) h = (h 0, each_small bytes (λ i. h (suc i)))
 
+-- two runs of bytes, one behind the other
 pub both_small : (xs ys : List ℕ) → AreBytes xs → AreBytes ys → AreBytes (xs ++ ys)
 both_small [] ys h k = k
 both_small (x ∷ xs) ys h k = (h.0, both_small xs ys h.1 k)
@@ -55,6 +56,7 @@ mutual
       ∙ ap (λ tops. fold after_event tops (events_of_all next ts rest)) (none_ends depth ended)
       ∙ members_counted depth ended next ts rest
 
+-- tags at the top end as many as they are
 all_counted : (ended at : ℕ) (ts : List Tree) → (fold after_event (counts 0 ended) (events_of_all at (trees_of ts) [])).ended ≡ ended + length ts
 all_counted ended at [] = omega arith
 all_counted ended at (t ∷ ts) =

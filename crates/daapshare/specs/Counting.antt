@@ -1,5 +1,5 @@
 -- What a counter of tags has counted of the bytes that it was given.
-use Rattle.std.specs.Prelude.{◌≡◌, ◌≢◌, ◌+◌, ◌-◌, ◌==◌, ◌++◌, ◌<◌, [], ℕ, List, length, take, fold, None, Result, Ok, Err, if◌then◌else◌}
+use Rattle.std.specs.Prelude.{◌≡◌, ◌≢◌, ◌+◌, ◌-◌, ◌==◌, ◌++◌, [], ℕ, List, length, take, fold, None, Result, Ok, Err, if◌then◌else◌}
 use Rattle.code_table.specs.Standard.{standard_rows}
 use Rattle.dmap_show.specs.Readable.{AreBytes}
 use Rattle.dmap_stream.specs.Walk.{between, inside, broken}

@@ -1,8 +1,8 @@
-use Rattle.std.proofs.Common.{rules, ◌≡◌, ◌+◌, ◌≤◌, ◌<◌, ◌++◌, ◌∙◌, [], ℕ, List, length, take, drop, Some, refl, sym, subst, ap, arith, length-append, append_assoc}
+use Rattle.std.proofs.Common.{rules, ◌≡◌, ◌≤◌, ◌<◌, ◌++◌, ◌∙◌, length, take, drop, Some, sym, subst, ap, arith, length-append, append_assoc}
 use Rattle.std.proofs.lemmas.List.{append-nil, length-take, length-drop, take-append-drop}
 use Rattle.std.proofs.lemmas.Result.{err_from_is_err_and}
 use Rattle.daapshare.specs.declared.check.TheConstants.{TAGS_LIMIT}
-use Rattle.daapshare.specs.Showing.{HasShown, IsShowing}
+use Rattle.daapshare.specs.Showing.{HasShown}
 use Rattle.daapshare.proofs.Counted.{none_left, counted_taken, counted_takes}
 use Rattle.daapshare.proofs.Showing.{shown_fed, counted_of, shows_some, shows_broken, stopped_memory, more_some}
 use Rattle.daapshare.proofs.Tagged.{each_small, both_small}
