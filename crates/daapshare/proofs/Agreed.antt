@@ -15,9 +15,9 @@ use Rattle.code_table.specs.Reply as reply
 use Rattle.code_table.specs.Standard.{standard_rows}
 use Rattle.dmap_show.proofs.Once.{shown_once}
 use Rattle.dmap_stream.proofs.OneTag.{one_tag}
-use Rattle.dmap_stream.specs.Walk.{between, inside, broken}
+use Rattle.dmap_stream.specs.Walk.{Walk, between, inside, broken}
 use Rattle.dmap_stream.specs.declared.refusal.StreamError.{StreamError}
-use Rattle.records_import.specs.Table.{table_of}
+use Rattle.records_import.specs.Table.{table_of as records_of}
 use Rattle.records_import.proofs.Once.{batch_once}
 use Rattle.song_query.proofs.Once.{answers_once}
 use Rattle.daapshare.specs.declared.fault.Fault.{Fault}
@@ -33,6 +33,7 @@ use Rattle.daapshare.specs.Backs.{ShowsBack, StopsOn, IsTextRefused, BackSays}
 use Rattle.daapshare.specs.Learns.{IsReply, TellsNone, IsReplyRefused, LearnSays}
 use Rattle.daapshare.specs.Commands.{Says, Gives, IsDone, IsUsage}
 use Rattle.daapshare.specs.declared.check.TheConstants.{TAGS_LIMIT}
+use Rattle.daapshare.proofs.Tagged.{tags_walked}
 
 -- a text that is read is not refused
 read_or_refused : (text : Option (List ℕ)) (asked : Option Query) (error : QueryError) → error ≢ query_error.Memory → AsksQuery text asked → HasRefusal text error → ⊥
@@ -139,15 +140,21 @@ check_status input fault.Read g f_says g_says = absurd f_says
 check_status input fault.Write g f_says g_says = absurd f_says
 check_status input fault.Memory g f_says g_says = absurd f_says
 
--- whole top tags have no fault
+-- tags end between two of them
+ends_between : (input : List ℕ) → IsSound input → (walked input).ending ≡ between
+ends_between input sound = ap (λ (w : Walk). w.ending) (tags_walked sound.1.0 input sound.1.1)
+
+-- they have no fault
 sound_or_faulty : (input : List ℕ) (f : Fault) → IsSound input → CheckSays (Some input) f → ⊥
 sound_or_faulty input fault.Words sound says = says
 sound_or_faulty input (fault.Query error) sound says = says
 sound_or_faulty input fault.Meta sound says = says
 sound_or_faulty input (fault.Records error) sound says = says
 sound_or_faulty input (fault.Tags error) sound says = elim says.shown [
-  | inl shown ↦ let ending : between ≡ broken error = sym sound.1 ∙ ap (λ bytes. (walked bytes).ending) (sym (take_all TAGS_LIMIT input sound.0)) ∙ shown in absurd (cc)
-  | inr cut ↦ let ending : between ≡ inside = sym sound.1 ∙ cut.ending in absurd (cc)
+  | inl shown ↦
+      let ending : between ≡ broken error =
+      sym (ends_between input sound) ∙ ap (λ bytes. (walked bytes).ending) (sym (take_all TAGS_LIMIT input sound.0)) ∙ shown in absurd (cc)
+  | inr cut ↦ let ending : between ≡ inside = sym (ends_between input sound) ∙ cut.ending in absurd (cc)
 ]
 sound_or_faulty input (fault.Text line) sound says = says
 sound_or_faulty input (fault.Codes error) sound says = says
@@ -267,7 +274,7 @@ listed_or_refused query meta input fault.Words listable says = says
 listed_or_refused query meta input (fault.Query error) listable says = query_is_read query meta error listable.asked says
 listed_or_refused query meta input fault.Meta listable says = meta_is_read query meta listable.asked says
 listed_or_refused query meta input (fault.Records error) listable says =
-    batch_once (table_of input) listable.edits error says.1.cause listable.read.read says.1.refused
+    batch_once (records_of input) listable.edits error says.1.cause listable.read.read says.1.refused
 listed_or_refused query meta input (fault.Tags error) listable says = says
 listed_or_refused query meta input (fault.Text line) listable says = says
 listed_or_refused query meta input (fault.Codes error) listable says = says
@@ -303,10 +310,12 @@ given (Some (command.List query meta)) input before after history output told do
   edits = done.edits;
   read = subst (λ left. IfSome left (ReadsAs done.edits)) told done.read;
 }
-given (Some (command.Show false)) input before after history output told done = subst IsSound (sym (read_whole input before.left after.left done.bytes told done.read done.end)) done.sound
+given (Some (command.Show false)) input before after history output told done =
+    subst IsSound (sym (read_whole input before.left after.left done.bytes told done.read done.end)) (done.within, (done.tags, done.sound))
 given (Some (command.Show true)) input before after history output told done =
     (done.tags, subst (ShowsBack done.tags) (sym (read_whole input before.left after.left done.bytes told done.read done.end)) done.back)
-given (Some command.Check) input before after history output told done = subst IsSound (sym (read_whole input before.left after.left done.bytes told done.read done.end)) done.sound
+given (Some command.Check) input before after history output told done =
+    subst IsSound (sym (read_whole input before.left after.left done.bytes told done.read done.end)) (done.within, (done.tags, done.sound))
 given (Some (command.Codes false)) input before after history output told done = tt
 given (Some (command.Codes true)) input before after history output told done =
     (done.rows, subst (IsReply done.rows) (sym (read_whole input before.left after.left done.bytes told done.read done.end)) done.reply)

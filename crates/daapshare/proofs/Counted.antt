@@ -1,5 +1,5 @@
 -- What a counter has counted, before and after a call.
-use Rattle.std.proofs.Common.{◌≡◌, ◌≢◌, ◌⊎◌, inl, inr, ℕ, ◌+◌, ◌-◌, ◌<◌, ◌≤◌, ◌^◌, List, [], ◌∷◌, ◌++◌, length, take, drop, fold, Bool, true, false, if◌then◌else◌, Option, Some, None, Result, Ok, Err, IfSome, MatchResult, refl, sym, ap, subst, ◌∙◌, arith, length-append, append_assoc}
+use Rattle.std.proofs.Common.{◌≡◌, ◌≢◌, ◌⊎◌, inl, inr, ℕ, ◌+◌, ◌-◌, ◌<◌, ◌≤◌, ◌^◌, List, [], ◌∷◌, ◌++◌, length, take, drop, fold, Bool, true, false, if◌then◌else◌, Option, Some, None, Result, Ok, Err, IfSome, MatchResult, codes, decimal, refl, sym, ap, subst, ◌∙◌, arith, length-append, append_assoc}
 use Rattle.std.specs.Io.KnownBytes.{Consumes, IsAtEnd}
 use Rattle.std.proofs.lemmas.List.{append-nil, take-append-le, take_at}
 use Rattle.std.proofs.Math.Seq.{take-append-add}
@@ -20,10 +20,11 @@ use Rattle.daapshare.specs.declared.fault.Fault.TheVariants.{Words, Query, Meta,
 use Rattle.daapshare.specs.declared.tops.Tops.{Tops}
 use Rattle.daapshare.specs.Faults.{tags_fault}
 use Rattle.daapshare.specs.Seen.{InputSeen}
-use Rattle.daapshare.specs.Checks.{walked, after_event, no_tops, top_tags, IsSound, IsTooLong, IsCutShort, HasTagFault, CheckSays}
+use Rattle.daapshare.specs.Checks.{walked, IsChecked, IsTooLong, HasTagFault}
 use Rattle.daapshare.specs.Commands.{IsCause}
-use Rattle.daapshare.specs.Counting.{HasCounted, IsCounted, IsShown, StopsAt, Ends}
+use Rattle.daapshare.specs.Counting.{after_event, no_tops, top_tags, HasCounted, IsCounted, IsShown, StopsAt, Ends}
 use Rattle.daapshare.proofs.Counting.{total, few_tops, counted_more, takes_some}
+use Rattle.daapshare.proofs.Tagged.{some_tags, tags_counted}
 
 pub none_left : (bytes : List ℕ) → length bytes ≡ 0 → bytes ≡ []
 none_left [] h = refl
@@ -206,3 +207,24 @@ pub cut_cause : (before after : InputSeen) (bytes : List ℕ) (e : StreamError) 
 cut_cause before after bytes e fault read end faultless within ends is =
     subst (IsCause (Some command.Check) before after) (sym (is ∙ ap tags_fault ends.1))
     (record { said = cut_as before.left after.left bytes (length bytes) refl read end within ends.0; faultless = faultless })
+
+-- an input that was read to its end, and ends between two top tags
+pub ended_checked : (before after : InputSeen) (bytes line : List ℕ) (counter : Counter) (count : ℕ) → IsCounted bytes counter → length bytes ≤ TAGS_LIMIT
+    → Consumes before.left after.left bytes → IsAtEnd after.left → after.faults ≡ before.faults → Ends bytes (Ok count)
+    → line ≡ codes "ok " ++ decimal count ++ codes " tags " ++ decimal counter.bytes ++ codes " bytes" ++ 10 ∷ [] → IsChecked before after None line
+ended_checked before after bytes line counter count counted within read end faultless ends told =
+    let found = some_tags bytes counted.small ends.0 in
+    let many : count ≡ length found.0 = ends.1 ∙ tags_counted found.0 bytes found.1 in
+    record {
+      bytes = bytes;
+      read = read;
+      end = end;
+      faultless = faultless;
+      within = within;
+      tags = found.0;
+      sound = found.1;
+      unopened = refl;
+      written =
+          told ∙ ap (λ n. codes "ok " ++ decimal n ++ codes " tags " ++ decimal counter.bytes ++ codes " bytes" ++ 10 ∷ []) many
+          ∙ ap (λ n. codes "ok " ++ decimal (length found.0) ++ codes " tags " ++ decimal n ++ codes " bytes" ++ 10 ∷ []) counted.bytes;
+    }

@@ -1,5 +1,5 @@
 -- Bytes have few events, so that they can be counted; and what a reader's calls do to the count.
-use Rattle.std.proofs.Common.{◌≡◌, ◌≢◌, ℕ, zero, suc, ◌+◌, ◌-◌, ◌&&◌, ◌==◌, ◌<◌, ◌≤◌, List, [], ◌∷◌, ◌++◌, length, take, drop, fold, Bool, true, false, nat_lt, if◌then◌else◌, Option, Some, None, refl, sym, ap, subst, ◌∙◌, arith, length-append}
+use Rattle.std.proofs.Common.{◌≡◌, ◌≢◌, ℕ, zero, suc, ◌+◌, ◌-◌, ◌&&◌, ◌==◌, ◌<◌, ◌≤◌, List, [], ◌∷◌, ◌++◌, length, take, drop, fold, Bool, true, false, nat_lt, if◌then◌else◌, Option, Some, None, refl, ap, subst, ◌∙◌, arith, length-append}
 use Rattle.std.proofs.lemmas.Bool.{ltb-false}
 use Rattle.std.proofs.lemmas.List.{append-nil, length-drop}
 use Rattle.dmap_tags.specs.Codes.{Four, code_of}
@@ -15,7 +15,7 @@ use Rattle.dmap_stream.specs.declared.refusal.StreamError.TheVariants.{ShortHead
 use Rattle.dmap_stream.specs.Walk.{Walk, between, inside, ends, behind, container, is_empty, broken, is_list, closes, open_after, is_short, parent_of, fault_at, told_length, Onward, at_payload, at_body, unless_fault, behind_head, at_head, at_place, walk, walk_from, walk_of}
 use Rattle.dmap_stream.specs.Reader.{Reader, ready, HasRead, TellsAs}
 use Rattle.dmap_stream.proofs.Readings.{told}
-use Rattle.daapshare.specs.Checks.{with_tag, after_event, no_tops}
+use Rattle.daapshare.specs.Counting.{with_tag, after_event, no_tops}
 use Rattle.daapshare.specs.declared.tops.Tops.{Tops}
 
 abbrev events_in : Walk → ℕ

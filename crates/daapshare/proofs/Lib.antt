@@ -1,5 +1,6 @@
 pub mod Changes
 pub mod Listed
+pub mod Tagged
 pub mod Counting
 pub mod Counted
 pub mod Showing

@@ -1,10 +1,9 @@
 -- What a shower has shown, before and after a call.
-use Rattle.std.proofs.Common.{◌≡◌, ◌≢◌, ◌⊎◌, inl, inr, ℕ, zero, suc, pred, ◌+◌, ◌-◌, ◌<◌, ◌≤◌, List, [], ◌∷◌, ◌++◌, length, take, fold, Option, Some, None, Result, Ok, Err, IfSome, IfErr, false, refl, sym, ap, subst, ◌∙◌, arith, length-append, append_assoc}
-use Rattle.std.specs.Io.KnownBytes.{Consumes, Appends, IsAtEnd, Keeps}
+use Rattle.std.proofs.Common.{◌≡◌, ◌≢◌, ℕ, zero, suc, pred, ◌+◌, ◌-◌, ◌<◌, ◌≤◌, List, [], ◌∷◌, ◌++◌, length, take, fold, Option, Some, None, Result, Ok, Err, IfSome, IfErr, false, refl, sym, ap, subst, ◌∙◌, arith, length-append, append_assoc}
+use Rattle.std.specs.Io.KnownBytes.{Consumes, Appends, IsAtEnd}
 use Rattle.std.proofs.KnownBytes.{Appends-trans, Appends-nil, Consumes-nil}
 use Rattle.std.proofs.lemmas.List.{append-nil, take-append-le, take_at, take_all}
 use Rattle.std.proofs.Math.Seq.{take-append-add}
-use Rattle.daap_outside.specs.Told.{AppendsPrefix}
 use Rattle.daap_outside.specs.Counts.{Rose}
 use Rattle.daapshare_words.specs.declared.words.Command.TheVariants as command
 use Rattle.dmap_show.specs.Events.{shown_event, level_after, shown_events}
@@ -12,11 +11,11 @@ use Rattle.dmap_stream.specs.declared.event.Event.{Event}
 use Rattle.dmap_stream.specs.declared.event.Event.TheVariants.{Open, Leaf, Close}
 use Rattle.dmap_stream.specs.declared.refusal.StreamError.{StreamError}
 use Rattle.dmap_stream.specs.declared.refusal.StreamError.TheVariants as stream
-use Rattle.dmap_stream.specs.Walk.{Walk, between, inside, broken, walk_of}
+use Rattle.dmap_stream.specs.Walk.{broken, walk_of}
 use Rattle.dmap_stream.specs.Reading.{resumed}
 use Rattle.dmap_stream.specs.Reader.{Reader, ready, ReadAs, HasRead, TellsAs}
 use Rattle.dmap_stream.proofs.Readings.{told}
-use Rattle.daapshare.specs.declared.check.TheConstants.{TAGS_LIMIT, TAG_LIMIT}
+use Rattle.daapshare.specs.declared.check.TheConstants.{TAGS_LIMIT}
 use Rattle.daapshare.specs.declared.check.Counter.{Counter}
 use Rattle.daapshare.specs.declared.fault.Fault.{Fault}
 use Rattle.daapshare.specs.declared.fault.Fault.TheVariants.{Words, Query, Meta, Records, Tags, Text, Codes, Read, Write, InputLimit, Memory}
@@ -26,14 +25,15 @@ use Rattle.daapshare.specs.declared.show.Stop.{Stop}
 use Rattle.daapshare.specs.declared.show.Stop.TheVariants.{Input, Output}
 use Rattle.daapshare.specs.Faults.{tags_fault}
 use Rattle.daapshare.specs.Seen.{InputSeen, OutputSeen}
-use Rattle.daapshare.specs.Checks.{walked, after_event, no_tops, IsTooLong}
-use Rattle.daapshare.specs.Shows.{read_events, shown_text, BeginsShown, IsShownWhole, IsShownFront, ShowsAll, IsShownBefore}
+use Rattle.daapshare.specs.Checks.{walked}
+use Rattle.daapshare.specs.Shows.{read_events, shown_text, BeginsShown, IsShownWhole, ShowsAll, IsShownBefore}
 use Rattle.daapshare.specs.Commands.{IsCause}
-use Rattle.daapshare.specs.Counting.{HasCounted, IsCounted, StopsAt, Ends}
+use Rattle.daapshare.specs.Counting.{after_event, no_tops, HasCounted, IsCounted, StopsAt, Ends}
 use Rattle.daapshare.specs.Runs.{IsWritten, IsCut}
 use Rattle.daapshare.specs.Showing.{HasShown, IsShowing, ShowsSome, ShowsBroken, IsLast, StopsShowing, StepStops, ShowStops}
 use Rattle.daapshare.proofs.Counting.{total, few_handed, few_counted}
 use Rattle.daapshare.proofs.Counted.{walked_by, within_limit, stopped_cause, failed_cause, cut_cause, too_long}
+use Rattle.daapshare.proofs.Tagged.{some_tags, tags_shown}
 
 pred_is : (n : ℕ) → pred n ≡ n - 1
 pred_is zero = refl
@@ -112,6 +112,7 @@ is_counted fed written shower h = record {
   counted = counted_of fed written shower.lines.items shower.counter.reader shower.counter.tops h.shown h.going;
   quiet = h.quiet;
   bytes = h.bytes;
+  small = h.small;
 }
 
 begun_as : (fed : List ℕ) (handed : List Event) (r : Reader) (error : Option StreamError) → ReadAs fed handed r error
@@ -321,6 +322,7 @@ showing_first shower h empty =
       going = h.counted.going;
       quiet = h.quiet;
       bytes = h.bytes;
+      small = h.small;
     }
 
 -- lines that wait were written
@@ -338,6 +340,7 @@ cleared fed written old new h same empty = record {
   going = ap (λ (k : Counter). k.reader.error) same ∙ h.going;
   quiet = ap (λ (k : Counter). ready k.reader) same ∙ h.quiet;
   bytes = ap (λ (k : Counter). k.bytes) same ∙ h.bytes;
+  small = h.small;
 }
 
 -- what holds of any error holds of a result
@@ -406,18 +409,22 @@ step_stops input_before input_after before mid after bytes written more Output r
 )
 
 -- the end of the input, between two top tags or inside one
-pub ended_whole : (before after : InputSeen) (fed written : List ℕ) (shower : Shower) (tags : ℕ) → IsShowing fed written shower → shower.lines.items ≡ []
-    → length fed ≤ TAGS_LIMIT → Consumes before.left after.left fed → IsAtEnd after.left → after.faults ≡ before.faults → Ends fed (Ok tags)
+pub ended_whole : (before after : InputSeen) (fed written : List ℕ) (shower : Shower) (count : ℕ) → IsShowing fed written shower → shower.lines.items ≡ []
+    → length fed ≤ TAGS_LIMIT → Consumes before.left after.left fed → IsAtEnd after.left → after.faults ≡ before.faults → Ends fed (Ok count)
     → IsShownWhole before after None written
-ended_whole before after fed written shower tags h empty within read end faultless ends = record {
-  bytes = fed;
-  read = read;
-  end = end;
-  faultless = faultless;
-  sound = (within, ends.0);
-  unopened = refl;
-  written = written_text fed written shower h empty within ∙ within_whole fed within;
-}
+ended_whole before after fed written shower count h empty within read end faultless ends =
+    let found = some_tags fed h.small ends.0 in
+    record {
+      bytes = fed;
+      read = read;
+      end = end;
+      faultless = faultless;
+      within = within;
+      tags = found.0;
+      sound = found.1;
+      unopened = refl;
+      written = written_text fed written shower h empty within ∙ within_whole fed within ∙ tags_shown found.0 fed found.1;
+    }
 
 end_text : (left after : Option (List ℕ)) (bytes lines : List ℕ) → Consumes left after bytes → IsAtEnd after → lines ≡ shown_text bytes
     → IfSome left (λ input. lines ≡ shown_text input)

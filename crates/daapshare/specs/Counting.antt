@@ -1,9 +1,11 @@
 -- What a counter of tags has counted of the bytes that it was given.
-use Rattle.std.specs.Prelude.{◌≡◌, ◌≢◌, ◌++◌, ◌<◌, [], ℕ, List, length, take, fold, None, Result, Ok, Err}
+use Rattle.std.specs.Prelude.{◌≡◌, ◌≢◌, ◌+◌, ◌-◌, ◌==◌, ◌++◌, [], ℕ, List, length, take, fold, None, Result, Ok, Err, if◌then◌else◌}
 use Rattle.code_table.specs.Standard.{standard_rows}
+use Rattle.dmap_show.specs.Readable.{AreBytes}
 use Rattle.dmap_stream.specs.Walk.{between, inside, broken}
 use Rattle.dmap_stream.specs.Reader.{Reader, ready, HasRead}
 use Rattle.dmap_stream.specs.declared.event.Event.{Event}
+use Rattle.dmap_stream.specs.declared.event.Event.TheVariants.{Open, Leaf, Close}
 use Rattle.dmap_stream.specs.declared.refusal.StreamError.{StreamError}
 use Rattle.dmap_stream.specs.declared.refusal.StreamError.TheVariants as stream
 use Rattle.daapshare.specs.declared.check.TheConstants.{TAGS_LIMIT, TAG_LIMIT}
@@ -11,7 +13,24 @@ use Rattle.daapshare.specs.declared.check.Counter.{Counter}
 use Rattle.daapshare.specs.declared.fault.Fault.{Fault}
 use Rattle.daapshare.specs.declared.fault.Fault.TheVariants.{Words, Query, Meta, Records, Tags, Text, Codes, Read, Write, InputLimit, Memory}
 use Rattle.daapshare.specs.declared.tops.Tops.{Tops}
-use Rattle.daapshare.specs.Checks.{walked, after_event, no_tops, top_tags, IsTooLong}
+use Rattle.daapshare.specs.Checks.{walked, IsTooLong}
+
+-- no list is open, and no top tag has ended
+abbrev pub no_tops : Tops
+no_tops = record { depth = 0; ended = 0 }
+
+-- a tag ends that stands in as many open lists
+abbrev pub with_tag : ℕ → ℕ → Tops
+with_tag depth ended = record { depth = depth; ended = if depth == 0 then ended + 1 else ended }
+
+abbrev pub after_event : Tops → Event → Tops
+after_event tops (Open code len at) = record { depth = tops.depth + 1; ended = tops.ended }
+after_event tops (Leaf code value at) = with_tag tops.depth tops.ended
+after_event tops (Close code at) = with_tag (tops.depth - 1) tops.ended
+
+-- how many top tags have ended with these events
+abbrev pub top_tags : List Event → ℕ
+top_tags events = (fold after_event no_tops events).ended
 
 -- the reader was fed these bytes, and all events that it handed out are counted
 pub record HasCounted (fed : List ℕ) (reader : Reader) (tops : Tops) : Type 0 where
@@ -27,6 +46,7 @@ pub record IsCounted (fed : List ℕ) (counter : Counter) : Type 0 where
   pub counted : HasCounted fed counter.reader counter.tops
   pub quiet : ready counter.reader ≡ []
   pub bytes : counter.bytes ≡ length fed
+  pub small : AreBytes fed
 
 -- the fault is that of all bytes that begin with these
 abbrev pub IsShown : List ℕ → StreamError → Type 0

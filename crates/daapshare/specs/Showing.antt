@@ -3,6 +3,7 @@ use Rattle.std.specs.Prelude.{◌≡◌, ◌≢◌, ◌++◌, [], ℕ, List, len
 use Rattle.code_table.specs.Standard.{standard_rows}
 use Rattle.daapshare_words.specs.declared.words.Command.TheVariants as command
 use Rattle.dmap_show.specs.Events.{shown_events}
+use Rattle.dmap_show.specs.Readable.{AreBytes}
 use Rattle.dmap_stream.specs.Walk.{broken}
 use Rattle.dmap_stream.specs.Reader.{Reader, ready, HasRead}
 use Rattle.dmap_stream.specs.declared.event.Event.{Event}
@@ -16,7 +17,8 @@ use Rattle.daapshare.specs.declared.show.Stop.{Stop}
 use Rattle.daapshare.specs.declared.show.Stop.TheVariants.{Input, Output}
 use Rattle.daapshare.specs.declared.tops.Tops.{Tops}
 use Rattle.daapshare.specs.Seen.{InputSeen, OutputSeen}
-use Rattle.daapshare.specs.Checks.{walked, after_event, no_tops, IsTooLong}
+use Rattle.daapshare.specs.Checks.{walked, IsTooLong}
+use Rattle.daapshare.specs.Counting.{after_event, no_tops}
 use Rattle.daapshare.specs.Shows.{shown_text, BeginsShown, IsShownFront, IsShownBefore}
 use Rattle.daapshare.specs.Commands.{IsCause}
 use Rattle.daapshare.specs.Runs.{IsWritten, IsCut}
@@ -36,6 +38,7 @@ pub record IsShowing (fed written : List ℕ) (shower : Shower) : Type 0 where
   pub going : shower.counter.reader.error ≡ None
   pub quiet : ready shower.counter.reader ≡ []
   pub bytes : shower.counter.bytes ≡ length fed
+  pub small : AreBytes fed
 
 -- the lines of the first events of all bytes that begin with these
 abbrev pub ShowsSome : (bytes lines : List ℕ) → Type 0

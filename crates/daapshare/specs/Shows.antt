@@ -1,14 +1,16 @@
 -- The command `show`: the lines of the tags that the input's bytes are, written as the bytes come.
-use Rattle.std.specs.Prelude.{◌≡◌, ℕ, List, take, Option, None, IfSome}
+use Rattle.std.specs.Prelude.{◌≡◌, ◌≤◌, ℕ, List, length, take, Option, None, IfSome}
 use Rattle.std.specs.Io.KnownBytes.{Consumes, IsAtEnd}
+use Rattle.dmap_tags.specs.Tree.{Tree, trees_of}
 use Rattle.dmap_stream.specs.declared.event.Event.{Event}
 use Rattle.dmap_show.specs.Events.{shown_events}
+use Rattle.dmap_show.specs.Shown.{shown_tags}
 use Rattle.item_model.specs.declared.changes.Entry.{Entry}
 use Rattle.daapshare.specs.Limits.{tags_limit}
 use Rattle.daapshare.specs.declared.fault.Fault.{Fault}
 use Rattle.daapshare.specs.declared.fault.Fault.TheVariants.{Words, Query, Meta, Records, Tags, Text, Codes, Read, Write, InputLimit, Memory}
 use Rattle.daapshare.specs.Seen.{InputSeen}
-use Rattle.daapshare.specs.Checks.{walked, IsSound}
+use Rattle.daapshare.specs.Checks.{walked, AreTags}
 
 -- the events in as many of the bytes as are read
 abbrev pub read_events : List ℕ → List Event
@@ -22,15 +24,17 @@ shown_text bytes = shown_events 0 (read_events bytes)
 abbrev pub BeginsShown : (bytes lines : List ℕ) → Type 0
 BeginsShown bytes lines = (count : ℕ) × (lines ≡ shown_events 0 (take count (read_events bytes)))
 
--- the input was read to its end, without a fault, and is whole top tags, and the output is their lines
+-- the input was read to its end, without a fault, and is tags, and the output is their lines
 pub record IsShownWhole (before after : InputSeen) (history : Option (List Entry)) (output : List ℕ) : Type 0 where
   pub bytes : List ℕ
   pub read : Consumes before.left after.left bytes
   pub end : IsAtEnd after.left
   pub faultless : after.faults ≡ before.faults
-  pub sound : IsSound bytes
+  pub within : length bytes ≤ tags_limit
+  pub tags : List Tree
+  pub sound : AreTags tags bytes
   pub unopened : history ≡ None
-  pub written : output ≡ shown_events 0 (walked bytes).events
+  pub written : output ≡ shown_tags 0 (trees_of tags)
 
 -- the lines of the first events of bytes that were read
 pub record IsShownFront (before after : InputSeen) (lines : List ℕ) : Type 0 where

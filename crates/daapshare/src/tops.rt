@@ -1,7 +1,7 @@
 //! Counts of top tags.
 
 ghost use Rattle.std.specs.Prelude.{◌≡◌, ◌+◌, ◌<◌, ◌^◌};
-ghost use Rattle.daapshare.specs.Checks.{after_event, no_tops, with_tag};
+ghost use Rattle.daapshare.specs.Counting.{after_event, no_tops, with_tag};
 
 use dmap_stream::Event;
 

@@ -1,4 +1,4 @@
-use Rattle.std.proofs.Common.{rules, ◌≡◌, ◌+◌, ◌<◌, ◌≤◌, ◌++◌, ℕ, List, [], length, sym, subst, ◌∙◌, arith, length-append}
+use Rattle.std.proofs.Common.{rules, ◌<◌, ◌++◌, ℕ, List, [], sym, subst, ◌∙◌, arith, length-append}
 use Rattle.std.specs.Io.KnownBytes.{Consumes}
 use Rattle.std.proofs.KnownBytes.{Consumes-trans, Consumes-kept}
 use Rattle.daap_outside.specs.Counts.{Rose}

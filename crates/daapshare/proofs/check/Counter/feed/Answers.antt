@@ -2,6 +2,7 @@ use Rattle.std.proofs.Common.{rules, ◌≡◌, ◌+◌, ◌<◌, ◌^◌, ◌++
 use Rattle.std.proofs.lemmas.List.{append-nil, length-take, length-drop, take-append-drop}
 use Rattle.daapshare.specs.Counting.{HasCounted, IsCounted}
 use Rattle.daapshare.proofs.Counted.{none_left, counted_fed, counted_takes, shown}
+use Rattle.daapshare.proofs.Tagged.{each_small, both_small}
 use Rattle.daapshare.proofs.check.Counter.feed.Goals as goal
 
 pub loop-rest-init : goal.loop-rest-init
@@ -72,4 +73,5 @@ returns-clause-fed c =
       counted = subst (λ l. HasCounted (fed ++ l) c.loop-rest.self.reader c.loop-rest.self.tops) (sym whole) (c.loop-rest.invariant.counted fed h);
       quiet = c.loop-rest.invariant.quiet;
       bytes = omega (arith, c.loop-rest.invariant.bytes, h.bytes, length-append fed c.args.piece.now);
+      small = both_small fed c.args.piece.now h.small (each_small c.args.piece.now (λ k. (c.type_inv.piece k).fits));
     }

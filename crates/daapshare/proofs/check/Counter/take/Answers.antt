@@ -1,9 +1,24 @@
 use Rattle.std.proofs.Common.{rules, ◌≡◌, ◌+◌, ◌≤◌, ◌<◌, ◌++◌, length, take, drop, min, sym, subst, ap, ◌∙◌, arith, length-append}
-use Rattle.std.proofs.lemmas.List.{take-append-drop}
+use Rattle.std.proofs.lemmas.List.{append-nil, take-append-drop}
 use Rattle.daapshare.specs.declared.check.TheConstants.{TAGS_LIMIT}
-use Rattle.daapshare.specs.Counting.{StopsAt}
-use Rattle.daapshare.proofs.Counted.{stops, too_long}
+use Rattle.daapshare.specs.Counting.{IsCounted, StopsAt}
+use Rattle.daapshare.proofs.Counted.{none_left, stops, too_long}
 use Rattle.daapshare.proofs.check.Counter.take.Goals as goal
+
+pub returns-in-Ok-clause-took : goal.returns-in-Ok-clause-took
+returns-in-Ok-clause-took c =
+    let piece = c.args.piece.now in
+    let front = c.split_at.result.0.now in
+    let behind = c.split_at.result.1.now in
+    let n = c.min.result in
+    let split : piece ≡ front ++ behind =
+    sym (take-append-drop n piece) ∙ ap (λ l. l ++ drop n piece) (sym c.split_at.ensures.front) ∙ ap (λ l. front ++ l) (sym c.split_at.ensures.back) in
+    let end : length behind ≡ 0 = search rules in
+    let same : piece ≡ front = split ∙ ap (λ l. front ++ l) (none_left behind end) ∙ append-nil front in
+    λ fed h.
+    let within : length (fed ++ piece) ≤ TAGS_LIMIT =
+    omega (arith, h.bytes, c.requires.1.bytes, c.requires.2, c.min.ensures, c.split_at.ensures.front_len, ap length same, length-append fed piece) in
+    (subst (λ l. IsCounted (fed ++ l) c.feed.new.self) (sym same) (c.in-Ok.ensures.fed fed h), within)
 
 pub returns-in-Ok-2-clause-stopped : goal.returns-in-Ok-2-clause-stopped
 returns-in-Ok-2-clause-stopped c =

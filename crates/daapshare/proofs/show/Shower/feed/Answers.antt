@@ -1,10 +1,11 @@
-use Rattle.std.proofs.Common.{rules, ◌≡◌, ◌+◌, ◌≤◌, ◌<◌, ◌++◌, ◌∙◌, [], ℕ, List, length, take, drop, Some, refl, sym, subst, ap, arith, length-append, append_assoc}
-use Rattle.std.proofs.lemmas.List.{length-take, length-drop, take-append-drop}
+use Rattle.std.proofs.Common.{rules, ◌≡◌, ◌≤◌, ◌<◌, ◌++◌, ◌∙◌, length, take, drop, Some, sym, subst, ap, arith, length-append, append_assoc}
+use Rattle.std.proofs.lemmas.List.{append-nil, length-take, length-drop, take-append-drop}
 use Rattle.std.proofs.lemmas.Result.{err_from_is_err_and}
 use Rattle.daapshare.specs.declared.check.TheConstants.{TAGS_LIMIT}
-use Rattle.daapshare.specs.Showing.{HasShown, IsShowing}
-use Rattle.daapshare.proofs.Counted.{counted_taken, counted_takes}
+use Rattle.daapshare.specs.Showing.{HasShown}
+use Rattle.daapshare.proofs.Counted.{none_left, counted_taken, counted_takes}
 use Rattle.daapshare.proofs.Showing.{shown_fed, counted_of, shows_some, shows_broken, stopped_memory, more_some}
+use Rattle.daapshare.proofs.Tagged.{each_small, both_small}
 use Rattle.daapshare.proofs.show.Shower.feed.Goals as goal
 
 pub feed-requires : goal.feed-requires
@@ -137,4 +138,20 @@ loop-rest-preserved c =
       going = c.show_ready-in-loop-rest.ensures.error ∙ c.in-Ok.ensures.error;
       quiet = c.in_ok-show_ready.ensures.quiet;
       bytes = c.show_ready-in-loop-rest.ensures.bytes ∙ c.loop-rest.invariant.bytes;
+    }
+
+pub returns-clause-fed : goal.returns-clause-fed
+returns-clause-fed c =
+    let piece = c.args.piece.now in
+    let front = c.loop-rest.invariant.front in
+    let self = c.loop-rest.self in
+    let end : length c.loop-rest.rest.now ≡ 0 = search rules in
+    let whole : piece ≡ front = c.loop-rest.invariant.split ∙ ap (λ l. front ++ l) (none_left c.loop-rest.rest.now end) ∙ append-nil front in
+    λ fed written h. record {
+      shown =
+          subst (λ l. HasShown (fed ++ l) written self.counter.reader self.counter.tops self.lines.items) (sym whole) (c.loop-rest.invariant.shown fed written h);
+      going = c.loop-rest.invariant.going;
+      quiet = c.loop-rest.invariant.quiet;
+      bytes = omega (arith, c.loop-rest.invariant.bytes, h.bytes, length-append fed piece);
+      small = both_small fed piece h.small (each_small piece (λ k. (c.type_inv.piece k).fits));
     }

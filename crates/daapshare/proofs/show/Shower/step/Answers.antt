@@ -1,4 +1,4 @@
-use Rattle.std.proofs.Common.{rules, ◌≡◌, ◌++◌, Ok, Err, IfOk, IfErr, length, ◌≤◌, List, ℕ, refl, sym, subst}
+use Rattle.std.proofs.Common.{◌++◌, IfOk, IfErr, length, ◌≤◌, List, ℕ, refl, subst}
 use Rattle.daap_outside.specs.Told.{AppendsPrefix}
 use Rattle.std.specs.Io.KnownBytes.{Appends}
 use Rattle.daapshare.specs.declared.check.TheConstants.{TAGS_LIMIT}
