@@ -40,9 +40,7 @@ pub enum Fault {
     /// The input's bytes are no tags.
     Tags(StreamError),
     /// The input is no shown text from this line on, counted from 1.
-    Text {
-        line: u64,
-    },
+    Text { line: u64 },
     /// The input is no reply of content codes.
     Codes(CodeError),
     /// The input could not be read.

@@ -28,7 +28,10 @@ fn text(n: u32) -> (&'static [u8], &'static [u8]) {
         0 => (b"miid opaque #000001\n", b"miid\0\0\0\x03\0\0\x01"),
         1 => (b"minm opaque #ff\n", b"minm\0\0\0\x01\xff"),
         2 => (b"zzzz opaque #0102\n", b"zzzz\0\0\0\x02\x01\x02"),
-        3 => (b"mlcl list\nmper u64 0\n", b"mlcl\0\0\0\0mper\0\0\0\x08\0\0\0\0\0\0\0\0"),
+        3 => (
+            b"mlcl list\nmper u64 0\n",
+            b"mlcl\0\0\0\0mper\0\0\0\x08\0\0\0\0\0\0\0\0",
+        ),
         _ => (b"", b""),
     }
 }

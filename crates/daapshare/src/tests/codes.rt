@@ -21,10 +21,10 @@ fn last_row() -> &'static [u8] {
 }
 
 fn line_feeds(bytes: &[u8]) -> usize {
-    let mut count = 0;
+    let mut count: usize = 0;
     for byte in bytes {
         if *byte == b'\n' {
-            count += 1;
+            count = count.saturating_add(1);
         }
     }
     count
@@ -88,12 +88,28 @@ fn reply(n: u32) -> (&'static [u8], u8, &'static str) {
         ),
         2 => (b"mccr\0\0\0\0", 0, ""),
         3 => (b"mccr\0\0\0\0m", 3, "codes: not a reply\n"),
-        4 => (b"mlog\0\0\0\x0cmstt\0\0\0\x04\0\0\0\xc8", 3, "codes: not a reply\n"),
+        4 => (
+            b"mlog\0\0\0\x0cmstt\0\0\0\x04\0\0\0\xc8",
+            3,
+            "codes: not a reply\n",
+        ),
         5 => (b"mstt\0\0\0\x04\0\0\0\xc8", 3, "codes: not a reply\n"),
-        6 => (b"mccr\0\0\0\x14mstt\0\0\0\x04\0\0\0\xc8mdcl\0\0\0\0more", 3, "codes: entry 1\n"),
+        6 => (
+            b"mccr\0\0\0\x14mstt\0\0\0\x04\0\0\0\xc8mdcl\0\0\0\0more",
+            3,
+            "codes: entry 1\n",
+        ),
         7 => (b"", 3, "tags: truncated at 0\n"),
-        8 => (b"mccr\0\0\0\x14mstt\0\0\0\x04\0\0\0", 3, "tags: truncated at 19\n"),
-        9 => (b"mccr\0\0\0\x14mstt\0\0\0\x0d\0\0", 3, "tags: overrun at 8\n"),
+        8 => (
+            b"mccr\0\0\0\x14mstt\0\0\0\x04\0\0\0",
+            3,
+            "tags: truncated at 19\n",
+        ),
+        9 => (
+            b"mccr\0\0\0\x14mstt\0\0\0\x0d\0\0",
+            3,
+            "tags: overrun at 8\n",
+        ),
         _ => (b"mccr\x40\0\0\x01", 3, "tags: too large at 0\n"),
     }
 }

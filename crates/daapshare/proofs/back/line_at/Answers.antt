@@ -7,5 +7,14 @@ pub overflow_add-line : goal.overflow_add-line
 overflow_add-line c =
     let front = c.split_at.result.0.now in
     let so_far = take c.loop-byte.byte-index front in
-    omega (arith, c.loop-byte.invariant, length-filter (λ byte. byte == 10) so_far, count_by-le-length (λ byte. byte == 10) so_far,
-    length-take c.loop-byte.byte-index front, c.loop-byte-test.true, c.split_at.ensures.front_len, c.requires.within, c.requires.there)
+    omega (
+      arith,
+      c.loop-byte.invariant,
+      length-filter (λ byte. byte == 10) so_far,
+      count_by-le-length (λ byte. byte == 10) so_far,
+      length-take c.loop-byte.byte-index front,
+      c.loop-byte-test.true,
+      c.split_at.ensures.front_len,
+      c.requires.within,
+      c.requires.there,
+    )
