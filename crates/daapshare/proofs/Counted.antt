@@ -13,16 +13,16 @@ use Rattle.dmap_stream.specs.Walk.{Walk, Ending, between, inside, broken, walk_o
 use Rattle.dmap_stream.specs.Reading.{is_between}
 use Rattle.dmap_stream.specs.Reader.{Reader, ready, taken, ReadAs, HasRead, TellsAs}
 use Rattle.dmap_stream.proofs.Readings.{told, count_told}
-use Rattle.daapshare.specs.declared.check.TheConstants.{TAGS_LIMIT, TAG_LIMIT}
+use Rattle.daapshare.specs.declared.check.TheConstants.{TAGS_LIMIT, TAG_LIMIT, PIECE}
 use Rattle.daapshare.specs.declared.check.Counter.{Counter}
 use Rattle.daapshare.specs.declared.fault.Fault.{Fault}
 use Rattle.daapshare.specs.declared.fault.Fault.TheVariants.{Words, Query, Meta, Records, Tags, Text, Codes, Read, Write, InputLimit, Memory}
 use Rattle.daapshare.specs.declared.tops.Tops.{Tops}
 use Rattle.daapshare.specs.Faults.{tags_fault}
 use Rattle.daapshare.specs.Seen.{InputSeen}
-use Rattle.daapshare.specs.Checks.{walked, IsChecked, IsTooLong, HasTagFault}
-use Rattle.daapshare.specs.Commands.{IsCause}
-use Rattle.daapshare.specs.Counting.{after_event, no_tops, top_tags, HasCounted, IsCounted, IsShown, StopsAt, Ends}
+use Rattle.daapshare.specs.Checks.{walked, IsChecked, IsTooLong, HasTagFault, IsSoundSoFar}
+use Rattle.daapshare.specs.Commands.{IsCause, HasReadOn}
+use Rattle.daapshare.specs.Counting.{after_event, no_tops, top_tags, HasCounted, IsCounted, IsShown, StopsAt, EndsCounted}
 use Rattle.daapshare.proofs.Counting.{total, few_tops, counted_more, takes_some}
 use Rattle.daapshare.proofs.Tagged.{some_tags, tags_counted}
 
@@ -107,11 +107,11 @@ tops_are fed r tops h quiet =
 
 -- the end of the bytes
 pub ended_ok : (fed : List ℕ) (r : Reader) (tops : Tops) → HasCounted fed r tops → ready r ≡ [] → (walk_of r.rows r.limit fed).ending ≡ between
-    → Ends fed (Ok tops.ended)
+    → EndsCounted fed (Ok tops.ended)
 ended_ok fed r tops h quiet is = (sym (ap (λ w. w.ending) (walked_by fed r h.rows h.limit)) ∙ is, tops_are fed r tops h quiet)
 
 pub ended_err : (fed : List ℕ) (r : Reader) (tops : Tops) (e : StreamError) → HasCounted fed r tops
-    → ((walk_of r.rows r.limit fed).ending ≡ inside) × (e ≡ stream.Truncated (length fed)) → Ends fed (Err e)
+    → ((walk_of r.rows r.limit fed).ending ≡ inside) × (e ≡ stream.Truncated (length fed)) → EndsCounted fed (Err e)
 ended_err fed r tops e h is = (sym (ap (λ w. w.ending) (walked_by fed r h.rows h.limit)) ∙ is.0, is.1)
 
 -- bytes within the limit stand whole in what is read of an input that begins with them
@@ -164,27 +164,42 @@ limit_cause (Some input) (Some rest) bytes read long = record {
       (ap (λ l. (walked l).ending) (sym (ap (take TAGS_LIMIT) read ∙ take-append-le TAGS_LIMIT bytes rest (let more = long.long in omega arith))) ∙ is);
 }
 
+-- what was read, piece by piece
+pub on_piece : (before after : InputSeen) (fed piece : List ℕ) (counter : Counter) → Consumes before.left after.left (fed ++ piece) → length piece ≤ PIECE
+    → IsCounted fed counter → length fed ≤ TAGS_LIMIT → HasReadOn (Some command.Check) before after
+on_piece before after fed piece counter read short counted within = record {
+  front = fed;
+  last = piece;
+  read = read;
+  short = short;
+  on = record { within = within; sound = λ e is. unbroken fed counter.reader counter.tops e counted.counted is };
+}
+
 pub stopped_cause : (before after : InputSeen) (bytes : List ℕ) (fault : Fault) → Consumes before.left after.left bytes → after.faults ≡ before.faults
-    → StopsAt bytes fault → IsCause (Some command.Check) before after fault
-stopped_cause before after bytes Words read faultless stop = absurd stop
-stopped_cause before after bytes (Query error) read faultless stop = absurd stop
-stopped_cause before after bytes Meta read faultless stop = absurd stop
-stopped_cause before after bytes (Records error) read faultless stop = absurd stop
-stopped_cause before after bytes (Tags error) read faultless stop =
-    record { said = tags_cause before.left after.left bytes error read stop; faultless = faultless }
-stopped_cause before after bytes (Text line) read faultless stop = absurd stop
-stopped_cause before after bytes (Codes error) read faultless stop = absurd stop
-stopped_cause before after bytes Read read faultless stop = absurd stop
-stopped_cause before after bytes Write read faultless stop = absurd stop
-stopped_cause before after bytes InputLimit read faultless stop =
-    record { said = limit_cause before.left after.left bytes read stop; faultless = faultless }
-stopped_cause before after bytes Memory read faultless stop = tt
+    → HasReadOn (Some command.Check) before after → StopsAt bytes fault → IsCause (Some command.Check) before after fault
+stopped_cause before after bytes Words read faultless on stop = absurd stop
+stopped_cause before after bytes (Query error) read faultless on stop = absurd stop
+stopped_cause before after bytes Meta read faultless on stop = absurd stop
+stopped_cause before after bytes (Records error) read faultless on stop = absurd stop
+stopped_cause before after bytes (Tags error) read faultless on stop =
+    record { said = tags_cause before.left after.left bytes error read stop; own = stop.0; faultless = faultless; read_on = on }
+stopped_cause before after bytes (Text line) read faultless on stop = absurd stop
+stopped_cause before after bytes (Codes error) read faultless on stop = absurd stop
+stopped_cause before after bytes Read read faultless on stop = absurd stop
+stopped_cause before after bytes Write read faultless on stop = absurd stop
+stopped_cause before after bytes InputLimit read faultless on stop =
+    record { said = limit_cause before.left after.left bytes read stop; own = tt; faultless = faultless; read_on = on }
+stopped_cause before after bytes Memory read faultless on stop = tt
 
 -- the input failed, behind bytes that are not refused
 pub failed_cause : (before after : InputSeen) (bytes : List ℕ) (counter : Counter) → Consumes before.left after.left bytes → IsCounted bytes counter
-    → Rose before.faults after.faults → IsCause (Some command.Check) before after Read
-failed_cause before after bytes counter read counted rose =
-    (record { bytes = bytes; read = read; sound = λ e is. unbroken bytes counter.reader counter.tops e counted.counted is }, rose)
+    → length bytes ≤ TAGS_LIMIT → Rose before.faults after.faults → IsCause (Some command.Check) before after Read
+failed_cause before after bytes counter read counted within rose = record {
+  bytes = bytes;
+  read = read;
+  on = record { within = within; sound = λ e is. unbroken bytes counter.reader counter.tops e counted.counted is };
+  rose = rose;
+}
 
 cut_as : (left after : Option (List ℕ)) (bytes : List ℕ) (n : ℕ) → n ≡ length bytes → Consumes left after bytes → IsAtEnd after → length bytes ≤ TAGS_LIMIT
     → (walked bytes).ending ≡ inside → IfSome left (HasTagFault (stream.Truncated n))
@@ -201,16 +216,30 @@ cut_as (Some input) (Some rest) bytes n is read end within ending =
       });
     }
 
+inside_sound : (bytes : List ℕ) → length bytes ≤ TAGS_LIMIT → (walked bytes).ending ≡ inside → IsSoundSoFar bytes
+inside_sound bytes within is = record { within = within; sound = λ e broke. let same : inside ≡ broken e = sym is ∙ broke in absurd (cc) }
+
 -- bytes that end inside a top tag, at the end of the input
 pub cut_cause : (before after : InputSeen) (bytes : List ℕ) (e : StreamError) (fault : Fault) → Consumes before.left after.left bytes → IsAtEnd after.left
-    → after.faults ≡ before.faults → length bytes ≤ TAGS_LIMIT → Ends bytes (Err e) → fault ≡ tags_fault e → IsCause (Some command.Check) before after fault
+    → after.faults ≡ before.faults → length bytes ≤ TAGS_LIMIT → EndsCounted bytes (Err e) → fault ≡ tags_fault e → IsCause (Some command.Check) before after fault
 cut_cause before after bytes e fault read end faultless within ends is =
     subst (IsCause (Some command.Check) before after) (sym (is ∙ ap tags_fault ends.1))
-    (record { said = cut_as before.left after.left bytes (length bytes) refl read end within ends.0; faultless = faultless })
+    (record {
+      said = cut_as before.left after.left bytes (length bytes) refl read end within ends.0;
+      own = λ h. absurd (cc);
+      faultless = faultless;
+      read_on = record {
+        front = bytes;
+        last = [];
+        read = subst (Consumes before.left after.left) (sym (append-nil bytes)) read;
+        short = omega arith;
+        on = inside_sound bytes within ends.0;
+      };
+    })
 
 -- an input that was read to its end, and ends between two top tags
 pub ended_checked : (before after : InputSeen) (bytes line : List ℕ) (counter : Counter) (count : ℕ) → IsCounted bytes counter → length bytes ≤ TAGS_LIMIT
-    → Consumes before.left after.left bytes → IsAtEnd after.left → after.faults ≡ before.faults → Ends bytes (Ok count)
+    → Consumes before.left after.left bytes → IsAtEnd after.left → after.faults ≡ before.faults → EndsCounted bytes (Ok count)
     → line ≡ codes "ok " ++ decimal count ++ codes " tags " ++ decimal counter.bytes ++ codes " bytes" ++ 10 ∷ [] → IsChecked before after None line
 ended_checked before after bytes line counter count counted within read end faultless ends told =
     let found = some_tags bytes counted.small ends.0 in

@@ -42,7 +42,7 @@ memory_cause None before after (Records error) cause = let is : Records error �
 memory_cause None before after (Tags error) cause = let is : Tags error ≡ Words = cause.said in absurd (cc)
 memory_cause None before after (Text line) cause = let is : Text line ≡ Words = cause.said in absurd (cc)
 memory_cause None before after (Codes error) cause = let is : Codes error ≡ Words = cause.said in absurd (cc)
-memory_cause None before after Read cause = absurd cause.0
+memory_cause None before after Read cause = absurd cause.on
 memory_cause None before after Write cause = absurd cause
 memory_cause None before after InputLimit cause = let is : InputLimit ≡ Words = cause.said in absurd (cc)
 memory_cause None before after Memory cause = cause
@@ -61,7 +61,7 @@ memory_cause (Some (variant.Codes false)) before after fault cause = untouched b
     untouched before after (Tags error) cause = absurd cause.said
     untouched before after (Text line) cause = absurd cause.said
     untouched before after (Codes error) cause = absurd cause.said
-    untouched before after Read cause = absurd cause.0
+    untouched before after Read cause = absurd cause.on
     untouched before after Write cause = absurd cause
     untouched before after InputLimit cause = absurd cause.said
     untouched before after Memory cause = cause
@@ -168,7 +168,7 @@ said command input before after (Records error) told steady cause = inr (subst (
 said command input before after (Tags error) told steady cause = inr (subst (λ left. Says command left (Tags error)) told cause.said)
 said command input before after (Text line) told steady cause = inr (subst (λ left. Says command left (Text line)) told cause.said)
 said command input before after (Codes error) told steady cause = inr (subst (λ left. Says command left (Codes error)) told cause.said)
-said command input before after Read told steady cause = absurd (steady cause.1)
+said command input before after Read told steady cause = absurd (steady cause.rose)
 said command input before after Write told steady cause = absurd cause
 said command input before after InputLimit told steady cause = inr (subst (λ left. Says command left InputLimit) told cause.said)
 said command input before after Memory told steady cause = inl refl

@@ -25,13 +25,13 @@ use Rattle.dmap_stream.specs.declared.refusal.StreamError.TheVariants as stream
 use Rattle.daapshare.specs.declared.fault.Fault.{Fault}
 use Rattle.daapshare.specs.declared.learn.Learner.{Learner}
 use Rattle.daapshare.specs.declared.fault.Fault.TheVariants.{Words, Query, Meta, Records, Tags, Text, Codes, Read, Write, InputLimit, Memory}
-use Rattle.daapshare.specs.Limits.{tag_limit}
+use Rattle.daapshare.specs.Limits.{tag_limit, piece_limit}
 use Rattle.daapshare.specs.Faults.{tags_fault, table_fault}
 use Rattle.daapshare.specs.Seen.{InputSeen}
 use Rattle.daapshare.specs.Checks.{walked}
 use Rattle.daapshare.specs.Counting.{IsShown}
-use Rattle.daapshare.specs.Commands.{IsCause}
-use Rattle.daapshare.specs.Learns.{BeginsWith, HasNoTag, IsReply, HasNoReply, IsReplyRefused, IsBegun, IsReplySoFar}
+use Rattle.daapshare.specs.Commands.{IsCause, HasReadOn}
+use Rattle.daapshare.specs.Learns.{BeginsWith, HasNoTag, IsReply, HasNoReply, IsReplyRefused, IsUnfinished}
 use Rattle.daapshare.specs.Learning.{is_whole, IsLearning, IsRefusal, LearnStops}
 use Rattle.daapshare.proofs.Counted.{unbroken}
 
@@ -105,15 +105,15 @@ whole_reply tag len bytes rows h all told = record { tag = tag; whole = subst (�
 pub more_behind : (tag : Tree) (len : ℕ) (bytes : List ℕ) (rows : List CodeRow) → BeginsWith tag (drop len bytes) bytes → len < length bytes
     → table_of tag ≡ Ok rows → IsReplyRefused table.NotReply bytes
 more_behind tag len bytes rows h more told =
-    record { tag = tag; rest = drop len bytes; whole = h; refused = inr (refl, (some_behind len bytes more, (rows, told))) }
+    record { cause = λ is. absurd (cc); tag = tag; rest = drop len bytes; whole = h; refused = inr (refl, (some_behind len bytes more, (rows, told))) }
 
 pub no_table : (tag : Tree) (rest bytes : List ℕ) (e : CodeError) → BeginsWith tag rest bytes → (e ≢ table.Memory → table_of tag ≡ Err e) → IsRefusal bytes (table_fault e)
-no_table tag rest bytes table.NotReply h told = record { tag = tag; rest = rest; whole = h; refused = inl (told (λ is. absurd (cc))) }
-no_table tag rest bytes (table.Entry index) h told = record { tag = tag; rest = rest; whole = h; refused = inl (told (λ is. absurd (cc))) }
-no_table tag rest bytes (table.Repeated index) h told = record { tag = tag; rest = rest; whole = h; refused = inl (told (λ is. absurd (cc))) }
+no_table tag rest bytes table.NotReply h told = record { cause = λ is. absurd (cc); tag = tag; rest = rest; whole = h; refused = inl (told (λ is. absurd (cc))) }
+no_table tag rest bytes (table.Entry index) h told = record { cause = λ is. absurd (cc); tag = tag; rest = rest; whole = h; refused = inl (told (λ is. absurd (cc))) }
+no_table tag rest bytes (table.Repeated index) h told = record { cause = λ is. absurd (cc); tag = tag; rest = rest; whole = h; refused = inl (told (λ is. absurd (cc))) }
 no_table tag rest bytes table.Memory h told = tt
 
-pub begun_by : (bytes : List ℕ) → HasNoTag bytes → ((walked bytes).ending ≡ between) ⊎ ((walked bytes).ending ≡ inside) → IsBegun bytes
+pub begun_by : (bytes : List ℕ) → HasNoTag bytes → ((walked bytes).ending ≡ between) ⊎ ((walked bytes).ending ≡ inside) → IsUnfinished bytes
 begun_by bytes none (inl is) = record { open_ = none; sound = λ e broke. let same : between ≡ broken e = sym is ∙ broke in absurd (cc) }
 begun_by bytes none (inr is) = record { open_ = none; sound = λ e broke. let same : inside ≡ broken e = sym is ∙ broke in absurd (cc) }
 
@@ -147,6 +147,7 @@ not_empty (x ∷ rest) more some is = absurd (cc)
 
 refused_more : (error : CodeError) (bytes more : List ℕ) → IsReplyRefused error bytes → IsReplyRefused error (bytes ++ more)
 refused_more error bytes more h = record {
+  cause = h.cause;
   tag = h.tag;
   rest = h.rest ++ more;
   whole = begins_more h.tag h.rest bytes more h.whole;
@@ -190,27 +191,29 @@ codes_said (Some input) None bytes e read stop = absurd read
 codes_said (Some input) (Some rest) bytes e read stop = subst (IsReplyRefused e) (sym read) (stop rest)
 
 pub learn_cause : (before after : InputSeen) (bytes : List ℕ) (f : Fault) → Consumes before.left after.left bytes → after.faults ≡ before.faults
-    → LearnStops bytes f → IsCause (Some (command.Codes true)) before after f
-learn_cause before after bytes Words read faultless stop = absurd stop
-learn_cause before after bytes (Query error) read faultless stop = absurd stop
-learn_cause before after bytes Meta read faultless stop = absurd stop
-learn_cause before after bytes (Records error) read faultless stop = absurd stop
-learn_cause before after bytes (Tags error) read faultless stop = record { said = tags_said before.left after.left bytes error read stop; faultless = faultless }
-learn_cause before after bytes (Text line) read faultless stop = absurd stop
-learn_cause before after bytes (Codes error) read faultless stop = record { said = codes_said before.left after.left bytes error read stop; faultless = faultless }
-learn_cause before after bytes Read read faultless stop = absurd stop
-learn_cause before after bytes Write read faultless stop = absurd stop
-learn_cause before after bytes InputLimit read faultless stop = absurd stop
-learn_cause before after bytes Memory read faultless stop = tt
+    → HasReadOn (Some (command.Codes true)) before after → LearnStops bytes f → IsCause (Some (command.Codes true)) before after f
+learn_cause before after bytes Words read faultless on stop = absurd stop
+learn_cause before after bytes (Query error) read faultless on stop = absurd stop
+learn_cause before after bytes Meta read faultless on stop = absurd stop
+learn_cause before after bytes (Records error) read faultless on stop = absurd stop
+learn_cause before after bytes (Tags error) read faultless on stop =
+    record { said = tags_said before.left after.left bytes error read stop; own = (stop []).cause; faultless = faultless; read_on = on }
+learn_cause before after bytes (Text line) read faultless on stop = absurd stop
+learn_cause before after bytes (Codes error) read faultless on stop =
+    record { said = codes_said before.left after.left bytes error read stop; own = (stop []).cause; faultless = faultless; read_on = on }
+learn_cause before after bytes Read read faultless on stop = absurd stop
+learn_cause before after bytes Write read faultless on stop = absurd stop
+learn_cause before after bytes InputLimit read faultless on stop = absurd stop
+learn_cause before after bytes Memory read faultless on stop = tt
 
-pub begun : (bytes : List ℕ) (learner : Learner) → IsLearning bytes learner → IsBegun bytes
+pub begun : (bytes : List ℕ) (learner : Learner) → IsLearning bytes learner → IsUnfinished bytes
 begun bytes learner h = record {
   open_ = h.open_;
   sound = λ e is. unbroken bytes learner.counter.reader learner.counter.tops e h.counted.counted is;
 }
 
 -- the bytes ended before the reply was whole
-early_said : (left after : Option (List ℕ)) (bytes : List ℕ) → Consumes left after bytes → IsAtEnd after → IsBegun bytes → IfSome left (HasNoReply (stream.Truncated (length bytes)))
+early_said : (left after : Option (List ℕ)) (bytes : List ℕ) → Consumes left after bytes → IsAtEnd after → IsUnfinished bytes → IfSome left (HasNoReply (stream.Truncated (length bytes)))
 early_said None after bytes read end h = tt
 early_said (Some input) None bytes read end h = absurd read
 early_said (Some input) (Some rest) bytes read end h =
@@ -223,31 +226,39 @@ early_said (Some input) (Some rest) bytes read end h =
     cut (broken e) is = absurd (h.sound e is)
 
 pub early_cause : (before after : InputSeen) (bytes : List ℕ) → Consumes before.left after.left bytes → IsAtEnd after.left → after.faults ≡ before.faults
-    → IsBegun bytes → IsCause (Some (command.Codes true)) before after (Tags (stream.Truncated (length bytes)))
-early_cause before after bytes read end faultless h = record { said = early_said before.left after.left bytes read end h; faultless = faultless }
+    → IsUnfinished bytes → IsCause (Some (command.Codes true)) before after (Tags (stream.Truncated (length bytes)))
+early_cause before after bytes read end faultless h = record {
+  said = early_said before.left after.left bytes read end h;
+  own = λ is. absurd (cc);
+  faultless = faultless;
+  read_on = record { front = bytes; last = []; read = subst (Consumes before.left after.left) (sym (append-nil bytes)) read; short = omega arith; on = inl h };
+}
 
 -- more bytes were read behind the reply
 pub behind_cause : (before after : InputSeen) (bytes more : List ℕ) (rows : List CodeRow) → Consumes before.left after.left (bytes ++ more) → more ≢ []
-    → after.faults ≡ before.faults → IsReply rows bytes → IsCause (Some (command.Codes true)) before after (Codes table.NotReply)
-behind_cause before after bytes more rows read some faultless reply =
-    learn_cause before after (bytes ++ more) (Codes table.NotReply) read faultless (λ rest. refused_more table.NotReply (bytes ++ more) rest (record {
+    → length more ≤ piece_limit → after.faults ≡ before.faults → IsReply rows bytes → IsCause (Some (command.Codes true)) before after (Codes table.NotReply)
+behind_cause before after bytes more rows read some short faultless reply =
+    learn_cause before after (bytes ++ more) (Codes table.NotReply) read faultless
+    (record { front = bytes; last = more; read = read; short = short; on = inr (rows, reply) })
+    (λ rest. refused_more table.NotReply (bytes ++ more) rest (record {
+      cause = λ is. absurd (cc);
       tag = reply.tag;
       rest = [] ++ more;
       whole = begins_more reply.tag [] bytes more reply.whole;
       refused = inr (refl, (some, (rows, reply.told)));
     }))
 
-pub failed_begun : (before after : InputSeen) (bytes : List ℕ) → Consumes before.left after.left bytes → IsBegun bytes → Rose before.faults after.faults
+pub failed_begun : (before after : InputSeen) (bytes : List ℕ) → Consumes before.left after.left bytes → IsUnfinished bytes → Rose before.faults after.faults
     → IsCause (Some (command.Codes true)) before after Read
-failed_begun before after bytes read h rose = (record { bytes = bytes; read = read; good = inl h }, rose)
+failed_begun before after bytes read h rose = record { bytes = bytes; read = read; on = inl h; rose = rose }
 
 pub failed_behind : (before after : InputSeen) (bytes : List ℕ) (rows : List CodeRow) → Consumes before.left after.left bytes → IsReply rows bytes
     → Rose before.faults after.faults → IsCause (Some (command.Codes true)) before after Read
-failed_behind before after bytes rows read reply rose = (record { bytes = bytes; read = read; good = inr (rows, reply) }, rose)
+failed_behind before after bytes rows read reply rose = record { bytes = bytes; read = read; on = inr (rows, reply); rose = rose }
 
 -- what judging the bytes says, where they are broken
-pub told_broken : (P : Type 0) (bytes : List ℕ) (r : Result (Option (List CodeRow)) Fault) → (IsBegun bytes → ⊥)
-    → IfOk r (λ learned. MatchOption learned (IsBegun bytes) (λ rows. IsReply rows bytes)) → IfOk r (λ learned. MatchOption learned P (λ rows. IsReply rows bytes))
+pub told_broken : (P : Type 0) (bytes : List ℕ) (r : Result (Option (List CodeRow)) Fault) → (IsUnfinished bytes → ⊥)
+    → IfOk r (λ learned. MatchOption learned (IsUnfinished bytes) (λ rows. IsReply rows bytes)) → IfOk r (λ learned. MatchOption learned P (λ rows. IsReply rows bytes))
 told_broken P bytes (Ok None) sound told = absurd (sound told)
 told_broken P bytes (Ok (Some rows)) sound told = told
 told_broken P bytes (Err f) sound told = tt

@@ -27,12 +27,12 @@ use Rattle.daapshare.specs.Faults.{tags_fault}
 use Rattle.daapshare.specs.Seen.{InputSeen, OutputSeen}
 use Rattle.daapshare.specs.Checks.{walked}
 use Rattle.daapshare.specs.Shows.{read_events, shown_text, BeginsShown, IsShownWhole, ShowsAll, IsShownBefore}
-use Rattle.daapshare.specs.Commands.{IsCause}
-use Rattle.daapshare.specs.Counting.{after_event, no_tops, HasCounted, IsCounted, StopsAt, Ends}
+use Rattle.daapshare.specs.Commands.{IsCause, HasReadOn}
+use Rattle.daapshare.specs.Counting.{after_event, no_tops, HasCounted, IsCounted, StopsAt, EndsCounted}
 use Rattle.daapshare.specs.Runs.{IsWritten, IsCut}
 use Rattle.daapshare.specs.Showing.{HasShown, IsShowing, ShowsSome, ShowsBroken, IsLast, StopsShowing, StepStops, ShowStops}
 use Rattle.daapshare.proofs.Counting.{total, few_handed, few_counted}
-use Rattle.daapshare.proofs.Counted.{walked_by, within_limit, stopped_cause, failed_cause, cut_cause, too_long}
+use Rattle.daapshare.proofs.Counted.{walked_by, within_limit, on_piece, stopped_cause, failed_cause, cut_cause, too_long}
 use Rattle.daapshare.proofs.Tagged.{some_tags, tags_shown}
 
 pred_is : (n : ℕ) → pred n ≡ n - 1
@@ -227,18 +227,21 @@ stops_at bytes lines Write stop = stop
 stops_at bytes lines InputLimit stop = stop.0
 stops_at bytes lines Memory stop = tt
 
+as_read : (before after : InputSeen) → HasReadOn (Some command.Check) before after → HasReadOn (Some (command.Show false)) before after
+as_read before after h = record { front = h.front; last = h.last; read = h.read; short = h.short; on = h.on }
+
 -- the causes of `check` are those of `show`
 pub as_check : (before after : InputSeen) (fault : Fault) → IsCause (Some command.Check) before after fault → IsCause (Some (command.Show false)) before after fault
 as_check before after Words cause = cause
 as_check before after (Query error) cause = cause
 as_check before after Meta cause = cause
-as_check before after (Records error) cause = record { said = cause.said; faultless = cause.faultless }
-as_check before after (Tags error) cause = record { said = cause.said; faultless = cause.faultless }
-as_check before after (Text line) cause = record { said = cause.said; faultless = cause.faultless }
-as_check before after (Codes error) cause = record { said = cause.said; faultless = cause.faultless }
-as_check before after Read cause = cause
+as_check before after (Records error) cause = record { said = cause.said; own = cause.own; faultless = cause.faultless; read_on = as_read before after cause.read_on }
+as_check before after (Tags error) cause = record { said = cause.said; own = cause.own; faultless = cause.faultless; read_on = as_read before after cause.read_on }
+as_check before after (Text line) cause = record { said = cause.said; own = cause.own; faultless = cause.faultless; read_on = as_read before after cause.read_on }
+as_check before after (Codes error) cause = record { said = cause.said; own = cause.own; faultless = cause.faultless; read_on = as_read before after cause.read_on }
+as_check before after Read cause = record { bytes = cause.bytes; read = cause.read; on = cause.on; rose = cause.rose }
 as_check before after Write cause = cause
-as_check before after InputLimit cause = record { said = cause.said; faultless = cause.faultless }
+as_check before after InputLimit cause = record { said = cause.said; own = cause.own; faultless = cause.faultless; read_on = as_read before after cause.read_on }
 as_check before after Memory cause = cause
 
 all_tags : (left after : Option (List ℕ)) (bytes lines : List ℕ) (error : StreamError) → Consumes left after bytes → StopsShowing bytes lines (Tags error)
@@ -271,9 +274,9 @@ shows_all before after bytes lines Memory read stop = tt
 
 -- the cause of a fault, and the lines before it
 pub show_cause : (before after : InputSeen) (bytes lines : List ℕ) (fault : Fault) → Consumes before.left after.left bytes → after.faults ≡ before.faults
-    → StopsShowing bytes lines fault → IsCause (Some (command.Show false)) before after fault × IsShownBefore before after fault lines
-show_cause before after bytes lines fault read faultless stop = (
-  as_check before after fault (stopped_cause before after bytes fault read faultless (stops_at bytes lines fault stop)),
+    → HasReadOn (Some command.Check) before after → StopsShowing bytes lines fault → IsCause (Some (command.Show false)) before after fault × IsShownBefore before after fault lines
+show_cause before after bytes lines fault read faultless on stop = (
+  as_check before after fault (stopped_cause before after bytes fault read faultless on (stops_at bytes lines fault stop)),
   record {
     some = record { bytes = bytes; read = read; shown = begins_stopped bytes lines fault stop };
     all = shows_all before after bytes lines fault read stop;
@@ -391,18 +394,24 @@ show_read before after fed written shower h empty within read =
 
 -- a read failed behind bytes that are not refused
 pub show_failed : (before after : InputSeen) (fed written : List ℕ) (shower : Shower) → IsShowing fed written shower → Consumes before.left after.left fed
-    → Rose before.faults after.faults → IsCause (Some (command.Show false)) before after Read
-show_failed before after fed written shower h read rose =
-    as_check before after Read (failed_cause before after fed shower.counter read (is_counted fed written shower h) rose)
+    → length fed ≤ TAGS_LIMIT → Rose before.faults after.faults → IsCause (Some (command.Show false)) before after Read
+show_failed before after fed written shower h read within rose =
+    as_check before after Read (failed_cause before after fed shower.counter read (is_counted fed written shower h) within rose)
+
+-- what was read, piece by piece
+pub on_shown : (before after : InputSeen) (fed piece written : List ℕ) (shower : Shower) → Consumes before.left after.left (fed ++ piece) → length piece ≤ PIECE
+    → IsShowing fed written shower → length fed ≤ TAGS_LIMIT → HasReadOn (Some command.Check) before after
+on_shown before after fed piece written shower read short h within = on_piece before after fed piece shower.counter read short (is_counted fed written shower h) within
 
 -- a step stopped behind what was written
 pub step_stops : (input_before input_after : InputSeen) (before mid after : OutputSeen) (bytes written more : List ℕ) (stop : Stop)
-    → Consumes input_before.left input_after.left bytes → input_after.faults ≡ input_before.faults → IsWritten before mid written → StepStops bytes (written ++ more) more mid after stop
+    → Consumes input_before.left input_after.left bytes → input_after.faults ≡ input_before.faults → HasReadOn (Some command.Check) input_before input_after
+    → IsWritten before mid written → StepStops bytes (written ++ more) more mid after stop
     → ShowStops input_before input_after before after stop
-step_stops input_before input_after before mid after bytes written more (Input fault) read faultless told stops =
-    let cause = show_cause input_before input_after bytes (written ++ more) fault read faultless stops.0 in
+step_stops input_before input_after before mid after bytes written more (Input fault) read faultless on told stops =
+    let cause = show_cause input_before input_after bytes (written ++ more) fault read faultless on stops.0 in
     (cause.0, (written ++ more, cause.1, written_more before mid after written more told stops.1))
-step_stops input_before input_after before mid after bytes written more Output read faultless told stops = (
+step_stops input_before input_after before mid after bytes written more Output read faultless on told stops = (
   written ++ more,
   record { bytes = bytes; read = read; shown = stops.0 },
   cut_more before mid after written more told stops.1,
@@ -410,7 +419,7 @@ step_stops input_before input_after before mid after bytes written more Output r
 
 -- the end of the input, between two top tags or inside one
 pub ended_whole : (before after : InputSeen) (fed written : List ℕ) (shower : Shower) (count : ℕ) → IsShowing fed written shower → shower.lines.items ≡ []
-    → length fed ≤ TAGS_LIMIT → Consumes before.left after.left fed → IsAtEnd after.left → after.faults ≡ before.faults → Ends fed (Ok count)
+    → length fed ≤ TAGS_LIMIT → Consumes before.left after.left fed → IsAtEnd after.left → after.faults ≡ before.faults → EndsCounted fed (Ok count)
     → IsShownWhole before after None written
 ended_whole before after fed written shower count h empty within read end faultless ends =
     let found = some_tags fed h.small ends.0 in
@@ -433,7 +442,7 @@ end_text (Some input) None bytes lines read end is = absurd read
 end_text (Some input) (Some rest) bytes lines read end is = is ∙ ap shown_text (sym (read ∙ ap (λ l. bytes ++ l) end ∙ append-nil bytes))
 
 pub ended_inside : (before after : InputSeen) (fed written : List ℕ) (shower : Shower) (e : StreamError) (fault : Fault) → IsShowing fed written shower
-    → shower.lines.items ≡ [] → length fed ≤ TAGS_LIMIT → Consumes before.left after.left fed → IsAtEnd after.left → after.faults ≡ before.faults → Ends fed (Err e)
+    → shower.lines.items ≡ [] → length fed ≤ TAGS_LIMIT → Consumes before.left after.left fed → IsAtEnd after.left → after.faults ≡ before.faults → EndsCounted fed (Err e)
     → fault ≡ tags_fault e → IsCause (Some (command.Show false)) before after fault × IsShownBefore before after fault written
 ended_inside before after fed written shower e fault h empty within read end faultless ends is =
     let text = written_text fed written shower h empty within in (

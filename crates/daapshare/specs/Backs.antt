@@ -25,7 +25,7 @@ pub record ShowsBack (tags : List Tree) (input : List ℕ) : Type 0 where
 abbrev pub line_at : ℕ → List ℕ → ℕ
 line_at place text = 1 + length (filter (λ byte. byte == 10) (take place text))
 
--- the line of the first byte that is no UTF-8, or else the first line that no shown text has there
+-- the line of the first byte that is no UTF-8, or else the first line with which no shown text goes on
 abbrev pub StopsOn : (line : ℕ) → (input : List ℕ) → Type 0
 StopsOn line input =
     ((is_utf8 input ≡ false) × (line ≡ line_at (utf8_valid_len input) input))

@@ -19,13 +19,13 @@ abbrev pub walked : List ℕ → Walk
 walked bytes = walk_of standard_rows tag_limit bytes
 
 -- the bytes are these tags of the standard table, one behind another, each within the limit of a top tag
-pub record AreTags (tags : List Tree) (bytes : List ℕ) : Type 0 where
+pub record AreTopTags (tags : List Tree) (bytes : List ℕ) : Type 0 where
   pub spelled : bytes ≡ spellings (trees_of tags)
   pub accepted : AreAccepted standard_rows tag_limit tags
 
 -- the bytes are tags, within the limit of the input
 abbrev pub IsSound : List ℕ → Type 0
-IsSound bytes = (length bytes ≤ tags_limit) × ((tags : List Tree) × AreTags tags bytes)
+IsSound bytes = (length bytes ≤ tags_limit) × ((tags : List Tree) × AreTopTags tags bytes)
 
 -- how many tags and how many bytes there are
 abbrev pub check_text : List Tree → List ℕ → List ℕ
@@ -39,7 +39,7 @@ pub record IsChecked (before after : InputSeen) (history : Option (List Entry)) 
   pub faultless : after.faults ≡ before.faults
   pub within : length bytes ≤ tags_limit
   pub tags : List Tree
-  pub sound : AreTags tags bytes
+  pub sound : AreTopTags tags bytes
   pub unopened : history ≡ None
   pub written : output ≡ check_text tags bytes
 
@@ -59,10 +59,9 @@ pub record IsTooLong (input : List ℕ) : Type 0 where
   pub long : tags_limit < length input
   pub sound : (error : StreamError) → (walked (take tags_limit input)).ending ≢ broken error
 
--- no place in the bytes that were read is faulty
-pub record IsSoundSoFar (before after : InputSeen) : Type 0 where
-  pub bytes : List ℕ
-  pub read : Consumes before.left after.left bytes
+-- the bytes are within the limit, and no place in them is faulty
+pub record IsSoundSoFar (bytes : List ℕ) : Type 0 where
+  pub within : length bytes ≤ tags_limit
   pub sound : (error : StreamError) → (walked bytes).ending ≢ broken error
 
 -- the fault of the input, where it is told

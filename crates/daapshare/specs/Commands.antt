@@ -1,5 +1,6 @@
 -- What each command does, by its words and its input, and which faults it ends by.
-use Rattle.std.specs.Prelude.{◌≡◌, ℕ, List, [], Option, Some, None, true, false}
+use Rattle.std.specs.Prelude.{◌≡◌, ◌≤◌, ◌++◌, ℕ, List, [], length, Option, Some, None, true, false}
+use Rattle.std.specs.Io.KnownBytes.{Consumes}
 use Rattle.daap_outside.specs.Counts.{Rose}
 use Rattle.daapshare_words.specs.declared.words.Command.{Command}
 use Rattle.daapshare_words.specs.declared.words.Command.TheVariants as command
@@ -8,6 +9,8 @@ use Rattle.dmap_tags.specs.Tree.{Tree}
 use Rattle.item_model.specs.declared.changes.Entry.{Entry}
 use Rattle.daapshare.specs.declared.fault.Fault.{Fault}
 use Rattle.daapshare.specs.declared.fault.Fault.TheVariants.{Words, Query, Meta, Records, Tags, Text, Codes, Read, Write, InputLimit, Memory}
+use Rattle.daapshare.specs.Limits.{records_limit, text_limit, piece_limit}
+use Rattle.daapshare.specs.Faults.{IsOwn}
 use Rattle.daapshare.specs.Seen.{InputSeen, IsUnread}
 use Rattle.daapshare.specs.Looks.{IsAsked}
 use Rattle.daapshare.specs.Lists.{IsListed, IsListable, ListSays}
@@ -31,15 +34,16 @@ Says (Some command.Check) left fault = CheckSays left fault
 Says (Some (command.Codes false)) left fault = ⊥
 Says (Some (command.Codes true)) left fault = LearnSays left fault
 
--- the command's words are in order, and it reads on, as nothing that it has read is refused
-abbrev pub ReadsOn : Option Command → InputSeen → InputSeen → Type 0
-ReadsOn None before after = ⊥
-ReadsOn (Some (command.List query meta)) before after = IsAsked query meta
-ReadsOn (Some (command.Show false)) before after = IsSoundSoFar before after
-ReadsOn (Some (command.Show true)) before after = Unit {0}
-ReadsOn (Some command.Check) before after = IsSoundSoFar before after
-ReadsOn (Some (command.Codes false)) before after = ⊥
-ReadsOn (Some (command.Codes true)) before after = IsReplySoFar before after
+-- bytes behind which the command reads on: its words are in order, the bytes are within its limit, and nothing in
+-- them is refused
+abbrev pub ReadsOn : Option Command → List ℕ → Type 0
+ReadsOn None bytes = ⊥
+ReadsOn (Some (command.List query meta)) bytes = IsAsked query meta × (length bytes ≤ records_limit)
+ReadsOn (Some (command.Show false)) bytes = IsSoundSoFar bytes
+ReadsOn (Some (command.Show true)) bytes = length bytes ≤ text_limit
+ReadsOn (Some command.Check) bytes = IsSoundSoFar bytes
+ReadsOn (Some (command.Codes false)) bytes = ⊥
+ReadsOn (Some (command.Codes true)) bytes = IsReplySoFar bytes
 
 -- want of memory may come at any time; words that are no command's and `codes` leave the input as it was even so
 abbrev pub MayRead : Option Command → InputSeen → InputSeen → Type 0
@@ -50,10 +54,27 @@ MayRead (Some command.Check) before after = Unit {0}
 MayRead (Some (command.Codes false)) before after = IsUnread before after
 MayRead (Some (command.Codes true)) before after = Unit {0}
 
--- a fault of what was read, with no fault of the input itself
+-- what was read: behind all but the last read the command had cause to read on
+pub record HasReadOn (asked : Option Command) (before after : InputSeen) : Type 0 where
+  pub front : List ℕ
+  pub last : List ℕ
+  pub read : Consumes before.left after.left (front ++ last)
+  pub short : length last ≤ piece_limit
+  pub on : ReadsOn asked front
+
+-- a fault of what was read, told before more was read, and none of the input itself
 pub record IsFaultOf (asked : Option Command) (before after : InputSeen) (fault : Fault) : Type 0 where
   pub said : Says asked before.left fault
+  pub own : IsOwn fault
   pub faultless : after.faults ≡ before.faults
+  pub read_on : HasReadOn asked before after
+
+-- a read that failed, where the command had cause to read on
+pub record IsReadFault (asked : Option Command) (before after : InputSeen) : Type 0 where
+  pub bytes : List ℕ
+  pub read : Consumes before.left after.left bytes
+  pub on : ReadsOn asked bytes
+  pub rose : Rose before.faults after.faults
 
 -- what has to hold where a command ends by a fault: a fault of the words comes before the input is read
 abbrev pub IsCause : Option Command → InputSeen → InputSeen → Fault → Type 0
@@ -64,7 +85,7 @@ IsCause asked before after (Records error) = IsFaultOf asked before after (Recor
 IsCause asked before after (Tags error) = IsFaultOf asked before after (Tags error)
 IsCause asked before after (Text line) = IsFaultOf asked before after (Text line)
 IsCause asked before after (Codes error) = IsFaultOf asked before after (Codes error)
-IsCause asked before after Read = ReadsOn asked before after × Rose before.faults after.faults
+IsCause asked before after Read = IsReadFault asked before after
 IsCause asked before after Write = ⊥
 IsCause asked before after InputLimit = IsFaultOf asked before after InputLimit
 IsCause asked before after Memory = MayRead asked before after

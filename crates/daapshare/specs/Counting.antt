@@ -67,6 +67,6 @@ StopsAt bytes InputLimit = IsTooLong bytes
 StopsAt bytes Memory = Unit {0}
 
 -- the bytes end between two top tags, which are counted, or inside one
-abbrev pub Ends : List ℕ → Result ℕ StreamError → Type 0
-Ends bytes (Ok tags) = ((walked bytes).ending ≡ between) × (tags ≡ top_tags (walked bytes).events)
-Ends bytes (Err error) = ((walked bytes).ending ≡ inside) × (error ≡ stream.Truncated (length bytes))
+abbrev pub EndsCounted : List ℕ → Result ℕ StreamError → Type 0
+EndsCounted bytes (Ok tags) = ((walked bytes).ending ≡ between) × (tags ≡ top_tags (walked bytes).events)
+EndsCounted bytes (Err error) = ((walked bytes).ending ≡ inside) × (error ≡ stream.Truncated (length bytes))

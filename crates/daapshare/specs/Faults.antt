@@ -1,5 +1,5 @@
 -- The line that a user sees for each fault, and the status that the program ends with.
-use Rattle.std.specs.Prelude.{ℕ, List, [], ◌∷◌, ◌++◌, codes, decimal}
+use Rattle.std.specs.Prelude.{◌≢◌, ◌≤◌, ℕ, List, [], ◌∷◌, ◌++◌, codes, decimal}
 use Rattle.item_model.specs.declared.refusal.QueryError.{QueryError}
 use Rattle.item_model.specs.declared.refusal.QueryError.TheVariants as query
 use Rattle.item_model.specs.declared.refusal.QueryWhy.{QueryWhy}
@@ -156,3 +156,17 @@ table_fault table.NotReply = Codes table.NotReply
 table_fault (table.Entry index) = Codes (table.Entry index)
 table_fault (table.Repeated index) = Codes (table.Repeated index)
 table_fault table.Memory = Memory
+
+-- a fault is not want of memory under another's name, and lines count from 1
+abbrev pub IsOwn : Fault → Type 0
+IsOwn Words = Unit {0}
+IsOwn (Query error) = error ≢ query.Memory
+IsOwn Meta = Unit {0}
+IsOwn (Records error) = error ≢ records.Memory
+IsOwn (Tags error) = error ≢ stream.Memory
+IsOwn (Text line) = 1 ≤ line
+IsOwn (Codes error) = error ≢ table.Memory
+IsOwn Read = Unit {0}
+IsOwn Write = Unit {0}
+IsOwn InputLimit = Unit {0}
+IsOwn Memory = Unit {0}

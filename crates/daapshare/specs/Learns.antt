@@ -4,6 +4,7 @@ use Rattle.std.specs.Io.KnownBytes.{Consumes, IsAtEnd}
 use Rattle.dmap_tags.specs.Spelling.{spelling}
 use Rattle.dmap_tags.specs.Tree.{Tree}
 use Rattle.code_table.specs.declared.reply.CodeError.{CodeError}
+use Rattle.code_table.specs.declared.reply.CodeError.TheVariants as table
 use Rattle.code_table.specs.declared.reply.CodeError.TheVariants.{NotReply}
 use Rattle.code_table.specs.declared.row.CodeRow.{CodeRow}
 use Rattle.code_table.specs.Reply.{table_of}
@@ -48,21 +49,20 @@ TellsNone error tag rest =
     (table_of tag ≡ Err error) ⊎ ((error ≡ NotReply) × ((rest ≢ []) × ((rows : List CodeRow) × (table_of tag ≡ Ok rows))))
 
 pub record IsReplyRefused (error : CodeError) (input : List ℕ) : Type 0 where
+  pub cause : error ≢ table.Memory
   pub tag : Tree
   pub rest : List ℕ
   pub whole : BeginsWith tag rest input
   pub refused : TellsNone error tag rest
 
--- the bytes begin a tag, and no place in them is faulty
-pub record IsBegun (bytes : List ℕ) : Type 0 where
+-- no whole tag stands in front of the bytes yet, and no place in them is faulty
+pub record IsUnfinished (bytes : List ℕ) : Type 0 where
   pub open_ : HasNoTag bytes
   pub sound : (error : StreamError) → (walked bytes).ending ≢ broken error
 
--- what was read is the front of a reply, or a whole one
-pub record IsReplySoFar (before after : InputSeen) : Type 0 where
-  pub bytes : List ℕ
-  pub read : Consumes before.left after.left bytes
-  pub good : IsBegun bytes ⊎ ((rows : List CodeRow) × IsReply rows bytes)
+-- nothing in the bytes is refused so far: they are no whole tag yet, or just a reply
+abbrev pub IsReplySoFar : List ℕ → Type 0
+IsReplySoFar bytes = IsUnfinished bytes ⊎ ((rows : List CodeRow) × IsReply rows bytes)
 
 -- the input was read to its end, without a fault, and is a reply; the output is the table that it tells
 pub record IsLearned (before after : InputSeen) (history : Option (List Entry)) (output : List ℕ) : Type 0 where

@@ -13,6 +13,10 @@ tags_limit = 4294967296
 abbrev pub text_limit : ℕ
 text_limit = 67108864
 
+-- what one read brings: 64 KiB
+abbrev pub piece_limit : ℕ
+piece_limit = 65536
+
 -- the payload of a top tag: 1 GiB
 abbrev pub tag_limit : ℕ
 tag_limit = 1073741824

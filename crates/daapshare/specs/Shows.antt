@@ -10,7 +10,7 @@ use Rattle.daapshare.specs.Limits.{tags_limit}
 use Rattle.daapshare.specs.declared.fault.Fault.{Fault}
 use Rattle.daapshare.specs.declared.fault.Fault.TheVariants.{Words, Query, Meta, Records, Tags, Text, Codes, Read, Write, InputLimit, Memory}
 use Rattle.daapshare.specs.Seen.{InputSeen}
-use Rattle.daapshare.specs.Checks.{walked, AreTags}
+use Rattle.daapshare.specs.Checks.{walked, AreTopTags}
 
 -- the events in as many of the bytes as are read
 abbrev pub read_events : List ℕ → List Event
@@ -32,7 +32,7 @@ pub record IsShownWhole (before after : InputSeen) (history : Option (List Entry
   pub faultless : after.faults ≡ before.faults
   pub within : length bytes ≤ tags_limit
   pub tags : List Tree
-  pub sound : AreTags tags bytes
+  pub sound : AreTopTags tags bytes
   pub unopened : history ≡ None
   pub written : output ≡ shown_tags 0 (trees_of tags)
 

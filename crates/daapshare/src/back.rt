@@ -33,7 +33,10 @@ pub fn unshown<I: Source>(alloc: Global, input: &mut I) -> Result<Vec<u8>, Fault
         (record { left = I.left input.new; faults = I.faults input.new })
         fault) }
 {
-    let text = read_within(alloc, input, TEXT_LIMIT)?;
+    let text = match read_within(alloc, input, TEXT_LIMIT) {
+        Ok(text) => text,
+        Err(error) => return Err(Fault::from(error)),
+    };
     let tags = match tags_shown(alloc, text.as_slice()) {
         Ok(tags) => tags,
         Err(fault) => return Err(fault),

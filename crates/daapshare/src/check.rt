@@ -6,7 +6,7 @@ ghost use Rattle.dmap_stream.specs.Reader.{ready};
 ghost use Rattle.daapshare_words.specs.declared.words.Command.TheVariants.{Check as check_command};
 ghost use Rattle.daapshare.specs.Checks.{IsChecked};
 ghost use Rattle.daapshare.specs.Commands.{IsCause};
-ghost use Rattle.daapshare.specs.Counting.{HasCounted, IsCounted, IsShown, StopsAt, Ends};
+ghost use Rattle.daapshare.specs.Counting.{HasCounted, IsCounted, IsShown, StopsAt, EndsCounted};
 
 use crate::fault::{Fault, push_place};
 use crate::tops::Tops;
@@ -99,7 +99,7 @@ impl Counter {
 
     /// The end of the bytes: how many top tags they are.
     pub fn end(self) -> Result<u64, StreamError>
-        ensures { (fed : List ℕ) → IsCounted fed self → Ends fed result }
+        ensures { (fed : List ℕ) → IsCounted fed self → EndsCounted fed result }
     {
         let ended = self.tops.ended;
         match self.reader.finish() {

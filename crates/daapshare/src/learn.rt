@@ -4,7 +4,7 @@ ghost use Rattle.std.specs.Prelude.{◌≡◌, ◌++◌, [], ℕ, List, length, 
 ghost use Rattle.std.specs.Io.KnownBytes.{Consumes};
 ghost use Rattle.daapshare_words.specs.declared.words.Command.TheVariants.{Codes as codes_command};
 ghost use Rattle.daapshare.specs.Commands.{IsCause};
-ghost use Rattle.daapshare.specs.Learns.{IsBegun, IsReply, IsLearned};
+ghost use Rattle.daapshare.specs.Learns.{IsUnfinished, IsReply, IsLearned};
 ghost use Rattle.daapshare.specs.Learning.{is_whole, IsLearning, LearnStops, IsRefusal};
 
 use crate::check::{Counter, PIECE, TAG_LIMIT};
@@ -67,7 +67,7 @@ fn is_whole(bytes: &[u8]) -> bool
 
 /// The table that the first tag of the bytes tells, where the tag is whole and nothing stands behind it.
 fn judged(alloc: Global, bytes: &[u8]) -> Result<Option<CodeTable>, Fault>
-    ensures told { IfOk result (λ learned. MatchOption learned (IsBegun bytes.now) (λ table. IsReply table bytes.now)) }
+    ensures told { IfOk result (λ learned. MatchOption learned (IsUnfinished bytes.now) (λ table. IsReply table bytes.now)) }
     ensures refused { IfErr result (λ fault. IsRefusal bytes.now fault) }
 {
     let standard = CodeTable::standard(alloc)?;

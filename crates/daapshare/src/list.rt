@@ -36,8 +36,14 @@ pub fn opened<I: Source>(
         Ok(look) => look,
         Err(fault) => return Err(fault),
     };
-    let bytes = read_within(alloc, input, RECORDS_LIMIT)?;
-    let batch = read_batch(alloc, bytes.as_slice())?;
+    let bytes = match read_within(alloc, input, RECORDS_LIMIT) {
+        Ok(bytes) => bytes,
+        Err(error) => return Err(Fault::from(error)),
+    };
+    let batch = match read_batch(alloc, bytes.as_slice()) {
+        Ok(batch) => batch,
+        Err(error) => return Err(Fault::from(error)),
+    };
     let opened = open(alloc, batch, &look)?;
     Ok(opened)
 }

@@ -1,9 +1,10 @@
-use Rattle.std.proofs.Common.{rules, ◌≡◌, ◌++◌, [], ℕ, List, Option, Some, MatchOption, true, sym, subst, ap, ◌∙◌, append-nil}
+use Rattle.std.proofs.Common.{rules, ◌≡◌, ◌≤◌, ◌++◌, [], ℕ, List, length, inl, Option, Some, MatchOption, true, sym, subst, ap, ◌∙◌, append-nil}
 use Rattle.std.specs.Io.KnownBytes.{Consumes, IsAtEnd}
 use Rattle.std.proofs.KnownBytes.{Consumes-trans, Consumes-kept}
 use Rattle.daap_outside.specs.Counts.{Rose}
 use Rattle.code_table.specs.declared.row.CodeRow.{CodeRow}
 use Rattle.dmap_stream.specs.declared.refusal.StreamError.TheVariants as stream
+use Rattle.daapshare.specs.declared.check.TheConstants.{PIECE}
 use Rattle.daapshare_words.specs.declared.words.Command.TheVariants.{Codes as codes_command}
 use Rattle.daapshare.specs.declared.fault.Fault.TheVariants.{Tags}
 use Rattle.daapshare.specs.Commands.{IsCause}
@@ -63,9 +64,12 @@ pub returns-in-Err-take-clause-cause : goal.returns-in-Err-take-clause-cause
 returns-in-Err-take-clause-cause g c =
     let fed = c.loop-n.invariant.fed in
     let piece = c.split_at.result.0.now in
+    let read =
+    subst (λ (bytes : List ℕ). Consumes (g.I.Source.left c.args.input.now) (g.I.Source.left c.read.new.self) (fed ++ bytes)) (sym c.split_at.ensures.front)
+    (Consumes-trans _ _ _ _ _ c.loop-n.invariant.read c.in-Ok.ensures.moved.0) in
+    let short : length piece ≤ PIECE = search rules in
     learn_cause (record { left = g.I.Source.left c.args.input.now; faults = g.I.Faulted.faults c.args.input.now })
-    (record { left = g.I.Source.left c.read.new.self; faults = g.I.Faulted.faults c.read.new.self }) (fed ++ piece) c.in-Err-take.fault
-    (subst (λ (bytes : List ℕ). Consumes (g.I.Source.left c.args.input.now) (g.I.Source.left c.read.new.self) (fed ++ bytes)) (sym c.split_at.ensures.front)
-    (Consumes-trans _ _ _ _ _ c.loop-n.invariant.read c.in-Ok.ensures.moved.0))
+    (record { left = g.I.Source.left c.read.new.self; faults = g.I.Faulted.faults c.read.new.self }) (fed ++ piece) c.in-Err-take.fault read
     (c.in-Ok.ensures.count ∙ c.loop-n.invariant.faultless)
+    (record { front = fed; last = piece; read = read; short = short; on = inl (begun fed c.loop-n.learner c.loop-n.invariant.learning) })
     (c.in-Err-take.ensures.stopped fed c.loop-n.invariant.learning)

@@ -1,8 +1,10 @@
-use Rattle.std.proofs.Common.{rules, ◌<◌, ◌++◌, ℕ, List, [], sym, subst, ◌∙◌, arith, length-append}
+use Rattle.std.proofs.Common.{rules, ◌<◌, ◌≤◌, ◌++◌, ℕ, List, [], length, sym, subst, ◌∙◌, arith, length-append}
 use Rattle.std.specs.Io.KnownBytes.{Consumes}
 use Rattle.std.proofs.KnownBytes.{Consumes-trans, Consumes-kept}
 use Rattle.daap_outside.specs.Counts.{Rose}
-use Rattle.daapshare.proofs.Showing.{show_nothing, show_failed, show_read, step_stops, written_more, none_written}
+use Rattle.daapshare.specs.declared.check.TheConstants.{PIECE}
+use Rattle.daapshare.specs.Seen.{InputSeen}
+use Rattle.daapshare.proofs.Showing.{show_nothing, show_failed, show_read, on_shown, step_stops, written_more, none_written}
 use Rattle.daapshare.proofs.show.streamed.Goals as goal
 
 pub returns-in-Err-clause-stopped : goal.returns-in-Err-clause-stopped
@@ -20,7 +22,7 @@ returns-in-Err-read-clause-stopped g c =
     let now = c.loop-n.invariant in (
       show_failed (record { left = g.I.Source.left c.args.input.now; faults = g.I.Faulted.faults c.args.input.now })
           (record { left = g.I.Source.left c.read.new.self; faults = g.I.Faulted.faults c.read.new.self }) now.fed now.written c.loop-n.shower now.showing
-          (Consumes-kept _ _ _ now.fed now.read c.in-Err-read.ensures.moved)
+          (Consumes-kept _ _ _ now.fed now.read c.in-Err-read.ensures.moved) now.within
           (subst (λ (n : ℕ). Rose n (g.I.Faulted.faults c.read.new.self)) now.faultless c.in-Err-read.ensures.count),
       (
         now.written,
@@ -36,14 +38,17 @@ returns-in-Err-step-clause-stopped g c =
     let now = c.loop-n.invariant in
     let piece = c.split_at.result.0.now in
     let stopped = c.in-Err-step.ensures.stopped now.fed now.written now.showing in
-    step_stops (record { left = g.I.Source.left c.args.input.now; faults = g.I.Faulted.faults c.args.input.now })
-    (record { left = g.I.Source.left c.read.new.self; faults = g.I.Faulted.faults c.read.new.self })
+    let before : InputSeen = record { left = g.I.Source.left c.args.input.now; faults = g.I.Faulted.faults c.args.input.now } in
+    let after : InputSeen = record { left = g.I.Source.left c.read.new.self; faults = g.I.Faulted.faults c.read.new.self } in
+    let read =
+    subst (λ (bytes : List ℕ). Consumes (g.I.Source.left c.args.input.now) (g.I.Source.left c.read.new.self) (now.fed ++ bytes)) (sym c.split_at.ensures.front)
+    (Consumes-trans _ _ _ _ _ now.read c.in-Ok-read.ensures.moved.0) in
+    let short : length piece ≤ PIECE = search rules in
+    step_stops before after
     (record { taken = g.W.Sink.taken c.args.output.now; faults = g.W.Faulted.faults c.args.output.now })
     (record { taken = g.W.Sink.taken c.loop-n.output; faults = g.W.Faulted.faults c.loop-n.output })
-    (record { taken = g.W.Sink.taken c.step.new.output; faults = g.W.Faulted.faults c.step.new.output }) (now.fed ++ piece) now.written stopped.0 c.in-Err-step.stop
-    (subst (λ (bytes : List ℕ). Consumes (g.I.Source.left c.args.input.now) (g.I.Source.left c.read.new.self) (now.fed ++ bytes)) (sym c.split_at.ensures.front)
-    (Consumes-trans _ _ _ _ _ now.read c.in-Ok-read.ensures.moved.0))
-    (c.in-Ok-read.ensures.count ∙ now.faultless) now.told stopped.1
+    (record { taken = g.W.Sink.taken c.step.new.output; faults = g.W.Faulted.faults c.step.new.output }) (now.fed ++ piece) now.written stopped.0 c.in-Err-step.stop read
+    (c.in-Ok-read.ensures.count ∙ now.faultless) (on_shown before after now.fed piece now.written c.loop-n.shower read short now.showing now.within) now.told stopped.1
 
 pub loop-n-smaller : goal.loop-n-smaller
 loop-n-smaller g c =

@@ -2,7 +2,7 @@ use Rattle.std.proofs.Common.{rules, ◌≡◌, ◌≢◌, ◌++◌, [], ℕ, Li
 use Rattle.dmap_stream.specs.Walk.{broken}
 use Rattle.dmap_stream.specs.declared.refusal.StreamError.TheVariants as stream
 use Rattle.daapshare.specs.Checks.{walked}
-use Rattle.daapshare.specs.Learns.{IsBegun, IsReply}
+use Rattle.daapshare.specs.Learns.{IsUnfinished, IsReply}
 use Rattle.daapshare.specs.Learning.{is_whole, IsRefusal}
 use Rattle.daapshare.proofs.Counted.{unbroken}
 use Rattle.daapshare.proofs.Learned.{none_yet, told_broken, all_stop, broken_whole}
@@ -34,7 +34,7 @@ returns-in-Err c =
           let bytes : c.as_slice-in-Err.result.now ≡ fed ++ piece = c.as_slice-in-Err.ensures.value ∙ c.in_ok-extend_from_slice.ensures.items ∙ ap (λ l. l ++ piece) h.bytes in
           let broke : (walked (fed ++ piece)).ending ≡ broken c.in-Err.field-0 = ap (λ l. (walked l).ending) (sym (append-nil (fed ++ piece))) ∙ c.in-Err.ensures.stopped fed h.counted known [] in
           told_broken _ (fed ++ piece) c.judged-in-Err.result (λ begun. begun.sound c.in-Err.field-0 broke)
-          (subst (λ (l : List ℕ). IfOk c.judged-in-Err.result (λ learned. MatchOption learned (IsBegun l) (λ rows. IsReply rows l))) bytes c.judged-in-Err.ensures.told);
+          (subst (λ (l : List ℕ). IfOk c.judged-in-Err.result (λ learned. MatchOption learned (IsUnfinished l) (λ rows. IsReply rows l))) bytes c.judged-in-Err.ensures.told);
       stopped = λ fed h.
           let bytes : c.as_slice-in-Err.result.now ≡ fed ++ piece = c.as_slice-in-Err.ensures.value ∙ c.in_ok-extend_from_slice.ensures.items ∙ ap (λ l. l ++ piece) h.bytes in
           all_stop (fed ++ piece) c.judged-in-Err.result
