@@ -1,10 +1,11 @@
 -- Bytes that move in pieces: into a room, and from one to the next.
-use Rattle.std.proofs.Common.{◌≡◌, ℕ, ◌+◌, ◌≤◌, List, ◌++◌, length, take, drop, sym, ap, subst, ◌∙◌}
+use Rattle.std.proofs.Common.{◌≡◌, ℕ, ◌+◌, ◌≤◌, List, ◌++◌, length, take, drop, length-append, arith, sym, ap, subst, ◌∙◌}
 use Rattle.std.specs.Prelude.{Option}
 use Rattle.std.proofs.lemmas.List.{take-append-drop, take_at, drop-drop, length-take-le}
 use Rattle.std.proofs.Math.Seq.{take-add}
-use Rattle.std.proofs.KnownBytes.{Appends-trans}
-use Rattle.std.specs.Io.KnownBytes.{Appends}
+use Rattle.std.proofs.KnownBytes.{Appends-trans, Consumes-trans}
+use Rattle.std.specs.Io.KnownBytes.{Appends, Consumes}
+use Rattle.daap_outside.specs.Reading.{ConsumesUpTo}
 
 -- the bytes that were copied to the front of a room, and those that are left behind them, are what was left
 pub moved_front : (bytes copied rest : List ℕ) (given n : ℕ) → n ≤ length (drop given bytes) → copied ≡ take n (drop given bytes)
@@ -20,3 +21,9 @@ pub Appends-next : (before mid now : Option (List ℕ)) (bytes rest : List ℕ) 
 Appends-next before mid now bytes rest n m is first next =
     subst (Appends before now) (sym (take-add n m bytes))
     (Appends-trans before mid now _ _ first (subst (λ xs. Appends mid now (take m xs)) is next))
+
+-- at most so many bytes were read, and then at most so many more
+pub ConsumesUpTo-next : (before mid now : Option (List ℕ)) (held more : List ℕ) (most piece : ℕ) → length held ≤ most → length more ≤ piece
+    → Consumes before mid held → Consumes mid now more → ConsumesUpTo (most + piece) before now
+ConsumesUpTo-next before mid now held more most piece within short first next =
+    (held ++ more, Consumes-trans before mid now held more first next, omega (arith, within, short, length-append held more))

@@ -1,4 +1,4 @@
-// Sources and sinks over std's readers and writers: the edge that is trusted to tell the truth.
+//! Sources and sinks over std's readers and writers: the edge that is trusted to tell the truth.
 ghost use Rattle.std.specs.Prelude.{◌≡◌, None};
 
 use crate::faulted::{Failed, Faulted, counted};

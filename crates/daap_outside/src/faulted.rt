@@ -1,4 +1,4 @@
-// The count of faults that each object of the outside has, and the error that raises it.
+//! The count of faults that each object of the outside has, and the error that raises it.
 ghost use Rattle.std.specs.Prelude.{ℕ};
 ghost use Rattle.daap_outside.specs.Counts.{Rose};
 

@@ -1,4 +1,4 @@
-// What keeps bytes by name.
+//! What keeps bytes by name.
 ghost use Rattle.std.specs.Prelude.{◌≡◌, ℕ, List, [], ◌∷◌, IfOk, Option};
 ghost use Rattle.daap_outside.specs.Counts.{CountsFaults, RisesWith};
 ghost use Rattle.daap_outside.specs.Told.{Grows};

@@ -1,4 +1,4 @@
-// What is both read and written.
+//! What is both read and written.
 ghost use Rattle.std.specs.Prelude.{◌≡◌};
 
 use crate::sink::Sink;

@@ -1,4 +1,4 @@
-// The forms in memory, for tests and for commands that use no net and no files.
+//! The forms in memory, for tests and for commands that use no net and no files.
 ghost use Rattle.std.specs.Prelude.{◌≡◌, IfOk};
 
 pub mod files;

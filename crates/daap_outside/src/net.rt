@@ -1,4 +1,4 @@
-// What links come from.
+//! What links come from.
 ghost use Rattle.std.specs.Prelude.{◌≡◌, ℕ, Bool, List, [], ◌∷◌, map, length, All, IfOk, IfSome, OnOk, OnErr, Option};
 ghost use Rattle.daap_outside.specs.Counts.{CountsFaults, Rose, RisesWith};
 ghost use Rattle.daap_outside.specs.Told.{BeginsEmpty, Grows, GrowsByTold};

@@ -1,7 +1,7 @@
-// An input that is read whole, up to a limit.
-ghost use Rattle.std.specs.Prelude.{◌≡◌, ℕ, ◌<◌, ◌≤◌, List, length, IfOk, IfErr, IfSome, IsErrOf, OnErr};
+//! An input that is read whole, up to a limit.
+ghost use Rattle.std.specs.Prelude.{◌≡◌, ℕ, ◌+◌, ◌<◌, ◌≤◌, List, length, IfOk, IfErr, IfSome, IsErrOf, OnErr};
 ghost use Rattle.std.specs.Io.KnownBytes.{Consumes, IsAtEnd};
-ghost use Rattle.daap_outside.specs.Reading.{ConsumesSome, CountsReadFaults};
+ghost use Rattle.daap_outside.specs.Reading.{ConsumesUpTo, CountsReadFaults};
 ghost use Rattle.daap_outside.specs.declared.reading.ReadError.TheVariants.{Failed as failed, Memory};
 
 use crate::faulted::Failed;
@@ -53,7 +53,10 @@ pub fn read_within<I: Source>(
     ensures within { IfOk result (λ all. length all.items ≤ most) }
 
     ensures too_long { IsErrOf result ReadError.TooLong → IfSome (I.left source.old) (λ left. most < length left) }
-    ensures part { ConsumesSome (I.left source.old) (I.left source.new) }
+    // A failed read comes only within the limit.
+    ensures failed { IsErrOf result ReadError.Failed → ConsumesUpTo most (I.left source.old) (I.left source.new) }
+    // No more is read behind the limit than one read asks for.
+    ensures part { ConsumesUpTo (most + PIECE) (I.left source.old) (I.left source.new) }
 
     ensures beside { I.beside_left source.new ≡ I.beside_left source.old }
     ensures count { CountsReadFaults (I.faults source.old) (I.faults source.new) result }

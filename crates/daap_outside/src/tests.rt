@@ -1,4 +1,4 @@
-// What the forms in memory and over std do when they run, and callers that know the traits alone.
+//! What the forms in memory and over std do when they run, and callers that know the traits alone.
 ghost use Rattle.std.specs.Prelude.{◌≡◌, ◌<◌, ◌++◌, ◌∷◌, [], IfOk, IfSome, OnOk, OnErr, length, drop, false, true, Some};
 ghost use Rattle.std.specs.Io.KnownBytes.{Appends};
 ghost use Rattle.daap_outside.specs.Counts.{Rose};

@@ -1,4 +1,4 @@
-// Files in memory that hold no bytes yet.
+//! Files in memory that hold no bytes yet.
 ghost use Rattle.std.specs.Prelude.{◌≡◌, None, IsErr};
 ghost use Rattle.daap_outside.specs.Counts.{Rose};
 

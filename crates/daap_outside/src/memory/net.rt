@@ -1,4 +1,4 @@
-// A net in memory that holds no links yet.
+//! A net in memory that holds no links yet.
 ghost use Rattle.std.specs.Prelude.{◌≡◌, None, IsErr, IsErrOf, refl};
 ghost use Rattle.daap_outside.specs.Counts.{Rose};
 

@@ -1,4 +1,4 @@
-// A sink over room in memory.
+//! A sink over room in memory.
 ghost use Rattle.std.specs.Prelude.{◌≡◌, ◌↔◌, ◌⊎◌, ◌<◌, ◌≤◌, ◌+◌, ℕ, min, [], Some, None, IfOk, IsErr, MatchResult, Contains, length, vec_len, vec_capacity};
 ghost use Rattle.std.specs.Io.KnownBytes.{WriteAppends};
 ghost use Rattle.daap_outside.specs.Counts.{CountsFaults};

@@ -1,10 +1,14 @@
-use Rattle.std.proofs.KnownBytes.{Consumes-trans}
+use Rattle.std.proofs.Common.{arith}
+use Rattle.daap_outside.proofs.Moving.{ConsumesUpTo-next}
 use Rattle.daap_outside.proofs.reading.read_within.Goals as goal
 
 -- what was held and what this read gave were read
 pub returns-then-n-most-clause-part : goal.returns-then-n-most-clause-part
-returns-then-n-most-clause-part g c = (_, Consumes-trans _ _ _ _ _ c.loop-all.invariant.read c.in_ok-n.ensures.moved.0)
+returns-then-n-most-clause-part g c =
+    ConsumesUpTo-next _ _ _ _ _ _ _ (omega (arith, c.loop-all.invariant.within)) (omega (arith, c.in_ok-n.ensures.within))
+    c.loop-all.invariant.read c.in_ok-n.ensures.moved.0
 
 pub returns-in_err-extend_from_slice-clause-part : goal.returns-in_err-extend_from_slice-clause-part
 returns-in_err-extend_from_slice-clause-part g c =
-    (_, Consumes-trans _ _ _ _ _ c.loop-all.invariant.read c.in_ok-n.ensures.moved.0)
+    ConsumesUpTo-next _ _ _ _ _ _ _ (omega (arith, c.loop-all.invariant.within)) (omega (arith, c.in_ok-n.ensures.within))
+    c.loop-all.invariant.read c.in_ok-n.ensures.moved.0
