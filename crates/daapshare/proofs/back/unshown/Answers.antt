@@ -1,10 +1,26 @@
-use Rattle.std.proofs.Common.{◌≡◌, List, ap, ◌∙◌, length, arith}
+use Rattle.std.proofs.Common.{Vec, Global, ◌≡◌, ℕ, List, Some, Err, true, sym, subst, ap, ◌∙◌, length, arith}
+use Rattle.daap_outside.specs.declared.reading.ReadError.{ReadError}
 use Rattle.dmap_tags.specs.Spelling.{are_spellable}
 use Rattle.dmap_tags.specs.Tree.{Tree, trees_of}
+use Rattle.daapshare_words.specs.declared.words.Command.TheVariants.{Show as show_command}
+use Rattle.daapshare.specs.Limits.{text_limit}
+use Rattle.daapshare.specs.Seen.{InputSeen}
+use Rattle.daapshare.specs.Backing.{IsTextFault}
+use Rattle.daapshare.specs.Commands.{IsCause}
 use Rattle.daapshare.proofs.Backed.{back_spellable}
+use Rattle.daapshare.proofs.Causes.{read_cause, text_cause}
 use Rattle.daapshare.proofs.back.unshown.Goals as goal
+
+pub returns-in-Err-clause-cause : goal.returns-in-Err-clause-cause
+returns-in-Err-clause-cause g c =
+    let before : InputSeen = record { left = g.I.Source.left c.args.input.now; faults = g.I.Faulted.faults c.args.input.now } in
+    let after : InputSeen = record { left = g.I.Source.left c.read_within.new.source; faults = g.I.Faulted.faults c.read_within.new.source } in
+    let read = c.in-Err.ensures in
+    subst (IsCause (Some (show_command true)) before after) (sym c.from.ensures)
+    (read_cause (Vec ℕ Global) (Some (show_command true)) before after text_limit c.in-Err.error (λ bytes within. within) tt (λ is. read.failed (ap (λ (e : ReadError). Err e) is)) read.part
+    (λ is. read.too_long (ap (λ (e : ReadError). Err e) is)) read.count)
 
 pub bytes_of-requires : goal.bytes_of-requires
 bytes_of-requires g c =
     ap (λ (tags : List Tree). are_spellable (trees_of tags)) c.as_slice-2.ensures
-    ∙ back_spellable c.as_slice.result.now c.in-Ok.tags (omega (arith, c.in_ok-text.ensures.within, ap length c.as_slice.ensures.value)) c.in-Ok.ensures.shown
+    ∙ back_spellable c.as_slice.result.now c.in-Ok-tags_shown.tags (omega (arith, c.in-Ok.ensures.within, ap length c.as_slice.ensures.value)) c.in-Ok-tags_shown.ensures.shown

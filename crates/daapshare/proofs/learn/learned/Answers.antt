@@ -1,8 +1,9 @@
-use Rattle.std.proofs.Common.{rules, ◌≡◌, ◌++◌, [], refl, sym, subst, ◌∙◌, append-nil}
+use Rattle.std.proofs.Common.{rules, ◌≡◌, ◌≢◌, ◌≤◌, ◌++◌, [], length, take, refl, sym, subst, ◌∙◌, append-nil}
 use Rattle.std.specs.Io.KnownBytes.{Consumes, IsAtEnd}
 use Rattle.std.proofs.KnownBytes.{Consumes-trans, Consumes-kept}
 use Rattle.daap_outside.specs.Counts.{Rose}
-use Rattle.daapshare.proofs.Learned.{failed_behind}
+use Rattle.daapshare.specs.Limits.{piece_limit}
+use Rattle.daapshare.proofs.Learned.{failed_behind, behind_cause}
 use Rattle.daapshare.proofs.learn.learned.Goals as goal
 
 pub returns-in-Ok-eq0-clause-learned : goal.returns-in-Ok-eq0-clause-learned
@@ -29,3 +30,13 @@ returns-clause-cause g c =
     (Consumes-kept _ _ _ _ told.2 c.in-Err-read.ensures.moved) told.1
     (let rose : Rose (g.I.Faulted.faults c.told_table.new.input) (g.I.Faulted.faults c.read.new.self) = c.in-Err-read.ensures.count in
     subst (λ n. Rose n (g.I.Faulted.faults c.read.new.self)) c.in-Ok.ensures.faultless rose)
+
+pub returns-in-Ok-read-clause-cause : goal.returns-in-Ok-read-clause-cause
+returns-in-Ok-read-clause-cause g c =
+    let told = c.in-Ok.ensures.told in
+    let more = take c.in-Ok-read.field-0 c.read.new.room in
+    let some : more ≢ [] = search rules in
+    let short : length more ≤ piece_limit = search rules in
+    behind_cause (record { left = g.I.Source.left c.args.input.now; faults = g.I.Faulted.faults c.args.input.now })
+    (record { left = g.I.Source.left c.read.new.self; faults = g.I.Faulted.faults c.read.new.self }) told.0 more c.in-Ok.table
+    (Consumes-trans _ _ _ _ _ told.2 c.in-Ok-read.ensures.moved.0) some short (c.in-Ok-read.ensures.count ∙ c.in-Ok.ensures.faultless) told.1
