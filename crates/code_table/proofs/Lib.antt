@@ -1,2 +1,3 @@
 pub mod Tellings
 pub mod ReadsBack
+pub mod Index

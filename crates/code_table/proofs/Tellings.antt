@@ -1,6 +1,7 @@
 -- What an entry adds to the rows before it.
-use Rattle.std.proofs.Common.{◌≡◌, ◌≢◌, MatchResult, ℕ, suc, List, [], ◌∷◌, ◌++◌, Bool, true, false, not, ◌&&◌, ◌==◌, if◌then◌else◌, Option, Some, None, Result, Ok, Err, refl, sym, ap, ◌∙◌}
+use Rattle.std.proofs.Common.{◌≡◌, ◌≢◌, MatchResult, ◌<◌, ℕ, zero, suc, List, length, slice_index_or, take, map, arith, [], ◌∷◌, ◌++◌, Bool, true, false, not, ◌&&◌, ◌==◌, if◌then◌else◌, Option, Some, None, Result, Ok, Err, refl, sym, ap, ◌∙◌}
 use Rattle.std.proofs.lemmas.Bool.{and_parts, and_from, or_parts, or_from, not_from_false, not-true, eqb-true, eqb-false, eq-eqb, ne_eqb, cond-true}
+use Rattle.std.proofs.lemmas.List.{take-map, get_or-map, length-map}
 use Rattle.dmap_tags.specs.Codes.{Four, code}
 use Rattle.dmap_tags.specs.Tree.{Tree, Trees, more, tree_code}
 use Rattle.code_table.specs.declared.reply.CodeError.{CodeError}
@@ -40,6 +41,29 @@ differ_more (r ∷ rows) row h k =
     and_from (not (is_coded r.code (rows ++ row ∷ []))) (codes_differ (rows ++ row ∷ []))
     (not_from_false (is_coded r.code (rows ++ row ∷ [])) (not_more r.code rows row (not-true (is_coded r.code rows) differs.0) (same_swap row.code r.code ∙ parts.0)))
     (differ_more rows row differs.1 parts.1)
+
+-- where no row has the code, the row at a place has another
+other_at : (c : Four) (rows : List CodeRow) (i : ℕ) (d : CodeRow) → is_coded c rows ≡ false → i < length rows → same_code (slice_index_or rows i d).code c ≡ false
+other_at c [] i d h here = absurd (omega arith)
+other_at c (row ∷ rows) zero d h here = (or_parts (same_code row.code c) (is_coded c rows) h).0
+other_at c (row ∷ rows) (suc i) d h here = other_at c rows i d (or_parts (same_code row.code c) (is_coded c rows) h).1 (omega arith)
+
+-- where all codes differ, no row has the code of one behind it
+pub new_at : (rows : List CodeRow) (i : ℕ) (d : CodeRow) → codes_differ rows ≡ true → i < length rows → is_coded (slice_index_or rows i d).code (take i rows) ≡ false
+new_at [] i d differ here = absurd (omega arith)
+new_at (row ∷ rows) zero d differ here = refl
+new_at (row ∷ rows) (suc i) d differ here =
+    let parts = and_parts (not (is_coded row.code rows)) (codes_differ rows) differ in
+    let other = other_at row.code rows i d (not-true (is_coded row.code rows) parts.0) (omega arith) in
+    let next = slice_index_or rows i d in
+    or_from (same_code row.code next.code) (is_coded next.code (take i rows)) (same_swap row.code next.code ∙ other) (new_at rows i d parts.1 (omega arith))
+
+-- the same of rows that are made of data
+pub new_made_at : {X : Type 0} (made : X → CodeRow) (xs : List X) (i : ℕ) (d : X) → codes_differ (map made xs) ≡ true → i < length xs → is_coded (made (slice_index_or xs i d)).code (map made (take i xs)) ≡ false
+new_made_at made xs i d differ here =
+    ap (λ row. is_coded row.code (map made (take i xs))) (sym (get_or-map made xs i d (made d) here))
+    ∙ ap (is_coded (slice_index_or (map made xs) i (made d)).code) (sym (take-map made i xs))
+    ∙ new_at (map made xs) i (made d) differ (rw (length-map xs made) here)
 
 choice_ok : (b : Bool) (e : CodeError) (rows all : List CodeRow) (next : List CodeRow → Result (List CodeRow) CodeError) → (if b then Err e else Ok rows) ≡ Ok all → (if b then Err e else next rows) ≡ next all
 choice_ok true e rows all next h = absurd (cc)

@@ -1,9 +1,13 @@
 -- What a table of content codes says: the kind of a tag's value and the code of a name, by the first row that has
 -- the code or the name.
-use Rattle.std.specs.Prelude.{◌≡◌, ℕ, List, [], ◌∷◌, Bool, true, false, not, ◌==◌, ◌&&◌, ◌||◌, if◌then◌else◌, Option, Some, None, codes}
+use Rattle.std.specs.Prelude.{◌≡◌, ℕ, List, [], ◌∷◌, Bool, true, false, not, ◌==◌, ◌&&◌, ◌||◌, if◌then◌else◌, Option, Some, None}
+use Rattle.std.specs.BTreeMap.{is_at}
+use Rattle.std.specs.Map.{lookup}
+use Rattle.std.specs.Cmp.Lexicographic.{slice_cmp}
+use Rattle.std.specs.declared.cmp.Ordering.{Ordering}
+use Rattle.std.specs.Ordering.{nat_cmp}
 use Rattle.std.specs.Str.{bytes_eq}
-use Prim.Native.String.{String}
-use Rattle.dmap_tags.specs.Codes.{Four, code, code_of}
+use Rattle.dmap_tags.specs.Codes.{Four, code, code_of, code_bytes}
 use Rattle.dmap_tags.specs.declared.kinds.Kind.{Kind}
 use Rattle.dmap_tags.specs.declared.kinds.Kind.TheVariants.{Text, Opaque}
 use Rattle.code_table.specs.declared.row.CodeRow.{CodeRow}
@@ -42,6 +46,20 @@ is_coded c (row ∷ rows) = same_code row.code c || is_coded c rows
 abbrev pub codes_differ : List CodeRow → Bool
 codes_differ [] = true
 codes_differ (row ∷ rows) = not (is_coded row.code rows) && codes_differ rows
+
+-- the order of codes, by their bytes
+abbrev pub code_cmp : Four → Four → Ordering
+code_cmp a b = slice_cmp nat_cmp (code_bytes a) (code_bytes b)
+
+-- the kind in the row of the code, where there is one
+abbrev pub kind_at : List CodeRow → Four → Option Kind
+kind_at [] c = None
+kind_at (row ∷ rows) c = if same_code row.code c then Some row.kind else kind_at rows c
+
+-- no code has two rows, and the map has the kinds in them
+pub record AreIndexed (rows : List CodeRow) (kinds : List (Four × Kind)) : Type 0 where
+  pub differ : codes_differ rows ≡ true
+  pub found : (c : Four) → lookup (is_at (code_cmp c)) kinds ≡ kind_at rows c
 
 -- the row that constant data stand for
 abbrev pub row_of : StandardRow → CodeRow

@@ -77,7 +77,7 @@ impl CodeTable {
         match &tag.value {
             Value::List(members) => {
                 if tag.code == Code(*b"mccr") {
-                    Ok(CodeTable::of(told_rows(alloc, members.as_slice())?))
+                    told_table(alloc, members.as_slice())
                 } else {
                     Err(CodeError::NotReply)
                 }
@@ -120,62 +120,44 @@ fn number_of(code: Code) -> u32
     u32::from_be_bytes([b[0], b[1], b[2], b[3]])
 }
 
-/// The rows that the entries among the members tell.
-fn told_rows(alloc: Global, members: &[Tag]) -> Result<Vec<CodeRow>, CodeError>
-    ensures told { MatchResult result (λ rows. rows_from 0 [] (trees_of members.now) ≡ Ok rows.items)
+/// The table of the rows that the entries among the members tell.
+fn told_table(alloc: Global, members: &[Tag]) -> Result<CodeTable, CodeError>
+    ensures { MatchResult result (λ table. rows_from 0 [] (trees_of members.now) ≡ Ok table)
         (λ e. e ≢ CodeError.Memory → rows_from 0 [] (trees_of members.now) ≡ Err e) }
-    ensures differ { IfOk result (λ rows. codes_differ rows.items ≡ true) }
 {
-    let mut rows = Vec::new(alloc);
+    let mut table = CodeTable::new(alloc);
     for (index, member) in members.iter().enumerate() {
-        add_member(&mut rows, index as u64, member)?;
+        add_member(&mut table, index as u64, member)?;
     }
-    Ok(rows)
+    Ok(table)
 }
 
 /// Adds the row of an entry, and nothing for another member.
-fn add_member(rows: &mut Vec<CodeRow>, index: u64, member: &Tag) -> Result<(), CodeError>
-    requires { codes_differ rows.old.items ≡ true }
-    ensures differ { OnOk result (codes_differ rows.new.items ≡ true) }
-    ensures told { (members : Trees)
+fn add_member(table: &mut CodeTable, index: u64, member: &Tag) -> Result<(), CodeError>
+    ensures { (members : Trees)
         → MatchResult result
-        (λ _. rows_from index rows.old.items (more member.now members) ≡ rows_from (suc index) rows.new.items members)
-        (λ e. e ≢ CodeError.Memory → rows_from index rows.old.items (more member.now members) ≡ Err e) }
+        (λ _. rows_from index table.old (more member.now members) ≡ rows_from (suc index) table.new members)
+        (λ e. e ≢ CodeError.Memory → rows_from index table.old (more member.now members) ≡ Err e) }
 {
     if member.code != Code(*b"mdcl") {
         return Ok(());
     }
-    add_row(rows, index, entry_row(member)?)
+    add_row(table, index, entry_row(member)?)
 }
 
 /// Adds a row behind those that stood before.
-fn add_row(rows: &mut Vec<CodeRow>, index: u64, row: Option<CodeRow>) -> Result<(), CodeError>
-    requires { codes_differ rows.old.items ≡ true }
-    ensures differ { OnOk result (codes_differ rows.new.items ≡ true) }
-    ensures added { MatchResult result
-        (λ _. row_more index rows.old.items row Ok ≡ Ok rows.new.items)
-        (λ e. e ≢ CodeError.Memory → row_more index rows.old.items row Ok ≡ Err e) }
+fn add_row(table: &mut CodeTable, index: u64, row: Option<CodeRow>) -> Result<(), CodeError>
+    ensures { MatchResult result (λ _. row_more index table.old row Ok ≡ Ok table.new)
+        (λ e. e ≢ CodeError.Memory → row_more index table.old row Ok ≡ Err e) }
 {
     let Some(row) = row else {
         return Err(CodeError::Entry { index });
     };
-    if is_coded(row.code, rows.as_slice()) {
+    if table.has(row.code) {
         return Err(CodeError::Repeated { index });
     }
-    rows.push(row)?;
+    table.push(row)?;
     Ok(())
-}
-
-/// Some row has the code.
-fn is_coded(code: Code, rows: &[CodeRow]) -> bool
-    ensures { result ≡ is_coded code rows.now }
-{
-    for row in rows {
-        if row.code == code {
-            return true;
-        }
-    }
-    false
 }
 
 /// The row that an entry tells.

@@ -1,9 +1,10 @@
 //! The codes that DAAP servers publish, with the kinds and names that this project gives them.
 
-ghost use Rattle.std.specs.Prelude.{◌≡◌, map, IfOk};
-ghost use Rattle.code_table.specs.Rows.{row_of};
+ghost use Rattle.std.specs.Prelude.{◌≡◌, map, true, IfOk};
+ghost use Rattle.code_table.specs.Rows.{row_of, codes_differ};
 
 use crate::row::CodeRow;
+use crate::table::CodeTable;
 use dmap_tags::{Code, Kind, Text};
 use std::alloc::{AllocError, Global};
 
@@ -88,17 +89,18 @@ pub static STANDARD: [StandardRow; 73] = [
     StandardRow(*b"asdm", Kind::Date, "daap.songdatemodified"),
 ];
 
-/// The rows that the constant data stand for.
-pub fn rows_of(alloc: Global, table: &[StandardRow]) -> Result<Vec<CodeRow>, AllocError>
-    ensures { IfOk result (λ rows. rows.items ≡ map row_of table.now) }
+/// The table of the rows that the constant data stand for.
+pub fn table_of(alloc: Global, rows: &[StandardRow]) -> Result<CodeTable, AllocError>
+    requires { codes_differ (map row_of rows.now) ≡ true }
+    ensures { IfOk result (λ table. table ≡ map row_of rows.now) }
 {
-    let mut rows = Vec::new(alloc);
-    for row in table {
-        rows.push(CodeRow {
+    let mut table = CodeTable::new(alloc);
+    for row in rows {
+        table.push(CodeRow {
             code: Code([row.0[0], row.0[1], row.0[2], row.0[3]]),
             name: Text::of(alloc, row.2)?,
             kind: row.1,
         })?;
     }
-    Ok(rows)
+    Ok(table)
 }

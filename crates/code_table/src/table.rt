@@ -1,31 +1,34 @@
 //! The table and the questions that it answers.
 
-ghost use Rattle.std.specs.Prelude.{◌≡◌, true, IfOk};
-ghost use Rattle.code_table.specs.Rows.{kind_in, first_named, is_browse_item, is_browse_list, codes_differ};
+ghost use Rattle.std.specs.Prelude.{◌≡◌, ◌∷◌, [], ◌++◌, true, false, IfOk, OnOk, OnErr};
+ghost use Rattle.code_table.specs.Rows.{kind_in, first_named, is_browse_item, is_browse_list, is_coded, codes_differ};
 ghost use Rattle.code_table.specs.Standard.{standard_rows};
 
 use crate::row::CodeRow;
 use crate::standard;
 use dmap_tags::{Code, Kind};
 use std::alloc::{AllocError, Global};
+use std::collections::BTreeMap;
 use std::marker::Model;
 
 /// Content codes with their kinds and names. No code has two rows.
 #[derive(Debug, Drop)]
 pub struct CodeTable {
     rows: Vec<CodeRow>,
+    /// The kinds by code: a reader asks for one at each tag.
+    kinds: BTreeMap<Code, Kind>,
 }
 
 impl Model for CodeTable {
-    ghost use Rattle.std.specs.Prelude.{List, ◌≡◌, true};
+    ghost use Rattle.std.specs.Prelude.{List};
     ghost use Rattle.code_table.specs.declared.row.CodeRow.{CodeRow};
-    ghost use Rattle.code_table.specs.Rows.{codes_differ};
+    ghost use Rattle.code_table.specs.Rows.{AreIndexed};
 
     ghost Value = { List CodeRow };
 
     ghost view = { λ a. a.rows.items };
 
-    ghost invariant = { λ a. codes_differ a.rows.items ≡ true };
+    ghost invariant = { λ a. AreIndexed a.rows.items a.kinds.entries };
 }
 
 impl CodeTable {
@@ -33,17 +36,36 @@ impl CodeTable {
     pub fn standard(alloc: Global) -> Result<CodeTable, AllocError>
         ensures { IfOk result (λ table. table ≡ standard_rows) }
     {
-        Ok(CodeTable {
-            rows: standard::rows_of(alloc, &standard::STANDARD)?,
-        })
+        standard::table_of(alloc, &standard::STANDARD)
     }
 
-    /// A table of these rows.
-    pub(crate) fn of(rows: Vec<CodeRow>) -> CodeTable
-        requires { codes_differ rows.items ≡ true }
-        ensures { result ≡ rows.items }
+    /// A table with no rows.
+    pub(crate) fn new(alloc: Global) -> CodeTable
+        ensures { result ≡ [] }
     {
-        CodeTable { rows }
+        CodeTable {
+            rows: Vec::new(alloc),
+            kinds: BTreeMap::new(alloc),
+        }
+    }
+
+    /// Some row has the code.
+    pub(crate) fn has(&self, code: Code) -> bool
+        ensures { result ≡ is_coded code self.now }
+    {
+        self.kinds.contains_key(&code)
+    }
+
+    /// Adds a row behind the others. A failure leaves the table as it was.
+    pub(crate) fn push(&mut self, row: CodeRow) -> Result<(), AllocError>
+        requires { is_coded row.code self.old ≡ false }
+        ensures ok { OnOk result (self.new ≡ self.old ++ row ∷ []) }
+        ensures err { OnErr result (self.new ≡ self.old) }
+    {
+        self.rows.reserve(1)?;
+        self.kinds.insert(row.code, row.kind)?;
+        self.rows.push_reserved(row);
+        Ok(())
     }
 
     pub(crate) fn allocator(&self) -> Global {
@@ -65,12 +87,7 @@ impl CodeTable {
         if is_browse_item(parent, code) {
             return Kind::Text;
         }
-        for row in self.rows.as_slice() {
-            if row.code == code {
-                return row.kind;
-            }
-        }
-        Kind::Opaque
+        self.kinds.get(&code).copied().unwrap_or(Kind::Opaque)
     }
 
     /// The code of the first row with that name.
@@ -89,11 +106,12 @@ impl CodeTable {
     pub fn copy(&self) -> Result<CodeTable, AllocError>
         ensures { IfOk result (λ table. table ≡ self.now) }
     {
-        let mut rows = Vec::with_capacity(*self.rows.allocator(), self.rows.len())?;
-        for row in self.rows.as_slice() {
-            rows.push(row.copy()?)?;
+        let rows = self.rows();
+        let mut table = CodeTable::new(self.allocator());
+        for row in rows {
+            table.push(row.copy()?)?;
         }
-        Ok(CodeTable { rows })
+        Ok(table)
     }
 }
 

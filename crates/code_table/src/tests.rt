@@ -95,6 +95,32 @@ fn a_client_learns_the_kind_of_a_code(rt: HostRuntime) -> Result<(), Fail> {
     Ok(())
 }
 
+/// A reply with so many entries, whose codes spell the numbers from 0.
+fn numbered_reply(alloc: Global, count: u32) -> Result<Tag, AllocError> {
+    let mut members = Tags::new(alloc);
+    for number in 0..count {
+        members.push(entry(alloc, &number.to_be_bytes(), "test.value", 3)?)?;
+    }
+    Ok(tag(Code(*b"mccr"), Value::List(members)))
+}
+
+fn last_of_3000() -> Code {
+    Code([0, 0, 11, 183])
+}
+
+fn past_3000() -> Code {
+    Code([0, 0, 11, 184])
+}
+
+#[test]
+fn a_long_reply_tells_a_row_for_each_entry(rt: HostRuntime) -> Result<(), Fail> {
+    let learned = CodeTable::from_reply(rt.alloc(), &numbered_reply(rt.alloc(), 3_000)?)?;
+    assert_eq!(rt; learned.rows().len(), 3_000);
+    assert_eq!(rt; learned.kind_of(None, last_of_3000()), Kind::U16);
+    assert_eq!(rt; learned.kind_of(None, past_3000()), Kind::Opaque);
+    Ok(())
+}
+
 #[test]
 fn a_reply_is_refused_at_its_first_bad_entry(rt: HostRuntime) -> Result<(), Fail> {
     let twice = reply(

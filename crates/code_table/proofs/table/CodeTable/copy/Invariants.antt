@@ -2,4 +2,4 @@ use Rattle.std.proofs.Common.{◌≡◌, take}
 use Rattle.code_table.proofs.table.CodeTable.copy.Given as goal
 
 abbrev pub invariant-loop-row : goal.invariant-loop-row
-invariant-loop-row l = l.rows.items ≡ take l.row-index l.row-items
+invariant-loop-row l = l.table ≡ take l.row-index l.rows
