@@ -413,7 +413,9 @@ fn words_that_are_no_command_get_the_usage(rt: HostRuntime) -> Result<(), Fail> 
     are_refused(&rt, alloc, &["list", "--query", "--meta"])?;
     are_refused(&rt, alloc, &["list", "--list", "1"])?;
     are_refused(&rt, alloc, &["show", "--back", "x"])?;
+    are_refused(&rt, alloc, &["show", "--back", "--back"])?;
     are_refused(&rt, alloc, &["check", "x"])?;
+    are_refused(&rt, alloc, &["codes", "x"])?;
     are_refused(&rt, alloc, &["codes", "--learn=x"])?;
     are_refused(&rt, alloc, &["--help"])
 }
@@ -467,6 +469,7 @@ fn shown_tags(name: &str) -> &'static [u8] {
     match name {
         "a tag and an overrun" => b"mstt\0\0\0\x04\0\0\0\xc8mlcl\0\0\0\x0bmiid\0\0\0\x04\0\0\0",
         "three bytes for a number" => b"miid\0\0\0\x03\0\0\x01",
+        "one byte that is no text" => b"minm\0\0\0\x01\xff",
         _ => b"",
     }
 }
@@ -506,6 +509,14 @@ fn tags_are_shown_line_by_line(rt: HostRuntime) -> Result<(), Fail> {
         0,
         "miid opaque #000001\n",
     )?;
+    shows_tags(
+        &rt,
+        alloc,
+        shown_tags("one byte that is no text"),
+        4096,
+        0,
+        "minm opaque #ff\n",
+    )?;
     shows_tags(&rt, alloc, shown_tags("none"), 4096, 0, "")
 }
 
@@ -519,6 +530,28 @@ fn tags_before_a_faulty_place_are_shown(rt: HostRuntime) -> Result<(), Fail> {
         4096,
         3,
         "mstt u32 200\nmlcl list\ntags: overrun at 20\n",
+    )
+}
+
+/// The words over the listing of one item, of which the second read of 20 bytes fails, get this.
+fn fails_to_read(rt: &impl Abort, alloc: Global, words: &[&str], output: &str) -> Result<(), Fail> {
+    let source = MemSource::new(alloc, one_item(), 20, &[2])?;
+    let sink = MemSink::new(alloc, 4096, 4096, &[])?;
+    let ran = run_over(alloc, words, source, sink)?;
+    assert_eq!(rt; ran.status, 4);
+    assert_eq!(rt; ran.output.as_slice(), output.as_bytes());
+    Ok(())
+}
+
+#[test]
+fn tags_before_a_read_that_fails_are_shown(rt: HostRuntime) -> Result<(), Fail> {
+    let alloc = rt.alloc();
+    fails_to_read(&rt, alloc, &["check"], "read failed\n")?;
+    fails_to_read(
+        &rt,
+        alloc,
+        &["show"],
+        "adbs list\n  mstt u32 200\nread failed\n",
     )
 }
 

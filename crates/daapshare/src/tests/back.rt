@@ -8,8 +8,24 @@ use std::test::Fail;
 
 static BACK: [&str; 2] = ["show", "--back"];
 
-/// `show --back` over the text ends with the status and these bytes.
+/// `show --back` over the text, whole and byte by byte, ends with the status and these bytes.
 fn gives(
+    rt: &impl Abort,
+    alloc: Global,
+    text: &[u8],
+    status: u8,
+    output: &[u8],
+) -> Result<(), Fail> {
+    gives_at_once(rt, alloc, text, status, output)?;
+    let source = MemSource::new(alloc, text, 1, &[])?;
+    let sink = MemSink::new(alloc, 4096, 4096, &[])?;
+    let single = run_over(alloc, &BACK, source, sink)?;
+    assert_eq!(rt; single.status, status);
+    assert_eq!(rt; single.output.as_slice(), output);
+    Ok(())
+}
+
+fn gives_at_once(
     rt: &impl Abort,
     alloc: Global,
     text: &[u8],
@@ -76,18 +92,25 @@ fn shown_text_has_at_most_64_mebibytes(rt: HostRuntime) -> Result<(), Fail> {
     let alloc = rt.alloc();
     let mut text = Vec::new(alloc);
     text.resize(67_108_864, b'\n')?;
-    gives(&rt, alloc, text.as_slice(), 3, b"text: line 1\n")?;
+    gives_at_once(&rt, alloc, text.as_slice(), 3, b"text: line 1\n")?;
     text.push(b'\n')?;
-    gives(&rt, alloc, text.as_slice(), 8, b"limit: input\n")
+    gives_at_once(&rt, alloc, text.as_slice(), 8, b"limit: input\n")
 }
 
-#[test]
-fn a_text_that_cannot_be_read_is_told(rt: HostRuntime) -> Result<(), Fail> {
-    let alloc = rt.alloc();
-    let source = MemSource::new(alloc, one_item_shown().as_bytes(), 10, &[2])?;
+/// The second read of the text fails, which is told also where the first brought a line that is no tag's.
+fn fails(rt: &impl Abort, alloc: Global, text: &[u8]) -> Result<(), Fail> {
+    let source = MemSource::new(alloc, text, 10, &[2])?;
     let sink = MemSink::new(alloc, 4096, 4096, &[])?;
     let ran = run_over(alloc, &BACK, source, sink)?;
     assert_eq!(rt; ran.status, 4);
     assert_eq!(rt; ran.output.as_slice(), b"read failed\n".as_slice());
     Ok(())
+}
+
+#[test]
+fn a_text_that_cannot_be_read_is_told_before_its_lines(rt: HostRuntime) -> Result<(), Fail> {
+    let alloc = rt.alloc();
+    fails(&rt, alloc, one_item_shown().as_bytes())?;
+    let (bad, _) = bad_text(4);
+    fails(&rt, alloc, bad)
 }

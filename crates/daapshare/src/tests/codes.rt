@@ -1,6 +1,6 @@
 //! The table of content codes, and tables that replies tell.
 
-use crate::tests::{ran_over, run_over};
+use crate::tests::{one_item, one_item_shown, ran_over, run_over};
 use code_table::CodeTable;
 use daap_outside::{MemSink, MemSource};
 use dmap_tags::encode_into;
@@ -12,22 +12,83 @@ static CODES: [&str; 1] = ["codes"];
 
 static LEARN: [&str; 2] = ["codes", "--learn"];
 
-fn first_row() -> &'static [u8] {
-    b"mstt 5 dmap.status\nmiid 5 dmap.itemid\n"
-}
-
-fn last_row() -> &'static [u8] {
-    b"\nasdm 10 daap.songdatemodified\n"
-}
-
-fn line_feeds(bytes: &[u8]) -> usize {
-    let mut count: usize = 0;
-    for byte in bytes {
-        if *byte == b'\n' {
-            count = count.saturating_add(1);
-        }
-    }
-    count
+/// The published codes, with the numbers of their kinds.
+fn every_row() -> &'static str {
+    "\
+mstt 5 dmap.status
+miid 5 dmap.itemid
+mcti 5 dmap.containeritemid
+mpco 5 dmap.parentcontainerid
+mimc 5 dmap.itemcount
+mctc 5 dmap.containercount
+mrco 5 dmap.returnedcount
+mtco 5 dmap.specifiedtotalcount
+mstm 5 dmap.timeoutinterval
+msdc 5 dmap.databasescount
+mlid 5 dmap.sessionid
+musr 5 dmap.serverrevision
+mcnm 5 dmap.contentcodesnumber
+minm 9 dmap.itemname
+msts 9 dmap.statusstring
+mcna 9 dmap.contentcodesname
+mikd 1 dmap.itemkind
+msau 1 dmap.authenticationmethod
+mslr 1 dmap.loginrequired
+msup 1 dmap.supportsupdate
+mspi 1 dmap.supportspersistentids
+msbr 1 dmap.supportsbrowse
+msqy 1 dmap.supportsquery
+msix 1 dmap.supportsindex
+muty 1 dmap.updatetype
+mper 7 dmap.persistentid
+mcty 3 dmap.contentcodestype
+mpro 11 dmap.protocolversion
+apro 11 daap.protocolversion
+mdcl 12 dmap.dictionary
+mcon 12 dmap.container
+mlcl 12 dmap.listing
+mlit 12 dmap.listingitem
+mbcl 12 dmap.bag
+msrv 12 dmap.serverinforesponse
+mlog 12 dmap.loginresponse
+mupd 12 dmap.updateresponse
+mudl 12 dmap.deletedidlisting
+mccr 12 dmap.contentcodesresponse
+avdb 12 daap.serverdatabases
+adbs 12 daap.databasesongs
+aply 12 daap.databaseplaylists
+apso 12 daap.playlistsongs
+abro 12 daap.databasebrowse
+abar 12 daap.browseartistlisting
+abal 12 daap.browsealbumlisting
+abgn 12 daap.browsegenrelisting
+abcp 12 daap.browsecomposerlisting
+asar 9 daap.songartist
+asal 9 daap.songalbum
+asaa 9 daap.songalbumartist
+asgn 9 daap.songgenre
+ascp 9 daap.songcomposer
+ascm 9 daap.songcomment
+agrp 9 daap.songgrouping
+asfm 9 daap.songformat
+asyr 3 daap.songyear
+astn 3 daap.songtracknumber
+astc 3 daap.songtrackcount
+asdn 3 daap.songdiscnumber
+asdc 3 daap.songdisccount
+asbr 3 daap.songbitrate
+asbt 3 daap.songbeatsperminute
+astm 5 daap.songtime
+assr 5 daap.songsamplerate
+assz 5 daap.songsize
+asur 1 daap.songuserrating
+asco 1 daap.songcompilation
+abpl 1 daap.baseplaylist
+aeSP 1 com.apple.itunes.smart-playlist
+aeMK 1 com.apple.itunes.mediakind
+asda 10 daap.songdateadded
+asdm 10 daap.songdatemodified
+"
 }
 
 #[test]
@@ -37,9 +98,7 @@ fn the_table_has_a_line_for_each_code(rt: HostRuntime) -> Result<(), Fail> {
     let sink = MemSink::new(alloc, 4096, 4096, &[])?;
     let ran = run_over(alloc, &CODES, source, sink)?;
     assert_eq!(rt; ran.status, 0);
-    assert_eq!(rt; line_feeds(ran.output.as_slice()), 73);
-    assert!(rt; ran.output.as_slice().starts_with(first_row()));
-    assert!(rt; ran.output.as_slice().ends_with(last_row()));
+    assert_eq!(rt; ran.output.as_slice(), every_row().as_bytes());
     Ok(())
 }
 
@@ -69,8 +128,7 @@ fn the_tables_own_reply_gives_its_lines(rt: HostRuntime) -> Result<(), Fail> {
     if encode_into(&CodeTable::standard(alloc)?.reply()?, &mut reply).is_err() {
         return Err(AllocError.into());
     }
-    let told = ran_over(alloc, &CODES, b"")?;
-    learns(&rt, alloc, reply.as_slice(), 0, told.output.as_slice())
+    learns(&rt, alloc, reply.as_slice(), 0, every_row().as_bytes())
 }
 
 /// Replies, by what they are: their bytes, the status and the output.
@@ -110,14 +168,19 @@ fn reply(n: u32) -> (&'static [u8], u8, &'static str) {
             3,
             "tags: overrun at 8\n",
         ),
-        _ => (b"mccr\x40\0\0\x01", 3, "tags: too large at 0\n"),
+        10 => (b"mccr\x40\0\0\x01", 3, "tags: too large at 0\n"),
+        _ => (
+            b"mccr\0\0\0\0mstt\xff\xff\xff\xff",
+            3,
+            "codes: not a reply\n",
+        ),
     }
 }
 
 #[test]
 fn a_reply_tells_its_table_or_is_refused(rt: HostRuntime) -> Result<(), Fail> {
     let alloc = rt.alloc();
-    for n in 0..11 {
+    for n in 0..12 {
         let (bytes, status, text) = reply(n);
         learns(&rt, alloc, bytes, status, text.as_bytes())?;
     }
@@ -173,4 +236,36 @@ fn a_reply_is_refused_before_more_is_read(rt: HostRuntime) -> Result<(), Fail> {
     fails(&rt, alloc, behind, 9, 3, told)?;
     fails(&rt, alloc, behind, 8, 4, "read failed\n")?;
     fails(&rt, alloc, overrun, 4, 4, "read failed\n")
+}
+
+/// The words over the bytes end within their output, of which the first ten bytes are taken.
+fn is_cut(
+    rt: &impl Abort,
+    alloc: Global,
+    words: &[&str],
+    bytes: &[u8],
+    output: &[u8],
+) -> Result<(), Fail> {
+    let source = MemSource::new(alloc, bytes, 4096, &[])?;
+    let sink = MemSink::new(alloc, 4096, 10, &[2])?;
+    let ran = run_over(alloc, words, source, sink)?;
+    assert_eq!(rt; ran.status, 5);
+    assert_eq!(rt; ran.output.len(), 10);
+    assert!(rt; output.starts_with(ran.output.as_slice()));
+    Ok(())
+}
+
+#[test]
+fn an_output_that_fails_has_a_front_of_what_was_due(rt: HostRuntime) -> Result<(), Fail> {
+    let alloc = rt.alloc();
+    is_cut(&rt, alloc, &CODES, b"", every_row().as_bytes())?;
+    let (bytes, _, lines) = reply(0);
+    is_cut(&rt, alloc, &LEARN, bytes, lines.as_bytes())?;
+    is_cut(
+        &rt,
+        alloc,
+        &["show", "--back"],
+        one_item_shown().as_bytes(),
+        one_item(),
+    )
 }
