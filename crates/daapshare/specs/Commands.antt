@@ -54,7 +54,7 @@ MayRead (Some command.Check) before after = Unit {0}
 MayRead (Some (command.Codes false)) before after = IsUnread before after
 MayRead (Some (command.Codes true)) before after = Unit {0}
 
--- what was read: behind all but the last read the command had cause to read on
+-- what was read: behind all of it but a last part, no longer than one read brings, the command had cause to read on
 pub record HasReadOn (asked : Option Command) (before after : InputSeen) : Type 0 where
   pub front : List ℕ
   pub last : List ℕ
@@ -62,7 +62,7 @@ pub record HasReadOn (asked : Option Command) (before after : InputSeen) : Type 
   pub short : length last ≤ piece_limit
   pub on : ReadsOn asked front
 
--- a fault of what was read, told before more was read, and none of the input itself
+-- a fault of what was read, and none of the input itself
 pub record IsFaultOf (asked : Option Command) (before after : InputSeen) (fault : Fault) : Type 0 where
   pub said : Says asked before.left fault
   pub own : IsOwn fault

@@ -48,6 +48,7 @@ abbrev pub TellsNone : (error : CodeError) → (tag : Tree) → (rest : List ℕ
 TellsNone error tag rest =
     (table_of tag ≡ Err error) ⊎ ((error ≡ NotReply) × ((rest ≢ []) × ((rows : List CodeRow) × (table_of tag ≡ Ok rows))))
 
+-- the input begins with such a tag
 pub record IsReplyRefused (error : CodeError) (input : List ℕ) : Type 0 where
   pub cause : error ≢ table.Memory
   pub tag : Tree
