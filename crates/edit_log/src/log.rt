@@ -1,0 +1,113 @@
+//! The log.
+
+ghost use Rattle.std.specs.Prelude.{◌≡◌, ◌≤◌, ◌<◌, ◌+◌, ◌^◌, ◌++◌, ◌∷◌, [], length, OnOk, OnErr, IsOk, slice_get, option_copied};
+ghost use Rattle.share_history.specs.Histories.{batches, revision};
+
+use item_model::Entry;
+use share_history::FIRST_REVISION;
+use std::alloc::{AllocError, Global};
+use std::marker::Model;
+
+/// The entries of a history, oldest first, with room for more.
+#[derive(Debug, Drop)]
+pub struct EditLog {
+    entries: Vec<Entry>,
+    revision: u32,
+}
+
+impl Model for EditLog {
+    ghost use Rattle.std.specs.Prelude.{◌≡◌, ◌-◌, vec_len, vec_capacity};
+    ghost use Rattle.std.specs.Coded.{codes};
+    ghost use Rattle.item_model.specs.QueryCells.{query_coded};
+    ghost use Rattle.share_history.specs.Histories.{batches, revision as revision_of};
+    ghost use Rattle.edit_log.specs.Log.{Log};
+
+    ghost Value = { Log };
+
+    ghost coded = { Prim.hlevel (codes, query_coded) };
+
+    ghost view = { λ a. record { entries = a.entries.items; spare = vec_capacity a.entries - vec_len a.entries } };
+
+    ghost invariant = { λ a. a.revision ≡ revision_of (batches a.entries.items) };
+}
+
+// The revision after an entry.
+fn revision_after(revision: u32, entry: &Entry) -> u32
+    requires { revision + length (batches (entry.now ∷ [])) < 2 ^ 32 }
+    ensures { result ≡ revision + length (batches (entry.now ∷ [])) }
+{
+    match entry {
+        Entry::Edits { .. } => revision + 1,
+        _ => revision,
+    }
+}
+
+impl EditLog {
+    /// A log without entries, without memory.
+    pub fn new(alloc: Global) -> EditLog
+        ensures { result.entries ≡ [] }
+    {
+        EditLog {
+            entries: Vec::new(alloc),
+            revision: FIRST_REVISION,
+        }
+    }
+
+    /// Makes room for so many entries more. Room that is there stays.
+    pub fn reserve(&mut self, entries: u64) -> Result<(), AllocError>
+        ensures list { self.new.entries ≡ self.old.entries }
+        ensures room { OnOk result (entries ≤ self.new.spare) }
+        ensures kept { self.old.spare ≤ self.new.spare }
+        ensures had_room { entries ≤ self.old.spare → IsOk result }
+        ensures unchanged { OnErr result (self.new ≡ self.old) }
+    {
+        self.entries.reserve(entries as usize)
+    }
+
+    /// Adds an entry at the end, without memory.
+    #[tactic(auto, using(crate::proofs::LogFacts::revision_more))]
+    pub fn append(&mut self, entry: Entry)
+        requires room { 1 ≤ self.old.spare }
+        requires few { revision (batches (self.old.entries ++ entry ∷ [])) < 2 ^ 32 }
+        ensures list { self.new.entries ≡ self.old.entries ++ entry ∷ [] }
+        ensures room { self.old.spare ≤ self.new.spare + 1 }
+    {
+        self.revision = revision_after(self.revision, &entry);
+        self.entries.push_reserved(entry);
+    }
+
+    /// How many entries there are.
+    pub fn len(&self) -> u64
+        ensures { result ≡ length self.now.entries }
+    {
+        self.entries.len() as u64
+    }
+
+    /// For how many entries more there is room.
+    pub fn spare(&self) -> u64
+        ensures { result ≡ self.now.spare }
+    {
+        (self.entries.capacity() - self.entries.len()) as u64
+    }
+
+    /// The revision that the entries make.
+    pub fn revision(&self) -> u32
+        ensures { result ≡ revision (batches self.now.entries) }
+    {
+        self.revision
+    }
+
+    /// The entry of a number, counted from 0.
+    pub fn entry(&self, n: u64) -> Option<&Entry>
+        ensures { option_copied result ≡ slice_get self.now.entries n }
+    {
+        self.entries.get(n as usize)
+    }
+
+    /// The entries as a vector, without memory.
+    pub fn into_entries(self) -> Vec<Entry>
+        ensures { result.items ≡ self.entries }
+    {
+        self.entries
+    }
+}
