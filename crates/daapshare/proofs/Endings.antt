@@ -15,6 +15,7 @@ use Rattle.code_table.specs.Standard.{standard_rows}
 use Rattle.daapshare.specs.Codes.{code_lines}
 use Rattle.daapshare.specs.Commands.{Says, Gives, MayRead, IsDone, IsBegun, IsCause, IsFront}
 use Rattle.daapshare.specs.Runs.{Told, Ending, Done, OutputCut, Refused, LineCut, ending_status, Happens, Ends, Decides, IsDecided, IsWritten, Tells, TellsFault}
+use Rattle.listing_plan.specs.Plans.{plan_bytes}
 use Rattle.daapshare.specs.Answers.{Answers}
 use Rattle.daapshare.specs.declared.show.Stop.TheVariants.{Input, Output}
 use Rattle.daapshare.specs.Shows.{IsShownWhole}
@@ -91,27 +92,41 @@ pub ends_refused : (command : Option Command) (told : Told) (status : ℕ) (hist
 ends_refused command told status history fault cause h before t =
     ends_behind command told told.output_before status history fault [] cause h before (none_written told.output_before) t
 
+-- where a command was done, memory may be wanted to write its output
+done_then_memory : (command : Option Command) (before after : InputSeen) (history : Option (List Entry)) (output : List ℕ)
+    → IsDone command before after history output → IsCause command before after Memory
+done_then_memory None before after history output done = absurd done
+done_then_memory (Some (variant.List query meta)) before after history output done = tt
+done_then_memory (Some (variant.Show false)) before after history output done = tt
+done_then_memory (Some (variant.Show true)) before after history output done = tt
+done_then_memory (Some variant.Check) before after history output done = tt
+done_then_memory (Some (variant.Codes false)) before after history output done = done.unread
+done_then_memory (Some (variant.Codes true)) before after history output done = tt
+
 -- so does an output that is written at once
 pub ends_answered : (command : Option Command) (told : Told) (status : ℕ) (history : Option (List Entry)) (answer : Result Answer Fault)
-    → IfOk answer (λ a. IsDone command told.input_before told.input_after a.history a.output.items)
+    → IfOk answer (λ a. IsDone command told.input_before told.input_after a.history (plan_bytes a.output))
     → ((h : Option (List Entry)) (output : List ℕ) → IsDone command told.input_before told.input_after h output → IsBegun command told.input_before told.input_after h output)
     → IfErr answer (λ fault. IsCause command told.input_before told.input_after fault)
     → ((fault : Fault) → IsFront command told.input_before told.input_after fault [])
     → Answers answer told.output_before told.output_after status history → Ends command told status history
-ends_answered command told status history (Ok answer) done begun cause before t = at_end t.1
+ends_answered command told status history (Ok answer) done begun cause before (inl t) = at_end t.1
   where
-    is_done : IsDone command told.input_before told.input_after history answer.output.items
-    is_done = subst (λ h. IsDone command told.input_before told.input_after h answer.output.items) (sym t.0) done
+    is_done : IsDone command told.input_before told.input_after history (plan_bytes answer.output)
+    is_done = subst (λ h. IsDone command told.input_before told.input_after h (plan_bytes answer.output)) (sym t.0) done
 
-    at_end : Tells 0 answer.output.items told.output_before told.output_after status → Ends command told status history
-    at_end (inl w) = (Done answer.output.items, w.0, (is_done, w.1))
-    at_end (inr w) = (OutputCut answer.output.items, w.0, (begun history answer.output.items is_done, w.1))
+    at_end : Tells 0 (plan_bytes answer.output) told.output_before told.output_after status → Ends command told status history
+    at_end (inl w) = (Done (plan_bytes answer.output), w.0, (is_done, w.1))
+    at_end (inr w) = (OutputCut (plan_bytes answer.output), w.0, (begun history (plan_bytes answer.output) is_done, w.1))
+ends_answered command told status history (Ok answer) done begun cause before (inr t) =
+    ends_refused command told status history Memory
+    (done_then_memory command told.input_before told.input_after answer.history (plan_bytes answer.output) done) t.0 (before Memory) t.1
 ends_answered command told status history (Err fault) done begun cause before t = ends_refused command told status history fault cause t.0 (before fault) t.1
 
 -- `codes` leaves the input as it was, and its output is the standard table
 pub codes_done : (input : InputSeen) (answer : Result Answer Fault)
-    → IfOk answer (λ a. (a.history ≡ None) × (a.output.items ≡ code_lines standard_rows))
-    → IfOk answer (λ a. IsDone (Some (variant.Codes false)) input input a.history a.output.items)
+    → IfOk answer (λ a. (a.history ≡ None) × (plan_bytes a.output ≡ code_lines standard_rows))
+    → IfOk answer (λ a. IsDone (Some (variant.Codes false)) input input a.history (plan_bytes a.output))
 codes_done input (Ok answer) done = record { unread = record { left = refl; faults = refl }; unopened = done.0; written = done.1 }
 codes_done input (Err fault) done = tt
 

@@ -1,102 +1,143 @@
--- The body of a full listing, from the rows that are listed.
-use Rattle.std.proofs.Common.{◌≡◌, ◌≤◌, ◌++◌, ◌∷◌, [], ℕ, List, Bool, true, false, cond, Option, None, map, filter, length, suc, append_assoc, if◌then◌else◌, refl, sym, ap, ◌∙◌, arith}
-use Rattle.std.specs.Borrow.{Bor}
-use Rattle.std.specs.Map.{values_of}
-use Rattle.dmap_tags.specs.Codes.{code}
-use Rattle.dmap_tags.specs.Tree.{Tree, list, trees_of}
+-- The rows that are asked for, taken from the store one id after another, and the body of their listing.
+use Rattle.std.proofs.Common.{◌≡◌, ◌<◌, ◌≤◌, ◌+◌, ◌++◌, ◌∷◌, [], ℕ, List, Bool, true, false, cond, ◌==◌, Option, Some, None, is_some, map, take, length, get_or, unwrap_or, append-nil, if◌then◌else◌, refl, sym, subst, ap, ◌∙◌, arith}
+use Rattle.std.specs.Option.{option_map, option_and_then, option_or}
+use Rattle.std.specs.List.{cons_option}
+use Rattle.std.specs.Map.{keys_of}
+use Rattle.std.proofs.lemmas.Bool.{eqb-true}
+use Rattle.std.proofs.lemmas.List.{length-map, take_more}
+use Rattle.std.proofs.lemmas.List.Elements.{filter_map-append}
+use Rattle.dmap_tags.specs.Spelling.{spelling}
 use Rattle.item_model.specs.declared.changes.Edit.{Edit}
+use Rattle.item_model.specs.declared.changes.Edit.TheVariants.{PutItem, DropItem, PutList, PutRule, DropList, PutMember, DropMember}
 use Rattle.item_model.specs.declared.item.Row.{Row}
 use Rattle.item_model.specs.declared.query.Query.{Query}
 use Rattle.item_model.specs.declared.request.Look.{Look}
-use Rattle.item_model.specs.declared.request.Meta.{Meta}
 use Rattle.item_model.specs.declared.request.Range.{Range}
 use Rattle.item_model.specs.declared.request.Range.TheVariants.{All}
 use Rattle.item_model.specs.declared.request.Target.TheVariants.{Items}
-use Rattle.item_model.specs.Projection.{projection}
-use Rattle.share_history.specs.Bodies.{start_tags, body_tree}
+use Rattle.share_history.specs.Bodies.{body_tree}
 use Rattle.share_history.specs.Histories.{opening, edits, batches, revision}
-use Rattle.share_history.specs.Listings.{shown_rows, full_of}
+use Rattle.share_history.specs.Keyed.{at, IsAscending, AreAscending, pairs_at}
+use Rattle.share_history.specs.LastSaid.{last_said, only_if, says_item, item_at}
+use Rattle.share_history.specs.Listings.{Listing, shown_rows}
 use Rattle.share_history.specs.Ranges.{in_range}
-use Rattle.share_history.specs.Rows.{rows, is_asked}
+use Rattle.share_history.specs.Rows.{rows, row_at, library, is_asked, if_asked}
 use Rattle.share_history.proofs.EditFacts.{edits-opening}
-use Rattle.daapshare.specs.Library.{rows_seen, listed, listed_behind}
-use Rattle.daapshare.specs.Listing.{items_body}
+use Rattle.share_history.proofs.KeyedFacts.{has, has-keys_of, at-pairs_at, ascending-pairs_at}
+use Rattle.share_history.proofs.RowFacts.{at-library, ascending-library, ascending-rows, rows_are, length-rows}
+use Rattle.listing_plan.specs.declared.row.PlanRow.{PlanRow}
+use Rattle.listing_plan.specs.Plans.{key_of, keys_of_rows, keyed, full_plan}
+use Rattle.daapshare.specs.Listing.{items_body, listing_bytes}
 
--- one row more, which is listed if it is asked for
-pub listed_next : (meta : Meta) (b : Bool) (row : Bor Row) (rest : List (Bor Row))
-    → cond b (projection row.now None meta ∷ []) [] ++ map (λ row. projection row.now None meta) rest
-    ≡ map (λ row. projection row.now None meta) (cond b (row ∷ rest) rest)
-listed_next meta true row rest = refl
-listed_next meta false row rest = refl
+-- a row has the id that it is asked for, if there is one
+abbrev HasId : ℕ → Option Row → Type 0
+HasId id None = Unit {0}
+HasId id (Some row) = row.id ≡ id
 
--- a step over the rows
-pub listed_step : (q : Option Query) (meta : Meta) (tags new : List Tree) (row : Bor Row) (before rest : List (Bor Row)) (all : List Tree)
-    → new ≡ tags ++ (if is_asked q row.now then projection row.now None meta ∷ [] else []) → before ≡ row ∷ rest
-    → tags ++ listed_behind q meta before ≡ all → new ++ listed_behind q meta rest ≡ all
-listed_step q meta tags new row before rest all h k so_far =
-    ap (λ l. l ++ listed_behind q meta rest) h
-    ∙ append_assoc tags (if is_asked q row.now then projection row.now None meta ∷ [] else []) (listed_behind q meta rest)
-    ∙ ap (λ l. tags ++ l) (listed_next meta (is_asked q row.now) row (filter (λ r. is_asked q r.now) rest))
-    ∙ ap (λ l. tags ++ listed_behind q meta l) (sym k)
-    ∙ so_far
+abbrev SaysId : ℕ → Option (Option Row) → Type 0
+SaysId id None = Unit {0}
+SaysId id (Some found) = HasId id found
 
-kept_next : (meta : Meta) (b : Bool) (e : ℕ × Bor Row) (rows : List (Bor Row)) (pairs : List (ℕ × Row))
-    → map (λ row. projection row.now None meta) rows ≡ listed meta pairs
-    → map (λ row. projection row.now None meta) (cond b (e.1 ∷ rows) rows) ≡ listed meta (cond b ((e.0, e.1.now) ∷ pairs) pairs)
-kept_next meta true e rows pairs h = ap (λ ts. projection e.1.now None meta ∷ ts) h
-kept_next meta false e rows pairs h = h
+put_id : (id : ℕ) (row : Row) (b : Bool) → (row.id == id) ≡ b → SaysId id (only_if b (Some row))
+put_id id row true is = eqb-true row.id id is
+put_id id row false is = tt
 
--- what is listed of the values of a map of references is what is listed of the rows behind them
-pub values_listed : (q : Option Query) (meta : Meta) (es : List (ℕ × Bor Row))
-    → listed_behind q meta (values_of es) ≡ listed meta (filter (λ row. is_asked q row.1) (rows_seen es))
-values_listed q meta [] = refl
-values_listed q meta (e ∷ es) =
-    kept_next meta (is_asked q e.1.now) e (filter (λ row. is_asked q row.now) (values_of es)) (filter (λ row. is_asked q row.1) (rows_seen es)) (values_listed q meta es)
+drop_id : (id : ℕ) (b : Bool) → SaysId id (only_if {A = Option Row} b None)
+drop_id id true = tt
+drop_id id false = tt
 
-fewer_next : (meta : Meta) (b : Bool) (e : Bor Row) (rows : List (Bor Row)) (n : ℕ)
-    → length (map (λ row. projection row.now None meta) rows) ≤ n → length (map (λ row. projection row.now None meta) (cond b (e ∷ rows) rows)) ≤ suc n
-fewer_next meta true e rows n h = omega (arith, h)
-fewer_next meta false e rows n h = omega (arith, h)
+said_id : (id : ℕ) (e : Edit) → SaysId id (says_item id e)
+said_id id (PutItem row) = put_id id row (row.id == id) refl
+said_id id (DropItem dropped) = drop_id id (dropped == id)
+said_id id (PutList list name) = tt
+said_id id (PutRule list name rule) = tt
+said_id id (DropList list) = tt
+said_id id (PutMember list member item) = tt
+said_id id (DropMember list member) = tt
 
--- and not more than there are
-pub values_few : (q : Option Query) (meta : Meta) (es : List (ℕ × Bor Row)) → length (listed_behind q meta (values_of es)) ≤ length es
-values_few q meta [] = omega arith
-values_few q meta (e ∷ es) =
-    fewer_next meta (is_asked q e.1.now) e.1 (filter (λ row. is_asked q row.now) (values_of es)) (length es) (values_few q meta es)
+later_id : (id : ℕ) (later now : Option (Option Row)) → SaysId id later → SaysId id now → SaysId id (option_or later now)
+later_id id None now h k = k
+later_id id (Some found) now h k = h
 
-shown_trees : (meta : Meta) (all : List (ℕ × Row)) → map (λ row. row.1) (shown_rows Items meta all) ≡ listed meta all
-shown_trees meta [] = refl
-shown_trees meta (row ∷ all) = ap (λ ts. projection row.1 None meta ∷ ts) (shown_trees meta all)
+last_id : (id : ℕ) (es : List Edit) → SaysId id (last_said (says_item id) es)
+last_id id [] = tt
+last_id id (e ∷ es) = later_id id (last_said (says_item id) es) (says_item id e) (last_id id es) (said_id id e)
 
-shown_count : (meta : Meta) (all : List (ℕ × Row)) → length (shown_rows Items meta all) ≡ length (listed meta all)
-shown_count meta [] = refl
-shown_count meta (row ∷ all) = ap (λ n. suc n) (shown_count meta all)
+found_id : (id : ℕ) (said : Option (Option Row)) → SaysId id said → HasId id (unwrap_or said None)
+found_id id None h = tt
+found_id id (Some found) h = h
 
-listed_count : (meta : Meta) (all : List (ℕ × Row)) → length all ≡ length (listed meta all)
-listed_count meta [] = refl
-listed_count meta (row ∷ all) = ap (λ n. suc n) (listed_count meta all)
+-- the row of an item has the item's id
+item_id : (es : List Edit) (id : ℕ) (row : Row) → item_at es id ≡ Some row → row.id ≡ id
+item_id es id row is = subst (HasId id) is (found_id id (last_said (says_item id) es) (last_id id es))
 
-abbrev body_with : (revision total count : ℕ) → List Tree → Tree
-body_with v total count trees = list (code "adbs") (trees_of (start_tags false v total count ++ list (code "mlcl") (trees_of trees) ∷ []))
+-- the pairs at some keys and at one more
+abbrev one_pair : ℕ → Option Row → List (ℕ × Row)
+one_pair id found = cons_option (option_map (λ row. (id, row)) found) []
 
--- the body of all rows, in the range that a look asks for
-abbrev body_of : ℕ → Meta → Range → List (ℕ × Row) → Tree
-body_of v meta range all =
-    body_tree Items (record { is_delta = false; revision = v; total = length all; rows = shown_rows Items meta (in_range range all); gone = [] })
+pairs_more : (f : ℕ → Option Row) (ids : List ℕ) (i id : ℕ) → i < length ids → id ≡ get_or ids i id
+    → pairs_at f (take (i + 1) ids) ≡ pairs_at f (take i ids) ++ one_pair id (f id)
+pairs_more f ids i id lt is =
+    ap (pairs_at f) (take_more ids i id lt ∙ ap (λ k. take i ids ++ k ∷ []) (sym is)) ∙ filter_map-append (λ k. option_map (λ row. (k, row)) (f k)) (take i ids) (id ∷ [])
 
-body_listed : (v : ℕ) (meta : Meta) (all : List (ℕ × Row)) → body_of v meta All all ≡ body_with v (length (listed meta all)) (length (listed meta all)) (listed meta all)
-body_listed v meta all =
-    ap (λ n. body_with v n (length (shown_rows Items meta all)) (map (λ row. row.1) (shown_rows Items meta all))) (listed_count meta all)
-    ∙ ap (λ n. body_with v (length (listed meta all)) n (map (λ row. row.1) (shown_rows Items meta all))) (shown_count meta all)
-    ∙ ap (λ ts. body_with v (length (listed meta all)) (length (listed meta all)) ts) (shown_trees meta all)
+asked_pair : (q : Option Query) (id : ℕ) (row : Row) (b : Bool) → row.id ≡ id
+    → cond b ((row.id, row) ∷ []) [] ≡ one_pair id (only_if b row)
+asked_pair q id row true is = ap (λ k. (k, row) ∷ []) is
+asked_pair q id row false is = refl
 
--- the body of the listing of a share that is opened with a batch, from the rows that the batch leaves
-pub items_body_from : (es : List Edit) (look : Look) (v : ℕ) (trees : List Tree) → look.range ≡ All → v ≡ revision (batches (opening es))
-    → trees ≡ listed look.meta (rows es Items look.query)
-    → list (code "adbs") (trees_of (start_tags false v (length trees) (length trees) ++ list (code "mlcl") (trees_of trees) ∷ [])) ≡ items_body es look
-items_body_from es look v trees r h k =
-    ap (λ u. body_with u (length trees) (length trees) trees) h
-    ∙ ap (λ ts. body_with (revision (batches (opening es))) (length ts) (length ts) ts) k
-    ∙ sym (ap (λ range. body_of (revision (batches (opening es))) look.meta range (rows (edits (batches (opening es))) Items look.query)) r
-    ∙ ap (λ ds. body_of (revision (batches (opening es))) look.meta All (rows ds Items look.query)) (edits-opening es)
-    ∙ body_listed (revision (batches (opening es))) look.meta (rows es Items look.query))
+-- a step over the ids, at one that has an item, and at one that has none
+pub asked_step : (es : List Edit) (q : Option Query) (ids : List ℕ) (i id : ℕ) (row : Row) (old new : List PlanRow) → i < length ids → id ≡ get_or ids i id
+    → item_at es id ≡ Some row → keyed new ≡ keyed old ++ (if is_asked q row then (row.id, row) ∷ [] else [])
+    → keyed old ≡ pairs_at (row_at es Items q) (take i ids) → keyed new ≡ pairs_at (row_at es Items q) (take (i + 1) ids)
+asked_step es q ids i id row old new lt is found pushed so_far =
+    pushed ∙ ap (λ l. l ++ cond (is_asked q row) ((row.id, row) ∷ []) []) so_far
+    ∙ ap (λ l. pairs_at (row_at es Items q) (take i ids) ++ l)
+    (asked_pair q id row (is_asked q row) (item_id es id row found) ∙ ap (λ o. one_pair id (option_and_then (if_asked q) o)) (sym found))
+    ∙ sym (pairs_more (row_at es Items q) ids i id lt is)
+
+pub skipped_step : (es : List Edit) (q : Option Query) (ids : List ℕ) (i id : ℕ) (old : List PlanRow) → i < length ids → id ≡ get_or ids i id
+    → item_at es id ≡ None → keyed old ≡ pairs_at (row_at es Items q) (take i ids) → keyed old ≡ pairs_at (row_at es Items q) (take (i + 1) ids)
+skipped_step es q ids i id old lt is none so_far =
+    so_far ∙ sym (append-nil (pairs_at (row_at es Items q) (take i ids)))
+    ∙ ap (λ o. pairs_at (row_at es Items q) (take i ids) ++ one_pair id (option_and_then (if_asked q) o)) (sym none)
+    ∙ sym (pairs_more (row_at es Items q) ids i id lt is)
+
+-- the rows at the ids of the library are all rows of a listing of items
+pub rows_at_ids : (es : List Edit) (q : Option Query) → pairs_at (row_at es Items q) (keys_of (library es)) ≡ rows es Items q
+rows_at_ids es q =
+    rows_are es Items q (pairs_at (row_at es Items q) (keys_of (library es)))
+    (ascending-pairs_at (row_at es Items q) (keys_of (library es)) (ascending-library es))
+    (λ k. at-pairs_at k (row_at es Items q) (keys_of (library es))
+    ∙ ap (λ b. cond b (row_at es Items q k) None) (has-keys_of k (library es) ∙ ap is_some (at-library es k))
+    ∙ there_or_not k (item_at es k))
+  where
+    there_or_not : (k : ℕ) (found : Option Row) → cond (is_some found) (option_and_then (if_asked q) found) None ≡ option_and_then (if_asked q) found
+    there_or_not k None = refl
+    there_or_not k (Some row) = refl
+
+keys_keyed : (found : List PlanRow) → keys_of_rows found ≡ keys_of (keyed found)
+keys_keyed [] = refl
+keys_keyed (row ∷ found) = ap (λ ks. key_of row ∷ ks) (keys_keyed found)
+
+-- rows that are those of a listing are in order, and no more than the edits
+pub ascending_found : (es : List Edit) (q : Option Query) (found : List PlanRow) → keyed found ≡ rows es Items q → AreAscending (keys_of_rows found)
+ascending_found es q found is = subst AreAscending (sym (keys_keyed found ∙ ap keys_of is)) (ascending-rows es Items q)
+
+pub few_found : (es : List Edit) (q : Option Query) (found : List PlanRow) → keyed found ≡ rows es Items q → length found ≤ length es
+few_found es q found is =
+    omega (arith, length-map (λ row. (key_of row, row.row)) found, ap length is, length-rows es Items q)
+
+-- the spelling of the planned listing is what `list` writes
+pub planned_bytes : (es : List Edit) (look : Look) (v total : ℕ) (found : List PlanRow) → look.range ≡ All → v ≡ revision (batches (opening es)) → total ≡ length found
+    → keyed found ≡ rows es Items look.query → spelling (body_tree Items (full_plan Items v total found look.meta)) ≡ listing_bytes es look
+planned_bytes es look v total found whole now count is =
+    ap (λ l. spelling (body_tree Items l))
+    (ap (λ n. full_plan Items v n found look.meta) (count ∙ sym (length-map (λ row. (key_of row, row.row)) found))
+    ∙ ap (λ all. listed v All all) is
+    ∙ ap (λ n. listed n All (rows es Items look.query)) now
+    ∙ ap (λ range. listed (revision (batches (opening es))) range (rows es Items look.query)) (sym whole)
+    ∙ ap (λ ds. listed (revision (batches (opening es))) look.range (rows ds Items look.query)) (sym (edits-opening es)))
+  where
+    listed : ℕ → Range → List (ℕ × Row) → Listing
+    listed n range all =
+        record { is_delta = false; revision = n; total = length all; rows = shown_rows Items look.meta (in_range range all); gone = [] }

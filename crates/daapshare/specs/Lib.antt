@@ -1,5 +1,4 @@
 pub mod Faults
-pub mod Library
 pub mod Limits
 pub mod Listing
 pub mod Looks

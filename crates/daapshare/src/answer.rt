@@ -3,6 +3,7 @@
 ghost use Rattle.std.specs.Prelude.{◌≡◌, true, Some, None, option_copied, IfOk, IfErr};
 ghost use Rattle.code_table.specs.Standard.{standard_rows};
 ghost use Rattle.daapshare_words.specs.declared.words.Command.TheVariants.{List as list_command, Show as show_command, Check as check_command, Codes as codes_command};
+ghost use Rattle.listing_plan.specs.Plans.{plan_bytes, IsWritable};
 ghost use Rattle.daapshare.specs.Codes.{code_lines};
 ghost use Rattle.daapshare.specs.Commands.{IsDone, IsCause};
 
@@ -13,15 +14,17 @@ use crate::fault::Fault;
 use crate::learn::learned;
 use crate::list::opened;
 use daap_outside::Source;
-use dmap_tags::Text;
+use dmap_tags::{Bytes, Text};
 use item_model::Entries;
+use listing_plan::Plan;
 use std::alloc::Global;
 
-/// What a command leaves: the history of the share, where one was opened, and its output.
+/// What a command leaves: the history of the share, where one was opened, and what it writes.
 #[derive(Debug, Drop)]
 pub struct Answer {
     pub history: Option<Entries>,
-    pub output: Vec<u8>,
+    pub output: Plan,
+    ghost writable: { IsWritable output },
 }
 
 /// Does `list`, up to writing the output.
@@ -34,7 +37,7 @@ pub fn listed<I: Source>(
     ensures done { IfOk result (λ answer. IsDone (Some (list_command (option_copied query.entry) (option_copied meta.entry)))
         (record { left = I.left input.old; faults = I.faults input.old })
         (record { left = I.left input.new; faults = I.faults input.new })
-        answer.history answer.output.items) }
+        answer.history (plan_bytes answer.output)) }
     ensures cause { IfErr result (λ fault. IsCause (Some (list_command (option_copied query.entry) (option_copied meta.entry)))
         (record { left = I.left input.old; faults = I.faults input.old })
         (record { left = I.left input.new; faults = I.faults input.new })
@@ -52,7 +55,7 @@ pub fn shown_back<I: Source>(alloc: Global, input: &mut I) -> Result<Answer, Fau
     ensures done { IfOk result (λ answer. IsDone (Some (show_command true))
         (record { left = I.left input.old; faults = I.faults input.old })
         (record { left = I.left input.new; faults = I.faults input.new })
-        answer.history answer.output.items) }
+        answer.history (plan_bytes answer.output)) }
     ensures cause { IfErr result (λ fault. IsCause (Some (show_command true))
         (record { left = I.left input.old; faults = I.faults input.old })
         (record { left = I.left input.new; faults = I.faults input.new })
@@ -66,7 +69,7 @@ pub fn shown_back<I: Source>(alloc: Global, input: &mut I) -> Result<Answer, Fau
 
 /// Does `codes`, up to writing the output.
 pub fn codes(alloc: Global) -> Result<Answer, Fault>
-    ensures done { IfOk result (λ answer. (answer.history ≡ None) × (answer.output.items ≡ code_lines standard_rows)) }
+    ensures done { IfOk result (λ answer. (answer.history ≡ None) × (plan_bytes answer.output ≡ code_lines standard_rows)) }
     ensures cause { IfErr result (λ fault. fault ≡ Fault.Memory) }
 {
     let output = standard_lines(alloc)?;
@@ -78,7 +81,7 @@ pub fn learns<I: Source>(alloc: Global, input: &mut I) -> Result<Answer, Fault>
     ensures done { IfOk result (λ answer. IsDone (Some (codes_command true))
         (record { left = I.left input.old; faults = I.faults input.old })
         (record { left = I.left input.new; faults = I.faults input.new })
-        answer.history answer.output.items) }
+        answer.history (plan_bytes answer.output)) }
     ensures cause { IfErr result (λ fault. IsCause (Some (codes_command true))
         (record { left = I.left input.old; faults = I.faults input.old })
         (record { left = I.left input.new; faults = I.faults input.new })
@@ -92,11 +95,11 @@ pub fn learns<I: Source>(alloc: Global, input: &mut I) -> Result<Answer, Fault>
 
 /// The answer of a command that opens no share.
 fn unopened(output: Vec<u8>) -> Answer
-    ensures { (result.history ≡ None) × (result.output.items ≡ output.items) }
+    ensures { (result.history ≡ None) × (plan_bytes result.output ≡ output.items) }
 {
     Answer {
         history: None,
-        output,
+        output: Plan::Plain(Bytes::from(output)),
     }
 }
 
@@ -105,7 +108,7 @@ pub fn counts<I: Source>(alloc: Global, input: &mut I) -> Result<Answer, Fault>
     ensures done { IfOk result (λ answer. IsDone (Some check_command)
         (record { left = I.left input.old; faults = I.faults input.old })
         (record { left = I.left input.new; faults = I.faults input.new })
-        answer.history answer.output.items) }
+        answer.history (plan_bytes answer.output)) }
     ensures cause { IfErr result (λ fault. IsCause (Some check_command)
         (record { left = I.left input.old; faults = I.faults input.old })
         (record { left = I.left input.new; faults = I.faults input.new })

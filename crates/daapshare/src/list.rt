@@ -2,6 +2,7 @@
 
 ghost use Rattle.std.specs.Prelude.{◌≡◌, List, Some, option_copied, IfOk, IfErr};
 ghost use Rattle.daapshare_words.specs.declared.words.Command.TheVariants.{List as list_command};
+ghost use Rattle.listing_plan.specs.Plans.{plan_bytes, IsWritable};
 ghost use Rattle.daapshare.specs.Lists.{IsListed};
 ghost use Rattle.daapshare.specs.Commands.{IsCause};
 
@@ -16,7 +17,7 @@ use std::alloc::Global;
 /// The most bytes of records that the input may have.
 pub const RECORDS_LIMIT: u64 = 4_194_304;
 
-/// Opens a share with the batch that the input's records are, and lists the items that are asked for.
+/// Opens a share with the batch that the input's records are, and plans the listing of the items that are asked for.
 pub fn opened<I: Source>(
     alloc: Global,
     query: Option<&Text>,
@@ -26,7 +27,8 @@ pub fn opened<I: Source>(
     ensures listed { IfOk result (λ opened. IsListed (option_copied query.entry) (option_copied meta.entry)
         (record { left = I.left input.old; faults = I.faults input.old })
         (record { left = I.left input.new; faults = I.faults input.new })
-        (Some opened.history) opened.listing.items) }
+        (Some opened.history) (plan_bytes opened.listing)) }
+    ensures writable { IfOk result (λ opened. IsWritable opened.listing) }
     ensures cause { IfErr result (λ fault. IsCause (Some (list_command (option_copied query.entry) (option_copied meta.entry)))
         (record { left = I.left input.old; faults = I.faults input.old })
         (record { left = I.left input.new; faults = I.faults input.new })
@@ -44,6 +46,6 @@ pub fn opened<I: Source>(
         Ok(batch) => batch,
         Err(error) => return Err(Fault::from(error)),
     };
-    let opened = open(alloc, batch, &look)?;
+    let opened = open(alloc, batch, look)?;
     Ok(opened)
 }

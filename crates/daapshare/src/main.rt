@@ -9,7 +9,6 @@ mod check;
 mod codes;
 mod fault;
 mod learn;
-mod library;
 mod list;
 mod listing;
 mod look;

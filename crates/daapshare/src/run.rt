@@ -1,6 +1,6 @@
 //! A run of the program over any input, output, files and net.
 
-ghost use Rattle.std.specs.Prelude.{◌≡◌, None, Some, false};
+ghost use Rattle.std.specs.Prelude.{◌≡◌, None, Some, Ok, false};
 ghost use Rattle.daapshare_words.specs.Grammar.{texts_of};
 ghost use Rattle.daapshare_words.specs.Words.{command_of};
 ghost use Rattle.daapshare_words.specs.declared.words.Command.TheVariants.{Show as show_command};
@@ -13,6 +13,7 @@ use crate::show::{Stop, shown};
 use daap_outside::{Files, Net, Sink, Source, put_all};
 use daapshare_words::{Command, read_words};
 use item_model::Entries;
+use listing_plan::PlanError;
 use std::alloc::Global;
 
 /// What a run leaves: the status of the program, and the history of the share, where one was opened.
@@ -134,20 +135,23 @@ fn written<W: Sink>(alloc: Global, output: &mut W, answer: Result<Answer, Fault>
         result.status result.history }
 {
     match answer {
-        Ok(answer) => done(output, answer),
+        Ok(answer) => done(alloc, output, answer),
         Err(fault) => refused(alloc, output, &fault),
     }
 }
 
-/// Writes the output of a command that was done.
-fn done<W: Sink>(output: &mut W, answer: Answer) -> Outcome
-    ensures history { result.history ≡ answer.history }
-    ensures told { Tells 0 answer.output.items
+/// Writes the output of a command that was done. Where memory is wanted for it, nothing of it is written.
+fn done<W: Sink>(alloc: Global, output: &mut W, answer: Answer) -> Outcome
+    ensures { Answers (Ok answer)
         (record { taken = W.taken output.old; faults = W.faults output.old })
         (record { taken = W.taken output.new; faults = W.faults output.new })
-        result.status }
+        result.status result.history }
 {
-    let status = told(output, answer.output.as_slice(), 0);
+    let status = match answer.output.write(alloc, output) {
+        Ok(()) => 0,
+        Err(PlanError::Failed) => Fault::Write.status(),
+        Err(PlanError::Memory) => return refused(alloc, output, &Fault::Memory),
+    };
     Outcome {
         status,
         history: answer.history,
