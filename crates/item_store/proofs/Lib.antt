@@ -1,1 +1,2 @@
 pub mod VersionFacts
+pub mod ItemFacts

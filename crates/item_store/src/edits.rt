@@ -74,7 +74,7 @@ fn take_in_one(
 {
     match edit {
         Edit::PutItem { row } => match row.copy() {
-            Ok(copy) => set(alloc, held, count, row.id, Some(copy), revision),
+            Ok(copy) => set(alloc, held, count, copy.id, Some(copy), revision),
             Err(error) => Err(error),
         },
         Edit::DropItem { id } => set(alloc, held, count, *id, None, revision),
