@@ -1,2 +1,3 @@
 pub mod VersionFacts
 pub mod ItemFacts
+pub mod BatchFacts

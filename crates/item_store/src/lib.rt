@@ -2,6 +2,7 @@
 //! edits that it stands for: what it answers is what `share_history` says of these batches.
 #![tactic(auto)]
 
+mod batches;
 mod edits;
 mod held;
 mod version;

@@ -1,7 +1,8 @@
 //! What a store keeps under all ids.
 
-ghost use Rattle.std.specs.Prelude.{◌≡◌, ◌≤◌, ◌-◌, ℕ, None, min, nat_le, ◌==◌, ◌&&◌, is_some, option_copied, IfOk, OnOk, OnErr, if◌then◌else◌};
-ghost use Rattle.share_history.specs.Keyed.{at};
+ghost use Rattle.std.specs.Prelude.{◌≡◌, ◌≤◌, ◌-◌, ℕ, None, filter, min, nat_le, ◌==◌, ◌&&◌, is_some, option_copied, IfOk, OnOk, OnErr, if◌then◌else◌};
+ghost use Rattle.std.specs.Map.{keys_of};
+ghost use Rattle.share_history.specs.Keyed.{at, IsAscending};
 ghost use Rattle.item_store.specs.Changes.{newest, versions_at, row_of, is_among};
 
 use crate::held::Held;
@@ -18,6 +19,20 @@ pub(crate) fn row(held: &BTreeMap<u32, Held>, id: u32) -> Option<&Row>
         Some(found) => found.row(),
         None => None,
     }
+}
+
+// The ids that have a row, ascending.
+pub(crate) fn ids(alloc: Global, held: &BTreeMap<u32, Held>) -> Result<Vec<u32>, AllocError>
+    ensures ids { IfOk result (λ ids. ids.items ≡ keys_of (filter (λ e. is_some (newest e.1)) held.now.entries)) }
+    ensures ascending { IfOk result (λ _. IsAscending held.now.entries) }
+{
+    let mut ids = Vec::new(alloc);
+    for (id, found) in held {
+        if found.row().is_some() {
+            ids.push(*id)?;
+        }
+    }
+    Ok(ids)
 }
 
 // Gives an id a row, or none, from a revision on, and tells whether it had one.
