@@ -5,5 +5,8 @@
 mod batches;
 mod edits;
 mod held;
+mod store;
 mod version;
 mod versions;
+
+pub use store::ItemStore;
