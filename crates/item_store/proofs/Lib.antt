@@ -1,0 +1,4 @@
+pub mod VersionFacts
+pub mod ItemFacts
+pub mod BatchFacts
+pub mod StandFacts

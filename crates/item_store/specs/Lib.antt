@@ -1,0 +1,3 @@
+pub mod Store
+pub mod Stands
+pub mod Changes

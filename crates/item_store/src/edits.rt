@@ -1,0 +1,116 @@
+//! Edits, as they change what a store keeps.
+
+ghost use Rattle.std.specs.Prelude.{◌≡◌, ◌≤◌, ◌<◌, ◌+◌, ◌^◌, ◌++◌, ◌∷◌, [], ℕ, List, Some, false, nat_le, ◌==◌, ◌&&◌, is_some, option_to_list, IfOk, OnOk, OnErr, if◌then◌else◌};
+ghost use Rattle.std.specs.List.{list_any};
+ghost use Rattle.item_model.specs.Valid.{IsValid, AreValid};
+ghost use Rattle.share_history.specs.Named.{names_item};
+ghost use Rattle.item_store.specs.Stands.{items_in, named_items};
+ghost use Rattle.item_store.specs.Changes.{newest, versions_at, row_of, AreItems};
+
+use crate::held::Held;
+use crate::version::Version;
+use crate::versions::put;
+use item_model::{Edit, Row};
+use std::alloc::{AllocError, Global};
+use std::collections::BTreeMap;
+
+// The ids that edits put or drop as items, in order.
+pub(crate) fn ids_of(alloc: Global, edits: &[Edit]) -> Result<Vec<u32>, AllocError>
+    ensures { IfOk result (λ ids. ids.items ≡ named_items edits.now) }
+{
+    let mut ids = Vec::new(alloc);
+    for edit in edits {
+        if let Some(id) = id_of(edit) {
+            ids.push(id)?;
+        }
+    }
+    Ok(ids)
+}
+
+fn id_of(edit: &Edit) -> Option<u32>
+    ensures { option_to_list result ≡ items_in edit.now }
+{
+    match edit {
+        Edit::PutItem { row } => Some(row.id),
+        Edit::DropItem { id } => Some(*id),
+        _ => None,
+    }
+}
+
+// Takes in edits that make a revision, and tells how many items there are then, of the count before. After an
+// `Err` some of them are in.
+pub(crate) fn take_in(
+    alloc: Global,
+    held: &mut BTreeMap<u32, Held>,
+    mut count: u32,
+    edits: &[Edit],
+    revision: u32,
+) -> Result<u32, AllocError>
+    requires { AreValid edits.now }
+    ensures items { IfOk result (λ now. (es : List Edit) → AreItems revision es held.old.entries count → AreItems revision (es ++ edits.now) held.new.entries now) }
+    ensures before { (q base : ℕ) → base < revision → row_of held.new.entries q base ≡ row_of held.old.entries q base }
+    ensures others { (q base : ℕ) → list_any (names_item q) edits.now ≡ false → row_of held.new.entries q base ≡ row_of held.old.entries q base }
+{
+    for edit in edits {
+        match take_in_one(alloc, held, count, edit, revision) {
+            Ok(now) => count = now,
+            Err(error) => return Err(error),
+        }
+    }
+    Ok(count)
+}
+
+fn take_in_one(
+    alloc: Global,
+    held: &mut BTreeMap<u32, Held>,
+    count: u32,
+    edit: &Edit,
+    revision: u32,
+) -> Result<u32, AllocError>
+    requires { IsValid edit.now }
+    ensures items { IfOk result (λ now. (es : List Edit) → AreItems revision es held.old.entries count → AreItems revision (es ++ edit.now ∷ []) held.new.entries now) }
+    ensures before { (q base : ℕ) → base < revision → row_of held.new.entries q base ≡ row_of held.old.entries q base }
+    ensures others { (q base : ℕ) → names_item q edit.now ≡ false → row_of held.new.entries q base ≡ row_of held.old.entries q base }
+{
+    match edit {
+        Edit::PutItem { row } => match row.copy() {
+            Ok(copy) => set(alloc, held, count, copy.id, Some(copy), revision),
+            Err(error) => Err(error),
+        },
+        Edit::DropItem { id } => set(alloc, held, count, *id, None, revision),
+        _ => Ok(count),
+    }
+}
+
+// Gives an id a row, or none, from a revision on, and tells how many rows there are then.
+fn set(
+    alloc: Global,
+    held: &mut BTreeMap<u32, Held>,
+    count: u32,
+    id: u32,
+    row: Option<Row>,
+    revision: u32,
+) -> Result<u32, AllocError>
+    ensures rows { OnOk result ((q base : ℕ) → row_of held.new.entries q base ≡ (if (id == q) && nat_le revision base then row else row_of held.old.entries q base)) }
+    ensures unchanged { OnErr result ((q base : ℕ) → row_of held.new.entries q base ≡ row_of held.old.entries q base) }
+    ensures counted { IfOk result (λ now. (n : ℕ) → n < 2 ^ 32 → n + (if is_some (newest (versions_at id held.old.entries)) then 1 else 0) ≡ count + (if is_some row then 1 else 0) → now ≡ n) }
+{
+    let is = row.is_some();
+    match put(alloc, held, id, Version { revision, row }) {
+        Ok(was) => Ok(counted(count, was, is)),
+        Err(error) => Err(error),
+    }
+}
+
+// How many there are where one came or went. Fewer than 2 ^ 32 have an id each.
+fn counted(count: u32, was: bool, is: bool) -> u32
+    ensures { (n : ℕ) → n < 2 ^ 32 → n + (if was then 1 else 0) ≡ count + (if is then 1 else 0) → result ≡ n }
+{
+    if was == is {
+        return count;
+    }
+    if was {
+        return count.saturating_sub(1);
+    }
+    count.saturating_add(1)
+}

@@ -1,0 +1,170 @@
+//! A store of items.
+
+ghost use Rattle.std.specs.Prelude.{◌≡◌, ◌≤◌, ◌+◌, ◌-◌, ◌++◌, ◌∷◌, [], List, true, length, IfOk, OnOk, OnErr, option_copied};
+ghost use Rattle.std.specs.Map.{keys_of};
+ghost use Rattle.item_model.specs.Valid.{AreValid};
+ghost use Rattle.item_model.specs.declared.changes.Edit.{Edit as TheEdit};
+ghost use Rattle.item_model.specs.declared.request.Target.TheVariants.{Items};
+ghost use Rattle.share_history.specs.Histories.{edits as edits_of};
+ghost use Rattle.share_history.specs.Kept.{touched};
+ghost use Rattle.share_history.specs.LastSaid.{item_at};
+ghost use Rattle.share_history.specs.Rows.{library};
+ghost use Rattle.item_store.specs.Stands.{floor_of, StandsFor, IsUnchanged};
+
+use crate::batches::{ids_after, listed, prune_to, take_back_batch, take_in_batch};
+use crate::held::Held;
+use crate::versions;
+use item_model::{Edit, Row};
+use share_history::FIRST_REVISION;
+use std::alloc::{AllocError, Global};
+use std::collections::{BTreeMap, VecDeque};
+use std::marker::Model;
+
+/// The items that batches of edits leave, with what they were as far back as is kept.
+#[derive(Debug, Drop)]
+pub struct ItemStore {
+    alloc: Global,
+    keep: u32,
+    revision: u32,
+    // the least revision that `held` and `named` reach back to
+    low: u32,
+    can_undo: bool,
+    count: u32,
+    count_before: u32,
+    // the ids that each batch after `low` put or dropped, in order
+    named: VecDeque<Vec<u32>>,
+    held: BTreeMap<u32, Held>,
+}
+
+impl Model for ItemStore {
+    ghost use Rattle.item_store.specs.Store.{Store};
+
+    ghost Value = { Store };
+
+    ghost use Rattle.std.specs.Prelude.{map};
+
+    ghost view = { λ a. record { keep = a.keep; revision = a.revision; low = a.low; can_undo = a.can_undo; count = a.count; count_before = a.count_before; named = map (λ v. v.items) a.named.items; versions = a.held.entries } };
+}
+
+impl ItemStore {
+    /// A store that no batch has changed yet, without memory. It keeps what was for `keep` revisions back, and for one
+    /// more as long as the last batch can be taken back.
+    pub fn open(alloc: Global, keep: u32) -> ItemStore
+        requires some { 1 ≤ keep }
+        requires few { keep ≤ 65536 }
+        ensures keep { result.keep ≡ keep }
+        ensures stands { StandsFor [] result }
+    {
+        ItemStore {
+            alloc,
+            keep,
+            revision: FIRST_REVISION,
+            low: FIRST_REVISION,
+            can_undo: false,
+            count: 0,
+            count_before: 0,
+            named: VecDeque::new(alloc),
+            held: BTreeMap::new(alloc),
+        }
+    }
+
+    /// Takes in a batch, which makes the next revision. After an `Err` the store answers as before.
+    pub fn apply(&mut self, edits: &[Edit], revision: u32) -> Result<(), AllocError>
+        requires next { revision ≡ self.old.revision + 1 }
+        requires valid { AreValid edits.now }
+        ensures stands { OnOk result ((bs : List (List TheEdit)) → StandsFor bs self.old → StandsFor (bs ++ edits.now ∷ []) self.new) }
+        ensures undo { OnOk result (self.new.can_undo ≡ true) }
+        ensures keep { self.new.keep ≡ self.old.keep }
+        ensures unchanged { OnErr result (IsUnchanged self.old self.new) }
+    {
+        let taken = take_in_batch(
+            self.alloc,
+            &mut self.held,
+            &mut self.named,
+            self.count,
+            edits,
+            revision,
+        );
+        match taken {
+            Ok(count) => {
+                // what was is kept as the revision before has it, so that the batch can be taken back
+                let low = floor(self.keep, self.revision);
+                prune_to(&mut self.held, &mut self.named, self.low, low);
+                self.low = low;
+                self.count_before = self.count;
+                self.count = count;
+                self.revision = revision;
+                self.can_undo = true;
+                Ok(())
+            }
+            Err(error) => Err(error),
+        }
+    }
+
+    /// Takes the last batch back, without memory. This can be done after an `apply` that answered `Ok`, and once.
+    pub fn undo(&mut self)
+        requires { self.old.can_undo ≡ true }
+        ensures stands { (bs : List (List TheEdit)) (batch : List TheEdit) → StandsFor (bs ++ batch ∷ []) self.old → StandsFor bs self.new }
+        ensures keep { self.new.keep ≡ self.old.keep }
+    {
+        take_back_batch(&mut self.held, &mut self.named, self.revision);
+        self.count = self.count_before;
+        self.revision = self.revision.saturating_sub(1);
+        self.can_undo = false;
+    }
+
+    /// The item of an id.
+    pub fn get(&self, id: u32) -> Option<&Row>
+        ensures { (bs : List (List TheEdit)) → StandsFor bs self.now → option_copied result ≡ item_at (edits_of bs) id }
+    {
+        versions::row(&self.held, id)
+    }
+
+    /// How many items there are.
+    pub fn count(&self) -> u32
+        ensures { (bs : List (List TheEdit)) → StandsFor bs self.now → result ≡ length (library (edits_of bs)) }
+    {
+        self.count
+    }
+
+    pub fn revision(&self) -> u32
+        ensures { result ≡ self.now.revision }
+    {
+        self.revision
+    }
+
+    /// The least base that `changed_since` may be asked from.
+    pub fn floor(&self) -> u32
+        ensures { result ≡ floor_of self.now.keep self.now.revision }
+    {
+        floor(self.keep, self.revision)
+    }
+
+    /// The ids of all items, ascending.
+    pub fn ids(&self) -> Result<Vec<u32>, AllocError>
+        ensures { IfOk result (λ ids. (bs : List (List TheEdit)) → StandsFor bs self.now → ids.items ≡ keys_of (library (edits_of bs))) }
+    {
+        versions::ids(self.alloc, &self.held)
+    }
+
+    /// The ids that batches after a base put or drop as items, ascending, each once.
+    pub fn changed_since(&self, base: u32) -> Result<Vec<u32>, AllocError>
+        requires from { floor_of self.now.keep self.now.revision ≤ base }
+        requires to { base ≤ self.now.revision }
+        ensures { IfOk result (λ ids. (bs : List (List TheEdit)) → StandsFor bs self.now → ids.items ≡ touched bs Items base) }
+    {
+        let passed = base.saturating_sub(self.low) as usize;
+        let ids = match ids_after(self.alloc, &self.named, passed) {
+            Ok(ids) => ids,
+            Err(error) => return Err(error),
+        };
+        listed(self.alloc, &ids)
+    }
+}
+
+// The least base that `keep` allows at a revision.
+fn floor(keep: u32, revision: u32) -> u32
+    ensures { result ≡ floor_of keep revision }
+{
+    revision.saturating_sub(keep).max(FIRST_REVISION)
+}
