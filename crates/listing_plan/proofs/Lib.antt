@@ -1,0 +1,4 @@
+pub mod Few
+pub mod Spelled
+pub mod Short
+pub mod Bodies
