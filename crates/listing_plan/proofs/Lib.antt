@@ -2,3 +2,4 @@ pub mod Few
 pub mod Spelled
 pub mod Short
 pub mod Bodies
+pub mod Writing

@@ -1,11 +1,13 @@
 -- The tag of a row is short.
-use Rattle.std.proofs.Common.{◌≡◌, ◌≤◌, ◌+◌, ◌*◌, ◌++◌, ◌&&◌, ℕ, Bool, true, false, nat_lt, nat_le, List, [], ◌∷◌, length, refl, sym, ap, ◌∙◌, Option, Some, None, IfSome, length-append, arith}
+use Rattle.std.proofs.Common.{◌≡◌, ◌≤◌, ◌<◌, ◌+◌, ◌*◌, ◌++◌, ℕ, true, List, [], ◌∷◌, length, take, get_or, refl, ap, ◌∙◌, Option, Some, None, IfSome, length-append, arith}
 use Rattle.std.specs.List.{cons_option}
+use Rattle.std.proofs.lemmas.List.{take_more}
+use Rattle.std.proofs.lemmas.List.Elements.{filter_map-append}
 use Rattle.std.specs.Option.{option_map}
 use Rattle.std.proofs.lemmas.Bool.{and_parts, leb-true}
 use Rattle.dmap_tags.specs.Codes.{code}
 use Rattle.dmap_tags.specs.Tree.{Tree, trees_of}
-use Rattle.dmap_tags.specs.Spelling.{leaf_payload, spelling, spellings, longest, is_spellable}
+use Rattle.dmap_tags.specs.Spelling.{leaf_payload, spelling, spellings}
 use Rattle.dmap_tags.specs.declared.kinds.Kind.{Kind}
 use Rattle.dmap_tags.specs.declared.kinds.Kind.TheVariants.{U8, I8, U16, I16, U32, I32, U64, I64, Text, Date, Version, List as Members, Opaque}
 use Rattle.item_model.specs.declared.property.Property.{Property}
@@ -16,10 +18,11 @@ use Rattle.item_model.specs.declared.item.Row.{Row}
 use Rattle.item_model.specs.declared.request.Meta.{Meta}
 use Rattle.item_model.specs.declared.request.Meta.TheVariants.{Default, All, Names}
 use Rattle.item_model.specs.Properties.{property_kind, property_code}
-use Rattle.item_model.specs.Items.{is_of_kind, is_value_of, is_item, rises_from, value_of}
-use Rattle.item_model.specs.Projection.{number_leaf, value_leaf, property_tag, shown, keys, asked, projection, first_mentions}
+use Rattle.item_model.specs.Items.{is_of_kind, is_value_of, is_item, value_of}
+use Rattle.item_model.specs.Projection.{number_leaf, value_leaf, property_tag, shown, keys, asked, projection, first_mentions, new_mention}
 use Rattle.item_model.proofs.Places.{value_fits}
-use Rattle.listing_plan.specs.Laws.{IsShort, RowsAreShort}
+use Rattle.item_model.proofs.Mentions.{first_last}
+use Rattle.listing_plan.specs.Laws.{RowsAreShort}
 use Rattle.listing_plan.proofs.Few.{first_few}
 use Rattle.listing_plan.proofs.Spelled.{spellings_append, framed_length, more_length, short_spellable}
 
@@ -75,6 +78,22 @@ shown_short : (item : List (Property × PropValue)) (ps : List Property) → is_
 shown_short item [] h = omega arith
 shown_short item (p ∷ ps) h =
     omega (arith, shown_step p (value_of p item) (shown item ps) (length ps) (value_fits p 0 item h) (shown_short item ps h))
+
+mentions_more : (ps : List Property) (i : ℕ) (d : Property) → i < length ps → first_mentions (take (i + 1) ps) ≡ first_mentions (take i ps) ++ new_mention (take i ps) (get_or ps i d)
+mentions_more ps i d h = ap first_mentions (take_more ps i d h) ∙ first_last (take i ps) (get_or ps i d)
+
+-- one more mention adds to what is mentioned
+pub mentioned_more : (ps : List Property) (i : ℕ) (d : Property) → i < length ps → length (first_mentions (take (i + 1) ps)) ≡ length (first_mentions (take i ps)) + length (new_mention (take i ps) (get_or ps i d))
+mentioned_more ps i d h =
+    ap length (mentions_more ps i d h) ∙ length-append (first_mentions (take i ps)) (new_mention (take i ps) (get_or ps i d))
+
+-- and to the length of what is shown
+pub shown_more : (item : List (Property × PropValue)) (ps : List Property) (i : ℕ) (d : Property) → i < length ps → length (spellings (trees_of (shown item (first_mentions (take (i + 1) ps))))) ≡ length (spellings (trees_of (shown item (first_mentions (take i ps))))) + length (spellings (trees_of (shown item (new_mention (take i ps) (get_or ps i d)))))
+shown_more item ps i d h =
+    ap (λ qs. length (spellings (trees_of (shown item qs)))) (mentions_more ps i d h)
+    ∙ ap (λ ts. length (spellings (trees_of ts))) (filter_map-append _ (first_mentions (take i ps)) (new_mention (take i ps) (get_or ps i d)))
+    ∙ ap length (spellings_append (shown item (first_mentions (take i ps))) (shown item (new_mention (take i ps) (get_or ps i d))))
+    ∙ length-append (spellings (trees_of (shown item (first_mentions (take i ps))))) (spellings (trees_of (shown item (new_mention (take i ps) (get_or ps i d)))))
 
 -- the lists of properties by which nothing is named have each once
 pub default_once : first_mentions DEFAULT_PROJECTION ≡ DEFAULT_PROJECTION

@@ -1,9 +1,9 @@
 -- How many bytes tags have, and that few bytes can be spelled.
-use Rattle.std.proofs.Common.{◌≡◌, ◌≤◌, ◌+◌, ◌*◌, ◌++◌, ◌&&◌, ℕ, Bool, true, List, [], ◌∷◌, length, map, refl, sym, ap, ◌∙◌, append_assoc, length-append, arith}
+use Rattle.std.proofs.Common.{◌≡◌, ◌≤◌, ◌+◌, ◌++◌, ℕ, true, List, [], ◌∷◌, length, refl, sym, ap, ◌∙◌, append_assoc, length-append, arith}
 use Rattle.std.proofs.lemmas.Bool.{and_from, le-leb}
 use Rattle.dmap_tags.specs.Codes.{Four}
-use Rattle.dmap_tags.specs.Tree.{Leaf, Tree, leaf, list, Trees, none, more, trees_of, tree_code}
-use Rattle.dmap_tags.specs.Spelling.{framed, leaf_payload, payload, spelling, spellings, longest, is_spellable, are_spellable}
+use Rattle.dmap_tags.specs.Tree.{Tree, leaf, list, Trees, none, more, trees_of}
+use Rattle.dmap_tags.specs.Spelling.{framed, leaf_payload, spelling, spellings, longest, is_spellable, are_spellable}
 
 -- the spellings of several tags are those of the first and of the others
 pub spellings_append : (xs ys : List Tree) → spellings (trees_of (xs ++ ys)) ≡ spellings (trees_of xs) ++ spellings (trees_of ys)

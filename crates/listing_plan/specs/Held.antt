@@ -1,13 +1,11 @@
 -- What a plan of rows holds: the rows, whether they are a delta, and how many bytes their tags have.
-use Rattle.std.specs.Prelude.{◌≡◌, ◌≤◌, ◌*◌, ℕ, Bool, true, false, List, [], ◌∷◌, ◌++◌, length, map}
-use Rattle.dmap_tags.specs.Codes.{code}
-use Rattle.dmap_tags.specs.Tree.{Tree, list, trees_of}
+use Rattle.std.specs.Prelude.{◌≡◌, ◌≤◌, ◌*◌, ℕ, Bool, true, false, List, [], length, map}
+use Rattle.dmap_tags.specs.Tree.{Tree, trees_of}
 use Rattle.dmap_tags.specs.Spelling.{spellings}
 use Rattle.item_model.specs.declared.request.Meta.{Meta}
 use Rattle.item_model.specs.declared.request.Target.{Target}
 use Rattle.item_model.specs.Projection.{projection}
 use Rattle.share_history.specs.Listings.{Listing, shown_rows}
-use Rattle.share_history.specs.Bodies.{start_tags, gone_tags}
 use Rattle.listing_plan.specs.declared.row.PlanRow.{PlanRow}
 use Rattle.listing_plan.specs.declared.plan.Scope.{Scope}
 use Rattle.listing_plan.specs.declared.plan.Scope.TheVariants.{Full, Delta}
@@ -41,23 +39,18 @@ abbrev pub gone_of : Scope → List ℕ
 gone_of (Full total) = []
 gone_of (Delta gone) = gone.items
 
--- the members of the body's tag
-abbrev pub body_members : Target → ℕ → Scope → List PlanRow → Meta → List Tree
-body_members target revision scope rows meta =
-    start_tags (is_delta_of scope) revision (total_of scope (length rows)) (length rows)
-    ++ list (code "mlcl") (trees_of (row_trees meta rows)) ∷ gone_tags target (is_delta_of scope) (gone_of scope)
+-- what the listing says
+abbrev pub listing_held : Target → ℕ → Scope → List PlanRow → Meta → Listing
+listing_held target revision scope rows meta = record {
+  is_delta = is_delta_of scope;
+  revision = revision;
+  total = total_of scope (length rows);
+  rows = shown_rows target meta (keyed rows);
+  gone = gone_of scope;
+}
 
 abbrev pub planned_of : Inside → Planned
-planned_of a = record {
-  target = a.target;
-  listing = record {
-    is_delta = is_delta_of a.scope;
-    revision = a.revision;
-    total = total_of a.scope (length a.rows.items);
-    rows = shown_rows a.target a.meta (keyed a.rows.items);
-    gone = gone_of a.scope;
-  };
-}
+planned_of a = record { target = a.target; listing = listing_held a.target a.revision a.scope a.rows.items a.meta }
 
 -- the rows are the target's, the deleted keys ascend, and the tags' length is known and not too much
 pub record Stands (a : Inside) : Type 0 where

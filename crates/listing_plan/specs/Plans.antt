@@ -1,6 +1,5 @@
 -- What a plan writes: nothing, a text, a tag, or the body of a listing.
-use Rattle.std.specs.Prelude.{◌≡◌, ◌≤◌, ℕ, List, [], Bool, true, false, length, map, unwrap_or, All, ⊤}
-use Rattle.dmap_tags.specs.Tree.{Tree}
+use Rattle.std.specs.Prelude.{◌≡◌, ◌≤◌, ℕ, List, [], true, false, length, map, unwrap_or, All, ⊤}
 use Rattle.dmap_tags.specs.Spelling.{spelling, is_spellable}
 use Rattle.item_model.specs.declared.item.Row.{Row}
 use Rattle.item_model.specs.declared.request.Meta.{Meta}
@@ -11,8 +10,7 @@ use Rattle.share_history.specs.Bodies.{body_tree}
 use Rattle.listing_plan.specs.declared.plan.Plan.{Plan}
 use Rattle.listing_plan.specs.declared.plan.Plan.TheVariants.{Empty, Plain, Tagged, Rows}
 use Rattle.listing_plan.specs.declared.row.PlanRow.{PlanRow}
-use Rattle.listing_plan.specs.Planned.{Planned}
-use Rattle.listing_plan.specs.declared.plan.TheConstants.{MAX_ROWS}   -- 262144
+use Rattle.listing_plan.specs.declared.plan.TheConstants.{MAX_ROWS}  -- 262144
 
 -- the key of a row: its member's in a container, else its item's id
 abbrev pub key_of : PlanRow → ℕ

@@ -1,12 +1,13 @@
 //! The parts of a listing's body, pushed one behind the other.
 
-ghost use Rattle.std.specs.Prelude.{◌≡◌, ◌≤◌, ◌+◌, ◌*◌, ◌++◌, ℕ, length, map, OnOk};
+ghost use Rattle.std.specs.Prelude.{◌≡◌, ◌≤◌, ◌+◌, ◌*◌, ◌++◌, ℕ, true, length, map, OnOk};
 ghost use Rattle.std.specs.Int.{w32, to_be_bytes};
 ghost use Rattle.dmap_tags.specs.Codes.{code, code_bytes};
 ghost use Rattle.dmap_tags.specs.Spelling.{spelling, spellings, longest};
-ghost use Rattle.dmap_tags.specs.Tree.{leaf, list, trees_of, U32};
+ghost use Rattle.dmap_tags.specs.Tree.{leaf, list, trees_of, U8, U32};
 ghost use Rattle.item_model.specs.declared.request.Target.{Target};
 ghost use Rattle.share_history.specs.Bodies.{start_tags, body_code, key_code, gone_tags};
+ghost use Rattle.listing_plan.specs.Laws.{ROW_BYTES};
 ghost use Rattle.listing_plan.specs.Held.{row_tree, row_trees, rows_length, is_delta_of, total_of, gone_of};
 
 use crate::lengths::{HEAD_LEN, NUMBER_LEN};
@@ -21,9 +22,10 @@ const START_LEN: u64 = 65;
 
 // The body's payload, where the tags of its rows have so many bytes.
 pub(crate) fn payload_len(rows_len: u64, scope: &Scope) -> u64
-    requires rows { rows_len ≤ longest }
+    requires rows { rows_len ≤ ROW_BYTES * MAX_ROWS }
     requires gone { length (gone_of scope.now) ≤ MAX_ROWS }
-    ensures { (target : Target) → result ≡ 65 + rows_len + length (spellings (trees_of (gone_tags target (is_delta_of scope.now) (gone_of scope.now)))) }
+    ensures counted { (target : Target) → result ≡ 65 + rows_len + length (spellings (trees_of (gone_tags target (is_delta_of scope.now) (gone_of scope.now)))) }
+    ensures short { result ≤ longest }
 {
     START_LEN + rows_len + gone_len(scope)
 }
@@ -74,6 +76,13 @@ fn push_number(out: &mut Vec<u8>, of: Code, n: u32) -> Result<(), AllocError>
     out.extend_from_slice(&n.to_be_bytes())
 }
 
+fn push_mark(out: &mut Vec<u8>, of: Code, n: u8) -> Result<(), AllocError>
+    ensures { OnOk result (out.new.items ≡ out.old.items ++ spelling (leaf of (U8 n))) }
+{
+    push_head(out, of, 1)?;
+    out.extend_from_slice(&n.to_be_bytes())
+}
+
 // What every listing begins with.
 pub(crate) fn push_start(
     out: &mut Vec<u8>,
@@ -84,11 +93,11 @@ pub(crate) fn push_start(
     ensures { OnOk result (out.new.items ≡ out.old.items ++ spellings (trees_of (start_tags (is_delta_of scope.now) revision (total_of scope.now listed) listed))) }
 {
     push_number(out, Code(*b"mstt"), 200)?;
-    push_head(out, Code(*b"muty"), 1)?;
-    out.extend_from_slice(&[scope.mark()])?;
+    push_mark(out, Code(*b"muty"), scope.mark())?;
     push_number(out, Code(*b"musr"), revision)?;
     push_number(out, Code(*b"mtco"), scope.total(listed))?;
-    push_number(out, Code(*b"mrco"), listed)
+    push_number(out, Code(*b"mrco"), listed)?;
+    Ok(())
 }
 
 // The tags of the rows, in one list.
@@ -123,12 +132,7 @@ fn push_each(
 }
 
 #[tactic(auto, using(crate::proofs::Spelled::short_spellable))]
-fn push_row(
-    alloc: Global,
-    out: &mut Vec<u8>,
-    row: &PlanRow,
-    meta: &Meta,
-) -> Result<(), AllocError>
+fn push_row(alloc: Global, out: &mut Vec<u8>, row: &PlanRow, meta: &Meta) -> Result<(), AllocError>
     requires { length (spelling (row_tree meta.now row.now)) ≤ longest }
     ensures { OnOk result (out.new.items ≡ out.old.items ++ spelling (row_tree meta.now row.now)) }
 {
@@ -146,11 +150,17 @@ pub(crate) fn push_gone(out: &mut Vec<u8>, target: Target, scope: &Scope) -> Res
 {
     match scope {
         Scope::Full { .. } => Ok(()),
-        Scope::Delta { gone } => {
-            push_head(out, Code(*b"mudl"), NUMBER_LEN * gone.len() as u64)?;
-            push_keys(out, key_code(target), gone.as_slice())
-        }
+        Scope::Delta { gone } => push_deleted(out, target, gone.as_slice()),
     }
+}
+
+fn push_deleted(out: &mut Vec<u8>, target: Target, keys: &[u32]) -> Result<(), AllocError>
+    requires { length keys.now ≤ MAX_ROWS }
+    ensures { OnOk result (out.new.items ≡ out.old.items ++ spellings (trees_of (gone_tags target true keys.now))) }
+{
+    push_head(out, Code(*b"mudl"), NUMBER_LEN * keys.len() as u64)?;
+    push_keys(out, key_code(target), keys)?;
+    Ok(())
 }
 
 fn push_keys(out: &mut Vec<u8>, of: Code, keys: &[u32]) -> Result<(), AllocError>

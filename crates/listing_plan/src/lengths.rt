@@ -121,7 +121,8 @@ fn value_len(property: Property, value: &PropValue) -> u64
 }
 
 fn number_len(kind: Kind) -> u64
-    ensures { (n : ℕ) → result ≡ length (leaf_payload (number_leaf kind n)) }
+    ensures counted { (n : ℕ) → result ≡ length (leaf_payload (number_leaf kind n)) }
+    ensures short { result ≤ 8 }
 {
     match kind {
         Kind::U8 => 1,

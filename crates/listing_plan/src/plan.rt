@@ -102,6 +102,7 @@ impl Scope {
 
 impl Plan {
     /// The full listing with these rows, of so many before the range.
+    #[tactic(auto, using(crate::proofs::Writing::none_gone))]
     pub fn full(target: Target, revision: u32, total: u32, rows: Vec<PlanRow>, meta: Meta) -> Plan
         requires rows { AreRowsOf target rows.items }
         ensures { result ≡ Rows (record { target = target; listing = full_plan target revision total rows.items meta }) }
@@ -152,6 +153,7 @@ impl Plan {
     }
 
     /// Writes the plan. What it needs of memory it takes before the first byte is written.
+    #[tactic(auto, using(crate::proofs::Writing::nothing_appended))]
     pub fn write<W: Sink>(&self, alloc: Global, sink: &mut W) -> Result<(), PlanError>
         requires { IsWritable self.now }
         ensures written { OnOk result (Appends (W.taken sink.old) (W.taken sink.new) (plan_bytes self.now)) }
@@ -164,8 +166,14 @@ impl Plan {
         match self {
             Plan::Empty => Ok(()),
             Plan::Plain(bytes) => put(sink, bytes.as_slice()),
-            Plan::Tagged(tag) => put_made(sink, spelled(alloc, tag)),
-            Plan::Rows(rows) => put_made(sink, rows.spelled(alloc)),
+            Plan::Tagged(tag) => match spelled(alloc, tag) {
+                Ok(bytes) => put(sink, bytes.as_slice()),
+                Err(_) => Err(PlanError::Memory),
+            },
+            Plan::Rows(rows) => match rows.spelled(alloc) {
+                Ok(bytes) => put(sink, bytes.as_slice()),
+                Err(_) => Err(PlanError::Memory),
+            },
         }
     }
 }
@@ -210,21 +218,6 @@ fn spelled(alloc: Global, tag: &Tag) -> Result<Vec<u8>, AllocError>
     match encode_into(tag, &mut bytes) {
         Ok(()) => Ok(bytes),
         Err(TagError::TooLong | TagError::Memory) => Err(AllocError),
-    }
-}
-
-// Writes what was made, if there was memory for it.
-fn put_made<W: Sink>(sink: &mut W, made: Result<Vec<u8>, AllocError>) -> Result<(), PlanError>
-    ensures written { OnOk result (IfOk made (λ bytes. Appends (W.taken sink.old) (W.taken sink.new) bytes.items)) }
-    ensures part { OnErr result (IfOk made (λ bytes. AppendsPrefix (W.taken sink.old) (W.taken sink.new) bytes.items)) }
-    ensures memory { result ≡ Err PlanError.Memory → sink.new ≡ sink.old }
-    ensures count { OnOk result (W.faults sink.new ≡ W.faults sink.old) }
-    ensures failed { result ≡ Err PlanError.Failed → Rose (W.faults sink.old) (W.faults sink.new) }
-    ensures beside { W.beside_taken sink.new ≡ W.beside_taken sink.old }
-{
-    match made {
-        Ok(bytes) => put(sink, bytes.as_slice()),
-        Err(_) => Err(PlanError::Memory),
     }
 }
 
