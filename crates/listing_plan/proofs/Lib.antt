@@ -3,3 +3,4 @@ pub mod Spelled
 pub mod Short
 pub mod Bodies
 pub mod Writing
+pub mod Samples

@@ -3,7 +3,7 @@
 ghost use Rattle.std.specs.Prelude.{◌≡◌, ◌≤◌, ◌+◌, ◌*◌, ◌++◌, ℕ, true, length, map, OnOk};
 ghost use Rattle.std.specs.Int.{w32, to_be_bytes};
 ghost use Rattle.dmap_tags.specs.Codes.{code, code_bytes};
-ghost use Rattle.dmap_tags.specs.Spelling.{spelling, spellings, longest};
+ghost use Rattle.dmap_tags.specs.Spelling.{spelling, spellings, longest, is_spellable};
 ghost use Rattle.dmap_tags.specs.Tree.{leaf, list, trees_of, U8, U32};
 ghost use Rattle.item_model.specs.declared.request.Target.{Target};
 ghost use Rattle.share_history.specs.Bodies.{start_tags, body_code, key_code, gone_tags};
@@ -13,7 +13,7 @@ ghost use Rattle.listing_plan.specs.Held.{row_tree, row_trees, rows_length, is_d
 use crate::lengths::{HEAD_LEN, NUMBER_LEN};
 use crate::plan::{MAX_ROWS, Scope};
 use crate::row::PlanRow;
-use dmap_tags::{Code, TagError, encode_into};
+use dmap_tags::{Code, Tag, TagError, encode_into};
 use item_model::{Meta, Target, project};
 use std::alloc::{AllocError, Global};
 
@@ -137,9 +137,18 @@ fn push_row(alloc: Global, out: &mut Vec<u8>, row: &PlanRow, meta: &Meta) -> Res
     ensures { OnOk result (out.new.items ≡ out.old.items ++ spelling (row_tree meta.now row.now)) }
 {
     let tag = project(alloc, &row.row, row.member, meta)?;
-    match encode_into(&tag, out) {
+    push_tag(&tag, out)
+}
+
+// A tag that isn't too long to spell.
+pub(crate) fn push_tag(tag: &Tag, out: &mut Vec<u8>) -> Result<(), AllocError>
+    requires { is_spellable tag.now ≡ true }
+    ensures { OnOk result (out.new.items ≡ out.old.items ++ spelling tag.now) }
+{
+    match encode_into(tag, out) {
         Ok(()) => Ok(()),
-        Err(TagError::TooLong | TagError::Memory) => Err(AllocError),
+        Err(TagError::TooLong) => unreachable!(),
+        Err(TagError::Memory) => Err(AllocError),
     }
 }
 

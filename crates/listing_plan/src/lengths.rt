@@ -71,13 +71,13 @@ fn shown_len(item: &Item, properties: &[Property]) -> u64
     let mut len = 0;
     for (i, property) in properties.iter().enumerate() {
         let (before, _) = properties.split_at(i);
-        len += unless_len(item, before, *property);
+        len += mention_len(item, before, *property);
     }
     len
 }
 
 // The property, unless it was mentioned before.
-fn unless_len(item: &Item, before: &[Property], property: Property) -> u64
+fn mention_len(item: &Item, before: &[Property], property: Property) -> u64
     ensures counted { result ≡ length (spellings (trees_of (shown item.now (new_mention before.now property)))) }
     ensures short { result ≤ 263 * length (new_mention before.now property) }
 {

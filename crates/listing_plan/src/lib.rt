@@ -7,6 +7,8 @@ pub mod laws;
 mod lengths;
 mod plan;
 mod row;
+#[cfg(test)]
+mod tests;
 
 pub use plan::{MAX_ROWS, Plan, PlanError, RowPlan};
 pub use row::PlanRow;

@@ -10,11 +10,11 @@ ghost use Rattle.listing_plan.specs.Plans.{AreRowsOf, AreGone, full_plan, delta_
 ghost use Rattle.listing_plan.specs.Held.{is_delta_of, total_of};
 ghost use Rattle.listing_plan.specs.declared.plan.Plan.TheVariants.{Rows};
 
-use crate::body::{body_code, payload_len, push_gone, push_head, push_rows, push_start};
+use crate::body::{body_code, payload_len, push_gone, push_head, push_rows, push_start, push_tag};
 use crate::lengths::{HEAD_LEN, rows_len};
 use crate::row::PlanRow;
 use daap_outside::{Sink, put_all};
-use dmap_tags::{Bytes, Tag, TagError, encode_into, encoded_len};
+use dmap_tags::{Bytes, Tag, encoded_len};
 use item_model::{Meta, Target};
 use std::alloc::{AllocError, Global};
 use std::marker::Model;
@@ -206,7 +206,7 @@ fn tag_len(tag: &Tag) -> u64
 {
     match encoded_len(tag) {
         Some(len) => len,
-        None => 0,
+        None => unreachable!(),
     }
 }
 
@@ -215,10 +215,8 @@ fn spelled(alloc: Global, tag: &Tag) -> Result<Vec<u8>, AllocError>
     ensures { IfOk result (λ bytes. bytes.items ≡ spelling tag.now) }
 {
     let mut bytes = Vec::new(alloc);
-    match encode_into(tag, &mut bytes) {
-        Ok(()) => Ok(bytes),
-        Err(TagError::TooLong | TagError::Memory) => Err(AllocError),
-    }
+    push_tag(tag, &mut bytes)?;
+    Ok(bytes)
 }
 
 fn put<W: Sink>(sink: &mut W, bytes: &[u8]) -> Result<(), PlanError>

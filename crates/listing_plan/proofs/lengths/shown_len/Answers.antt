@@ -7,14 +7,14 @@ use Rattle.listing_plan.proofs.lengths.shown_len.Goals as goal
 pub overflow_add-len : goal.overflow_add-len
 overflow_add-len c =
     let ps = c.args.properties.now in
-    omega (arith, mentioned_more ps c.loop-i.i Minm c.loop-i-test.true, first_few (take (c.loop-i.i + 1) ps), rw c.split_at.ensures.front at c.unless_len-len.ensures.short)
+    omega (arith, mentioned_more ps c.loop-i.i Minm c.loop-i-test.true, first_few (take (c.loop-i.i + 1) ps), rw c.split_at.ensures.front at c.mention_len-len.ensures.short)
 
 pub loop-i-preserved : goal.loop-i-preserved
 loop-i-preserved c =
     let ps = c.args.properties.now in
     record {
-      counted = omega (arith, shown_more c.args.item.now ps c.loop-i.i Minm c.loop-i-test.true, rw c.split_at.ensures.front at c.unless_len-len.ensures.counted);
-      short = omega (arith, mentioned_more ps c.loop-i.i Minm c.loop-i-test.true, rw c.split_at.ensures.front at c.unless_len-len.ensures.short);
+      counted = omega (arith, shown_more c.args.item.now ps c.loop-i.i Minm c.loop-i-test.true, rw c.split_at.ensures.front at c.mention_len-len.ensures.counted);
+      short = omega (arith, mentioned_more ps c.loop-i.i Minm c.loop-i-test.true, rw c.split_at.ensures.front at c.mention_len-len.ensures.short);
     }
 
 pub returns-clause-short : goal.returns-clause-short
