@@ -1,0 +1,9 @@
+use Rattle.std.proofs.Common.{None, refl}
+use Rattle.item_model.specs.declared.request.Target.TheVariants.{Items}
+use Rattle.listing_plan.proofs.Samples.{one_row}
+use Rattle.listing_plan.proofs.tests.one_row.Goals as goal
+
+pub returns : goal.returns
+returns c =
+    rw (c.in_ok-push.ensures.items, c.new-rows.ensures.items)
+    (one_row Items (record { member = None; row = record { id = 7; item = c.in_ok-item.item } }) refl)

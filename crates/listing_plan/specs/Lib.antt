@@ -1,0 +1,4 @@
+pub mod Planned
+pub mod Plans
+pub mod Held
+pub mod Laws

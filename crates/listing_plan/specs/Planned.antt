@@ -1,0 +1,7 @@
+-- What contracts see of a plan of rows: whose listing it is, and what the listing says.
+use Rattle.item_model.specs.declared.request.Target.{Target}
+use Rattle.share_history.specs.Listings.{Listing}
+
+pub record Planned : Type 0 where
+  pub target : Target
+  pub listing : Listing

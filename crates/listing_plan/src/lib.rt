@@ -1,0 +1,14 @@
+//! Plans of answers: what a reply will write, made at one point of a share's history and written later. A plan owns what it
+//! writes and knows its length before the first byte. Contracts see a plan of rows as the listing that it writes.
+#![tactic(auto)]
+
+mod body;
+pub mod laws;
+mod lengths;
+mod plan;
+mod row;
+#[cfg(test)]
+mod tests;
+
+pub use plan::{MAX_ROWS, Plan, PlanError, RowPlan};
+pub use row::PlanRow;
