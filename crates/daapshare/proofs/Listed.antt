@@ -1,5 +1,5 @@
 -- The rows that are asked for, taken from the store one id after another, and the body of their listing.
-use Rattle.std.proofs.Common.{◌≡◌, ◌<◌, ◌≤◌, ◌+◌, ◌++◌, ◌∷◌, [], ℕ, List, Bool, true, false, cond, ◌==◌, Option, Some, None, is_some, map, take, length, get_or, unwrap_or, append-nil, if◌then◌else◌, refl, sym, subst, ap, ◌∙◌, arith}
+use Rattle.std.proofs.Common.{◌≡◌, ◌<◌, ◌≤◌, ◌+◌, ◌++◌, ◌∷◌, [], ℕ, List, Bool, true, false, cond, ◌==◌, Option, Some, None, is_some, map, take, All, length, get_or, unwrap_or, append-nil, if◌then◌else◌, refl, sym, subst, ap, ◌∙◌, arith}
 use Rattle.std.specs.Option.{option_map, option_and_then, option_or}
 use Rattle.std.specs.List.{cons_option}
 use Rattle.std.specs.Map.{keys_of}
@@ -13,7 +13,7 @@ use Rattle.item_model.specs.declared.item.Row.{Row}
 use Rattle.item_model.specs.declared.query.Query.{Query}
 use Rattle.item_model.specs.declared.request.Look.{Look}
 use Rattle.item_model.specs.declared.request.Range.{Range}
-use Rattle.item_model.specs.declared.request.Range.TheVariants.{All}
+use Rattle.item_model.specs.declared.request.Range.TheVariants.{All as whole_range}
 use Rattle.item_model.specs.declared.request.Target.TheVariants.{Items}
 use Rattle.share_history.specs.Bodies.{body_tree}
 use Rattle.share_history.specs.Histories.{opening, edits, batches, revision}
@@ -26,7 +26,7 @@ use Rattle.share_history.proofs.EditFacts.{edits-opening}
 use Rattle.share_history.proofs.KeyedFacts.{has, has-keys_of, at-pairs_at, ascending-pairs_at}
 use Rattle.share_history.proofs.RowFacts.{at-library, ascending-library, ascending-rows, rows_are, length-rows}
 use Rattle.listing_plan.specs.declared.row.PlanRow.{PlanRow}
-use Rattle.listing_plan.specs.Plans.{key_of, keys_of_rows, keyed, full_plan}
+use Rattle.listing_plan.specs.Plans.{key_of, keys_of_rows, keyed, full_plan, AreRowsOf}
 use Rattle.daapshare.specs.Listing.{items_body, listing_bytes}
 
 -- a row has the id that it is asked for, if there is one
@@ -72,35 +72,27 @@ item_id : (es : List Edit) (id : ℕ) (row : Row) → item_at es id ≡ Some row
 item_id es id row is = subst (HasId id) is (found_id id (last_said (says_item id) es) (last_id id es))
 
 -- the pairs at some keys and at one more
-abbrev one_pair : ℕ → Option Row → List (ℕ × Row)
-one_pair id found = cons_option (option_map (λ row. (id, row)) found) []
-
-pairs_more : (f : ℕ → Option Row) (ids : List ℕ) (i id : ℕ) → i < length ids → id ≡ get_or ids i id
-    → pairs_at f (take (i + 1) ids) ≡ pairs_at f (take i ids) ++ one_pair id (f id)
+pub pairs_more : (f : ℕ → Option Row) (ids : List ℕ) (i id : ℕ) → i < length ids → id ≡ get_or ids i id
+    → pairs_at f (take (i + 1) ids) ≡ pairs_at f (take i ids) ++ pairs_at f (id ∷ [])
 pairs_more f ids i id lt is =
     ap (pairs_at f) (take_more ids i id lt ∙ ap (λ k. take i ids ++ k ∷ []) (sym is)) ∙ filter_map-append (λ k. option_map (λ row. (k, row)) (f k)) (take i ids) (id ∷ [])
 
-asked_pair : (q : Option Query) (id : ℕ) (row : Row) (b : Bool) → row.id ≡ id
-    → cond b ((row.id, row) ∷ []) [] ≡ one_pair id (only_if b row)
-asked_pair q id row true is = ap (λ k. (k, row) ∷ []) is
-asked_pair q id row false is = refl
+abbrev one_pair : ℕ → Option Row → List (ℕ × Row)
+one_pair id found = cons_option (option_map (λ row. (id, row)) found) []
 
--- a step over the ids, at one that has an item, and at one that has none
-pub asked_step : (es : List Edit) (q : Option Query) (ids : List ℕ) (i id : ℕ) (row : Row) (old new : List PlanRow) → i < length ids → id ≡ get_or ids i id
-    → item_at es id ≡ Some row → keyed new ≡ keyed old ++ (if is_asked q row then (row.id, row) ∷ [] else [])
-    → keyed old ≡ pairs_at (row_at es Items q) (take i ids) → keyed new ≡ pairs_at (row_at es Items q) (take (i + 1) ids)
-asked_step es q ids i id row old new lt is found pushed so_far =
-    pushed ∙ ap (λ l. l ++ cond (is_asked q row) ((row.id, row) ∷ []) []) so_far
-    ∙ ap (λ l. pairs_at (row_at es Items q) (take i ids) ++ l)
-    (asked_pair q id row (is_asked q row) (item_id es id row found) ∙ ap (λ o. one_pair id (option_and_then (if_asked q) o)) (sym found))
-    ∙ sym (pairs_more (row_at es Items q) ids i id lt is)
+asked_pair : (id : ℕ) (row : Row) (b : Bool) → row.id ≡ id → cond b ((row.id, row) ∷ []) [] ≡ one_pair id (only_if b row)
+asked_pair id row true is = ap (λ k. (k, row) ∷ []) is
+asked_pair id row false is = refl
 
-pub skipped_step : (es : List Edit) (q : Option Query) (ids : List ℕ) (i id : ℕ) (old : List PlanRow) → i < length ids → id ≡ get_or ids i id
-    → item_at es id ≡ None → keyed old ≡ pairs_at (row_at es Items q) (take i ids) → keyed old ≡ pairs_at (row_at es Items q) (take (i + 1) ids)
-skipped_step es q ids i id old lt is none so_far =
-    so_far ∙ sym (append-nil (pairs_at (row_at es Items q) (take i ids)))
-    ∙ ap (λ o. pairs_at (row_at es Items q) (take i ids) ++ one_pair id (option_and_then (if_asked q) o)) (sym none)
-    ∙ sym (pairs_more (row_at es Items q) ids i id lt is)
+-- what one id adds: its item, if it is asked for
+pub asked_more : (es : List Edit) (q : Option Query) (id : ℕ) (row : Row) (old new : List (ℕ × Row)) → item_at es id ≡ Some row
+    → new ≡ old ++ (if is_asked q row then (row.id, row) ∷ [] else []) → new ≡ old ++ pairs_at (row_at es Items q) (id ∷ [])
+asked_more es q id row old new found pushed =
+    pushed
+    ∙ ap (λ l. old ++ l) (asked_pair id row (is_asked q row) (item_id es id row found) ∙ ap (λ o. one_pair id (option_and_then (if_asked q) o)) (sym found))
+
+pub none_more : (es : List Edit) (q : Option Query) (id : ℕ) (old : List (ℕ × Row)) → item_at es id ≡ None → old ≡ old ++ pairs_at (row_at es Items q) (id ∷ [])
+none_more es q id old none = sym (append-nil old) ∙ ap (λ o. old ++ one_pair id (option_and_then (if_asked q) o)) (sym none)
 
 -- the rows at the ids of the library are all rows of a listing of items
 pub rows_at_ids : (es : List Edit) (q : Option Query) → pairs_at (row_at es Items q) (keys_of (library es)) ≡ rows es Items q
@@ -125,19 +117,32 @@ ascending_found es q found is = subst AreAscending (sym (keys_keyed found ∙ ap
 
 pub few_found : (es : List Edit) (q : Option Query) (found : List PlanRow) → keyed found ≡ rows es Items q → length found ≤ length es
 few_found es q found is =
-    omega (arith, length-map (λ row. (key_of row, row.row)) found, ap length is, length-rows es Items q)
+    let count : length (keyed found) ≡ length found = length-map found (λ (row : PlanRow). (key_of row, row.row)) in
+    omega (arith, count, ap length is, length-rows es Items q)
 
 -- the spelling of the planned listing is what `list` writes
-pub planned_bytes : (es : List Edit) (look : Look) (v total : ℕ) (found : List PlanRow) → look.range ≡ All → v ≡ revision (batches (opening es)) → total ≡ length found
+pub planned_bytes : (es : List Edit) (look : Look) (v total : ℕ) (found : List PlanRow) → look.range ≡ whole_range → v ≡ revision (batches (opening es)) → total ≡ length found
     → keyed found ≡ rows es Items look.query → spelling (body_tree Items (full_plan Items v total found look.meta)) ≡ listing_bytes es look
 planned_bytes es look v total found whole now count is =
+    let counted : length (keyed found) ≡ length found = length-map found (λ (row : PlanRow). (key_of row, row.row)) in
     ap (λ l. spelling (body_tree Items l))
-    (ap (λ n. full_plan Items v n found look.meta) (count ∙ sym (length-map (λ row. (key_of row, row.row)) found))
-    ∙ ap (λ all. listed v All all) is
-    ∙ ap (λ n. listed n All (rows es Items look.query)) now
+    (ap (λ n. full_plan Items v n found look.meta) (count ∙ sym counted)
+    ∙ ap (λ all. listed v whole_range all) is
+    ∙ ap (λ n. listed n whole_range (rows es Items look.query)) now
     ∙ ap (λ range. listed (revision (batches (opening es))) range (rows es Items look.query)) (sym whole)
     ∙ ap (λ ds. listed (revision (batches (opening es))) look.range (rows ds Items look.query)) (sym (edits-opening es)))
   where
     listed : ℕ → Range → List (ℕ × Row) → Listing
     listed n range all =
         record { is_delta = false; revision = n; total = length all; rows = shown_rows Items look.meta (in_range range all); gone = [] }
+
+-- rows over the history that a batch opens are rows over the batch
+pub opened_rows : (es : List Edit) (q asked : Option Query) (found : List PlanRow) → keyed found ≡ rows (edits (batches (opening es))) Items asked → asked ≡ q
+    → keyed found ≡ rows es Items q
+opened_rows es q asked found is same = is ∙ ap (λ ds. rows ds Items asked) (edits-opening es) ∙ ap (rows es Items) same
+
+-- such rows can be planned
+pub planned_rows : (es : List Edit) (q : Option Query) (found : List PlanRow) → keyed found ≡ rows es Items q → length es ≤ 65536 → All (λ row. row.member ≡ None) found
+    → AreRowsOf Items found
+planned_rows es q found is few members =
+    record { members = members; ascending = ascending_found es q found is; few = omega (arith, few_found es q found is, few) }

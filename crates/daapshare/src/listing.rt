@@ -8,7 +8,8 @@ ghost use Rattle.item_model.specs.declared.request.Target.TheVariants.{Items};
 ghost use Rattle.item_store.specs.Stands.{StandsFor};
 ghost use Rattle.listing_plan.specs.Plans.{keyed, plan_bytes, IsWritable};
 ghost use Rattle.share_history.specs.Histories.{opening, batches, edits};
-ghost use Rattle.share_history.specs.Rows.{rows, is_asked};
+ghost use Rattle.share_history.specs.Keyed.{pairs_at};
+ghost use Rattle.share_history.specs.Rows.{row_at, rows, is_asked};
 ghost use Rattle.daapshare.specs.Listing.{listing_bytes};
 
 use edit_log::EditLog;
@@ -37,12 +38,29 @@ pub fn open(alloc: Global, batch: Batch, look: Look) -> Result<Opened, AllocErro
     ensures listing { IfOk result (λ opened. plan_bytes opened.listing ≡ listing_bytes batch look) }
     ensures writable { IfOk result (λ opened. IsWritable opened.listing) }
 {
-    let store = store_of(alloc, batch.edits.as_slice())?;
-    let rows = asked_rows(alloc, &store, look.query.as_ref())?;
-    let total = rows.len() as u32;
-    let listing = Plan::full(alloc, Target::Items, store.revision(), total, rows, look.meta)?;
+    let listing = planned(alloc, batch.edits.as_slice(), look)?;
     let history = history_of(alloc, batch)?;
     Ok(Opened { history, listing })
+}
+
+/// The listing of the items that the edits leave and the look asks for.
+fn planned(alloc: Global, edits: &[Edit], look: Look) -> Result<Plan, AllocError>
+    requires valid { AreValid edits.now }
+    requires few { length edits.now ≤ 65536 }
+    requires whole { look.range ≡ All }
+    ensures listing { IfOk result (λ plan. plan_bytes plan ≡ listing_bytes edits.now look) }
+    ensures writable { IfOk result (λ plan. IsWritable plan) }
+{
+    let store = store_of(alloc, edits)?;
+    let rows = asked_rows(alloc, &store, look.query.as_ref())?;
+    let total = rows.len() as u32;
+    Ok(Plan::full(
+        Target::Items,
+        store.revision(),
+        total,
+        rows,
+        look.meta,
+    ))
 }
 
 /// The items of a share that is opened with the edits.
@@ -81,11 +99,26 @@ fn asked_rows(
 {
     let mut rows = Vec::new(alloc);
     for id in &store.ids()? {
-        if let Some(row) = store.get(*id) {
-            push_asked(&mut rows, row, query)?;
-        }
+        push_item(&mut rows, store, *id, query)?;
     }
     Ok(rows)
+}
+
+/// Adds the item of an id, if it is there and asked for.
+fn push_item(
+    rows: &mut Vec<PlanRow>,
+    store: &ItemStore,
+    id: u32,
+    query: Option<&Query>,
+) -> Result<(), AllocError>
+    ensures rows { OnOk result ((bs : List (List Edit)) → StandsFor bs store.now
+        → keyed rows.new.items ≡ keyed rows.old.items ++ pairs_at (row_at (edits bs) Items (option_copied query.entry)) (id ∷ [])) }
+    ensures members { AllOf (λ row. row.member ≡ None) rows.old.items → AllOf (λ row. row.member ≡ None) rows.new.items }
+{
+    match store.get(id) {
+        Some(row) => push_asked(rows, row, query),
+        None => Ok(()),
+    }
 }
 
 /// Adds a row, if it is asked for.
