@@ -1,12 +1,12 @@
 -- What one edit more makes of the items that edits leave, and of how many they are.
-use Rattle.std.proofs.Common.{◌≡◌, ◌≤◌, ◌<◌, ◌+◌, ◌-◌, ◌^◌, ℕ, zero, suc, Bool, true, false, cond, ◌&&◌, ◌||◌, ◌==◌, List, [], ◌∷◌, ◌++◌, length, Option, None, Some, is_some, unwrap_or, refl, sym, ap, subst, ◌∙◌, ⊎_elim, true≢false, arith, Ok, Err, nat_cmp, is_eq, Ordering, Less, Equal, Greater}
-use Rattle.std.specs.Prelude.{nat_le, nat_lt, All, Result, IfOk, OnOk}
+use Rattle.std.proofs.Common.{◌≡◌, ◌≤◌, ◌<◌, ◌+◌, ◌^◌, ℕ, suc, Bool, true, false, cond, ◌&&◌, ◌||◌, ◌==◌, List, [], ◌∷◌, ◌++◌, length, Option, None, Some, is_some, unwrap_or, refl, sym, ap, ◌∙◌, ⊎_elim, true≢false, arith, Ok, Err, nat_cmp, is_eq, Less}
+use Rattle.std.specs.Prelude.{nat_le, nat_lt, Result, IfOk, OnOk}
 use Rattle.std.specs.Option.{option_map}
-use Rattle.std.specs.List.{list_any, sum_by, AllByRecursion}
+use Rattle.std.specs.List.{sum_by, AllByRecursion}
 use Rattle.std.specs.List.Sorted.{IsStrictlySortedBy}
 use Rattle.std.specs.Map.{keys_of, values_of}
 use Rattle.std.specs.Cmp.{nat_cmp_total}
-use Rattle.std.proofs.lemmas.Bool.{cases_Bool, cases_lt, le-leb, ltb-true, leb-true, and_parts}
+use Rattle.std.proofs.lemmas.Bool.{cases_Bool, le-leb, ltb-true, leb-true, and_parts}
 use Rattle.std.proofs.lemmas.Cmp.{ranked}
 use Rattle.std.proofs.lemmas.List.Sums.{sum_by-cons}
 use Rattle.std.proofs.lemmas.List.Elements.{All-push}
@@ -15,9 +15,7 @@ use Rattle.std.specs.BTreeMap.{is_at}
 use Rattle.item_model.specs.declared.item.Row.{Row}
 use Rattle.item_model.specs.declared.changes.Edit.{Edit}
 use Rattle.item_model.specs.declared.changes.Edit.TheVariants.{PutItem, DropItem, PutList, PutRule, DropList, PutMember, DropMember}
-use Rattle.item_model.specs.Valid.{is_id, is_list_id, is_list_name, is_valid, IsValid, AreValid}
-use Rattle.item_model.specs.Proper.{is_proper}
-use Rattle.item_model.specs.QuerySeen.{tree_of}
+use Rattle.item_model.specs.Valid.{is_id, is_list_id, IsValid, AreValid}
 use Rattle.share_history.specs.Keyed.{at, put_in, taken_out, IsAscending, AreAscending}
 use Rattle.share_history.specs.LastSaid.{only_if, says_item, item_at}
 use Rattle.share_history.specs.Named.{keys_in, named_keys}
@@ -26,7 +24,6 @@ use Rattle.share_history.proofs.KeyedFacts.{has, same_key, key_itself, has-keys_
 use Rattle.share_history.proofs.EditFacts.{both_false, has-append, item_more, item_unnamed}
 use Rattle.share_history.proofs.RowFacts.{with_edit, library_more, at-library, ascending-library}
 use Rattle.item_store.specs.declared.version.Version.{Version}
-use Rattle.item_store.specs.Store.{row_in}
 use Rattle.item_store.specs.Changes.{newest, versions_at, row_of, AreItems}
 use Rattle.item_store.proofs.VersionFacts.{newest_seen}
 
@@ -86,7 +83,7 @@ unfolding IsStrictlySortedBy
 few_between low high [] le s all = omega (arith, le)
 few_between low high (k ∷ ks) le s all =
     let rest = few_between (k + 1) high ks (omega (arith, all.0.1)) s.1
-      (both {Q = λ y. (low ≤ y) × (y < high)} {R = λ y. (k + 1 ≤ y) × (y < high)} (λ y l w. (omega (arith, less k y l), w.1)) ks s.0 all.1) in
+    (both {Q = λ y. (low ≤ y) × (y < high)} {R = λ y. (k + 1 ≤ y) × (y < high)} (λ y l w. (omega (arith, less k y l), w.1)) ks s.0 all.1) in
     omega (arith, rest, all.0.0)
 
 apart : (q k : ℕ) → is_id k ≡ true → is_id q ≡ false → (is_eq (nat_cmp q k) || false) ≡ false
@@ -125,7 +122,7 @@ item_id es q v h =
 pub few_items : (es : List Edit) → AreValid es → length (library es) < 2 ^ 32
 few_items es v =
     let ids : AllByRecursion (λ k. (1 ≤ k) × (k < 2 ^ 32)) (keys_of (library es)) =
-      all_of (λ k. (1 ≤ k) × (k < 2 ^ 32)) (keys_of (library es)) (λ q h. bounds q (item_id es q v (sym (has-keys_of q (library es) ∙ ap is_some (at-library es q)) ∙ h))) in
+    all_of (λ k. (1 ≤ k) × (k < 2 ^ 32)) (keys_of (library es)) (λ q h. bounds q (item_id es q v (sym (has-keys_of q (library es) ∙ ap is_some (at-library es q)) ∙ h))) in
     let few = few_between 1 (2 ^ 32) (keys_of (library es)) (omega arith) (ascending-library es) ids in
     omega (arith, few, length_keys (library es))
   where
@@ -160,14 +157,14 @@ one_more e id row es old new revision count now v says lengths rows counts a =
     record {
       valid = valid;
       rows = λ q base h.
-        rows q base
-        ∙ ap (λ b. cond ((id == q) && b) row (row_of old q base)) (le-leb revision base h)
-        ∙ ap (λ was. cond ((id == q) && true) row was) (a.rows q base h)
-        ∙ said (id == q) row (item_at es q)
-        ∙ sym (item_more es e q ∙ ap (λ o. unwrap_or o (item_at es q)) (says q));
+          rows q base
+          ∙ ap (λ b. cond ((id == q) && b) row (row_of old q base)) (le-leb revision base h)
+          ∙ ap (λ was. cond ((id == q) && true) row was) (a.rows q base h)
+          ∙ said (id == q) row (item_at es q)
+          ∙ sym (item_more es e q ∙ ap (λ o. unwrap_or o (item_at es q)) (says q));
       counted = counts (length (library (es ++ e ∷ []))) (few_items (es ++ e ∷ []) valid)
-        (ap (λ o. length (library (es ++ e ∷ [])) + cond (is_some o) 1 0) (newest_item revision es old count a id) ∙ lengths
-        ∙ ap (λ n. n + cond (is_some row) 1 0) (sym a.counted))
+          (ap (λ o. length (library (es ++ e ∷ [])) + cond (is_some o) 1 0) (newest_item revision es old count a id) ∙ lengths
+          ∙ ap (λ n. n + cond (is_some row) 1 0) (sym a.counted));
     }
 
 -- an edit that leaves the items
@@ -177,7 +174,7 @@ none_more : (e : Edit) (es : List Edit) (held : List (ℕ × List Version)) (rev
 none_more e es held revision count v says left a = record {
   valid = All-push IsValid es e a.valid v;
   rows = λ q base h. a.rows q base h ∙ sym (item_more es e q ∙ ap (λ o. unwrap_or o (item_at es q)) (says q));
-  counted = a.counted ∙ ap length (sym left ∙ library_more es e)
+  counted = a.counted ∙ ap length (sym left ∙ library_more es e);
 }
 
 -- the same for a call that may fail

@@ -1,38 +1,35 @@
 -- What a store stands for before and after each of its calls.
-use Rattle.std.proofs.Common.{◌≡◌, ◌≤◌, ◌<◌, ◌+◌, ◌-◌, ◌⊎◌, ℕ, zero, suc, Bool, true, false, cond, ◌||◌, ◌==◌, List, [], ◌∷◌, ◌++◌, length, take, drop, map, filter, flat_map, min, max, fold, Option, None, Some, is_some, unwrap_or, refl, sym, ap, subst, ◌∙◌, ⊎_elim, true≢false, arith, Ok, Err, get_or, nat_cmp, is_eq}
-use Rattle.std.specs.Prelude.{All, Result, IfOk}
+use Rattle.std.proofs.Common.{◌≡◌, ◌≤◌, ◌<◌, ◌+◌, ◌-◌, ◌⊎◌, ℕ, zero, suc, Bool, true, false, cond, ◌||◌, ◌==◌, List, [], ◌∷◌, ◌++◌, length, drop, map, filter, flat_map, min, Some, is_some, unwrap_or, refl, sym, ap, subst, ◌∙◌, ⊎_elim, true≢false, arith, Ok, Err, get_or, nat_cmp, is_eq}
+use Rattle.std.specs.Prelude.{Result, IfOk}
 use Rattle.std.specs.List.{list_any}
 use Rattle.std.specs.Map.{keys_of}
 use Rattle.std.specs.BTreeMap.{is_at}
 use Rattle.std.specs.Cmp.{nat_cmp_total}
 use Rattle.std.proofs.lemmas.Bool.{cases_Bool, cases_lt}
 use Rattle.std.proofs.lemmas.Cmp.{eq_by_cmp_equiv}
-use Rattle.std.proofs.lemmas.List.{take_all, take-append-le, drop-append-le, drop-drop, drop-map, map-append, length-map, append_cancel_left}
+use Rattle.std.proofs.lemmas.List.{take_all, take-append-le, drop-append-le, drop-drop, drop-map, map-append}
 use Rattle.std.proofs.lemmas.List.Folds.{flat_map-map}
 use Rattle.std.proofs.lemmas.Grind.{flat_map-append}
 use Rattle.std.proofs.lemmas.Map.{lookup-none}
 use Rattle.std.proofs.lemmas.Map.Keys.{sorted_tail, IsDistinct-from_sorted}
 use Rattle.std.proofs.lemmas.Map.Entries.{none_past_head}
-use Rattle.std.proofs.Math.Nat.{min-le_left, min-le_right, min-eq_left, min-eq_right, le-min}
-use Rattle.std.proofs.Math.Seq.{take-nil}
-use Rattle.item_model.specs.declared.item.Row.{Row}
+use Rattle.std.proofs.Math.Nat.{min-le_right, min-eq_left, le-min}
 use Rattle.item_model.specs.declared.changes.Edit.{Edit}
-use Rattle.item_model.specs.declared.changes.Edit.TheVariants.{PutItem, DropItem, PutList, PutRule, DropList, PutMember, DropMember}
 use Rattle.item_model.specs.declared.request.Target.TheVariants.{Items}
 use Rattle.item_model.specs.Valid.{IsValid, AreValid}
 use Rattle.share_history.specs.declared.revisions.TheConstants.{FIRST_REVISION}
-use Rattle.share_history.specs.Keyed.{at, IsAscending, AreAscending, ascending}
+use Rattle.share_history.specs.Keyed.{at, IsAscending, ascending}
 use Rattle.share_history.specs.Histories.{edits, revision, up_to, later}
 use Rattle.share_history.specs.Named.{names_item}
 use Rattle.share_history.specs.LastSaid.{item_at}
 use Rattle.share_history.specs.Rows.{library}
-use Rattle.share_history.specs.Kept.{touches, touched}
+use Rattle.share_history.specs.Kept.{touched}
 use Rattle.share_history.proofs.KeyedFacts.{has, is_eq-cmp, sorted-ascending, has-ascending, ascending-filter}
 use Rattle.share_history.proofs.EditFacts.{edits_more, revision_more, up_to-revision, item_stays}
 use Rattle.share_history.proofs.RowFacts.{ids_are}
 use Rattle.share_history.proofs.TouchFacts.{touched_are}
 use Rattle.item_store.specs.declared.version.Version.{Version}
-use Rattle.item_store.specs.Store.{Store, row_in, versions_of}
+use Rattle.item_store.specs.Store.{Store}
 use Rattle.item_store.specs.Stands.{floor_of, items_in, named_items, StandsFor, IsUnchanged}
 use Rattle.item_store.specs.Changes.{newest, versions_at, row_of, is_among, AreItems}
 use Rattle.item_store.proofs.ItemFacts.{newest_item}
@@ -59,7 +56,7 @@ module _ {bs : List (List Edit)} {s : Store} (h : StandsFor bs s) where
   items_now n next = record {
     valid = h.valid;
     rows = λ id base le. row_last id base (omega (arith, le, next));
-    counted = h.count
+    counted = h.count;
   }
 
   pub newest_now : (id : ℕ) → newest (versions_at id s.versions) ≡ item_at (edits bs) id
@@ -80,7 +77,7 @@ has-there q (e ∷ es) s = by_row (has-there q es (sorted_tail nat_cmp e.0 (keys
     by_row rest false true p t =
         rest
         ∙ ap (λ o. is_some (newest (unwrap_or o [])))
-          (lookup-none (is_at (nat_cmp q)) es (none_past_head (eq_by_cmp_equiv nat_cmp_total) q e es (IsDistinct-from_sorted nat_cmp _ s) t))
+        (lookup-none (is_at (nat_cmp q)) es (none_past_head (eq_by_cmp_equiv nat_cmp_total) q e es (IsDistinct-from_sorted nat_cmp _ s) t))
         ∙ sym p
     by_row rest false false p t = rest
 
@@ -91,7 +88,7 @@ pub ids_told : {X E : Type 0} (items : X → List ℕ) (r : Result X E) {s now :
 ids_told items (Ok v) {s} same is sorted = λ bs h.
     is
     ∙ ids_are (edits bs) (keys_of (filter (λ e. is_some (newest e.1)) s.versions)) (ascending-filter (λ e. is_some (newest e.1)) s.versions sorted)
-      (λ q. has-there q s.versions sorted ∙ ap is_some (newest_now (subst (StandsFor bs) (sym same) h) q))
+    (λ q. has-there q s.versions sorted ∙ ap is_some (newest_now (subst (StandsFor bs) (sym same) h) q))
 ids_told items (Err e) same is sorted = tt
 
 -- ---- changed ids
@@ -111,8 +108,8 @@ named_after items lists bs low base named least le =
     ∙ ap (flat_map (λ ids. ids)) (sym (drop-map items (base - low) lists) ∙ ap (drop (base - low)) named ∙ drop-map named_items (base - low) (drop (low - FIRST_REVISION) bs))
     ∙ flat_map-map (λ ids. ids) named_items (drop (base - low) (drop (low - FIRST_REVISION) bs))
     ∙ ap (flat_map named_items)
-      (drop-drop (base - low) (low - FIRST_REVISION) bs
-      ∙ ap (λ n. drop n bs) (let all : low - FIRST_REVISION + (base - low) ≡ base - FIRST_REVISION = omega (arith, least, le) in all))
+    (drop-drop (base - low) (low - FIRST_REVISION) bs
+    ∙ ap (λ n. drop n bs) (let all : low - FIRST_REVISION + (base - low) ≡ base - FIRST_REVISION = omega (arith, least, le) in all))
     ∙ named_edits (drop (base - FIRST_REVISION) bs)
 
 pub changed_told : {X L E : Type 0} (items : X → List ℕ) (lists : List X) (listed : L → List ℕ) (r : Result L E) (base passed : ℕ) (keys : List ℕ) {s now : Store} → s ≡ now
@@ -127,10 +124,10 @@ changed_told items lists listed (Ok v) base passed keys {s} {now} same named fro
     let stands : StandsFor bs s = subst (StandsFor bs) (sym same) h in
     let reached : s.low ≤ base = omega (arith, stands.reach, kept, ap (λ s. s.keep) same, ap (λ s. s.revision) same) in
     let names : flat_map items (drop passed lists) ≡ named_items (later bs base) =
-      ap (λ n. flat_map items (drop n lists)) from ∙ named_after items lists bs s.low base (sym named ∙ stands.named) stands.least reached in
+    ap (λ n. flat_map items (drop n lists)) from ∙ named_after items lists bs s.low base (sym named ∙ stands.named) stands.least reached in
     listing ∙ is ∙ ap ascending names
     ∙ touched_are bs Items base (ascending (named_items (later bs base))) (sorted-ascending (named_items (later bs base)))
-      (λ k. has-ascending k (named_items (later bs base)) ∙ has-among k (named_items (later bs base)) ∙ among_named k (later bs base))
+    (λ k. has-ascending k (named_items (later bs base)) ∙ has-among k (named_items (later bs base)) ∙ among_named k (later bs base))
 
 -- ---- apply
 
@@ -149,30 +146,30 @@ applied bs batch s n low count named mid new h valid next floor lists items befo
       revision = made;
       valid = subst AreValid (sym (edits_more bs batch)) now.valid;
       rows = λ q base le.
-        pruned q base le
-        ∙ ⊎_elim
+          pruned q base le
+          ∙ ⊎_elim
           (λ below. before q base below ∙ h.rows q base (omega (arith, le, floor, h.reach))
-            ∙ ap (λ cs. item_at (edits cs) q) (sym (up_to_same bs (batch ∷ []) base (omega (arith, below, next, h.revision)))))
+          ∙ ap (λ cs. item_at (edits cs) q) (sym (up_to_same bs (batch ∷ []) base (omega (arith, below, next, h.revision)))))
           (λ above. now.rows q base above ∙ ap (λ es. item_at es q) (sym (edits_more bs batch))
-            ∙ ap (λ cs. item_at (edits cs) q) (sym (up_to_all all base (omega (arith, above, made)))))
+          ∙ ap (λ cs. item_at (edits cs) q) (sym (up_to_all all base (omega (arith, above, made)))))
           (cases_lt base n);
       count = now.counted ∙ ap (λ es. length (library es)) (sym (edits_more bs batch));
       named =
-        lists
-        ∙ ap (λ ls. drop (low - s.low) (ls ++ named_items batch ∷ [])) h.named
-        ∙ ap (drop (low - s.low)) (sym (map-append named_items (drop (s.low - FIRST_REVISION) bs) (batch ∷ [])))
-        ∙ drop-map named_items (low - s.low) (drop (s.low - FIRST_REVISION) bs ++ batch ∷ [])
-        ∙ ap (λ cs. map named_items (drop (low - s.low) cs)) (sym (drop-append-le (s.low - FIRST_REVISION) bs (batch ∷ []) (omega (arith, low_reached h, h.revision))))
-        ∙ ap (map named_items) (drop-drop (low - s.low) (s.low - FIRST_REVISION) all)
-        ∙ ap (λ k. map named_items (drop k all))
+          lists
+          ∙ ap (λ ls. drop (low - s.low) (ls ++ named_items batch ∷ [])) h.named
+          ∙ ap (drop (low - s.low)) (sym (map-append named_items (drop (s.low - FIRST_REVISION) bs) (batch ∷ [])))
+          ∙ drop-map named_items (low - s.low) (drop (s.low - FIRST_REVISION) bs ++ batch ∷ [])
+          ∙ ap (λ cs. map named_items (drop (low - s.low) cs)) (sym (drop-append-le (s.low - FIRST_REVISION) bs (batch ∷ []) (omega (arith, low_reached h, h.revision))))
+          ∙ ap (map named_items) (drop-drop (low - s.low) (s.low - FIRST_REVISION) all)
+          ∙ ap (λ k. map named_items (drop k all))
           (let same : s.low - FIRST_REVISION + (low - s.low) ≡ low - FIRST_REVISION = omega (arith, h.least, floor, h.reach) in same);
       least = omega (arith, floor);
       reach = omega (arith, floor, next);
       undo = λ _. omega (arith, floor, next);
       count_before = λ _.
-        h.count
-        ∙ ap (λ cs. length (library (edits cs)))
-          (sym (ap (up_to all) (let last : n - 1 ≡ revision bs = omega (arith, next, h.revision) in last) ∙ up_to-revision bs (batch ∷ [])))
+          h.count
+          ∙ ap (λ cs. length (library (edits cs)))
+          (sym (ap (up_to all) (let last : n - 1 ≡ revision bs = omega (arith, next, h.revision) in last) ∙ up_to-revision bs (batch ∷ [])));
     }
 
 up_to_least : (bs : List (List Edit)) (base v : ℕ) → v ≡ revision bs → up_to bs (min base v) ≡ up_to bs base
@@ -193,19 +190,19 @@ left_same s n named new next lists rows = record {
     revision = h.revision;
     valid = h.valid;
     rows = λ q base le.
-      ⊎_elim
-      (λ same. same ∙ h.rows q base le)
-      (λ below. below
+        ⊎_elim
+        (λ same. same ∙ h.rows q base le)
+        (λ below. below
         ∙ h.rows q (min base (n - 1)) (le-min le (omega (arith, low_reached h, next)))
         ∙ ap (λ cs. item_at (edits cs) q) (up_to_least bs base (n - 1) (omega (arith, next, h.revision))))
-      (rows (omega (arith, next)) q base);
+        (rows (omega (arith, next)) q base);
     count = h.count;
     named = lists ∙ h.named;
     least = h.least;
     reach = h.reach;
     undo = h.undo;
-    count_before = h.count_before
-  }
+    count_before = h.count_before;
+  };
 }
 
 pub not_applied : {s now : Store} → s ≡ now → (n : ℕ) (named : List (List ℕ)) (new : List (ℕ × List Version)) → n ≡ now.revision + 1 → named ≡ s.named
@@ -230,42 +227,42 @@ row_before bs batch q base unnamed =
     ⊎_elim
     (λ below. ap (λ cs. item_at (edits cs) q) (up_to_same bs (batch ∷ []) base (omega (arith, below))))
     (λ above. ap (λ cs. item_at (edits cs) q) (up_to_all (bs ++ batch ∷ []) base (omega (arith, above, revision_more bs batch)))
-      ∙ ap (λ es. item_at es q) (edits_more bs batch) ∙ item_stays (edits bs) batch q unnamed
-      ∙ ap (λ cs. item_at (edits cs) q) (sym (up_to_all bs base (omega (arith, above)))))
+    ∙ ap (λ es. item_at es q) (edits_more bs batch) ∙ item_stays (edits bs) batch q unnamed
+    ∙ ap (λ cs. item_at (edits cs) q) (sym (up_to_all bs base (omega (arith, above)))))
     (cases_lt base (revision bs + 1))
 
 pub undone : (bs : List (List Edit)) (batch : List Edit) (s : Store) (n : ℕ) (named : List (List ℕ)) (new : List (ℕ × List Version))
     → StandsFor (bs ++ batch ∷ []) s → s.can_undo ≡ true → n ≡ s.revision - 1
     → ((front : List (List ℕ)) (ids : List ℕ) → s.named ≡ front ++ ids ∷ [] → named ≡ front)
     → (1 ≤ s.revision → (front : List (List ℕ)) (ids : List ℕ) → s.named ≡ front ++ ids ∷ []
-      → (q base : ℕ) → row_of new q base ≡ row_of s.versions q (cond (is_among q ids) (min base (s.revision - 1)) base))
+    → (q base : ℕ) → row_of new q base ≡ row_of s.versions q (cond (is_among q ids) (min base (s.revision - 1)) base))
     → StandsFor bs (record { keep = s.keep; revision = n; low = s.low; can_undo = false; count = s.count_before; count_before = s.count_before; named = named; versions = new })
 undone bs batch s n named new h can last lists rows =
     let was : s.revision - 1 ≡ revision bs = omega (arith, h.revision, revision_more bs batch) in
     let low : s.low ≤ revision bs = omega (arith, h.undo can, was) in
     let front : List (List ℕ) = map named_items (drop (s.low - FIRST_REVISION) bs) in
     let parts : s.named ≡ front ++ named_items batch ∷ [] =
-      h.named ∙ ap (map named_items) (drop-append-le (s.low - FIRST_REVISION) bs (batch ∷ []) (omega (arith, low)))
-      ∙ map-append named_items (drop (s.low - FIRST_REVISION) bs) (batch ∷ []) in
+    h.named ∙ ap (map named_items) (drop-append-le (s.low - FIRST_REVISION) bs (batch ∷ []) (omega (arith, low)))
+    ∙ map-append named_items (drop (s.low - FIRST_REVISION) bs) (batch ∷ []) in
     let back = rows (omega (arith, h.revision)) front (named_items batch) parts in
     record {
       revision = last ∙ was;
       valid = all_first (edits bs) batch (subst AreValid (edits_more bs batch) h.valid);
       rows = λ q base le.
-        back q base
-        ∙ ⊎_elim
+          back q base
+          ∙ ⊎_elim
           (λ among. ap (λ b. row_of s.versions q (cond b (min base (s.revision - 1)) base)) among
-            ∙ h.rows q (min base (s.revision - 1)) (le-min le (omega (arith, low, was)))
-            ∙ ap (λ cs. item_at (edits cs) q)
-              (up_to_same bs (batch ∷ []) (min base (s.revision - 1)) (omega (arith, was, min-le_right base (s.revision - 1)))
-              ∙ up_to_least bs base (s.revision - 1) was))
+          ∙ h.rows q (min base (s.revision - 1)) (le-min le (omega (arith, low, was)))
+          ∙ ap (λ cs. item_at (edits cs) q)
+          (up_to_same bs (batch ∷ []) (min base (s.revision - 1)) (omega (arith, was, min-le_right base (s.revision - 1)))
+          ∙ up_to_least bs base (s.revision - 1) was))
           (λ unnamed. ap (λ b. row_of s.versions q (cond b (min base (s.revision - 1)) base)) unnamed
-            ∙ h.rows q base le ∙ row_before bs batch q base (sym (among_named q batch) ∙ unnamed))
+          ∙ h.rows q base le ∙ row_before bs batch q base (sym (among_named q batch) ∙ unnamed))
           (cases_Bool (is_among q (named_items batch)));
       count = h.count_before can ∙ ap (λ cs. length (library (edits cs))) (ap (up_to (bs ++ batch ∷ [])) was ∙ up_to-revision bs (batch ∷ []));
       named = lists front (named_items batch) parts;
       least = h.least;
       reach = omega (arith, h.undo can, last);
       undo = λ e. absurd (true≢false (sym e));
-      count_before = λ e. absurd (true≢false (sym e))
+      count_before = λ e. absurd (true≢false (sym e));
     }

@@ -1,5 +1,5 @@
 -- For which batches of edits a store stands.
-use Rattle.std.specs.Prelude.{◌≡◌, ◌≤◌, ℕ, ◌-◌, List, [], ◌∷◌, Bool, true, length, map, drop, max, flat_map}
+use Rattle.std.specs.Prelude.{◌≡◌, ◌≤◌, ℕ, ◌-◌, List, [], ◌∷◌, true, length, map, drop, max, flat_map}
 use Rattle.item_model.specs.declared.changes.Edit.{Edit}
 use Rattle.item_model.specs.declared.changes.Edit.TheVariants.{PutItem, DropItem, PutList, PutRule, DropList, PutMember, DropMember}
 use Rattle.item_model.specs.Valid.{AreValid}
@@ -30,6 +30,7 @@ named_items es = flat_map items_in es
 pub record StandsFor (bs : List (List Edit)) (store : Store) : Type 0 where
   pub revision : store.revision ≡ revision bs
   pub valid : AreValid (edits bs)
+  -- at the present revision and above the rows are the present ones
   pub rows : (id base : ℕ) → store.low ≤ base → row_in (versions_of store id) base ≡ item_at (edits (up_to bs base)) id
   pub count : store.count ≡ length (library (edits bs))
   pub named : store.named ≡ map named_items (drop (store.low - FIRST_REVISION) bs)

@@ -1,5 +1,5 @@
 -- What a store of items keeps: under each id the rows that it had, and which ids the last batches named.
-use Rattle.std.specs.Prelude.{ℕ, List, [], Bool, Option, None, map, reverse, unwrap_or, option_and_then, nat_le}
+use Rattle.std.specs.Prelude.{ℕ, List, [], Bool, Option, unwrap_or, option_and_then, nat_le}
 use Rattle.std.specs.List.{find}
 use Rattle.item_model.specs.declared.item.Row.{Row}
 use Rattle.share_history.specs.Keyed.{at}

@@ -4,7 +4,6 @@ ghost use Rattle.std.specs.Prelude.{◌≡◌, ◌≤◌, ◌<◌, ◌⊎◌, �
 ghost use Rattle.std.specs.Ordering.{nat_cmp};
 ghost use Rattle.std.specs.BTreeSet.{insert_key};
 ghost use Rattle.item_model.specs.Valid.{AreValid};
-ghost use Rattle.item_model.specs.declared.changes.Edit.{Edit as TheEdit};
 ghost use Rattle.share_history.specs.Keyed.{ascending};
 ghost use Rattle.item_store.specs.Stands.{named_items};
 ghost use Rattle.item_store.specs.Changes.{row_of, is_among, AreItems};
@@ -28,7 +27,7 @@ pub(crate) fn take_in_batch(
 ) -> Result<u32, AllocError>
     requires { AreValid edits.now }
     ensures named { OnOk result (map (λ v. v.items) named.new.items ≡ map (λ v. v.items) named.old.items ++ named_items edits.now ∷ []) }
-    ensures items { IfOk result (λ now. (es : List TheEdit) → AreItems revision es held.old.entries count → AreItems revision (es ++ edits.now) held.new.entries now) }
+    ensures items { IfOk result (λ now. (es : List Edit) → AreItems revision es held.old.entries count → AreItems revision (es ++ edits.now) held.new.entries now) }
     ensures before { OnOk result ((q base : ℕ) → base < revision → row_of held.new.entries q base ≡ row_of held.old.entries q base) }
     ensures named_left { OnErr result (map (λ v. v.items) named.new.items ≡ map (λ v. v.items) named.old.items) }
     ensures rows_left { OnErr result (1 ≤ revision → (q base : ℕ) → (row_of held.new.entries q base ≡ row_of held.old.entries q base) ⊎ (row_of held.new.entries q base ≡ row_of held.old.entries q (min base (revision - 1)))) }

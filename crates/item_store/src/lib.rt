@@ -6,6 +6,8 @@ mod batches;
 mod edits;
 mod held;
 mod store;
+#[cfg(test)]
+mod tests;
 mod version;
 mod versions;
 

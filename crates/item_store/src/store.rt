@@ -3,9 +3,8 @@
 ghost use Rattle.std.specs.Prelude.{◌≡◌, ◌≤◌, ◌+◌, ◌-◌, ◌++◌, ◌∷◌, [], List, true, length, IfOk, OnOk, OnErr, option_copied};
 ghost use Rattle.std.specs.Map.{keys_of};
 ghost use Rattle.item_model.specs.Valid.{AreValid};
-ghost use Rattle.item_model.specs.declared.changes.Edit.{Edit as TheEdit};
 ghost use Rattle.item_model.specs.declared.request.Target.TheVariants.{Items};
-ghost use Rattle.share_history.specs.Histories.{edits as edits_of};
+ghost use Rattle.share_history.specs.Histories.{edits};
 ghost use Rattle.share_history.specs.Kept.{touched};
 ghost use Rattle.share_history.specs.LastSaid.{item_at};
 ghost use Rattle.share_history.specs.Rows.{library};
@@ -72,7 +71,7 @@ impl ItemStore {
     pub fn apply(&mut self, edits: &[Edit], revision: u32) -> Result<(), AllocError>
         requires next { revision ≡ self.old.revision + 1 }
         requires valid { AreValid edits.now }
-        ensures stands { OnOk result ((bs : List (List TheEdit)) → StandsFor bs self.old → StandsFor (bs ++ edits.now ∷ []) self.new) }
+        ensures stands { OnOk result ((bs : List (List Edit)) → StandsFor bs self.old → StandsFor (bs ++ edits.now ∷ []) self.new) }
         ensures undo { OnOk result (self.new.can_undo ≡ true) }
         ensures keep { self.new.keep ≡ self.old.keep }
         ensures unchanged { OnErr result (IsUnchanged self.old self.new) }
@@ -104,7 +103,7 @@ impl ItemStore {
     /// Takes the last batch back, without memory. This can be done after an `apply` that answered `Ok`, and once.
     pub fn undo(&mut self)
         requires { self.old.can_undo ≡ true }
-        ensures stands { (bs : List (List TheEdit)) (batch : List TheEdit) → StandsFor (bs ++ batch ∷ []) self.old → StandsFor bs self.new }
+        ensures stands { (bs : List (List Edit)) (batch : List Edit) → StandsFor (bs ++ batch ∷ []) self.old → StandsFor bs self.new }
         ensures keep { self.new.keep ≡ self.old.keep }
     {
         take_back_batch(&mut self.held, &mut self.named, self.revision);
@@ -115,14 +114,14 @@ impl ItemStore {
 
     /// The item of an id.
     pub fn get(&self, id: u32) -> Option<&Row>
-        ensures { (bs : List (List TheEdit)) → StandsFor bs self.now → option_copied result ≡ item_at (edits_of bs) id }
+        ensures { (bs : List (List Edit)) → StandsFor bs self.now → option_copied result ≡ item_at (edits bs) id }
     {
         versions::row(&self.held, id)
     }
 
     /// How many items there are.
     pub fn count(&self) -> u32
-        ensures { (bs : List (List TheEdit)) → StandsFor bs self.now → result ≡ length (library (edits_of bs)) }
+        ensures { (bs : List (List Edit)) → StandsFor bs self.now → result ≡ length (library (edits bs)) }
     {
         self.count
     }
@@ -142,7 +141,7 @@ impl ItemStore {
 
     /// The ids of all items, ascending.
     pub fn ids(&self) -> Result<Vec<u32>, AllocError>
-        ensures { IfOk result (λ ids. (bs : List (List TheEdit)) → StandsFor bs self.now → ids.items ≡ keys_of (library (edits_of bs))) }
+        ensures { IfOk result (λ ids. (bs : List (List Edit)) → StandsFor bs self.now → ids.items ≡ keys_of (library (edits bs))) }
     {
         versions::ids(self.alloc, &self.held)
     }
@@ -151,7 +150,7 @@ impl ItemStore {
     pub fn changed_since(&self, base: u32) -> Result<Vec<u32>, AllocError>
         requires from { floor_of self.now.keep self.now.revision ≤ base }
         requires to { base ≤ self.now.revision }
-        ensures { IfOk result (λ ids. (bs : List (List TheEdit)) → StandsFor bs self.now → ids.items ≡ touched bs Items base) }
+        ensures { IfOk result (λ ids. (bs : List (List Edit)) → StandsFor bs self.now → ids.items ≡ touched bs Items base) }
     {
         let passed = base.saturating_sub(self.low) as usize;
         let ids = match ids_after(self.alloc, &self.named, passed) {

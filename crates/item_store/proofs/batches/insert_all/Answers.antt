@@ -1,4 +1,4 @@
-use Rattle.std.proofs.Common.{◌≡◌, get_or, nat_cmp, sym, ap, ◌∙◌}
+use Rattle.std.proofs.Common.{get_or, nat_cmp, sym, ap, ◌∙◌}
 use Rattle.std.specs.BTreeSet.{insert_key}
 use Rattle.std.proofs.lemmas.List.Sums.{fold_more}
 use Rattle.item_store.proofs.batches.insert_all.Goals as goal

@@ -9,5 +9,5 @@ abbrev pub invariant-loop-edit : goal.invariant-loop-edit
 invariant-loop-edit l = record {
   items : (es : List Edit) → AreItems l.revision es l.fn.held.entries l.fn.count → AreItems l.revision (es ++ take l.edit-index l.edits) l.held.entries l.count;
   before : (q base : ℕ) → base < l.revision → row_of l.held.entries q base ≡ row_of l.fn.held.entries q base;
-  others : (q base : ℕ) → list_any (names_item q) l.edits ≡ false → row_of l.held.entries q base ≡ row_of l.fn.held.entries q base
+  others : (q base : ℕ) → list_any (names_item q) l.edits ≡ false → row_of l.held.entries q base ≡ row_of l.fn.held.entries q base;
 }

@@ -1,4 +1,4 @@
-use Rattle.std.proofs.Common.{◌≡◌, Some, None, sym, ap, refl, ◌∙◌}
+use Rattle.std.proofs.Common.{Some, None, sym, ap, refl, ◌∙◌}
 use Rattle.item_model.specs.declared.changes.Edit.TheVariants.{PutItem, DropItem}
 use Rattle.item_store.proofs.ItemFacts.{one_set, one_left, length-put_item, length-drop_item}
 use Rattle.item_store.proofs.edits.take_in_one.Goals as goal
@@ -24,5 +24,5 @@ pub returns-in_default : goal.returns-in_default
 returns-in_default c = record {
   items = one_left c.args.edit.now c.args.held.now.entries c.args.revision c.args.count c.requires c.in_default.not-PutItem c.in_default.not-DropItem;
   before = λ q base h. refl;
-  others = λ q base h. refl
+  others = λ q base h. refl;
 }

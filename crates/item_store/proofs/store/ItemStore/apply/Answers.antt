@@ -1,4 +1,4 @@
-use Rattle.std.proofs.Common.{◌≡◌, ◌+◌, ◌-◌, ℕ, List, Vec, Global, map, drop, sym, ap, subst, ◌∙◌}
+use Rattle.std.proofs.Common.{◌+◌, ◌-◌, ℕ, List, Vec, Global, map, drop, sym, ap, subst, ◌∙◌}
 use Rattle.std.proofs.lemmas.List.{drop-map}
 use Rattle.item_store.specs.Stands.{StandsFor}
 use Rattle.item_store.proofs.StandFacts.{applied, not_applied}

@@ -1,4 +1,4 @@
-use Rattle.std.proofs.Common.{◌≡◌, sym, subst, ◌∙◌}
+use Rattle.std.proofs.Common.{sym, subst, ◌∙◌}
 use Rattle.item_store.specs.Stands.{StandsFor}
 use Rattle.item_store.proofs.StandFacts.{newest_now}
 use Rattle.item_store.proofs.store.ItemStore.get.Goals as goal

@@ -1,4 +1,4 @@
-use Rattle.std.proofs.Common.{◌≡◌, ◌++◌, ◌∷◌, [], sym, ap, subst, ◌∙◌}
+use Rattle.std.proofs.Common.{◌++◌, ◌∷◌, [], sym, ap, subst, ◌∙◌}
 use Rattle.item_store.specs.Stands.{StandsFor}
 use Rattle.item_store.proofs.StandFacts.{undone}
 use Rattle.item_store.proofs.store.ItemStore.undo.Goals as goal
