@@ -1,5 +1,5 @@
 -- What a plan writes: nothing, a text, a tag, or the body of a listing.
-use Rattle.std.specs.Prelude.{◌≡◌, ◌≤◌, ℕ, List, [], true, false, length, map, unwrap_or, All, ⊤}
+use Rattle.std.specs.Prelude.{◌≡◌, ◌≤◌, ℕ, List, [], true, false, length, map, unwrap_or, All, Bool}
 use Rattle.dmap_tags.specs.Spelling.{spelling, is_spellable}
 use Rattle.item_model.specs.declared.item.Row.{Row}
 use Rattle.item_model.specs.declared.request.Meta.{Meta}
@@ -49,9 +49,12 @@ plan_bytes (Plain bytes) = bytes
 plan_bytes (Tagged tag) = spelling tag
 plan_bytes (Rows planned) = spelling (body_tree planned.target planned.listing)
 
--- the plan can be written: a tag is not too long to spell
+-- whether a plan can be written: a tag is not too long to spell
+abbrev pub is_writable : Plan → Bool
+is_writable Empty = true
+is_writable (Plain bytes) = true
+is_writable (Tagged tag) = is_spellable tag
+is_writable (Rows planned) = true
+
 abbrev pub IsWritable : Plan → Type 0
-IsWritable Empty = ⊤
-IsWritable (Plain bytes) = ⊤
-IsWritable (Tagged tag) = is_spellable tag ≡ true
-IsWritable (Rows planned) = ⊤
+IsWritable plan = is_writable plan ≡ true

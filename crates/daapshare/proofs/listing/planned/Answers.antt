@@ -14,8 +14,8 @@ overflow_cast-total c =
     let is = opened_rows es c.args.look.query (option_copied c.as_ref.result) found (c.in_ok-rows.ensures.rows (batches (opening es)) c.in_ok-store.ensures) c.as_ref.ensures.value in
     omega (arith, few_found es c.args.look.query found is, c.requires.few, c.len-total.ensures)
 
-pub full-listing-requires : goal.full-listing-requires
-full-listing-requires c =
+pub full-requires : goal.full-requires
+full-requires c =
     let es = c.args.edits.now in
     let found = c.in_ok-rows.rows.items in
     let is = opened_rows es c.args.look.query (option_copied c.as_ref.result) found (c.in_ok-rows.ensures.rows (batches (opening es)) c.in_ok-store.ensures) c.as_ref.ensures.value in
@@ -26,5 +26,5 @@ returns-clause-listing c =
     let es = c.args.edits.now in
     let found = c.in_ok-rows.rows.items in
     let is = opened_rows es c.args.look.query (option_copied c.as_ref.result) found (c.in_ok-rows.ensures.rows (batches (opening es)) c.in_ok-store.ensures) c.as_ref.ensures.value in
-    ap plan_bytes c.full-listing.ensures
+    ap plan_bytes c.full.ensures
     ∙ planned_bytes es c.args.look c.revision.result c.len-total.result found c.requires.whole (search rules) (search rules) is
