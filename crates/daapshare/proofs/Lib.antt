@@ -1,4 +1,3 @@
-pub mod Changes
 pub mod Listed
 pub mod Tagged
 pub mod Counting

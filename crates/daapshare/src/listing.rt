@@ -54,13 +54,7 @@ fn planned(alloc: Global, edits: &[Edit], look: Look) -> Result<Plan, AllocError
     let store = store_of(alloc, edits)?;
     let rows = asked_rows(alloc, &store, look.query.as_ref())?;
     let total = rows.len() as u32;
-    Ok(Plan::full(
-        Target::Items,
-        store.revision(),
-        total,
-        rows,
-        look.meta,
-    ))
+    Ok(Plan::full(Target::Items, store.revision(), total, rows, look.meta))
 }
 
 /// The items of a share that is opened with the edits.
@@ -122,11 +116,7 @@ fn push_item(
 }
 
 /// Adds a row, if it is asked for.
-fn push_asked(
-    rows: &mut Vec<PlanRow>,
-    row: &Row,
-    query: Option<&Query>,
-) -> Result<(), AllocError>
+fn push_asked(rows: &mut Vec<PlanRow>, row: &Row, query: Option<&Query>) -> Result<(), AllocError>
     ensures rows { OnOk result (keyed rows.new.items ≡ keyed rows.old.items
         ++ (if is_asked (option_copied query.entry) row.now then (row.now.id, row.now) ∷ [] else [])) }
     ensures members { AllOf (λ row. row.member ≡ None) rows.old.items → AllOf (λ row. row.member ≡ None) rows.new.items }
