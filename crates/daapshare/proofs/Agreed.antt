@@ -1,5 +1,5 @@
 -- Words and input that are told decide how a command ends: they say one status, and no fault where the command is done.
-use Rattle.std.proofs.Common.{◌≡◌, ◌≢◌, ◌<◌, ℕ, List, [], Option, Some, None, Ok, Err, IfSome, true, false, length, ◌++◌, take, inl, inr, refl, sym, subst, ap, ◌∙◌, arith}
+use Rattle.std.proofs.Common.{◌≡◌, ◌≢◌, ◌<◌, ℕ, List, [], Option, Some, None, Ok, Err, IfSome, true, false, length, ◌++◌, inl, inr, refl, sym, subst, ap, ◌∙◌, arith}
 use Rattle.std.specs.Io.KnownBytes.{Consumes, IsAtEnd}
 use Rattle.std.proofs.lemmas.List.{append-nil, take_all}
 use Rattle.daapshare_words.specs.declared.words.Command.{Command}
@@ -25,8 +25,8 @@ use Rattle.daapshare.specs.declared.fault.Fault.TheVariants as fault
 use Rattle.daapshare.specs.declared.list.TheConstants.{RECORDS_LIMIT}
 use Rattle.daapshare.specs.Faults.{fault_status}
 use Rattle.daapshare.specs.Seen.{InputSeen}
-use Rattle.daapshare.specs.Looks.{AsksQuery, IsAsked, HasRefusal, IsQueryRefused, IsMetaRefused, meta_asked}
-use Rattle.daapshare.specs.Lists.{ReadsAs, IsRefused, IsListed, IsListable, ListSays}
+use Rattle.daapshare.specs.Looks.{AsksQuery, IsAsked, HasRefusal, IsQueryRefused, IsMetaRefused}
+use Rattle.daapshare.specs.Lists.{ReadsAs, IsListable, ListSays}
 use Rattle.daapshare.specs.Checks.{walked, IsSound, IsTooLong, HasTagFault, CheckSays}
 use Rattle.daapshare.specs.Limits.{text_limit, tag_limit}
 use Rattle.daapshare.specs.Backs.{ShowsBack, StopsOn, IsTextRefused, BackSays}

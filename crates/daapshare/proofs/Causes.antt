@@ -2,7 +2,6 @@
 use Rattle.std.proofs.Common.{◌≡◌, ◌≢◌, ◌+◌, ◌≤◌, ◌++◌, ℕ, List, [], length, take, drop, Option, Some, None, IfSome, Err, true, inl, inr, refl, sym, ap, subst, ◌∙◌, arith, append-nil}
 use Rattle.std.specs.Io.KnownBytes.{Consumes, IsAtEnd}
 use Rattle.std.proofs.lemmas.List.{take-append-drop, length-take, length-drop}
-use Rattle.daap_outside.specs.Counts.{Rose}
 use Rattle.daap_outside.specs.Reading.{ConsumesUpTo, CountsReadFaults}
 use Rattle.daap_outside.specs.declared.reading.ReadError.{ReadError}
 use Rattle.daap_outside.specs.declared.reading.ReadError.TheVariants as reads

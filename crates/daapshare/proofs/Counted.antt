@@ -1,5 +1,5 @@
 -- What a counter has counted, before and after a call.
-use Rattle.std.proofs.Common.{◌≡◌, ◌≢◌, ◌⊎◌, inl, inr, ℕ, ◌+◌, ◌-◌, ◌<◌, ◌≤◌, ◌^◌, List, [], ◌∷◌, ◌++◌, length, take, drop, fold, Bool, true, false, if◌then◌else◌, Option, Some, None, Result, Ok, Err, IfSome, MatchResult, codes, decimal, refl, sym, ap, subst, ◌∙◌, arith, length-append, append_assoc}
+use Rattle.std.proofs.Common.{◌≡◌, ◌≢◌, inl, inr, ℕ, ◌+◌, ◌-◌, ◌<◌, ◌≤◌, ◌^◌, List, [], ◌∷◌, ◌++◌, length, take, Bool, true, false, if◌then◌else◌, Option, Some, None, Ok, Err, IfSome, codes, decimal, refl, sym, ap, subst, ◌∙◌, arith, length-append, append_assoc}
 use Rattle.std.specs.Io.KnownBytes.{Consumes, IsAtEnd}
 use Rattle.std.proofs.lemmas.List.{append-nil, take-append-le, take_at}
 use Rattle.std.proofs.Math.Seq.{take-append-add}
@@ -9,7 +9,7 @@ use Rattle.daapshare_words.specs.declared.words.Command.TheVariants as command
 use Rattle.dmap_stream.specs.declared.event.Event.{Event}
 use Rattle.dmap_stream.specs.declared.refusal.StreamError.{StreamError}
 use Rattle.dmap_stream.specs.declared.refusal.StreamError.TheVariants as stream
-use Rattle.dmap_stream.specs.Walk.{Walk, Ending, between, inside, broken, walk_of}
+use Rattle.dmap_stream.specs.Walk.{between, inside, broken, walk_of}
 use Rattle.dmap_stream.specs.Reading.{is_between}
 use Rattle.dmap_stream.specs.Reader.{Reader, ready, taken, ReadAs, HasRead, TellsAs}
 use Rattle.dmap_stream.proofs.Readings.{told, count_told}

@@ -1,5 +1,5 @@
 -- How a run ends, put together from what its parts tell; and what the end says where nothing outside failed.
-use Rattle.std.proofs.Common.{◌≡◌, ◌≢◌, ◌<◌, ◌⊎◌, ℕ, List, [], ◌++◌, Option, Some, None, Result, Ok, Err, IfSome, IfOk, IfErr, true, false, length, refl, sym, subst, ap, ◌∙◌, inl, inr, arith}
+use Rattle.std.proofs.Common.{◌≡◌, ◌⊎◌, ℕ, List, [], Option, Some, None, Result, Ok, Err, IfSome, IfOk, IfErr, true, false, refl, sym, subst, ap, ◌∙◌, inl, inr}
 use Rattle.daap_outside.specs.Counts.{Rose}
 use Rattle.daapshare_words.specs.declared.words.Command.{Command}
 use Rattle.daapshare_words.specs.declared.words.Command.TheVariants as variant
@@ -13,7 +13,7 @@ use Rattle.daapshare.specs.Faults.{fault_line, fault_status, words_fault}
 use Rattle.daapshare.specs.Seen.{InputSeen, OutputSeen, IsUnread}
 use Rattle.code_table.specs.Standard.{standard_rows}
 use Rattle.daapshare.specs.Codes.{code_lines}
-use Rattle.daapshare.specs.Commands.{Says, Gives, MayRead, IsDone, IsBegun, IsCause, IsFront}
+use Rattle.daapshare.specs.Commands.{Says, MayRead, IsDone, IsBegun, IsCause, IsFront}
 use Rattle.daapshare.specs.Runs.{Told, Ending, Done, OutputCut, Refused, LineCut, ending_status, Happens, Ends, Decides, IsDecided, IsWritten, Tells, TellsFault}
 use Rattle.listing_plan.specs.Plans.{plan_bytes}
 use Rattle.daapshare.specs.Answers.{Answers}

@@ -1,9 +1,9 @@
 -- What the bytes of a reply, read so far, tell of the whole input.
-use Rattle.std.proofs.Common.{◌≡◌, ◌≢◌, ◌+◌, ◌<◌, ◌≤◌, ◌⊎◌, ◌++◌, ◌&&◌, nat_lt, nat_le, ℕ, List, [], ◌∷◌, length, take, drop, Bool, true, false, if◌then◌else◌, Option, Some, None, IfSome, IfOk, IfErr, MatchOption, Result, Ok, Err, inl, inr, refl, sym, ap, subst, ◌∙◌, arith, length-append, append_assoc, append-nil}
+use Rattle.std.proofs.Common.{◌≡◌, ◌≢◌, ◌<◌, ◌≤◌, ◌⊎◌, ◌++◌, nat_le, ℕ, List, [], ◌∷◌, length, take, drop, true, false, Option, Some, None, IfSome, IfOk, IfErr, MatchOption, Result, Ok, Err, inl, inr, refl, sym, ap, subst, ◌∙◌, arith, length-append, append_assoc, append-nil}
 use Rattle.std.specs.Io.KnownBytes.{Consumes, IsAtEnd}
-use Rattle.std.proofs.Math.Seq.{take-append_seam, drop-append_seam}
+use Rattle.std.proofs.Math.Seq.{take-append_seam}
 use Rattle.std.proofs.lemmas.List.{take-append-drop, length-take, length-drop, take-append-le}
-use Rattle.std.proofs.lemmas.Bool.{and_parts, and_from, le-leb, leb-true, lt-ltb, ltb-false, cases_lt}
+use Rattle.std.proofs.lemmas.Bool.{and_parts, and_from, le-leb, leb-true, cases_lt}
 use Rattle.daap_outside.specs.Counts.{Rose}
 use Rattle.daapshare_words.specs.declared.words.Command.TheVariants as command
 use Rattle.dmap_tags.specs.Spelling.{payload, spelling}
@@ -14,11 +14,10 @@ use Rattle.code_table.specs.declared.reply.CodeError.TheVariants as table
 use Rattle.code_table.specs.declared.row.CodeRow.{CodeRow}
 use Rattle.code_table.specs.Reply.{table_of}
 use Rattle.code_table.specs.Standard.{standard_rows}
-use Rattle.dmap_stream.proofs.Heads.{IsHead, head_fault}
-use Rattle.dmap_stream.proofs.Spelled.{Begins, begins}
+use Rattle.dmap_stream.proofs.Heads.{IsHead}
+use Rattle.dmap_stream.proofs.Spelled.{begins}
 use Rattle.dmap_stream.proofs.TagsWalk.{tags_read}
-use Rattle.dmap_stream.proofs.WholeTags.{place_ends}
-use Rattle.dmap_stream.specs.Walk.{Walk, Ending, between, inside, broken, fault_at, told_length, walk_from}
+use Rattle.dmap_stream.specs.Walk.{Walk, Ending, between, inside, broken, told_length}
 use Rattle.dmap_stream.specs.WholeTag.{is_accepted, IsProperTag, refusal}
 use Rattle.dmap_stream.specs.declared.refusal.StreamError.{StreamError}
 use Rattle.dmap_stream.specs.declared.refusal.StreamError.TheVariants as stream

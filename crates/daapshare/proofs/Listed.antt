@@ -1,5 +1,5 @@
 -- The rows that are asked for, taken from the store one id after another, and the body of their listing.
-use Rattle.std.proofs.Common.{◌≡◌, ◌<◌, ◌≤◌, ◌+◌, ◌++◌, ◌∷◌, [], ℕ, List, Bool, true, false, cond, ◌==◌, Option, Some, None, is_some, map, take, All, length, get_or, unwrap_or, append-nil, if◌then◌else◌, refl, sym, subst, ap, ◌∙◌, arith}
+use Rattle.std.proofs.Common.{◌≡◌, ◌<◌, ◌≤◌, ◌+◌, ◌++◌, ◌∷◌, [], ℕ, List, Bool, true, false, cond, ◌==◌, Option, Some, None, is_some, take, All, length, get_or, unwrap_or, append-nil, if◌then◌else◌, refl, sym, subst, ap, ◌∙◌, arith}
 use Rattle.std.specs.Option.{option_map, option_and_then, option_or}
 use Rattle.std.specs.List.{cons_option}
 use Rattle.std.specs.Map.{keys_of}
@@ -17,17 +17,17 @@ use Rattle.item_model.specs.declared.request.Range.TheVariants.{All as whole_ran
 use Rattle.item_model.specs.declared.request.Target.TheVariants.{Items}
 use Rattle.share_history.specs.Bodies.{body_tree}
 use Rattle.share_history.specs.Histories.{opening, edits, batches, revision}
-use Rattle.share_history.specs.Keyed.{at, IsAscending, AreAscending, pairs_at}
+use Rattle.share_history.specs.Keyed.{AreAscending, pairs_at}
 use Rattle.share_history.specs.LastSaid.{last_said, only_if, says_item, item_at}
 use Rattle.share_history.specs.Listings.{Listing, shown_rows}
 use Rattle.share_history.specs.Ranges.{in_range}
 use Rattle.share_history.specs.Rows.{rows, row_at, library, is_asked, if_asked}
 use Rattle.share_history.proofs.EditFacts.{edits-opening}
-use Rattle.share_history.proofs.KeyedFacts.{has, has-keys_of, at-pairs_at, ascending-pairs_at}
+use Rattle.share_history.proofs.KeyedFacts.{has-keys_of, at-pairs_at, ascending-pairs_at}
 use Rattle.share_history.proofs.RowFacts.{at-library, ascending-library, ascending-rows, rows_are, length-rows}
 use Rattle.listing_plan.specs.declared.row.PlanRow.{PlanRow}
 use Rattle.listing_plan.specs.Plans.{key_of, keys_of_rows, keyed, full_plan, AreRowsOf}
-use Rattle.daapshare.specs.Listing.{items_body, listing_bytes}
+use Rattle.daapshare.specs.Listing.{listing_bytes}
 
 -- a row has the id that it is asked for, if there is one
 abbrev HasId : ℕ → Option Row → Type 0

@@ -15,7 +15,7 @@ use Rattle.dmap_stream.specs.Walk.{broken, walk_of}
 use Rattle.dmap_stream.specs.Reading.{resumed}
 use Rattle.dmap_stream.specs.Reader.{Reader, ready, ReadAs, HasRead, TellsAs}
 use Rattle.dmap_stream.proofs.Readings.{told}
-use Rattle.daapshare.specs.declared.check.TheConstants.{TAGS_LIMIT, TAG_LIMIT, PIECE}
+use Rattle.daapshare.specs.declared.check.TheConstants.{TAGS_LIMIT, PIECE}
 use Rattle.daapshare.specs.declared.check.Counter.{Counter}
 use Rattle.daapshare.specs.declared.fault.Fault.{Fault}
 use Rattle.daapshare.specs.declared.fault.Fault.TheVariants.{Words, Query, Meta, Records, Tags, Text, Codes, Read, Write, InputLimit, Memory}

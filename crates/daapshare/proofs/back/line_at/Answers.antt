@@ -1,4 +1,4 @@
-use Rattle.std.proofs.Common.{◌≡◌, ◌==◌, length, take, arith}
+use Rattle.std.proofs.Common.{◌==◌, take, arith}
 use Rattle.std.proofs.lemmas.List.{length-take}
 use Rattle.std.proofs.lemmas.List.Sums.{length-filter, count_by-le-length}
 use Rattle.daapshare.proofs.back.line_at.Goals as goal

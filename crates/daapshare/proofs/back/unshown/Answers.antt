@@ -1,14 +1,13 @@
-use Rattle.std.proofs.Common.{Vec, Global, ◌≡◌, ℕ, List, Some, Err, true, sym, subst, ap, ◌∙◌, length, arith}
+use Rattle.std.proofs.Common.{Vec, Global, ℕ, List, Some, Err, true, sym, subst, ap, ◌∙◌, length, arith}
 use Rattle.daap_outside.specs.declared.reading.ReadError.{ReadError}
 use Rattle.dmap_tags.specs.Spelling.{are_spellable}
 use Rattle.dmap_tags.specs.Tree.{Tree, trees_of}
 use Rattle.daapshare_words.specs.declared.words.Command.TheVariants.{Show as show_command}
 use Rattle.daapshare.specs.Limits.{text_limit}
 use Rattle.daapshare.specs.Seen.{InputSeen}
-use Rattle.daapshare.specs.Backing.{IsTextFault}
 use Rattle.daapshare.specs.Commands.{IsCause}
 use Rattle.daapshare.proofs.Backed.{back_spellable}
-use Rattle.daapshare.proofs.Causes.{read_cause, text_cause}
+use Rattle.daapshare.proofs.Causes.{read_cause}
 use Rattle.daapshare.proofs.back.unshown.Goals as goal
 
 pub returns-in-Err-clause-cause : goal.returns-in-Err-clause-cause

@@ -1,4 +1,4 @@
-use Rattle.std.proofs.Common.{rules, ◌≡◌, ◌≤◌, ◌++◌, ℕ, List, length, sym, subst, ◌∙◌}
+use Rattle.std.proofs.Common.{rules, ◌≤◌, ◌++◌, ℕ, List, length, sym, subst, ◌∙◌}
 use Rattle.daap_outside.specs.Counts.{Rose}
 use Rattle.std.specs.Io.KnownBytes.{Consumes}
 use Rattle.std.proofs.KnownBytes.{Consumes-trans, Consumes-kept}

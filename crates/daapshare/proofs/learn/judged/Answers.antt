@@ -1,4 +1,4 @@
-use Rattle.std.proofs.Common.{◌≡◌, ◌≢◌, ℕ, List, true, Err, sym, subst, ap, ◌∙◌}
+use Rattle.std.proofs.Common.{◌≡◌, List, true, sym, subst}
 use Rattle.code_table.specs.declared.row.CodeRow.{CodeRow}
 use Rattle.dmap_stream.specs.WholeTag.{is_accepted}
 use Rattle.daapshare.specs.Limits.{tag_limit}

@@ -1,4 +1,4 @@
-use Rattle.std.proofs.Common.{Vec, Global, ◌≡◌, ◌≢◌, ℕ, List, Some, option_copied, Err, sym, subst, ap}
+use Rattle.std.proofs.Common.{Vec, Global, ◌≢◌, ℕ, List, Some, option_copied, Err, sym, subst, ap}
 use Rattle.daap_outside.specs.declared.reading.ReadError.{ReadError}
 use Rattle.records_import.specs.Table.{table_of}
 use Rattle.records_import.specs.Records.{BatchReads}

@@ -1,9 +1,6 @@
-use Rattle.std.proofs.Common.{◌≡◌, List, option_copied, Fits, w32, sym, ap, ◌∙◌, arith, rules}
-use Rattle.dmap_tags.specs.Spelling.{spelling}
-use Rattle.item_model.specs.declared.request.Target.TheVariants.{Items}
-use Rattle.listing_plan.specs.Plans.{keyed, plan_bytes}
+use Rattle.std.proofs.Common.{option_copied, ap, ◌∙◌, arith, rules}
+use Rattle.listing_plan.specs.Plans.{plan_bytes}
 use Rattle.share_history.specs.Histories.{opening, batches}
-use Rattle.share_history.specs.Rows.{rows}
 use Rattle.daapshare.proofs.Listed.{opened_rows, planned_rows, few_found, planned_bytes}
 use Rattle.daapshare.proofs.listing.planned.Goals as goal
 

@@ -1,4 +1,4 @@
-use Rattle.std.proofs.Common.{rules, ◌≡◌, [], sym, subst}
+use Rattle.std.proofs.Common.{rules, [], sym, subst}
 use Rattle.daapshare_words.specs.Grammar.{texts_of}
 use Rattle.daapshare_words.specs.Words.{command_of}
 use Rattle.daapshare.specs.Commands.{IsCause, IsFront}

@@ -1,4 +1,4 @@
-use Rattle.std.proofs.Common.{◌≡◌, ℕ, None, Some, false, sym, subst}
+use Rattle.std.proofs.Common.{ℕ, None, Some, false, sym, subst}
 use Rattle.daapshare_words.specs.declared.words.Command.TheVariants.{Show as show_command}
 use Rattle.daapshare.specs.Runs.{Told, Ends}
 use Rattle.daapshare.specs.Seen.{OutputSeen}

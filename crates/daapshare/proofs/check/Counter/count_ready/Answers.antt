@@ -1,4 +1,4 @@
-use Rattle.std.proofs.Common.{rules, sym, subst, ap, length, arith, ◌++◌}
+use Rattle.std.proofs.Common.{sym, subst}
 use Rattle.daapshare.specs.Counting.{HasCounted}
 use Rattle.daapshare.proofs.Counted.{few_counted_tops, counted_next}
 use Rattle.daapshare.proofs.check.Counter.count_ready.Goals as goal

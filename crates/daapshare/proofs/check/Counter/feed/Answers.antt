@@ -1,6 +1,6 @@
-use Rattle.std.proofs.Common.{rules, ◌≡◌, ◌+◌, ◌<◌, ◌^◌, ◌++◌, [], ℕ, List, length, take, drop, refl, sym, subst, ap, ◌∙◌, arith, length-append, append_assoc}
+use Rattle.std.proofs.Common.{rules, ◌≡◌, ◌<◌, ◌^◌, ◌++◌, [], length, take, drop, refl, sym, subst, ap, ◌∙◌, arith, length-append, append_assoc}
 use Rattle.std.proofs.lemmas.List.{append-nil, length-take, length-drop, take-append-drop}
-use Rattle.daapshare.specs.Counting.{HasCounted, IsCounted}
+use Rattle.daapshare.specs.Counting.{HasCounted}
 use Rattle.daapshare.proofs.Counted.{none_left, counted_fed, counted_takes, shown}
 use Rattle.daapshare.proofs.Tagged.{each_small, both_small}
 use Rattle.daapshare.proofs.check.Counter.feed.Goals as goal
