@@ -1,17 +1,17 @@
 -- The command that a list of words is.
-use Rattle.std.specs.Prelude.{◌≡◌, List, [], ◌∷◌, Option, Some, None, Result, Ok, Err, codes}
+use Rattle.std.specs.Prelude.{◌≡◌, ℕ, ◌&&◌, nat_le, List, [], ◌∷◌, Option, Some, None, Result, Ok, Err, codes, option_map}
 use Rattle.std.specs.Prelude.{if◌then◌else◌, option_and_then}
 use Rattle.std.specs.Str.{bytes_eq}
 use Rattle.clap.specs.Words.{Row, Text, first_of}
 use Rattle.daapshare_words.specs.Grammar.{Grammar, is_flagged, rows_for}
-use Rattle.daapshare_words.specs.declared.grammar.Part.TheVariants.{Valued, Flag}
+use Rattle.daapshare_words.specs.Numbers.{number_of_word}
+use Rattle.daapshare_words.specs.declared.grammar.Part.TheVariants.{Place, Valued, Flag}
 use Rattle.daapshare_words.specs.declared.words.Command.{Command}
 use Rattle.daapshare_words.specs.declared.words.Command.TheVariants as command
 use Rattle.daapshare_words.specs.declared.words.WordsError.{WordsError}
 use Rattle.daapshare_words.specs.declared.words.WordsError.TheVariants.{Usage, Memory}
 
--- each command's name and parts, and what its matches say; `None` is for a number out of its range,
--- which no command has so far
+-- each command's name and parts, and what its matches say; `None` is for a number out of its range
 
 abbrev pub list_grammar : Grammar
 list_grammar = record {
@@ -40,6 +40,32 @@ codes_grammar = record { name = codes "codes"; parts = (codes "learn", Flag) ∷
 abbrev pub codes_of : List Row → Option Command
 codes_of rows = Some (command.Codes (is_flagged (codes "learn") rows))
 
+abbrev pub rehearse_grammar : Grammar
+rehearse_grammar = record {
+  name = codes "rehearse";
+  parts = (codes "number", Place) ∷ (codes "batches", Place) ∷ (codes "size", Place) ∷ (codes "keep", Valued) ∷ [];
+}
+
+-- the number that a word writes, where it is between two numbers or one of them
+abbrev pub number_within : (least most : ℕ) → Option Text → Option ℕ
+number_within least most word =
+    option_and_then (λ n. if nat_le least n && nat_le n most then Some n else None) (option_and_then number_of_word word)
+
+-- for how many revisions a share keeps what changed
+abbrev pub keep_of : Option Text → Option ℕ
+keep_of None = Some 256
+keep_of (Some word) = number_within 1 65536 (Some word)
+
+abbrev pub rehearse_of : List Row → Option Command
+rehearse_of rows =
+    option_and_then
+    (λ number. option_and_then
+    (λ batches. option_and_then
+    (λ size. option_map (λ keep. command.Rehearse number batches size keep) (keep_of (first_of (codes "keep") rows)))
+    (number_within 1 256 (first_of (codes "size") rows)))
+    (number_within 1 65536 (first_of (codes "batches") rows)))
+    (number_within 0 2147483647 (first_of (codes "number") rows))
+
 -- the command that the words are by a grammar, where clap's definition takes them
 abbrev pub command_by : (List Row → Option Command) → Grammar → List Text → Option Command
 command_by reads g words = option_and_then reads (rows_for g words)
@@ -51,7 +77,8 @@ command_named name words =
     else (if bytes_eq name (codes "show") then command_by show_of show_grammar words
     else (if bytes_eq name (codes "check") then command_by check_of check_grammar words
     else (if bytes_eq name (codes "codes") then command_by codes_of codes_grammar words
-    else None)))
+    else (if bytes_eq name (codes "rehearse") then command_by rehearse_of rehearse_grammar words
+    else None))))
 
 -- the first word is the command's name, and the words are in that command's grammar
 abbrev pub command_of : List Text → Option Command

@@ -11,6 +11,8 @@ enum Wanted {
     Show(bool),
     Check,
     Codes(bool),
+    /// The number, how many batches, how many edits in each, and how many revisions are kept.
+    Rehearse([u32; 4]),
     Usage,
 }
 
@@ -30,6 +32,17 @@ fn is_wanted(answer: &Result<Command, WordsError>, wanted: Wanted) -> bool {
         (Ok(Command::Show { back }), Wanted::Show(wanted)) => *back == wanted,
         (Ok(Command::Check), Wanted::Check) => true,
         (Ok(Command::Codes { learn }), Wanted::Codes(wanted)) => *learn == wanted,
+        (
+            Ok(
+                Command::Rehearse {
+                    number,
+                    batches,
+                    size,
+                    keep,
+                },
+            ),
+            Wanted::Rehearse(wanted),
+        ) => [*number, *batches, *size, *keep] == wanted,
         (Err(WordsError::Usage), Wanted::Usage) => true,
         _ => false,
     }
@@ -65,6 +78,12 @@ fn lines_that_are_commands(rt: HostRuntime) -> Result<(), Fail> {
         ("check", Wanted::Check),
         ("codes", Wanted::Codes(false)),
         ("codes --learn", Wanted::Codes(true)),
+        ("rehearse 0 1 1", Wanted::Rehearse([0, 1, 1, 256])),
+        (
+            "rehearse 2147483647 65536 256 --keep 65536",
+            Wanted::Rehearse([2147483647, 65536, 256, 65536]),
+        ),
+        ("rehearse --keep=1 07 2 003", Wanted::Rehearse([7, 2, 3, 1])),
     ] {
         let words = words_of(rt.alloc(), line)?;
         let answer = read_words(rt.alloc(), &words);
@@ -108,6 +127,18 @@ fn lines_that_are_none(rt: HostRuntime) -> Result<(), Fail> {
         "check extra",
         "check ",
         "codes --learn --back",
+        "rehearse",
+        "rehearse 1 1",
+        "rehearse 1 1 1 1",
+        "rehearse 2147483648 1 1",
+        "rehearse 1 0 1",
+        "rehearse 1 65537 1",
+        "rehearse 1 1 0",
+        "rehearse 1 1 257",
+        "rehearse 1 1 1 --keep 0",
+        "rehearse 1 1 1 --keep 65537",
+        "rehearse 1 1 x",
+        "rehearse 1 1 1 --keep",
         "replay",
     ] {
         let words = words_of(rt.alloc(), line)?;

@@ -1,11 +1,12 @@
 //! The commands of the program and how they are read.
 
-ghost use Rattle.std.specs.Prelude.{◌≡◌, ◌≢◌, Some, None, IfOk, IfErr};
+ghost use Rattle.std.specs.Prelude.{◌≡◌, ◌≢◌, Some, None, IfOk, IfErr, option_map};
 ghost use Rattle.clap.specs.Words.{first_of, found_of, rows_of};
 ghost use Rattle.daapshare_words.specs.Grammar.{texts_of, is_flagged};
-ghost use Rattle.daapshare_words.specs.Words.{Reads, command_by, command_of, list_grammar, list_of, show_grammar, show_of, check_grammar, check_of, codes_grammar, codes_of};
+ghost use Rattle.daapshare_words.specs.Words.{Reads, command_by, command_of, list_grammar, list_of, show_grammar, show_of, check_grammar, check_of, codes_grammar, codes_of, rehearse_grammar, rehearse_of, number_within, keep_of};
 
 use crate::grammar::{Part, matches_for, value_of};
+use crate::numbers::number_word;
 use clap::ArgMatches;
 use clap::error::ErrorKind;
 use dmap_tags::Text;
@@ -29,6 +30,14 @@ pub enum Command {
     /// The rows of the content code table, or those to `learn` from the input.
     Codes {
         learn: bool,
+    },
+    /// A rehearsal, whose made-up batches begin with a number. A number is at most 2,147,483,647, there are 1 to
+    /// 65,536 batches of 1 to 256 edits each, and the share keeps 1 to 65,536 revisions back, 256 where it is not said.
+    Rehearse {
+        number: u32,
+        batches: u32,
+        size: u32,
+        keep: u32,
     },
 }
 
@@ -77,6 +86,16 @@ static CHECK: [(&str, Part); 0] = [];
 
 static CODES: [(&str, Part); 1] = [("learn", Part::Flag)];
 
+static REHEARSE: [(&str, Part); 4] = [
+    ("number", Part::Place),
+    ("batches", Part::Place),
+    ("size", Part::Place),
+    ("keep", Part::Valued),
+];
+
+/// For how many revisions a share keeps what changed, where the words don't say it.
+const DEFAULT_KEEP: u32 = 256;
+
 /// Reads the words behind the program's name, the first of which names the command. Every fault of
 /// the words is `Usage`.
 pub fn read_words(alloc: Global, words: &[&str]) -> Result<Command, WordsError>
@@ -91,6 +110,7 @@ pub fn read_words(alloc: Global, words: &[&str]) -> Result<Command, WordsError>
         "show" => show(alloc, words),
         "check" => check(alloc, words),
         "codes" => codes(alloc, words),
+        "rehearse" => rehearse(alloc, words),
         _ => Err(WordsError::Usage),
     }
 }
@@ -128,6 +148,49 @@ fn codes(alloc: Global, words: &[&str]) -> Result<Command, WordsError>
     Ok(Command::Codes {
         learn: has_flag(&matches, "learn"),
     })
+}
+
+fn rehearse(alloc: Global, words: &[&str]) -> Result<Command, WordsError>
+    ensures { Reads (command_by rehearse_of rehearse_grammar (texts_of words.now)) result }
+{
+    let matches = matches_for(alloc, "rehearse", &REHEARSE, words)?;
+    match rehearsal(&matches) {
+        Some(command) => Ok(command),
+        None => Err(WordsError::Usage),
+    }
+}
+
+/// The rehearsal of these words, where each number is in its range.
+fn rehearsal(matches: &ArgMatches<'_>) -> Option<Command>
+    ensures { result ≡ rehearse_of (rows_of (found_of matches.now)) }
+{
+    Some(Command::Rehearse {
+        number: number_of(value_of(matches, "number"), 0, 2_147_483_647)?,
+        batches: number_of(value_of(matches, "batches"), 1, 65_536)?,
+        size: number_of(value_of(matches, "size"), 1, 256)?,
+        keep: keep_of(value_of(matches, "keep"))?,
+    })
+}
+
+/// The number that a word writes, where it is between two numbers or one of them.
+fn number_of(word: Option<&str>, least: u32, most: u32) -> Option<u32>
+    ensures { result ≡ number_within least most (option_map (λ s. s.now) word.entry) }
+{
+    let number = number_word(word?)?;
+    if least <= number && number <= most {
+        Some(number)
+    } else {
+        None
+    }
+}
+
+fn keep_of(word: Option<&str>) -> Option<u32>
+    ensures { result ≡ keep_of (option_map (λ s. s.now) word.entry) }
+{
+    match word {
+        Some(_) => number_of(word, 1, 65_536),
+        None => Some(DEFAULT_KEEP),
+    }
 }
 
 /// The value of an option as a text of its own, `None` where the option doesn't stand.

@@ -8,4 +8,5 @@ returns-in_default-name-clause-usage c usage =
     let show = c.in_default-name.not-show in
     let check = c.in_default-name.not-check in
     let codes = c.in_default-name.not-codes in
-    unnamed c.args.words.now c.in-Some.name.now first list show check codes
+    let rehearse = c.in_default-name.not-rehearse in
+    unnamed c.args.words.now c.in-Some.name.now first list show check codes rehearse
