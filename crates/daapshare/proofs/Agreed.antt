@@ -1,5 +1,5 @@
 -- Words and input that are told decide how a command ends: they say one status, and no fault where the command is done.
-use Rattle.std.proofs.Common.{◌≡◌, ◌≢◌, ◌<◌, ℕ, List, [], Option, Some, None, Ok, Err, IfSome, true, false, length, ◌++◌, inl, inr, refl, sym, subst, ap, ◌∙◌, arith}
+use Rattle.std.proofs.Common.{◌≡◌, ◌≢◌, ◌<◌, ◌≤◌, ◌*◌, ℕ, List, [], Option, Some, None, Ok, Err, IfSome, true, false, length, ◌++◌, inl, inr, refl, sym, subst, ap, ◌∙◌, arith}
 use Rattle.std.specs.Io.KnownBytes.{Consumes, IsAtEnd}
 use Rattle.std.proofs.lemmas.List.{append-nil, take_all}
 use Rattle.daapshare_words.specs.declared.words.Command.{Command}
@@ -28,7 +28,8 @@ use Rattle.daapshare.specs.Seen.{InputSeen}
 use Rattle.daapshare.specs.Looks.{AsksQuery, IsAsked, HasRefusal, IsQueryRefused, IsMetaRefused}
 use Rattle.daapshare.specs.Lists.{ReadsAs, IsListable, ListSays}
 use Rattle.daapshare.specs.Checks.{walked, IsSound, IsTooLong, HasTagFault, CheckSays}
-use Rattle.daapshare.specs.Limits.{text_limit, tag_limit}
+use Rattle.daapshare.specs.Limits.{text_limit, tag_limit, edits_limit}
+use Rattle.daapshare.specs.Rehearses.{RehearseSays}
 use Rattle.daapshare.specs.Backs.{ShowsBack, StopsOn, IsTextRefused, BackSays}
 use Rattle.daapshare.specs.Learns.{IsReply, TellsNone, IsReplyRefused, LearnSays}
 use Rattle.daapshare.specs.Commands.{Says, Gives, IsDone, IsUsage}
@@ -60,6 +61,7 @@ long_only query meta input (fault.Text line) asked long says = absurd says
 long_only query meta input (fault.Codes error) asked long says = absurd says
 long_only query meta input fault.Read asked long says = absurd says
 long_only query meta input fault.Write asked long says = absurd says
+long_only query meta input fault.RehearsalLimit asked long says = absurd says
 long_only query meta input fault.InputLimit asked long says = refl
 long_only query meta input fault.Memory asked long says = absurd says
 
@@ -74,6 +76,7 @@ refused_status query meta input f (fault.Text line) s f_says g_says = absurd g_s
 refused_status query meta input f (fault.Codes error) s f_says g_says = absurd g_says
 refused_status query meta input f fault.Read s f_says g_says = absurd g_says
 refused_status query meta input f fault.Write s f_says g_says = absurd g_says
+refused_status query meta input f fault.RehearsalLimit s f_says g_says = absurd g_says
 refused_status query meta input f fault.InputLimit s f_says g_says = long_only query meta input f g_says.0 g_says.1 f_says
 refused_status query meta input f fault.Memory s f_says g_says = absurd g_says
 
@@ -85,6 +88,7 @@ list_status query meta input (fault.Text line) g f_says g_says = absurd f_says
 list_status query meta input (fault.Codes error) g f_says g_says = absurd f_says
 list_status query meta input fault.Read g f_says g_says = absurd f_says
 list_status query meta input fault.Write g f_says g_says = absurd f_says
+list_status query meta input fault.RehearsalLimit g f_says g_says = absurd f_says
 list_status query meta input fault.Memory g f_says g_says = absurd f_says
 list_status query meta input fault.InputLimit g f_says g_says = sym (long_only query meta input g f_says.0 f_says.1 g_says)
 list_status query meta input (fault.Query error) g f_says g_says = refused_status query meta input (fault.Query error) g refl f_says g_says
@@ -114,6 +118,7 @@ check_status input (fault.Tags error) g f_says g_says = tags_status input error 
     tags_status input error (fault.Codes e) f_says g_says = absurd g_says
     tags_status input error fault.Read f_says g_says = absurd g_says
     tags_status input error fault.Write f_says g_says = absurd g_says
+    tags_status input error fault.RehearsalLimit f_says g_says = absurd g_says
     tags_status input error fault.InputLimit f_says g_says = absurd (long_or_faulty input error f_says g_says)
     tags_status input error fault.Memory f_says g_says = absurd g_says
 check_status input fault.InputLimit g f_says g_says = long_status input g f_says g_says
@@ -128,6 +133,7 @@ check_status input fault.InputLimit g f_says g_says = long_status input g f_says
     long_status input (fault.Codes error) f_says g_says = absurd g_says
     long_status input fault.Read f_says g_says = absurd g_says
     long_status input fault.Write f_says g_says = absurd g_says
+    long_status input fault.RehearsalLimit f_says g_says = absurd g_says
     long_status input fault.InputLimit f_says g_says = refl
     long_status input fault.Memory f_says g_says = absurd g_says
 check_status input fault.Words g f_says g_says = absurd f_says
@@ -138,6 +144,7 @@ check_status input (fault.Text line) g f_says g_says = absurd f_says
 check_status input (fault.Codes error) g f_says g_says = absurd f_says
 check_status input fault.Read g f_says g_says = absurd f_says
 check_status input fault.Write g f_says g_says = absurd f_says
+check_status input fault.RehearsalLimit g f_says g_says = absurd f_says
 check_status input fault.Memory g f_says g_says = absurd f_says
 
 -- tags end between two of them
@@ -160,6 +167,7 @@ sound_or_faulty input (fault.Text line) sound says = says
 sound_or_faulty input (fault.Codes error) sound says = says
 sound_or_faulty input fault.Read sound says = says
 sound_or_faulty input fault.Write sound says = says
+sound_or_faulty input fault.RehearsalLimit sound says = says
 sound_or_faulty input fault.InputLimit sound says = let within = sound.0 in let long = says.long in absurd (omega arith)
 sound_or_faulty input fault.Memory sound says = says
 
@@ -177,6 +185,7 @@ back_status input (fault.Text line) g f_says g_says = text_status input line g f
     text_status input line (fault.Codes e) f_says g_says = absurd g_says
     text_status input line fault.Read f_says g_says = absurd g_says
     text_status input line fault.Write f_says g_says = absurd g_says
+    text_status input line fault.RehearsalLimit f_says g_says = absurd g_says
     text_status input line fault.InputLimit f_says g_says = let within = f_says.within in absurd (omega arith)
     text_status input line fault.Memory f_says g_says = absurd g_says
 back_status input fault.InputLimit g f_says g_says = limit_status input g f_says g_says
@@ -191,6 +200,7 @@ back_status input fault.InputLimit g f_says g_says = limit_status input g f_says
     limit_status input (fault.Codes e) f_says g_says = absurd g_says
     limit_status input fault.Read f_says g_says = absurd g_says
     limit_status input fault.Write f_says g_says = absurd g_says
+    limit_status input fault.RehearsalLimit f_says g_says = absurd g_says
     limit_status input fault.InputLimit f_says g_says = refl
     limit_status input fault.Memory f_says g_says = absurd g_says
 back_status input fault.Words g f_says g_says = absurd f_says
@@ -201,6 +211,7 @@ back_status input (fault.Tags error) g f_says g_says = absurd f_says
 back_status input (fault.Codes error) g f_says g_says = absurd f_says
 back_status input fault.Read g f_says g_says = absurd f_says
 back_status input fault.Write g f_says g_says = absurd f_says
+back_status input fault.RehearsalLimit g f_says g_says = absurd f_says
 back_status input fault.Memory g f_says g_says = absurd f_says
 
 -- each fault of a reply has the status of what is refused
@@ -214,6 +225,7 @@ learn_status input (fault.Text line) says = absurd says
 learn_status input (fault.Codes error) says = refl
 learn_status input fault.Read says = absurd says
 learn_status input fault.Write says = absurd says
+learn_status input fault.RehearsalLimit says = absurd says
 learn_status input fault.InputLimit says = absurd says
 learn_status input fault.Memory says = absurd says
 
@@ -232,6 +244,7 @@ back_or_refused input tags (fault.Text line) back says = stops_not input tags li
 back_or_refused input tags (fault.Codes error) back says = says
 back_or_refused input tags fault.Read back says = says
 back_or_refused input tags fault.Write back says = says
+back_or_refused input tags fault.RehearsalLimit back says = says
 back_or_refused input tags fault.InputLimit back says = let within = back.within in absurd (omega arith)
 back_or_refused input tags fault.Memory back says = says
 
@@ -256,8 +269,38 @@ learned_or_refused input rows (fault.Text line) told says = says
 learned_or_refused input rows (fault.Codes error) told says = reply_or_refused input rows error told says
 learned_or_refused input rows fault.Read told says = says
 learned_or_refused input rows fault.Write told says = says
+learned_or_refused input rows fault.RehearsalLimit told says = says
 learned_or_refused input rows fault.InputLimit told says = says
 learned_or_refused input rows fault.Memory told says = says
+
+-- the one fault of a rehearsal has one status, and leaves nothing to rehearse
+rehearse_status : (batches size : ℕ) (f : Fault) → RehearseSays batches size f → fault_status f ≡ 8
+rehearse_status batches size fault.Words says = absurd says
+rehearse_status batches size (fault.Query error) says = absurd says
+rehearse_status batches size fault.Meta says = absurd says
+rehearse_status batches size (fault.Records error) says = absurd says
+rehearse_status batches size (fault.Tags error) says = absurd says
+rehearse_status batches size (fault.Text line) says = absurd says
+rehearse_status batches size (fault.Codes error) says = absurd says
+rehearse_status batches size fault.Read says = absurd says
+rehearse_status batches size fault.Write says = absurd says
+rehearse_status batches size fault.InputLimit says = absurd says
+rehearse_status batches size fault.RehearsalLimit says = refl
+rehearse_status batches size fault.Memory says = absurd says
+
+rehearsed_or_refused : (batches size : ℕ) (f : Fault) → batches * size ≤ edits_limit → RehearseSays batches size f → ⊥
+rehearsed_or_refused batches size fault.Words within says = says
+rehearsed_or_refused batches size (fault.Query error) within says = says
+rehearsed_or_refused batches size fault.Meta within says = says
+rehearsed_or_refused batches size (fault.Records error) within says = says
+rehearsed_or_refused batches size (fault.Tags error) within says = says
+rehearsed_or_refused batches size (fault.Text line) within says = says
+rehearsed_or_refused batches size (fault.Codes error) within says = says
+rehearsed_or_refused batches size fault.Read within says = says
+rehearsed_or_refused batches size fault.Write within says = says
+rehearsed_or_refused batches size fault.InputLimit within says = says
+rehearsed_or_refused batches size fault.RehearsalLimit within says = omega (arith, within, says)
+rehearsed_or_refused batches size fault.Memory within says = says
 
 -- two faults that are said have one status
 pub one_status : (asked : Option Command) (input : List ℕ) (f g : Fault) → Says asked (Some input) f → Says asked (Some input) g → fault_status f ≡ fault_status g
@@ -268,6 +311,7 @@ one_status (Some (command.Show true)) input f g f_says g_says = back_status inpu
 one_status (Some command.Check) input f g f_says g_says = check_status input f g f_says g_says
 one_status (Some (command.Codes false)) input f g f_says g_says = absurd f_says
 one_status (Some (command.Codes true)) input f g f_says g_says = learn_status input f f_says ∙ sym (learn_status input g g_says)
+one_status (Some (command.Rehearse number batches size keep)) input f g f_says g_says = rehearse_status batches size f f_says ∙ sym (rehearse_status batches size g g_says)
 
 listed_or_refused : (query meta : Option (List ℕ)) (input : List ℕ) (f : Fault) → IsListable query meta input → ListSays query meta (Some input) f → ⊥
 listed_or_refused query meta input fault.Words listable says = says
@@ -280,6 +324,7 @@ listed_or_refused query meta input (fault.Text line) listable says = says
 listed_or_refused query meta input (fault.Codes error) listable says = says
 listed_or_refused query meta input fault.Read listable says = says
 listed_or_refused query meta input fault.Write listable says = says
+listed_or_refused query meta input fault.RehearsalLimit listable says = says
 listed_or_refused query meta input fault.InputLimit listable says = let within = listable.read.within in let long = says.1 in absurd (omega arith)
 listed_or_refused query meta input fault.Memory listable says = says
 
@@ -292,6 +337,7 @@ is_refused_or_given (Some (command.Show true)) input f says gives = back_or_refu
 is_refused_or_given (Some command.Check) input f says gives = sound_or_faulty input f gives says
 is_refused_or_given (Some (command.Codes false)) input f says gives = says
 is_refused_or_given (Some (command.Codes true)) input f says gives = learned_or_refused input gives.0 f gives.1 says
+is_refused_or_given (Some (command.Rehearse number batches size keep)) input f says gives = rehearsed_or_refused batches size f gives says
 
 -- what was read up to the end is the whole input
 all_read : (input bytes : List ℕ) (after : Option (List ℕ)) → Consumes (Some input) after bytes → IsAtEnd after → input ≡ bytes
@@ -319,3 +365,4 @@ given (Some command.Check) input before after history output told done =
 given (Some (command.Codes false)) input before after history output told done = tt
 given (Some (command.Codes true)) input before after history output told done =
     (done.rows, subst (IsReply done.rows) (sym (read_whole input before.left after.left done.bytes told done.read done.end)) done.reply)
+given (Some (command.Rehearse number batches size keep)) input before after history output told done = done.within

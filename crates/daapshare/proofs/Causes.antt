@@ -12,7 +12,7 @@ use Rattle.records_import.specs.Records.{BatchReads}
 use Rattle.records_import.specs.declared.refusal.RecordError.{RecordError}
 use Rattle.records_import.specs.declared.refusal.RecordError.TheVariants as records
 use Rattle.daapshare.specs.declared.fault.Fault.{Fault}
-use Rattle.daapshare.specs.declared.fault.Fault.TheVariants.{Words, Query, Meta, Records, Tags, Text, Codes, Read, Write, InputLimit, Memory}
+use Rattle.daapshare.specs.declared.fault.Fault.TheVariants.{Words, Query, Meta, Records, Tags, Text, Codes, Read, Write, InputLimit, RehearsalLimit, Memory}
 use Rattle.daapshare.specs.Faults.{read_fault, record_fault}
 use Rattle.daapshare.specs.Limits.{records_limit, text_limit}
 use Rattle.daapshare.specs.Looks.{IsAsked}
@@ -104,5 +104,6 @@ text_cause before after bytes (Text line) read end within faultless h = record {
 text_cause before after bytes (Codes error) read end within faultless h = absurd h
 text_cause before after bytes Read read end within faultless h = absurd h
 text_cause before after bytes Write read end within faultless h = absurd h
+text_cause before after bytes RehearsalLimit read end within faultless h = absurd h
 text_cause before after bytes InputLimit read end within faultless h = absurd h
 text_cause before after bytes Memory read end within faultless h = tt

@@ -16,7 +16,7 @@ use Rattle.dmap_stream.proofs.Readings.{told, count_told}
 use Rattle.daapshare.specs.declared.check.TheConstants.{TAGS_LIMIT, TAG_LIMIT, PIECE}
 use Rattle.daapshare.specs.declared.check.Counter.{Counter}
 use Rattle.daapshare.specs.declared.fault.Fault.{Fault}
-use Rattle.daapshare.specs.declared.fault.Fault.TheVariants.{Words, Query, Meta, Records, Tags, Text, Codes, Read, Write, InputLimit, Memory}
+use Rattle.daapshare.specs.declared.fault.Fault.TheVariants.{Words, Query, Meta, Records, Tags, Text, Codes, Read, Write, InputLimit, RehearsalLimit, Memory}
 use Rattle.daapshare.specs.declared.tops.Tops.{Tops}
 use Rattle.daapshare.specs.Faults.{tags_fault}
 use Rattle.daapshare.specs.Seen.{InputSeen}
@@ -187,6 +187,7 @@ stopped_cause before after bytes (Text line) read faultless on stop = absurd sto
 stopped_cause before after bytes (Codes error) read faultless on stop = absurd stop
 stopped_cause before after bytes Read read faultless on stop = absurd stop
 stopped_cause before after bytes Write read faultless on stop = absurd stop
+stopped_cause before after bytes RehearsalLimit read faultless on stop = absurd stop
 stopped_cause before after bytes InputLimit read faultless on stop =
     record { said = limit_cause before.left after.left bytes read stop; own = tt; faultless = faultless; read_on = on }
 stopped_cause before after bytes Memory read faultless on stop = tt

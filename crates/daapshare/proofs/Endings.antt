@@ -8,11 +8,12 @@ use Rattle.daapshare_words.specs.declared.words.WordsError.TheVariants as words
 use Rattle.item_model.specs.declared.changes.Entry.{Entry}
 use Rattle.daapshare.specs.declared.answer.Answer.{Answer}
 use Rattle.daapshare.specs.declared.fault.Fault.{Fault}
-use Rattle.daapshare.specs.declared.fault.Fault.TheVariants.{Words, Query, Meta, Records, Tags, Text, Codes, Read, Write, InputLimit, Memory}
+use Rattle.daapshare.specs.declared.fault.Fault.TheVariants.{Words, Query, Meta, Records, Tags, Text, Codes, Read, Write, InputLimit, RehearsalLimit, Memory}
 use Rattle.daapshare.specs.Faults.{fault_line, fault_status, words_fault}
 use Rattle.daapshare.specs.Seen.{InputSeen, OutputSeen, IsUnread}
 use Rattle.code_table.specs.Standard.{standard_rows}
 use Rattle.daapshare.specs.Codes.{code_lines}
+use Rattle.daapshare.specs.Rehearsing.{RehearseDone, RehearseFails}
 use Rattle.daapshare.specs.Commands.{Says, MayRead, IsDone, IsBegun, IsCause, IsFront}
 use Rattle.daapshare.specs.Runs.{Told, Ending, Done, OutputCut, Refused, LineCut, ending_status, Happens, Ends, Decides, IsDecided, IsWritten, Tells, TellsFault}
 use Rattle.listing_plan.specs.Plans.{plan_bytes}
@@ -32,6 +33,7 @@ before_memory (Some (variant.Show false)) before after fault front h = record { 
 before_memory (Some (variant.Show true)) before after fault front h = h
 before_memory (Some variant.Check) before after fault front h = h
 before_memory (Some (variant.Codes learn)) before after fault front h = h
+before_memory (Some (variant.Rehearse number batches size keep)) before after fault front h = h
 
 -- where a fault ended a command, want of memory might have
 memory_cause : (command : Option Command) (before after : InputSeen) (fault : Fault) → IsCause command before after fault
@@ -45,6 +47,7 @@ memory_cause None before after (Text line) cause = let is : Text line ≡ Words 
 memory_cause None before after (Codes error) cause = let is : Codes error ≡ Words = cause.said in absurd (cc)
 memory_cause None before after Read cause = absurd cause.on
 memory_cause None before after Write cause = absurd cause
+memory_cause None before after RehearsalLimit cause = cause.1
 memory_cause None before after InputLimit cause = let is : InputLimit ≡ Words = cause.said in absurd (cc)
 memory_cause None before after Memory cause = cause
 memory_cause (Some (variant.List query meta)) before after fault cause = tt
@@ -52,6 +55,21 @@ memory_cause (Some (variant.Show false)) before after fault cause = tt
 memory_cause (Some (variant.Show true)) before after fault cause = tt
 memory_cause (Some variant.Check) before after fault cause = tt
 memory_cause (Some (variant.Codes true)) before after fault cause = tt
+memory_cause (Some (variant.Rehearse number batches size keep)) before after fault cause = left_alone number batches size keep before after fault cause
+  where
+    left_alone : (number batches size keep : ℕ) (before after : InputSeen) (fault : Fault) → IsCause (Some (variant.Rehearse number batches size keep)) before after fault → IsUnread before after
+    left_alone number batches size keep before after Words cause = absurd cause.0
+    left_alone number batches size keep before after (Query error) cause = absurd cause.0
+    left_alone number batches size keep before after Meta cause = absurd cause.0
+    left_alone number batches size keep before after (Records error) cause = absurd cause.said
+    left_alone number batches size keep before after (Tags error) cause = absurd cause.said
+    left_alone number batches size keep before after (Text line) cause = absurd cause.said
+    left_alone number batches size keep before after (Codes error) cause = absurd cause.said
+    left_alone number batches size keep before after Read cause = absurd cause.on
+    left_alone number batches size keep before after Write cause = absurd cause
+    left_alone number batches size keep before after InputLimit cause = absurd cause.said
+    left_alone number batches size keep before after RehearsalLimit cause = cause.1
+    left_alone number batches size keep before after Memory cause = cause
 memory_cause (Some (variant.Codes false)) before after fault cause = untouched before after fault cause
   where
     untouched : (before after : InputSeen) (fault : Fault) → IsCause (Some (variant.Codes false)) before after fault → IsUnread before after
@@ -64,6 +82,7 @@ memory_cause (Some (variant.Codes false)) before after fault cause = untouched b
     untouched before after (Codes error) cause = absurd cause.said
     untouched before after Read cause = absurd cause.on
     untouched before after Write cause = absurd cause
+    untouched before after RehearsalLimit cause = absurd cause.0
     untouched before after InputLimit cause = absurd cause.said
     untouched before after Memory cause = cause
 
@@ -102,6 +121,7 @@ done_then_memory (Some (variant.Show true)) before after history output done = t
 done_then_memory (Some variant.Check) before after history output done = tt
 done_then_memory (Some (variant.Codes false)) before after history output done = done.unread
 done_then_memory (Some (variant.Codes true)) before after history output done = tt
+done_then_memory (Some (variant.Rehearse number batches size keep)) before after history output done = done.unread
 
 -- so does an output that is written at once
 pub ends_answered : (command : Option Command) (told : Told) (status : ℕ) (history : Option (List Entry)) (answer : Result Answer Fault)
@@ -135,6 +155,33 @@ pub codes_failed : (input : InputSeen) (answer : Result Answer Fault) → IfErr 
 codes_failed input (Ok answer) cause = tt
 codes_failed input (Err fault) cause = subst (IsCause (Some (variant.Codes false)) input input) (sym cause) (record { left = refl; faults = refl })
 
+-- `rehearse` leaves it too
+pub rehearse_done : (number batches size keep : ℕ) (input : InputSeen) (answer : Result Answer Fault)
+    → IfOk answer (λ a. RehearseDone number batches size keep a.history (plan_bytes a.output))
+    → IfOk answer (λ a. IsDone (Some (variant.Rehearse number batches size keep)) input input a.history (plan_bytes a.output))
+rehearse_done number batches size keep input (Ok answer) done =
+    record { unread = record { left = refl; faults = refl }; within = done.within; opened = done.opened; written = done.written }
+rehearse_done number batches size keep input (Err fault) done = tt
+
+pub rehearse_failed : (number batches size keep : ℕ) (input : InputSeen) (answer : Result Answer Fault)
+    → IfErr answer (RehearseFails batches size) → IfErr answer (λ fault. IsCause (Some (variant.Rehearse number batches size keep)) input input fault)
+rehearse_failed number batches size keep input (Ok answer) cause = tt
+rehearse_failed number batches size keep input (Err fault) cause = fails fault cause
+  where
+    fails : (fault : Fault) → RehearseFails batches size fault → IsCause (Some (variant.Rehearse number batches size keep)) input input fault
+    fails Words cause = absurd cause
+    fails (Query error) cause = absurd cause
+    fails Meta cause = absurd cause
+    fails (Records error) cause = absurd cause
+    fails (Tags error) cause = absurd cause
+    fails (Text line) cause = absurd cause
+    fails (Codes error) cause = absurd cause
+    fails Read cause = absurd cause
+    fails Write cause = absurd cause
+    fails InputLimit cause = absurd cause
+    fails RehearsalLimit cause = (cause, record { left = refl; faults = refl })
+    fails Memory cause = record { left = refl; faults = refl }
+
 -- the ends of `show`
 pub ends_shown : (told : Told) (lines : List ℕ) → IsShownWhole told.input_before told.input_after None lines → IsWritten told.output_before told.output_after lines
     → Ends (Some (variant.Show false)) told 0 None
@@ -164,6 +211,7 @@ unread command input words.Memory none = (left_off command, untouched command)
     left_off (Some variant.Check) = tt
     left_off (Some (variant.Codes false)) = record { left = refl; faults = refl }
     left_off (Some (variant.Codes true)) = tt
+    left_off (Some (variant.Rehearse number batches size keep)) = record { left = refl; faults = refl }
 
     untouched : (command : Option Command) → IsFront command input input Memory []
     untouched None = refl
@@ -172,6 +220,7 @@ unread command input words.Memory none = (left_off command, untouched command)
     untouched (Some (variant.Show true)) = refl
     untouched (Some variant.Check) = refl
     untouched (Some (variant.Codes learn)) = refl
+    untouched (Some (variant.Rehearse number batches size keep)) = refl
 
 -- a cause that is no fault of the outside is said by the words and the input
 said : (command : Option Command) (input : List ℕ) (before after : InputSeen) (fault : Fault) → before.left ≡ Some input
@@ -185,6 +234,7 @@ said command input before after (Text line) told steady cause = inr (subst (λ l
 said command input before after (Codes error) told steady cause = inr (subst (λ left. Says command left (Codes error)) told cause.said)
 said command input before after Read told steady cause = absurd (steady cause.rose)
 said command input before after Write told steady cause = absurd cause
+said command input before after RehearsalLimit told steady cause = inr (subst (λ left. Says command left RehearsalLimit) told cause.0)
 said command input before after InputLimit told steady cause = inr (subst (λ left. Says command left InputLimit) told cause.said)
 said command input before after Memory told steady cause = inl refl
 

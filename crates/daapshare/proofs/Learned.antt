@@ -23,7 +23,7 @@ use Rattle.dmap_stream.specs.declared.refusal.StreamError.{StreamError}
 use Rattle.dmap_stream.specs.declared.refusal.StreamError.TheVariants as stream
 use Rattle.daapshare.specs.declared.fault.Fault.{Fault}
 use Rattle.daapshare.specs.declared.learn.Learner.{Learner}
-use Rattle.daapshare.specs.declared.fault.Fault.TheVariants.{Words, Query, Meta, Records, Tags, Text, Codes, Read, Write, InputLimit, Memory}
+use Rattle.daapshare.specs.declared.fault.Fault.TheVariants.{Words, Query, Meta, Records, Tags, Text, Codes, Read, Write, InputLimit, RehearsalLimit, Memory}
 use Rattle.daapshare.specs.Limits.{tag_limit, piece_limit}
 use Rattle.daapshare.specs.Faults.{tags_fault, table_fault}
 use Rattle.daapshare.specs.Seen.{InputSeen}
@@ -175,6 +175,7 @@ stops_all bytes (Text line) breaks h = h
 stops_all bytes (Codes error) breaks h = λ rest. refused_more error bytes rest h
 stops_all bytes Read breaks h = h
 stops_all bytes Write breaks h = h
+stops_all bytes RehearsalLimit breaks h = h
 stops_all bytes InputLimit breaks h = h
 stops_all bytes Memory breaks h = h
 
@@ -202,6 +203,7 @@ learn_cause before after bytes (Codes error) read faultless on stop =
     record { said = codes_said before.left after.left bytes error read stop; own = (stop []).cause; faultless = faultless; read_on = on }
 learn_cause before after bytes Read read faultless on stop = absurd stop
 learn_cause before after bytes Write read faultless on stop = absurd stop
+learn_cause before after bytes RehearsalLimit read faultless on stop = absurd stop
 learn_cause before after bytes InputLimit read faultless on stop = absurd stop
 learn_cause before after bytes Memory read faultless on stop = tt
 

@@ -18,7 +18,7 @@ use Rattle.dmap_stream.proofs.Readings.{told}
 use Rattle.daapshare.specs.declared.check.TheConstants.{TAGS_LIMIT, PIECE}
 use Rattle.daapshare.specs.declared.check.Counter.{Counter}
 use Rattle.daapshare.specs.declared.fault.Fault.{Fault}
-use Rattle.daapshare.specs.declared.fault.Fault.TheVariants.{Words, Query, Meta, Records, Tags, Text, Codes, Read, Write, InputLimit, Memory}
+use Rattle.daapshare.specs.declared.fault.Fault.TheVariants.{Words, Query, Meta, Records, Tags, Text, Codes, Read, Write, InputLimit, RehearsalLimit, Memory}
 use Rattle.daapshare.specs.declared.tops.Tops.{Tops}
 use Rattle.daapshare.specs.declared.show.Shower.{Shower}
 use Rattle.daapshare.specs.declared.show.Stop.{Stop}
@@ -211,6 +211,7 @@ begins_stopped bytes lines (Text line) stop = absurd stop
 begins_stopped bytes lines (Codes error) stop = absurd stop
 begins_stopped bytes lines Read stop = absurd stop
 begins_stopped bytes lines Write stop = absurd stop
+begins_stopped bytes lines RehearsalLimit stop = absurd stop
 begins_stopped bytes lines InputLimit stop = begins_all bytes lines stop.1
 begins_stopped bytes lines Memory stop = stop
 
@@ -224,6 +225,7 @@ stops_at bytes lines (Text line) stop = stop
 stops_at bytes lines (Codes error) stop = stop
 stops_at bytes lines Read stop = stop
 stops_at bytes lines Write stop = stop
+stops_at bytes lines RehearsalLimit stop = stop
 stops_at bytes lines InputLimit stop = stop.0
 stops_at bytes lines Memory stop = tt
 
@@ -241,6 +243,7 @@ as_check before after (Text line) cause = record { said = cause.said; own = caus
 as_check before after (Codes error) cause = record { said = cause.said; own = cause.own; faultless = cause.faultless; read_on = as_read before after cause.read_on }
 as_check before after Read cause = record { bytes = cause.bytes; read = cause.read; on = cause.on; rose = cause.rose }
 as_check before after Write cause = cause
+as_check before after RehearsalLimit cause = cause
 as_check before after InputLimit cause = record { said = cause.said; own = cause.own; faultless = cause.faultless; read_on = as_read before after cause.read_on }
 as_check before after Memory cause = cause
 
@@ -269,6 +272,7 @@ shows_all before after bytes lines (Text line) read stop = tt
 shows_all before after bytes lines (Codes error) read stop = tt
 shows_all before after bytes lines Read read stop = absurd stop
 shows_all before after bytes lines Write read stop = tt
+shows_all before after bytes lines RehearsalLimit read stop = tt
 shows_all before after bytes lines InputLimit read stop = all_long before.left after.left bytes lines read stop
 shows_all before after bytes lines Memory read stop = tt
 

@@ -11,7 +11,7 @@ use Rattle.dmap_show.specs.TextLines.{Explains}
 use Rattle.dmap_show.specs.declared.reading.ShowError.TheVariants.{Line}
 use Rattle.item_model.specs.declared.changes.Entry.{Entry}
 use Rattle.daapshare.specs.declared.fault.Fault.{Fault}
-use Rattle.daapshare.specs.declared.fault.Fault.TheVariants.{Words, Query, Meta, Records, Tags, Text, Codes, Read, Write, InputLimit, Memory}
+use Rattle.daapshare.specs.declared.fault.Fault.TheVariants.{Words, Query, Meta, Records, Tags, Text, Codes, Read, Write, InputLimit, RehearsalLimit, Memory}
 use Rattle.daapshare.specs.Limits.{text_limit}
 use Rattle.daapshare.specs.Seen.{InputSeen}
 
@@ -58,5 +58,6 @@ BackSays left (Text line) = IfSome left (IsTextRefused line)
 BackSays left (Codes error) = ⊥
 BackSays left Read = ⊥
 BackSays left Write = ⊥
+BackSays left RehearsalLimit = ⊥
 BackSays left InputLimit = IfSome left (λ input. text_limit < length input)
 BackSays left Memory = ⊥

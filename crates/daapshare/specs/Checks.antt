@@ -10,7 +10,7 @@ use Rattle.dmap_stream.specs.declared.refusal.StreamError.{StreamError}
 use Rattle.dmap_stream.specs.declared.refusal.StreamError.TheVariants as stream
 use Rattle.item_model.specs.declared.changes.Entry.{Entry}
 use Rattle.daapshare.specs.declared.fault.Fault.{Fault}
-use Rattle.daapshare.specs.declared.fault.Fault.TheVariants.{Words, Query, Meta, Records, Tags, Text, Codes, Read, Write, InputLimit, Memory}
+use Rattle.daapshare.specs.declared.fault.Fault.TheVariants.{Words, Query, Meta, Records, Tags, Text, Codes, Read, Write, InputLimit, RehearsalLimit, Memory}
 use Rattle.daapshare.specs.Limits.{tags_limit, tag_limit}
 use Rattle.daapshare.specs.Seen.{InputSeen}
 
@@ -75,5 +75,6 @@ CheckSays left (Text line) = ⊥
 CheckSays left (Codes error) = ⊥
 CheckSays left Read = ⊥
 CheckSays left Write = ⊥
+CheckSays left RehearsalLimit = ⊥
 CheckSays left InputLimit = IfSome left IsTooLong
 CheckSays left Memory = ⊥

@@ -1,5 +1,5 @@
 -- What each command does, by its words and its input, and which faults it ends by.
-use Rattle.std.specs.Prelude.{◌≡◌, ◌≤◌, ◌++◌, ℕ, List, [], length, Option, Some, None, true, false}
+use Rattle.std.specs.Prelude.{◌≡◌, ◌≤◌, ◌*◌, ◌++◌, ℕ, List, [], length, Option, Some, None, true, false}
 use Rattle.std.specs.Io.KnownBytes.{Consumes}
 use Rattle.daap_outside.specs.Counts.{Rose}
 use Rattle.daapshare_words.specs.declared.words.Command.{Command}
@@ -8,8 +8,8 @@ use Rattle.code_table.specs.declared.row.CodeRow.{CodeRow}
 use Rattle.dmap_tags.specs.Tree.{Tree}
 use Rattle.item_model.specs.declared.changes.Entry.{Entry}
 use Rattle.daapshare.specs.declared.fault.Fault.{Fault}
-use Rattle.daapshare.specs.declared.fault.Fault.TheVariants.{Words, Query, Meta, Records, Tags, Text, Codes, Read, Write, InputLimit, Memory}
-use Rattle.daapshare.specs.Limits.{records_limit, text_limit, piece_limit}
+use Rattle.daapshare.specs.declared.fault.Fault.TheVariants.{Words, Query, Meta, Records, Tags, Text, Codes, Read, Write, InputLimit, RehearsalLimit, Memory}
+use Rattle.daapshare.specs.Limits.{records_limit, text_limit, piece_limit, edits_limit}
 use Rattle.daapshare.specs.Faults.{IsOwn}
 use Rattle.daapshare.specs.Seen.{InputSeen, IsUnread}
 use Rattle.daapshare.specs.Looks.{IsAsked}
@@ -18,6 +18,7 @@ use Rattle.daapshare.specs.Checks.{IsSound, IsSoundSoFar, IsChecked, CheckSays}
 use Rattle.daapshare.specs.Shows.{IsShownWhole, IsShownFront, IsShownBefore}
 use Rattle.daapshare.specs.Backs.{ShowsBack, IsShownBack, BackSays}
 use Rattle.daapshare.specs.Codes.{IsTable}
+use Rattle.daapshare.specs.Rehearses.{IsRehearsed, RehearseSays}
 use Rattle.daapshare.specs.Learns.{IsReply, IsReplySoFar, IsLearned, LearnSays}
 
 -- the fault of words that are no command's
@@ -33,6 +34,7 @@ Says (Some (command.Show true)) left fault = BackSays left fault
 Says (Some command.Check) left fault = CheckSays left fault
 Says (Some (command.Codes false)) left fault = ⊥
 Says (Some (command.Codes true)) left fault = LearnSays left fault
+Says (Some (command.Rehearse number batches size keep)) left fault = RehearseSays batches size fault
 
 -- bytes behind which the command reads on: its words are in order, the bytes are within its limit, and nothing in
 -- them is refused
@@ -44,8 +46,9 @@ ReadsOn (Some (command.Show true)) bytes = length bytes ≤ text_limit
 ReadsOn (Some command.Check) bytes = IsSoundSoFar bytes
 ReadsOn (Some (command.Codes false)) bytes = ⊥
 ReadsOn (Some (command.Codes true)) bytes = IsReplySoFar bytes
+ReadsOn (Some (command.Rehearse number batches size keep)) bytes = ⊥
 
--- want of memory may come at any time; words that are no command's and `codes` leave the input as it was even so
+-- want of memory may come at any time; words that are no command's, `codes` and `rehearse` leave the input as it was even so
 abbrev pub MayRead : Option Command → InputSeen → InputSeen → Type 0
 MayRead None before after = IsUnread before after
 MayRead (Some (command.List query meta)) before after = Unit {0}
@@ -53,6 +56,7 @@ MayRead (Some (command.Show back)) before after = Unit {0}
 MayRead (Some command.Check) before after = Unit {0}
 MayRead (Some (command.Codes false)) before after = IsUnread before after
 MayRead (Some (command.Codes true)) before after = Unit {0}
+MayRead (Some (command.Rehearse number batches size keep)) before after = IsUnread before after
 
 -- what was read: behind all of it but a last part, no longer than one read brings, the command had cause to read on
 pub record HasReadOn (asked : Option Command) (before after : InputSeen) : Type 0 where
@@ -87,6 +91,7 @@ IsCause asked before after (Text line) = IsFaultOf asked before after (Text line
 IsCause asked before after (Codes error) = IsFaultOf asked before after (Codes error)
 IsCause asked before after Read = IsReadFault asked before after
 IsCause asked before after Write = ⊥
+IsCause asked before after RehearsalLimit = Says asked before.left RehearsalLimit × IsUnread before after
 IsCause asked before after InputLimit = IsFaultOf asked before after InputLimit
 IsCause asked before after Memory = MayRead asked before after
 
@@ -99,6 +104,7 @@ IsDone (Some (command.Show true)) before after history output = IsShownBack befo
 IsDone (Some command.Check) before after history output = IsChecked before after history output
 IsDone (Some (command.Codes false)) before after history output = IsTable before after history output
 IsDone (Some (command.Codes true)) before after history output = IsLearned before after history output
+IsDone (Some (command.Rehearse number batches size keep)) before after history output = IsRehearsed number batches size keep before after history output
 
 -- what a command had to write when its output failed: all of it, but `show` writes as it reads
 abbrev pub IsBegun : Option Command → InputSeen → InputSeen → Option (List Entry) → List ℕ → Type 0
@@ -108,6 +114,7 @@ IsBegun (Some (command.Show false)) before after history output = IsShownFront b
 IsBegun (Some (command.Show true)) before after history output = IsDone (Some (command.Show true)) before after history output
 IsBegun (Some command.Check) before after history output = IsDone (Some command.Check) before after history output
 IsBegun (Some (command.Codes learn)) before after history output = IsDone (Some (command.Codes learn)) before after history output
+IsBegun (Some (command.Rehearse number batches size keep)) before after history output = IsDone (Some (command.Rehearse number batches size keep)) before after history output
 
 -- what a command has written before the line of its fault
 abbrev pub IsFront : Option Command → InputSeen → InputSeen → Fault → List ℕ → Type 0
@@ -117,6 +124,7 @@ IsFront (Some (command.Show false)) before after fault front = IsShownBefore bef
 IsFront (Some (command.Show true)) before after fault front = front ≡ []
 IsFront (Some command.Check) before after fault front = front ≡ []
 IsFront (Some (command.Codes learn)) before after fault front = front ≡ []
+IsFront (Some (command.Rehearse number batches size keep)) before after fault front = front ≡ []
 
 -- words and input with which a command is done
 abbrev pub Gives : Option Command → List ℕ → Type 0
@@ -127,3 +135,4 @@ Gives (Some (command.Show true)) input = (tags : List Tree) × ShowsBack tags in
 Gives (Some command.Check) input = IsSound input
 Gives (Some (command.Codes false)) input = Unit {0}
 Gives (Some (command.Codes true)) input = (rows : List CodeRow) × IsReply rows input
+Gives (Some (command.Rehearse number batches size keep)) input = batches * size ≤ edits_limit

@@ -11,7 +11,7 @@ use Rattle.dmap_stream.specs.declared.refusal.StreamError.TheVariants as stream
 use Rattle.daapshare.specs.declared.check.TheConstants.{TAGS_LIMIT, TAG_LIMIT}
 use Rattle.daapshare.specs.declared.check.Counter.{Counter}
 use Rattle.daapshare.specs.declared.fault.Fault.{Fault}
-use Rattle.daapshare.specs.declared.fault.Fault.TheVariants.{Words, Query, Meta, Records, Tags, Text, Codes, Read, Write, InputLimit, Memory}
+use Rattle.daapshare.specs.declared.fault.Fault.TheVariants.{Words, Query, Meta, Records, Tags, Text, Codes, Read, Write, InputLimit, RehearsalLimit, Memory}
 use Rattle.daapshare.specs.declared.tops.Tops.{Tops}
 use Rattle.daapshare.specs.Checks.{walked, IsTooLong}
 
@@ -63,6 +63,7 @@ StopsAt bytes (Text line) = ⊥
 StopsAt bytes (Codes error) = ⊥
 StopsAt bytes Read = ⊥
 StopsAt bytes Write = ⊥
+StopsAt bytes RehearsalLimit = ⊥
 StopsAt bytes InputLimit = IsTooLong bytes
 StopsAt bytes Memory = Unit {0}
 

@@ -21,7 +21,7 @@ use Rattle.daapshare_words.specs.declared.words.WordsError.TheVariants as words
 use Rattle.daap_outside.specs.declared.reading.ReadError.{ReadError}
 use Rattle.daap_outside.specs.declared.reading.ReadError.TheVariants as reads
 use Rattle.daapshare.specs.declared.fault.Fault.{Fault}
-use Rattle.daapshare.specs.declared.fault.Fault.TheVariants.{Words, Query, Meta, Records, Tags, Text, Codes, Read, Write, InputLimit, Memory}
+use Rattle.daapshare.specs.declared.fault.Fault.TheVariants.{Words, Query, Meta, Records, Tags, Text, Codes, Read, Write, InputLimit, RehearsalLimit, Memory}
 
 abbrev pub query_why_text : QueryWhy → List ℕ
 query_why_text why.End = codes " end"
@@ -89,6 +89,7 @@ fault_line (Text line) = codes "text: line " ++ decimal line ++ 10 ∷ []
 fault_line (Codes error) = table_text error ++ 10 ∷ []
 fault_line Read = codes "read failed" ++ 10 ∷ []
 fault_line Write = []
+fault_line RehearsalLimit = codes "limit: rehearsal" ++ 10 ∷ []
 fault_line InputLimit = codes "limit: input" ++ 10 ∷ []
 fault_line Memory = codes "memory" ++ 10 ∷ []
 
@@ -102,6 +103,7 @@ fault_status (Text line) = 3
 fault_status (Codes error) = 3
 fault_status Read = 4
 fault_status Write = 5
+fault_status RehearsalLimit = 8
 fault_status InputLimit = 8
 fault_status Memory = 9
 
@@ -168,5 +170,6 @@ IsOwn (Text line) = 1 ≤ line
 IsOwn (Codes error) = error ≢ table.Memory
 IsOwn Read = Unit {0}
 IsOwn Write = Unit {0}
+IsOwn RehearsalLimit = Unit {0}
 IsOwn InputLimit = Unit {0}
 IsOwn Memory = Unit {0}

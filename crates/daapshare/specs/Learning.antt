@@ -3,7 +3,7 @@ use Rattle.std.specs.Prelude.{◌≡◌, ◌≢◌, ◌++◌, ◌&&◌, nat_le, 
 use Rattle.dmap_stream.specs.Walk.{told_length, broken}
 use Rattle.dmap_stream.specs.declared.refusal.StreamError.TheVariants as stream
 use Rattle.daapshare.specs.declared.fault.Fault.{Fault}
-use Rattle.daapshare.specs.declared.fault.Fault.TheVariants.{Words, Query, Meta, Records, Tags, Text, Codes, Read, Write, InputLimit, Memory}
+use Rattle.daapshare.specs.declared.fault.Fault.TheVariants.{Words, Query, Meta, Records, Tags, Text, Codes, Read, Write, InputLimit, RehearsalLimit, Memory}
 use Rattle.daapshare.specs.declared.learn.Learner.{Learner}
 use Rattle.daapshare.specs.Checks.{walked}
 use Rattle.daapshare.specs.Counting.{IsCounted}
@@ -30,6 +30,7 @@ IsRefusal bytes (Text line) = ⊥
 IsRefusal bytes (Codes error) = IsReplyRefused error bytes
 IsRefusal bytes Read = ⊥
 IsRefusal bytes Write = ⊥
+IsRefusal bytes RehearsalLimit = ⊥
 IsRefusal bytes InputLimit = ⊥
 IsRefusal bytes Memory = Unit {0}
 
@@ -44,5 +45,6 @@ LearnStops bytes (Text line) = ⊥
 LearnStops bytes (Codes error) = (rest : List ℕ) → IsReplyRefused error (bytes ++ rest)
 LearnStops bytes Read = ⊥
 LearnStops bytes Write = ⊥
+LearnStops bytes RehearsalLimit = ⊥
 LearnStops bytes InputLimit = ⊥
 LearnStops bytes Memory = Unit {0}

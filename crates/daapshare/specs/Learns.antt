@@ -15,7 +15,7 @@ use Rattle.dmap_stream.specs.declared.refusal.StreamError.{StreamError}
 use Rattle.dmap_stream.specs.declared.refusal.StreamError.TheVariants as stream
 use Rattle.item_model.specs.declared.changes.Entry.{Entry}
 use Rattle.daapshare.specs.declared.fault.Fault.{Fault}
-use Rattle.daapshare.specs.declared.fault.Fault.TheVariants.{Words, Query, Meta, Records, Tags, Text, Codes, Read, Write, InputLimit, Memory}
+use Rattle.daapshare.specs.declared.fault.Fault.TheVariants.{Words, Query, Meta, Records, Tags, Text, Codes, Read, Write, InputLimit, RehearsalLimit, Memory}
 use Rattle.daapshare.specs.Limits.{tag_limit}
 use Rattle.daapshare.specs.Seen.{InputSeen}
 use Rattle.daapshare.specs.Checks.{walked}
@@ -87,5 +87,6 @@ LearnSays left (Text line) = ⊥
 LearnSays left (Codes error) = IfSome left (IsReplyRefused error)
 LearnSays left Read = ⊥
 LearnSays left Write = ⊥
+LearnSays left RehearsalLimit = ⊥
 LearnSays left InputLimit = ⊥
 LearnSays left Memory = ⊥

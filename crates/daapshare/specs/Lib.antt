@@ -17,3 +17,5 @@ pub mod Answers
 pub mod Showing
 pub mod Backing
 pub mod Learning
+pub mod Rehearses
+pub mod Rehearsing

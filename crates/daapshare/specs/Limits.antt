@@ -20,3 +20,7 @@ piece_limit = 65536
 -- the payload of a top tag: 1 GiB
 abbrev pub tag_limit : ℕ
 tag_limit = 1073741824
+
+-- the edits of a rehearsal, as many as a share's history may have
+abbrev pub edits_limit : ℕ
+edits_limit = 262144

@@ -10,7 +10,7 @@ use Rattle.records_import.specs.Records.{BatchReads}
 use Rattle.records_import.specs.declared.refusal.RecordError.{RecordError}
 use Rattle.records_import.specs.declared.refusal.RecordError.TheVariants as records
 use Rattle.daapshare.specs.declared.fault.Fault.{Fault}
-use Rattle.daapshare.specs.declared.fault.Fault.TheVariants.{Words, Query, Meta, Records, Tags, Text, Codes, Read, Write, InputLimit, Memory}
+use Rattle.daapshare.specs.declared.fault.Fault.TheVariants.{Words, Query, Meta, Records, Tags, Text, Codes, Read, Write, InputLimit, RehearsalLimit, Memory}
 use Rattle.daapshare.specs.Limits.{records_limit}
 use Rattle.daapshare.specs.Seen.{InputSeen}
 use Rattle.daapshare.specs.Looks.{AsksLook, IsAsked, IsQueryRefused, IsMetaRefused}
@@ -57,5 +57,6 @@ ListSays query meta left (Text line) = ⊥
 ListSays query meta left (Codes error) = ⊥
 ListSays query meta left Read = ⊥
 ListSays query meta left Write = ⊥
+ListSays query meta left RehearsalLimit = ⊥
 ListSays query meta left InputLimit = IsAsked query meta × IfSome left (λ input. records_limit < length input)
 ListSays query meta left Memory = ⊥

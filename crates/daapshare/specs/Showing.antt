@@ -11,7 +11,7 @@ use Rattle.dmap_stream.specs.declared.refusal.StreamError.{StreamError}
 use Rattle.dmap_stream.specs.declared.refusal.StreamError.TheVariants as stream
 use Rattle.daapshare.specs.declared.check.TheConstants.{TAGS_LIMIT, TAG_LIMIT}
 use Rattle.daapshare.specs.declared.fault.Fault.{Fault}
-use Rattle.daapshare.specs.declared.fault.Fault.TheVariants.{Words, Query, Meta, Records, Tags, Text, Codes, Read, Write, InputLimit, Memory}
+use Rattle.daapshare.specs.declared.fault.Fault.TheVariants.{Words, Query, Meta, Records, Tags, Text, Codes, Read, Write, InputLimit, RehearsalLimit, Memory}
 use Rattle.daapshare.specs.declared.show.Shower.{Shower}
 use Rattle.daapshare.specs.declared.show.Stop.{Stop}
 use Rattle.daapshare.specs.declared.show.Stop.TheVariants.{Input, Output}
@@ -66,6 +66,7 @@ StopsShowing bytes lines (Text line) = ⊥
 StopsShowing bytes lines (Codes error) = ⊥
 StopsShowing bytes lines Read = ⊥
 StopsShowing bytes lines Write = ⊥
+StopsShowing bytes lines RehearsalLimit = ⊥
 StopsShowing bytes lines InputLimit = IsTooLong bytes × (lines ≡ shown_text bytes)
 StopsShowing bytes lines Memory = BeginsShown bytes lines
 

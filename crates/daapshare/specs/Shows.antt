@@ -8,7 +8,7 @@ use Rattle.dmap_show.specs.Shown.{shown_tags}
 use Rattle.item_model.specs.declared.changes.Entry.{Entry}
 use Rattle.daapshare.specs.Limits.{tags_limit}
 use Rattle.daapshare.specs.declared.fault.Fault.{Fault}
-use Rattle.daapshare.specs.declared.fault.Fault.TheVariants.{Words, Query, Meta, Records, Tags, Text, Codes, Read, Write, InputLimit, Memory}
+use Rattle.daapshare.specs.declared.fault.Fault.TheVariants.{Words, Query, Meta, Records, Tags, Text, Codes, Read, Write, InputLimit, RehearsalLimit, Memory}
 use Rattle.daapshare.specs.Seen.{InputSeen}
 use Rattle.daapshare.specs.Checks.{walked, AreTopTags}
 
@@ -54,6 +54,7 @@ ShowsAll (Text line) before after lines = Unit {0}
 ShowsAll (Codes error) before after lines = Unit {0}
 ShowsAll Read before after lines = (bytes : List ℕ) × Consumes before.left after.left bytes × (lines ≡ shown_text bytes)
 ShowsAll Write before after lines = Unit {0}
+ShowsAll RehearsalLimit before after lines = Unit {0}
 ShowsAll InputLimit before after lines = IfSome before.left (λ input. lines ≡ shown_text input)
 ShowsAll Memory before after lines = Unit {0}
 

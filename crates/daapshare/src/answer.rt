@@ -5,7 +5,9 @@ ghost use Rattle.code_table.specs.Standard.{standard_rows};
 ghost use Rattle.daapshare_words.specs.declared.words.Command.TheVariants.{List as list_command, Show as show_command, Check as check_command, Codes as codes_command};
 ghost use Rattle.listing_plan.specs.Plans.{plan_bytes, IsWritable};
 ghost use Rattle.daapshare.specs.Codes.{code_lines};
+ghost use Rattle.daapshare_words.specs.Words.{AreRanged};
 ghost use Rattle.daapshare.specs.Commands.{IsDone, IsCause};
+ghost use Rattle.daapshare.specs.Rehearsing.{RehearseDone, RehearseFails};
 
 use crate::back::unshown;
 use crate::check::checked;
@@ -17,6 +19,8 @@ use daap_outside::Source;
 use dmap_tags::{Bytes, Text};
 use item_model::Entries;
 use listing_plan::Plan;
+use rehearsal::{Rehearsal, rehearse};
+use share_history::MAX_EDITS;
 use std::alloc::Global;
 
 /// What a command leaves: the history of the share, where one was opened, and what it writes.
@@ -118,4 +122,20 @@ pub fn counts<I: Source>(alloc: Global, input: &mut I) -> Result<Answer, Fault>
         Ok(output) => Ok(unopened(output)),
         Err(fault) => Err(fault),
     }
+}
+
+/// Does `rehearse`, up to writing the output.
+pub fn rehearses(alloc: Global, plan: &Rehearsal) -> Result<Answer, Fault>
+    requires { AreRanged plan.now.number plan.now.batches plan.now.size plan.now.keep }
+    ensures done { IfOk result (λ answer. RehearseDone plan.now.number plan.now.batches plan.now.size plan.now.keep answer.history (plan_bytes answer.output)) }
+    ensures cause { IfErr result (RehearseFails plan.now.batches plan.now.size) }
+{
+    if MAX_EDITS < plan.batches as usize * plan.size as usize {
+        return Err(Fault::RehearsalLimit);
+    }
+    let rehearsed = rehearse(alloc, plan)?;
+    Ok(Answer {
+        history: Some(rehearsed.history),
+        output: Plan::Plain(Bytes::from(rehearsed.summary)),
+    })
 }

@@ -49,6 +49,8 @@ pub enum Fault {
     Write,
     /// The input is longer than the command takes.
     InputLimit,
+    /// A rehearsal has more edits than a share's history may have.
+    RehearsalLimit,
     Memory,
 }
 
@@ -188,7 +190,7 @@ impl Fault {
             Fault::Tags(_) | Fault::Text { .. } | Fault::Codes(_) => 3,
             Fault::Read => 4,
             Fault::Write => 5,
-            Fault::InputLimit => 8,
+            Fault::InputLimit | Fault::RehearsalLimit => 8,
             Fault::Memory => 9,
         }
     }
@@ -208,6 +210,7 @@ impl Fault {
             Fault::Read => Vec::from_slice(alloc, b"read failed\n"),
             Fault::Write => Ok(Vec::new(alloc)),
             Fault::InputLimit => Vec::from_slice(alloc, b"limit: input\n"),
+            Fault::RehearsalLimit => Vec::from_slice(alloc, b"limit: rehearsal\n"),
             Fault::Memory => Vec::from_slice(alloc, b"memory\n"),
         }
     }

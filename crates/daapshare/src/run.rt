@@ -2,18 +2,19 @@
 
 ghost use Rattle.std.specs.Prelude.{◌≡◌, None, Some, Ok, false};
 ghost use Rattle.daapshare_words.specs.Grammar.{texts_of};
-ghost use Rattle.daapshare_words.specs.Words.{command_of};
+ghost use Rattle.daapshare_words.specs.Words.{command_of, IsRanged};
 ghost use Rattle.daapshare_words.specs.declared.words.Command.TheVariants.{Show as show_command};
 ghost use Rattle.daapshare.specs.Runs.{Ends, IsDecided, Tells, TellsFault};
 ghost use Rattle.daapshare.specs.Answers.{Answers};
 
-use crate::answer::{Answer, codes, counts, learns, listed, shown_back};
+use crate::answer::{Answer, codes, counts, learns, listed, rehearses, shown_back};
 use crate::fault::Fault;
 use crate::show::{Stop, shown};
 use daap_outside::{Files, Net, Sink, Source, put_all};
 use daapshare_words::{Command, read_words};
 use item_model::Entries;
 use listing_plan::PlanError;
+use rehearsal::Rehearsal;
 use std::alloc::Global;
 
 /// What a run leaves: the status of the program, and the history of the share, where one was opened.
@@ -27,7 +28,8 @@ pub struct Outcome {
 ///
 /// The statuses are 0 where all was done, 2 for words that are no command's, 3 for a query, names of properties,
 /// records, tags, shown text or a reply of content codes that are refused, 4 and 5 where the input or the output
-/// failed, 8 where the input is too long, and 9 for want of memory. Each but 0 and 5 has its line on the output.
+/// failed, 8 where the input or a rehearsal is too long, and 9 for want of memory. Each but 0 and 5 has its line on
+/// the output.
 pub fn run<I: Source, W: Sink, F: Files, N: Net>(
     alloc: Global,
     words: &[&str],
@@ -69,6 +71,7 @@ fn obeyed<I: Source, W: Sink>(
     input: &mut I,
     output: &mut W,
 ) -> Outcome
+    requires { IsRanged command.now }
     ensures { Ends (Some command.now)
         (record {
           input_before = record { left = I.left input.old; faults = I.faults input.old };
@@ -98,6 +101,21 @@ fn obeyed<I: Source, W: Sink>(
         }
         Command::Codes { learn: true } => {
             let answer = learns(alloc, input);
+            written(alloc, output, answer)
+        }
+        Command::Rehearse {
+            number,
+            batches,
+            size,
+            keep,
+        } => {
+            let plan = Rehearsal {
+                number: *number,
+                batches: *batches,
+                size: *size,
+                keep: *keep,
+            };
+            let answer = rehearses(alloc, &plan);
             written(alloc, output, answer)
         }
     }

@@ -1,5 +1,5 @@
 -- The command that a list of words is.
-use Rattle.std.specs.Prelude.{◌≡◌, ℕ, ◌&&◌, nat_le, List, [], ◌∷◌, Option, Some, None, Result, Ok, Err, codes, option_map}
+use Rattle.std.specs.Prelude.{◌≡◌, ◌≤◌, ℕ, ◌&&◌, nat_le, List, [], ◌∷◌, Option, Some, None, Result, Ok, Err, codes, option_map}
 use Rattle.std.specs.Prelude.{if◌then◌else◌, option_and_then}
 use Rattle.std.specs.Str.{bytes_eq}
 use Rattle.clap.specs.Words.{Row, Text, first_of}
@@ -90,3 +90,20 @@ abbrev pub Reads : Option Command → Result Command WordsError → Type 0
 Reads told (Ok c) = told ≡ Some c
 Reads told (Err Usage) = told ≡ None
 Reads told (Err Memory) = Unit {0}
+
+-- the numbers of a rehearsal are in their ranges
+pub record AreRanged (number batches size keep : ℕ) : Type 0 where
+  pub begins : number ≤ 2147483647
+  pub some_batches : 1 ≤ batches
+  pub few_batches : batches ≤ 65536
+  pub some_edits : 1 ≤ size
+  pub few_edits : size ≤ 256
+  pub some_kept : 1 ≤ keep
+  pub few_kept : keep ≤ 65536
+
+abbrev pub IsRanged : Command → Type 0
+IsRanged (command.List query meta) = Unit {0}
+IsRanged (command.Show back) = Unit {0}
+IsRanged command.Check = Unit {0}
+IsRanged (command.Codes learn) = Unit {0}
+IsRanged (command.Rehearse number batches size keep) = AreRanged number batches size keep

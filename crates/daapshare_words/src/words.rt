@@ -1,9 +1,9 @@
 //! The commands of the program and how they are read.
 
-ghost use Rattle.std.specs.Prelude.{◌≡◌, ◌≢◌, Some, None, IfOk, IfErr, option_map};
+ghost use Rattle.std.specs.Prelude.{◌≡◌, ◌≢◌, ◌≤◌, Some, None, IfOk, IfErr, IfSome, option_map};
 ghost use Rattle.clap.specs.Words.{first_of, found_of, rows_of};
 ghost use Rattle.daapshare_words.specs.Grammar.{texts_of, is_flagged};
-ghost use Rattle.daapshare_words.specs.Words.{Reads, command_by, command_of, list_grammar, list_of, show_grammar, show_of, check_grammar, check_of, codes_grammar, codes_of, rehearse_grammar, rehearse_of, number_within, keep_of};
+ghost use Rattle.daapshare_words.specs.Words.{Reads, command_by, command_of, list_grammar, list_of, show_grammar, show_of, check_grammar, check_of, codes_grammar, codes_of, rehearse_grammar, rehearse_of, number_within, keep_of, IsRanged};
 
 use crate::grammar::{Part, matches_for, value_of};
 use crate::numbers::number_word;
@@ -101,6 +101,7 @@ const DEFAULT_KEEP: u32 = 256;
 pub fn read_words(alloc: Global, words: &[&str]) -> Result<Command, WordsError>
     ensures read { IfOk result (λ c. command_of (texts_of words.now) ≡ Some c) }
     ensures usage { IfErr result (λ e. e ≡ WordsError.Usage → command_of (texts_of words.now) ≡ None) }
+    ensures ranged { IfOk result IsRanged }
 {
     let Some(name) = words.first() else {
         return Err(WordsError::Usage);
@@ -116,7 +117,8 @@ pub fn read_words(alloc: Global, words: &[&str]) -> Result<Command, WordsError>
 }
 
 fn list(alloc: Global, words: &[&str]) -> Result<Command, WordsError>
-    ensures { Reads (command_by list_of list_grammar (texts_of words.now)) result }
+    ensures read { Reads (command_by list_of list_grammar (texts_of words.now)) result }
+    ensures ranged { IfOk result IsRanged }
 {
     let matches = matches_for(alloc, "list", &LIST, words)?;
     Ok(Command::List {
@@ -126,7 +128,8 @@ fn list(alloc: Global, words: &[&str]) -> Result<Command, WordsError>
 }
 
 fn show(alloc: Global, words: &[&str]) -> Result<Command, WordsError>
-    ensures { Reads (command_by show_of show_grammar (texts_of words.now)) result }
+    ensures read { Reads (command_by show_of show_grammar (texts_of words.now)) result }
+    ensures ranged { IfOk result IsRanged }
 {
     let matches = matches_for(alloc, "show", &SHOW, words)?;
     Ok(Command::Show {
@@ -135,14 +138,16 @@ fn show(alloc: Global, words: &[&str]) -> Result<Command, WordsError>
 }
 
 fn check(alloc: Global, words: &[&str]) -> Result<Command, WordsError>
-    ensures { Reads (command_by check_of check_grammar (texts_of words.now)) result }
+    ensures read { Reads (command_by check_of check_grammar (texts_of words.now)) result }
+    ensures ranged { IfOk result IsRanged }
 {
     matches_for(alloc, "check", &CHECK, words)?;
     Ok(Command::Check)
 }
 
 fn codes(alloc: Global, words: &[&str]) -> Result<Command, WordsError>
-    ensures { Reads (command_by codes_of codes_grammar (texts_of words.now)) result }
+    ensures read { Reads (command_by codes_of codes_grammar (texts_of words.now)) result }
+    ensures ranged { IfOk result IsRanged }
 {
     let matches = matches_for(alloc, "codes", &CODES, words)?;
     Ok(Command::Codes {
@@ -151,7 +156,8 @@ fn codes(alloc: Global, words: &[&str]) -> Result<Command, WordsError>
 }
 
 fn rehearse(alloc: Global, words: &[&str]) -> Result<Command, WordsError>
-    ensures { Reads (command_by rehearse_of rehearse_grammar (texts_of words.now)) result }
+    ensures read { Reads (command_by rehearse_of rehearse_grammar (texts_of words.now)) result }
+    ensures ranged { IfOk result IsRanged }
 {
     let matches = matches_for(alloc, "rehearse", &REHEARSE, words)?;
     match rehearsal(&matches) {
@@ -162,7 +168,8 @@ fn rehearse(alloc: Global, words: &[&str]) -> Result<Command, WordsError>
 
 /// The rehearsal of these words, where each number is in its range.
 fn rehearsal(matches: &ArgMatches<'_>) -> Option<Command>
-    ensures { result ≡ rehearse_of (rows_of (found_of matches.now)) }
+    ensures read { result ≡ rehearse_of (rows_of (found_of matches.now)) }
+    ensures ranged { IfSome result IsRanged }
 {
     Some(Command::Rehearse {
         number: number_of(value_of(matches, "number"), 0, 2_147_483_647)?,
@@ -174,7 +181,8 @@ fn rehearsal(matches: &ArgMatches<'_>) -> Option<Command>
 
 /// The number that a word writes, where it is between two numbers or one of them.
 fn number_of(word: Option<&str>, least: u32, most: u32) -> Option<u32>
-    ensures { result ≡ number_within least most (option_map (λ s. s.now) word.entry) }
+    ensures read { result ≡ number_within least most (option_map (λ s. s.now) word.entry) }
+    ensures within { IfSome result (λ n. (least ≤ n) × (n ≤ most)) }
 {
     let number = number_word(word?)?;
     if least <= number && number <= most {
@@ -185,7 +193,8 @@ fn number_of(word: Option<&str>, least: u32, most: u32) -> Option<u32>
 }
 
 fn keep_of(word: Option<&str>) -> Option<u32>
-    ensures { result ≡ keep_of (option_map (λ s. s.now) word.entry) }
+    ensures read { result ≡ keep_of (option_map (λ s. s.now) word.entry) }
+    ensures within { IfSome result (λ n. (1 ≤ n) × (n ≤ 65536)) }
 {
     match word {
         Some(_) => number_of(word, 1, 65_536),

@@ -3,7 +3,7 @@ use Rattle.daapshare_words.specs.declared.words.Command.{Command}
 use Rattle.daapshare_words.specs.declared.words.Command.TheVariants as command
 use Rattle.daapshare.specs.Seen.{InputSeen}
 use Rattle.daapshare.specs.Runs.{Told, Ends}
-use Rattle.daapshare.proofs.Endings.{ends_answered, codes_done, codes_failed}
+use Rattle.daapshare.proofs.Endings.{ends_answered, codes_done, codes_failed, rehearse_done, rehearse_failed}
 use Rattle.daapshare.proofs.run.obeyed.Goals as goal
 
 pub returns-in-List : goal.returns-in-List
@@ -83,3 +83,23 @@ returns-in-Codes-false g c =
     (subst (λ (b : Bool). Ends (Some (command.Codes b)) told status history) (sym learn)
     (ends_answered (Some (command.Codes false)) told status history c.codes-answer.result (codes_done input c.codes-answer.result c.codes-answer.ensures.done)
     (λ _ _ done. done) (codes_failed input c.codes-answer.result c.codes-answer.ensures.cause) (λ _. refl) c.written-in-Codes-false.ensures))
+
+pub returns-in-Rehearse : goal.returns-in-Rehearse
+returns-in-Rehearse g c =
+    let input : InputSeen = record { left = g.I.Source.left c.args.input.now; faults = g.I.Faulted.faults c.args.input.now } in
+    let told : Told = record {
+      input_before = input;
+      input_after = input;
+      output_before = record { taken = g.W.Sink.taken c.args.output.now; faults = g.W.Faulted.faults c.args.output.now };
+      output_after = record { taken = g.W.Sink.taken c.written-in-Rehearse.new.output; faults = g.W.Faulted.faults c.written-in-Rehearse.new.output };
+    } in
+    let status = c.written-in-Rehearse.result.status in
+    let history = c.written-in-Rehearse.result.history in
+    let number = c.in-Rehearse.number in
+    let batches = c.in-Rehearse.batches in
+    let size = c.in-Rehearse.size in
+    let keep = c.in-Rehearse.keep in
+    subst (λ (asked : Command). Ends (Some asked) told status history) (sym c.in-Rehearse.is)
+    (ends_answered (Some (command.Rehearse number batches size keep)) told status history c.rehearses-answer.result
+    (rehearse_done number batches size keep input c.rehearses-answer.result c.rehearses-answer.ensures.done) (λ _ _ done. done)
+    (rehearse_failed number batches size keep input c.rehearses-answer.result c.rehearses-answer.ensures.cause) (λ _. refl) c.written-in-Rehearse.ensures)

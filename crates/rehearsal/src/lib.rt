@@ -1,0 +1,6 @@
+//! stub
+#![tactic(auto)]
+
+mod whole;
+
+pub use whole::{Rehearsal, Rehearsed, rehearse};
