@@ -1,0 +1,3 @@
+pub mod TagFacts
+pub mod MergeFacts
+pub mod ReadFacts
