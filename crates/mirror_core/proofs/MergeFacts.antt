@@ -196,3 +196,9 @@ merged_changes held gone rows s =
 pub nothing_gone : (gone : List ℕ) → fold (taken_out {A = Tree}) [] gone ≡ []
 nothing_gone [] = refl
 nothing_gone (key ∷ gone) = nothing_gone gone
+
+-- a full listing starts from no rows, and a delta from the held ones
+pub rows_taken : (is_delta : Bool) (held : List (ℕ × Tree)) (gone : List ℕ) (rows : List (ℕ × Tree)) → IsAscending held
+    → merged (cond is_delta held []) (changes_of gone rows) ≡ fold put_in (cond is_delta (fold taken_out held gone) []) rows
+rows_taken true held gone rows s = merged_changes held gone rows s
+rows_taken false held gone rows s = merged_changes [] gone rows (sorted-ascending []) ∙ ap (λ rs. fold put_in rs rows) (nothing_gone gone)

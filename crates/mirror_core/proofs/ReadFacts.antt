@@ -1,9 +1,9 @@
 -- What reading a body finds: the listing that it is, or the place at which it is none.
-use Rattle.std.proofs.Common.{◌≡◌, ℕ, zero, suc, ◌+◌, ◌<◌, ◌==◌, Bool, true, false, cond, not, ◌&&◌, ◌||◌, nat_lt, List, [], ◌∷◌, ◌++◌, map, filter, take, drop, length, refl, sym, ap, ◌∙◌, subst, true≢false, inl, inr, Option, Some, None, is_some, unwrap_or, option_map, option_and_then, Result, Ok, Err, append-nil, append_assoc, eqb-true, lt-ltb, ltb-true, arith}
+use Rattle.std.proofs.Common.{◌≡◌, ℕ, zero, suc, ◌+◌, ◌<◌, ◌==◌, Bool, true, false, cond, not, ◌&&◌, ◌||◌, nat_lt, List, [], ◌∷◌, ◌++◌, map, filter, take, drop, length, refl, sym, ap, ◌∙◌, subst, true≢false, inl, inr, Option, Some, None, is_some, unwrap_or, option_map, option_and_then, Result, Ok, Err, append-nil, append_assoc, add-one, length-append, eqb-true, lt-ltb, ltb-true, arith}
 use Rattle.std.specs.Option.{option_map_or}
 use Rattle.std.specs.List.{All}
 use Rattle.std.proofs.lemmas.Bool.{and_parts, and_from, cases_Bool}
-use Rattle.std.proofs.lemmas.List.Elements.{All-nil, All-cons, All-head, All-tail}
+use Rattle.std.proofs.lemmas.List.Elements.{All-nil, All-cons, All-head, All-tail, filter-append}
 use Rattle.dmap_tags.specs.Codes.{Four, code}
 use Rattle.dmap_tags.specs.Tree.{Tree, Trees, Leaf, leaf, list, none, more, trees_of, tree_list, U8, I8, U16, I16, U32, I32, U64, I64, Text, Date, Version, Opaque}
 use Rattle.item_model.specs.declared.request.Target.{Target}
@@ -105,10 +105,10 @@ body_itself : (target : Target) → is_code (body_code target) (body_code target
 body_itself Items = refl
 body_itself (Container c) = refl
 
-key_back : (target : Target) (k : ℕ) → number_in (key_code target) (leaf (key_code target) (U32 k)) ≡ Some k
+pub key_back : (target : Target) (k : ℕ) → number_in (key_code target) (leaf (key_code target) (U32 k)) ≡ Some k
 key_back target k = ap (λ b. only_if b k) (code_itself target)
 
-row_back : (target : Target) (row : ℕ × Tree) → IsRow target row → row_key target row.1 ≡ Some row.0
+pub row_back : (target : Target) (row : ℕ × Tree) → IsRow target row → row_key target row.1 ≡ Some row.0
 row_back target row r = ap (row_key target) r.tag ∙ key_back target row.0
 
 -- ---- lists of rows and of deleted keys
@@ -139,13 +139,34 @@ keys_are target (t ∷ ts) h =
     let both = and_parts (is_some (number_in (key_code target) t)) (are_keys target ts) h in
     λ i. number_is (key_code target) t (key_of target t) (some_is (number_in (key_code target) t) 0 both.0) i ∷ keys_are target ts both.1 i
 
-abbrev key_tags : Target → List ℕ → List Tree
+abbrev pub key_tags : Target → List ℕ → List Tree
 key_tags target keys = map (λ key. leaf (key_code target) (U32 key)) keys
 
 keys_back : (target : Target) (keys : List ℕ) → are_keys target (key_tags target keys) ≡ true
 keys_back target [] = refl
 keys_back target (k ∷ keys) =
     and_from (is_some (number_in (key_code target) (leaf (key_code target) (U32 k)))) (are_keys target (key_tags target keys)) (ap is_some (key_back target k)) (keys_back target keys)
+
+not_some : {A : Type 0} (x : A) → Some x ≡ None → ⊥
+not_some x e = true≢false (ap is_some e)
+
+taken_front : (xs ys : List Tree) → take (length xs) (xs ++ ys) ≡ xs
+taken_front [] ys = refl
+taken_front (x ∷ xs) ys = ap (λ zs. x ∷ zs) (taken_front xs ys)
+
+taken_whole : (xs : List Tree) → take (length xs) xs ≡ xs
+taken_whole [] = refl
+taken_whole (x ∷ xs) = ap (λ zs. x ∷ zs) (taken_whole xs)
+
+taken_more : (xs : List Tree) (y : Tree) (ys : List Tree) → take (length xs + 1) (xs ++ y ∷ ys) ≡ xs ++ y ∷ []
+taken_more xs y ys = ap (λ n. take n (xs ++ y ∷ ys)) (add-one (length xs)) ∙ by_length xs
+  where
+    by_length : (zs : List Tree) → take (suc (length zs)) (zs ++ y ∷ ys) ≡ zs ++ y ∷ []
+    by_length [] = refl
+    by_length (z ∷ zs) = ap (λ us. z ∷ us) (by_length zs)
+
+shown_own : (before : List Tree) (t : Tree) (b : Bool) → is_listings t ≡ b → filter is_listings (before ++ t ∷ []) ≡ filter is_listings before ++ cond b (t ∷ []) []
+shown_own before t b e = filter-append is_listings before (t ∷ []) ∙ ap (λ c. filter is_listings before ++ cond c (t ∷ []) []) e
 
 -- ---- what was read so far
 
@@ -157,7 +178,7 @@ map_some : {A B : Type 0} (f : A → B) (found : Option A) (y : B) → option_ma
 map_some f None y h = absurd (cc)
 map_some f (Some x) y h = (x, refl, cc)
 
-abbrev made : Bool → ℕ → ℕ → List Tree → List Tree → Told
+abbrev pub made : Bool → ℕ → ℕ → List Tree → List Tree → Told
 made is_delta revision total rows gone = record { is_delta = is_delta; revision = revision; total = total; rows = rows; gone = gone }
 
 abbrev gone_list : Bool → List Tree → List Tree
@@ -292,31 +313,28 @@ module _ (target : Target) (base : ℕ) where
 
   -- ---- all of a listing's own members, one after the other
 
-  abbrev run : Due → Told → List Tree → Option (Due × Told)
+  abbrev pub run : Due → Told → List Tree → Option (Due × Told)
   run due told [] = Some (due, told)
-  run due told (t ∷ ts) = option_and_then (λ s. run s.0 s.1 ts) (step target base due told t)
+  run due told (t ∷ ts) = option_and_then (λ (s : Due × Told). run s.0 s.1 ts) (step target base due told t)
 
   reads_run : (due : Due) (told : Told) (known ts : List Tree) (s : Due × Told) → Reads target base due told known → run due told ts ≡ Some s → ReadsTo s (known ++ ts)
-  reads_run due told known [] s r h = subst (λ z. ReadsTo z (known ++ [])) (some_path (due, told) s h) (subst (Reads target base due told) (sym (append-nil known)) r)
-    where
-      some_path : {A : Type 0} (x y : A) → Some x ≡ Some y → x ≡ y
-      some_path x y e = cc
+  reads_run due told known [] s r h = subst (λ z. ReadsTo z (known ++ [])) (ap (λ found. unwrap_or found s) h) (subst (Reads target base due told) (sym (append-nil known)) r)
   reads_run due told known (t ∷ ts) s r h =
       let found = and_then_some (λ z. run z.0 z.1 ts) (step target base due told t) s h in
       subst (ReadsTo s) (append_assoc known (t ∷ []) ts)
       (reads_run found.0.0 found.0.1 (known ++ t ∷ []) ts s (reads_step due told known t found.0 r found.1) found.2)
 
-  run-append : (due : Due) (told : Told) (xs ys : List Tree) → run due told (xs ++ ys) ≡ option_and_then (λ s. run s.0 s.1 ys) (run due told xs)
+  run-append : (due : Due) (told : Told) (xs ys : List Tree) → run due told (xs ++ ys) ≡ option_and_then (λ (s : Due × Told). run s.0 s.1 ys) (run due told xs)
   run-append due told [] ys = refl
   run-append due told (x ∷ xs) ys =
-      elim (step target base due told x) as (λ o. option_and_then (λ s. run s.0 s.1 (xs ++ ys)) o ≡ option_and_then (λ s. run s.0 s.1 ys) (option_and_then (λ s. run s.0 s.1 xs) o)) [
+      elim (step target base due told x) as (λ o. option_and_then (λ (s : Due × Told). run s.0 s.1 (xs ++ ys)) o ≡ option_and_then (λ (s : Due × Told). run s.0 s.1 ys) (option_and_then (λ (s : Due × Told). run s.0 s.1 xs) o)) [
         | None ↦ refl
         | Some s ↦ run-append s.0 s.1 xs ys
       ]
 
   -- a listing is read to its end
   abbrev rows_due : Bool → ℕ → ℕ → List Tree → Bool → Option (Due × Told)
-  rows_due d r t rows b = option_and_then (λ s. run s.0 s.1 []) (only_if b (Nothing, made d r t rows []))
+  rows_due d r t rows b = option_and_then (λ (s : Due × Told). run s.0 s.1 []) (only_if b (Nothing, made d r t rows []))
 
   run_full : (r t l : ℕ) (rows : List Tree) → are_rows target rows ≡ true
       → run Status untold (start_tags false r t l ++ list (code "mlcl") (trees_of rows) ∷ []) ≡ Some (Nothing, made false r t rows [])
@@ -324,14 +342,14 @@ module _ (target : Target) (base : ℕ) where
 
   abbrev kind_due : ℕ → ℕ → ℕ → List Tree → List Tree → Bool → Option (Due × Told)
   kind_due r t l rows gone b =
-      option_and_then (λ s. run s.0 s.1 (leaf (code "musr") (U32 r) ∷ leaf (code "mtco") (U32 t) ∷ leaf (code "mrco") (U32 l) ∷ list (code "mlcl") (trees_of rows) ∷ list (code "mudl") (trees_of gone) ∷ []))
+      option_and_then (λ (s : Due × Told). run s.0 s.1 (leaf (code "musr") (U32 r) ∷ leaf (code "mtco") (U32 t) ∷ leaf (code "mrco") (U32 l) ∷ list (code "mlcl") (trees_of rows) ∷ list (code "mudl") (trees_of gone) ∷ []))
       (only_if b (Revision, made true 0 0 [] []))
 
   abbrev delta_rows_due : ℕ → ℕ → List Tree → List Tree → Bool → Option (Due × Told)
-  delta_rows_due r t rows gone b = option_and_then (λ s. run s.0 s.1 (list (code "mudl") (trees_of gone) ∷ [])) (only_if b (Gone, made true r t rows []))
+  delta_rows_due r t rows gone b = option_and_then (λ (s : Due × Told). run s.0 s.1 (list (code "mudl") (trees_of gone) ∷ [])) (only_if b (Gone, made true r t rows []))
 
   abbrev gone_due : ℕ → ℕ → List Tree → List Tree → Bool → Option (Due × Told)
-  gone_due r t rows gone b = option_and_then (λ s. run s.0 s.1 []) (only_if b (Nothing, made true r t rows gone))
+  gone_due r t rows gone b = option_and_then (λ (s : Due × Told). run s.0 s.1 []) (only_if b (Nothing, made true r t rows gone))
 
   run_delta : (r t l : ℕ) (rows gone : List Tree) → are_rows target rows ≡ true → are_keys target gone ≡ true → 0 < base
       → run Status untold (start_tags true r t l ++ list (code "mlcl") (trees_of rows) ∷ list (code "mudl") (trees_of gone) ∷ []) ≡ Some (Nothing, made true r t rows gone)
@@ -342,7 +360,7 @@ module _ (target : Target) (base : ℕ) where
       ∙ ap (λ ts. gone_due r t rows ts (are_keys target ts)) (listed_again gone)
       ∙ ap (gone_due r t rows gone) k
 
-  abbrev told_as : Listing → Told
+  abbrev pub told_as : Listing → Told
   told_as l = made l.is_delta l.revision l.total (map (λ row. row.1) l.rows) (cond l.is_delta (key_tags target l.gone) [])
 
   run_told : (d : Bool) (r t l : ℕ) (rows : List Tree) (gone : List ℕ) → are_rows target rows ≡ true → (d ≡ true → 0 < base)
@@ -430,7 +448,7 @@ module _ (target : Target) (base : ℕ) where
   read_ok due told last n (t ∷ ts) h =
       elim (is_listings t) as (λ b. go_on n ts (cond b (step target base due told t) (Some (due, told))) ≡ Ok last
       → run target base due told (cond b (t ∷ filter is_listings ts) (filter is_listings ts)) ≡ Some (Nothing, last)) [
-        | true ↦ elim (step target base due told t) as (λ o. go_on n ts o ≡ Ok last → option_and_then (λ s. run target base s.0 s.1 (filter is_listings ts)) o ≡ Some (Nothing, last)) [
+        | true ↦ elim (step target base due told t) as (λ o. go_on n ts o ≡ Ok last → option_and_then (λ (s : Due × Told). run target base s.0 s.1 (filter is_listings ts)) o ≡ Some (Nothing, last)) [
           | None ↦ λ g. absurd (cc)
           | Some s ↦ λ g. read_ok s.0 s.1 last (suc n) ts g
         ]
@@ -454,19 +472,97 @@ module _ (target : Target) (base : ℕ) where
         ∙ ap (λ c. filter is_listings before ++ cond c (t ∷ filter is_listings ts) (filter is_listings ts)) e
 
     run_next : (ts : List Tree) → run target base Status untold (filter is_listings before ++ ts) ≡ run target base due told ts
-    run_next ts = run-append target base Status untold (filter is_listings before) ts ∙ ap (option_and_then (λ s. run target base s.0 s.1 ts)) so_far
+    run_next ts = run-append target base Status untold (filter is_listings before) ts ∙ ap (option_and_then (λ (s : Due × Told). run target base s.0 s.1 ts)) so_far
 
     stuck_next : (t : Tree) → is_listings t ≡ true → step target base due told t ≡ None → ¬ (Begins target base (before ++ t ∷ []))
-    stuck_next t own none (later, listing, a) =
+    stuck_next t own fails (later, listing, a) =
         not_some (Nothing, told_as target base listing)
         (sym
-        (ap (option_and_then (λ s. run target base s.0 s.1 (filter is_listings later))) (sym none)
+        (ap (option_and_then (λ (s : Due × Told). run target base s.0 s.1 (filter is_listings later))) (sym fails)
         ∙ sym (run_next (t ∷ filter is_listings later))
         ∙ ap (run target base Status untold) (sym (own_next true t later own))
         ∙ run_members target base listing ((before ++ t ∷ []) ++ later) a))
 
     no_end : (due ≡ Nothing → ⊥) → ¬ ((listing : Listing) × AreMembersOf target base listing before)
-    no_end open_end (listing, a) = open_end (first_same (sym so_far ∙ run_members target base listing before a))
-      where
-        first_same : {x y : Due × Told} → Some x ≡ Some y → x.0 ≡ y.0
-        first_same e = ap (λ s. s.0) (let same : _ ≡ _ = cc in same)
+    no_end open_end (listing, a) = open_end (ap (λ (found : Option (Due × Told)). let s : Due × Told = unwrap_or found (due, told) in s.0) (sym so_far ∙ run_members target base listing before a))
+
+    -- where reading ends too early, or at such a member
+    stuck_at_end : (n : ℕ) (p : ℕ) → ended due told n ≡ Err p → n ≡ length before → IsStuck target base before p
+    stuck_at_end n p h at =
+        let why = not_ended due told n p h in
+        let place : p ≡ length before = sym why.1 ∙ at in
+        record {
+          before = subst (Begins target base) (sym (ap (λ k. take k before) place ∙ taken_whole before)) begun_so_far;
+          here = inr (place, no_end why.0);
+        }
+
+    stuck_at_member : (n p : ℕ) (t : Tree) (ts : List Tree) → is_listings t ≡ true → step target base due told t ≡ None → n ≡ p → n ≡ length before → IsStuck target base (before ++ t ∷ ts) p
+    stuck_at_member n p t ts own fails same at =
+        let place : p ≡ length before = sym same ∙ at in
+        record {
+          before = subst (Begins target base) (sym (ap (λ k. take k (before ++ t ∷ ts)) place ∙ taken_front before (t ∷ ts))) begun_so_far;
+          here = inl (omega (arith, place, length-append before (t ∷ ts)),
+              λ b. stuck_next t own fails (subst (Begins target base) (ap (λ k. take (k + 1) (before ++ t ∷ ts)) place ∙ taken_more before t ts) b));
+        }
+
+  err_path : (n p : ℕ) → let a : Result Told ℕ = Err n in let b : Result Told ℕ = Err p in a ≡ b → n ≡ p
+  err_path n p h = cc
+
+  read_err : (before : List Tree) (due : Due) (told : Told) (n p : ℕ) (ts : List Tree) → run target base Status untold (filter is_listings before) ≡ Some (due, told) → n ≡ length before
+      → read_from target base due told n ts ≡ Err p → IsStuck target base (before ++ ts) p
+  read_err before due told n p [] so_far at h = subst (λ ms. IsStuck target base ms p) (sym (append-nil before)) (stuck_at_end before due told so_far n p h at)
+  read_err before due told n p (t ∷ ts) so_far at h =
+      elim (is_listings t) as (λ b. is_listings t ≡ b → go_on n ts (cond b (step target base due told t) (Some (due, told))) ≡ Err p → IsStuck target base (before ++ t ∷ ts) p) [
+        | true ↦ λ own. elim (step target base due told t) as (λ o. step target base due told t ≡ o → go_on n ts o ≡ Err p → IsStuck target base (before ++ t ∷ ts) p) [
+          | None ↦ λ fails g. stuck_at_member before due told so_far n p t ts own fails (err_path n p g) at
+          | Some s ↦ λ some g.
+              subst (λ ms. IsStuck target base ms p) (append_assoc before (t ∷ []) ts)
+              (read_err (before ++ t ∷ []) s.0 s.1 (suc n) p ts
+              (ap (run target base Status untold) (shown_own before t true own) ∙ run_next before due told so_far (t ∷ []) ∙ ap (option_and_then (λ z. run target base z.0 z.1 [])) some)
+              (omega (arith, at, length-append before (t ∷ []))) g)
+        ] refl
+        | false ↦ λ other g.
+            subst (λ ms. IsStuck target base ms p) (append_assoc before (t ∷ []) ts)
+            (read_err (before ++ t ∷ []) due told (suc n) p ts
+            (ap (run target base Status untold) (shown_own before t false other) ∙ run_next before due told so_far [])
+            (omega (arith, at, length-append before (t ∷ []))) g)
+      ] refl h
+
+-- ---- a tag
+
+placed_ok : (r : Result Told ℕ) (told : Told) → placed r ≡ Ok told → r ≡ Ok told
+placed_ok (Ok a) told h = cc
+placed_ok (Err p) told h = absurd (cc)
+
+placed_err : (r : Result Told ℕ) (index : Option ℕ) → placed r ≡ Err index → (p : ℕ) × (index ≡ Some p) × (r ≡ Err p)
+placed_err (Ok a) index h = absurd (cc)
+placed_err (Err p) index h = (p, cc, refl)
+
+pub read_listing : (target : Target) (base : ℕ) (tag : Tree) (told : Told) → read_tag target base tag ≡ Ok told → IsListing target base (listing_of target told) tag
+read_listing target base tag told h =
+    elim (members_in (body_code target) tag) as (λ o. members_in (body_code target) tag ≡ o → read_members target base o ≡ Ok told → IsListing target base (listing_of target told) tag) [
+      | None ↦ λ e g. absurd (cc)
+      | Some ms ↦ λ e g. record {
+          members = ms;
+          is = members_is (body_code target) tag ms e;
+          read = read_members_of target base told ms (placed_ok (read_from target base Status untold 0 ms) told g);
+        }
+    ] refl h
+
+no_members : (target : Target) (tag : Tree) → members_in (body_code target) tag ≡ None → (members : List Tree) → ¬ (tag ≡ list (body_code target) (trees_of members))
+no_members target tag fails members is =
+    not_some (tree_list (trees_of members))
+    (sym (ap (λ b. only_if b (tree_list (trees_of members))) (body_itself target)) ∙ sym (ap (members_in (body_code target)) is) ∙ fails)
+
+pub read_stuck : (target : Target) (base : ℕ) (tag : Tree) (index : Option ℕ) → read_tag target base tag ≡ Err index → IsNoListing target base tag index
+read_stuck target base tag index h =
+    elim (members_in (body_code target) tag) as (λ o. members_in (body_code target) tag ≡ o → read_members target base o ≡ Err index → IsNoListing target base tag index) [
+      | None ↦ λ e g. subst (IsNoListing target base tag) (index_path None index g) (no_members target tag e)
+      | Some ms ↦ λ e g.
+          let found = placed_err (read_from target base Status untold 0 ms) index g in
+          subst (IsNoListing target base tag) (sym found.1)
+          (ms, members_is (body_code target) tag ms e, read_err target base [] Status untold 0 found.0 ms refl refl found.2)
+    ] refl h
+  where
+    index_path : (a b : Option ℕ) → let r : Result Told (Option ℕ) = Err a in let s : Result Told (Option ℕ) = Err b in r ≡ s → a ≡ b
+    index_path a b e = cc

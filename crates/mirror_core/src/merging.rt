@@ -1,13 +1,60 @@
 //! The held rows after a change.
 
-ghost use Rattle.std.specs.Prelude.{◌≡◌, ◌≤◌, ◌<◌, ◌+◌, ◌++◌, ℕ, List, length, vec_len, vec_capacity};
+ghost use Rattle.std.specs.Prelude.{◌≡◌, ◌≤◌, ◌<◌, ◌+◌, ◌++◌, [], ℕ, List, length, vec_len, vec_capacity, fold, map, OnOk, OnErr, if◌then◌else◌};
 ghost use Rattle.dmap_tags.specs.Tree.{Tree};
+ghost use Rattle.share_history.specs.Keyed.{put_in, taken_out, IsAscending};
+ghost use Rattle.mirror_core.specs.Reading.{row_of, key_of};
 ghost use Rattle.mirror_core.specs.Changes.{Change, changed, past_row, merged, next_order, with_next};
 
-use crate::changes::Changes;
+use crate::changes::{Changes, changes};
+use crate::told::ToldRef;
 use dmap_tags::Tag;
+use item_model::Target;
+use std::alloc::{AllocError, Global};
 use std::cmp::Ordering;
 use std::collections::VecDeque;
+use std::mem;
+
+// Takes a listing into held rows. All memory is taken first, so that after an `Err` the rows are as before.
+pub(crate) fn take_in(
+    alloc: Global,
+    target: Target,
+    held: &mut Vec<(u32, Tag)>,
+    told: ToldRef<'_>,
+) -> Result<(), AllocError>
+    ensures rows { OnOk result (IsAscending held.old.items → held.new.items ≡ fold put_in (if told.entry.is_delta then fold taken_out held.old.items (map (key_of target) told.entry.gone.now) else []) (map (row_of target) told.entry.rows.now)) }
+    ensures unchanged { OnErr result (held.new.items ≡ held.old.items) }
+{
+    let changes = match changes(alloc, target, told.gone, told.rows) {
+        Ok(changes) => changes,
+        Err(error) => return Err(error),
+    };
+    let room = kept_len(told.is_delta, held.as_slice()) + changes.len();
+    let out = match Vec::with_capacity(alloc, room) {
+        Ok(out) => out,
+        Err(error) => return Err(error),
+    };
+    let before = mem::replace(held, Vec::new(alloc));
+    *held = merge(out, kept(alloc, told.is_delta, before), changes);
+    Ok(())
+}
+
+fn kept_len(is_delta: bool, held: &[(u32, Tag)]) -> usize
+    ensures { result ≡ length (if is_delta then held.now else []) }
+{
+    if is_delta { held.len() } else { 0 }
+}
+
+// A full listing keeps no held rows.
+fn kept(alloc: Global, is_delta: bool, held: Vec<(u32, Tag)>) -> VecDeque<(u32, Tag)>
+    ensures { result.items ≡ (if is_delta then held.items else []) }
+{
+    if is_delta {
+        VecDeque::from_vec(held)
+    } else {
+        VecDeque::new(alloc)
+    }
+}
 
 // The held rows with the changes, behind what stands in a vector that has room for all of them.
 pub(crate) fn merge(

@@ -5,6 +5,8 @@ ghost use Rattle.share_history.specs.Listings.{Listing};
 ghost use Rattle.share_history.specs.Mirror.{mirror_after, mirror_look};
 ghost use Rattle.mirror_core.specs.Bodies.{IsListing, IsNoListing};
 
+use crate::merging::take_in;
+use crate::reading::read;
 use dmap_tags::Tag;
 use item_model::{Look, Meta, Query, Range, Target};
 use std::alloc::{AllocError, Global};
@@ -126,5 +128,39 @@ impl Mirror {
             Some(row) => Some((row.0, &row.1)),
             None => None,
         }
+    }
+
+    /// Takes a listing in. After an `Err` the mirror is as before.
+    pub fn apply(&mut self, body: &Tag) -> Result<Applied, MirrorError>
+        ensures applied { IfOk result (λ applied. (listing : Listing) × IsListing self.old.target self.old.held.revision listing body.now
+            × (self.old.held.revision ≤ listing.revision)
+            × (self.new ≡ record { target = self.old.target; query = self.old.query; meta = self.old.meta; held = mirror_after self.old.held listing })
+            × (applied ≡ record { revision = listing.revision; delta = listing.is_delta; put = length listing.rows; dropped = length listing.gone; rows = length self.new.held.rows })) }
+        ensures no_listing { (index : Option ℕ) → (result ≡ Err (MirrorError.NotListing index)) → IsNoListing self.old.target self.old.held.revision body.now index }
+        ensures backwards { (held told : ℕ) → (result ≡ Err (MirrorError.Backwards held told)) → (listing : Listing) × IsListing self.old.target self.old.held.revision listing body.now × (held ≡ self.old.held.revision) × (told ≡ listing.revision) × (told < held) }
+        ensures unchanged { OnErr result (self.new ≡ self.old) }
+    {
+        let told = match read(self.target, self.revision, body) {
+            Ok(told) => told,
+            Err(index) => return Err(MirrorError::NotListing { index }),
+        };
+        if told.revision < self.revision {
+            return Err(MirrorError::Backwards {
+                held: self.revision,
+                told: told.revision,
+            });
+        }
+        match take_in(self.alloc, self.target, &mut self.rows, told) {
+            Ok(()) => {}
+            Err(_) => return Err(MirrorError::Memory),
+        }
+        self.revision = told.revision;
+        Ok(Applied {
+            revision: told.revision,
+            delta: told.is_delta,
+            put: told.rows.len() as u64,
+            dropped: told.gone.len() as u64,
+            rows: self.rows.len() as u64,
+        })
     }
 }

@@ -1,8 +1,9 @@
 //! Single tags of a listing.
 
 ghost use Rattle.std.specs.Prelude.{◌≡◌, option_copied};
+ghost use Rattle.std.specs.List.{list_any};
 ghost use Rattle.share_history.specs.Bodies.{body_code, key_code};
-ghost use Rattle.mirror_core.specs.Bodies.{is_listings};
+ghost use Rattle.mirror_core.specs.Bodies.{is_code, is_listings};
 ghost use Rattle.mirror_core.specs.Reading.{number_in, mark_in, members_in, row_key, are_rows, are_keys, row_of, key_of};
 
 use dmap_tags::{Code, Tag, Value};
@@ -30,7 +31,7 @@ pub(crate) fn key_code(target: Target) -> Code
 pub(crate) fn is_listings(tag: &Tag) -> bool
     ensures { result ≡ is_listings tag.now }
 {
-    [
+    let codes = [
         Code(*b"mstt"),
         Code(*b"muty"),
         Code(*b"musr"),
@@ -38,8 +39,19 @@ pub(crate) fn is_listings(tag: &Tag) -> bool
         Code(*b"mrco"),
         Code(*b"mlcl"),
         Code(*b"mudl"),
-    ]
-    .contains(&tag.code)
+    ];
+    is_one_of(tag.code, &codes)
+}
+
+fn is_one_of(code: Code, codes: &[Code]) -> bool
+    ensures { result ≡ list_any (λ c. is_code c code) codes.now }
+{
+    for of in codes {
+        if *of == code {
+            return true;
+        }
+    }
+    false
 }
 
 pub(crate) fn number_in(of: Code, tag: &Tag) -> Option<u32>

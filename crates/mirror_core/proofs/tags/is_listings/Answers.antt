@@ -6,4 +6,4 @@ use Rattle.mirror_core.proofs.TagFacts.{code_seen}
 use Rattle.mirror_core.proofs.tags.is_listings.Goals as goal
 
 pub returns : goal.returns
-returns c = c.contains.ensures.value ∙ ap (λ d. list_any (λ e. is_code e d) listing_codes) (code_seen c.tag.inside.code c.tag.inside.value c.args.tag.now c.tag.view_is)
+returns c = c.is_one_of.ensures ∙ ap (λ d. list_any (λ e. is_code e d) listing_codes) (code_seen c.tag.inside.code c.tag.inside.value c.args.tag.now c.tag.view_is)
