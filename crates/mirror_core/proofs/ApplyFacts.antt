@@ -1,9 +1,7 @@
 -- What a mirror is after a listing, and why it is left.
-use Rattle.std.proofs.Common.{◌≡◌, ℕ, ◌<◌, List, [], Bool, true, false, cond, fold, map, Option, Result, Ok, Err, refl, sym, ap, ◌∙◌, subst}
+use Rattle.std.proofs.Common.{◌≡◌, ℕ, List, [], Bool, true, false, cond, fold, map, Option, Ok, Err, sym, ap, ◌∙◌, subst}
 use Rattle.dmap_tags.specs.Tree.{Tree}
-use Rattle.item_model.specs.declared.request.Target.{Target}
 use Rattle.share_history.specs.Keyed.{put_in, taken_out, IsAscending}
-use Rattle.share_history.specs.Listings.{Listing}
 use Rattle.share_history.specs.Mirror.{mirror_after}
 use Rattle.share_history.proofs.KeyedFacts.{ascending-puts, ascending-outs, sorted-ascending}
 use Rattle.mirror_core.specs.Mirrored.{Mirrored}

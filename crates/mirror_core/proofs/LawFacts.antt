@@ -1,17 +1,17 @@
 -- The laws of listings: a tag is one listing at most, or stuck at one place.
-use Rattle.std.proofs.Common.{◌≡◌, ℕ, ◌+◌, ◌-◌, ◌<◌, ◌≤◌, Bool, true, false, cond, List, [], ◌∷◌, ◌++◌, map, take, drop, length, refl, sym, ap, ◌∙◌, subst, true≢false, inl, inr, ◌⊎◌, ⊎_elim, Option, Some, None, unwrap_or, append_assoc, append-nil, take-append-drop, arith}
+use Rattle.std.proofs.Common.{◌≡◌, ℕ, ◌+◌, ◌<◌, ◌≤◌, Bool, true, false, cond, List, [], ◌∷◌, ◌++◌, map, take, drop, length, refl, sym, ap, ◌∙◌, subst, inl, inr, ◌⊎◌, ⊎_elim, Option, Some, None, unwrap_or, append_assoc, append-nil, take-append-drop, arith}
 use Rattle.std.specs.List.{All}
 use Rattle.std.proofs.lemmas.Bool.{cases_order}
 use Rattle.std.proofs.lemmas.List.{take-take}
 use Rattle.std.proofs.lemmas.List.Elements.{All-head, All-tail}
 use Rattle.dmap_tags.specs.Codes.{Four}
-use Rattle.dmap_tags.specs.Tree.{Tree, Trees, leaf, list, trees_of, tree_list, U32}
+use Rattle.dmap_tags.specs.Tree.{Tree, leaf, list, trees_of, tree_list}
 use Rattle.item_model.specs.declared.request.Target.{Target}
 use Rattle.share_history.specs.Listings.{Listing}
-use Rattle.share_history.specs.Bodies.{body_code, key_code}
+use Rattle.share_history.specs.Bodies.{body_code}
 use Rattle.mirror_core.specs.declared.told.Due.{Due}
 use Rattle.mirror_core.specs.declared.told.Due.TheVariants.{Nothing}
-use Rattle.mirror_core.specs.Bodies.{IsRow, AreMembersOf, IsListing, Begins, IsStuck, IsNoListing}
+use Rattle.mirror_core.specs.Bodies.{IsRow, AreMembersOf, Begins, IsStuck}
 use Rattle.mirror_core.specs.Laws.{ListingsAreOne, ListingsAreNotStuck, TagsAreStuckOnce}
 use Rattle.mirror_core.specs.Reading.{Told, row_of, key_of, listing_of}
 use Rattle.mirror_core.proofs.TagFacts.{listed_again}

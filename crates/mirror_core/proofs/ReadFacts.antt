@@ -1,11 +1,11 @@
 -- What reading a body finds: the listing that it is, or the place at which it is none.
-use Rattle.std.proofs.Common.{◌≡◌, ℕ, zero, suc, ◌+◌, ◌<◌, ◌==◌, Bool, true, false, cond, not, ◌&&◌, ◌||◌, nat_lt, List, [], ◌∷◌, ◌++◌, map, filter, take, drop, length, refl, sym, ap, ◌∙◌, subst, true≢false, inl, inr, Option, Some, None, is_some, unwrap_or, option_map, option_and_then, Result, Ok, Err, append-nil, append_assoc, add-one, length-append, eqb-true, lt-ltb, ltb-true, arith}
+use Rattle.std.proofs.Common.{◌≡◌, ℕ, suc, ◌+◌, ◌<◌, ◌==◌, Bool, true, false, cond, not, ◌&&◌, ◌||◌, nat_lt, List, [], ◌∷◌, ◌++◌, map, filter, take, drop, length, refl, sym, ap, ◌∙◌, subst, true≢false, inl, inr, Option, Some, None, is_some, unwrap_or, option_map, option_and_then, Result, Ok, Err, append-nil, append_assoc, add-one, length-append, eqb-true, lt-ltb, ltb-true, arith}
 use Rattle.std.specs.Option.{option_map_or}
 use Rattle.std.specs.List.{All}
-use Rattle.std.proofs.lemmas.Bool.{and_parts, and_from, cases_Bool}
+use Rattle.std.proofs.lemmas.Bool.{and_parts, and_from}
 use Rattle.std.proofs.lemmas.List.Elements.{All-nil, All-cons, All-head, All-tail, filter-append}
 use Rattle.dmap_tags.specs.Codes.{Four, code}
-use Rattle.dmap_tags.specs.Tree.{Tree, Trees, Leaf, leaf, list, none, more, trees_of, tree_list, U8, I8, U16, I16, U32, I32, U64, I64, Text, Date, Version, Opaque}
+use Rattle.dmap_tags.specs.Tree.{Tree, Trees, leaf, list, none, more, trees_of, tree_list, U8, I8, U16, I16, U32, I32, U64, I64, Text, Date, Version, Opaque}
 use Rattle.item_model.specs.declared.request.Target.{Target}
 use Rattle.item_model.specs.declared.request.Target.TheVariants.{Items, Container}
 use Rattle.share_history.specs.LastSaid.{only_if}
@@ -14,7 +14,7 @@ use Rattle.share_history.specs.Bodies.{start_tags, body_code, key_code, gone_tag
 use Rattle.mirror_core.specs.declared.told.Due.{Due}
 use Rattle.mirror_core.specs.declared.told.Due.TheVariants.{Status, Kind, Revision, Total, Listed, Rows, Gone, Nothing}
 use Rattle.mirror_core.specs.Bodies.{is_code, is_listings, IsRow, AreMembersOf, IsListing, Begins, IsStuck, IsNoListing}
-use Rattle.mirror_core.specs.Reading.{Told, untold, number_in, marked, mark_in, members_in, row_key, are_rows, are_keys, row_of, key_of, listing_of, after_rows, step, passed, ended, read_from, placed, read_members, read_tag}
+use Rattle.mirror_core.specs.Reading.{Told, untold, number_in, marked, mark_in, members_in, row_key, are_rows, are_keys, row_of, key_of, listing_of, after_rows, step, ended, read_from, placed, read_members, read_tag}
 use Rattle.mirror_core.proofs.TagFacts.{listed_again}
 
 -- ---- tests on tags
@@ -413,11 +413,13 @@ module _ (target : Target) (base : ℕ) where
   -- what was read goes on to a listing
   begun : (due : Due) (told : Told) (ms : List Tree) → Reads target base due told (filter is_listings ms) → Begins target base ms
   begun due told ms r =
-      let later : List Tree = drop (count due) (whole told r.listed) in
-      (later, listing_of target told,
-      are_members told r.listed (ms ++ later)
-      (filter-append is_listings ms later ∙ ap (λ front. front ++ filter is_listings later) r.front ∙ filter_own due told.is_delta told.revision told.total r.listed told.rows told.gone)
-      r.rows r.gone r.on_held r.full)
+      let later : List Tree = drop (count due) (whole told r.listed) in (
+        later,
+        listing_of target told,
+        are_members told r.listed (ms ++ later)
+            (filter-append is_listings ms later ∙ ap (λ front. front ++ filter is_listings later) r.front ∙ filter_own due told.is_delta told.revision told.total r.listed told.rows told.gone)
+            r.rows r.gone r.on_held r.full,
+      )
 
   ended_at : (due : Due) (told last : Told) (n : ℕ) → ended due told n ≡ Ok last → (due ≡ Nothing) × (told ≡ last)
   ended_at Status told last n h = absurd (cc)
@@ -501,8 +503,10 @@ module _ (target : Target) (base : ℕ) where
         let place : p ≡ length before = sym same ∙ at in
         record {
           before = subst (Begins target base) (sym (ap (λ k. take k (before ++ t ∷ ts)) place ∙ taken_front before (t ∷ ts))) begun_so_far;
-          here = inl (omega (arith, place, length-append before (t ∷ ts)),
-              λ b. stuck_next t own fails (subst (Begins target base) (ap (λ k. take (k + 1) (before ++ t ∷ ts)) place ∙ taken_more before t ts) b));
+          here = inl (
+            omega (arith, place, length-append before (t ∷ ts)),
+            λ b. stuck_next t own fails (subst (Begins target base) (ap (λ k. take (k + 1) (before ++ t ∷ ts)) place ∙ taken_more before t ts) b),
+          );
         }
 
   err_path : (n p : ℕ) → let a : Result Told ℕ = Err n in let b : Result Told ℕ = Err p in a ≡ b → n ≡ p
@@ -543,10 +547,10 @@ read_listing target base tag told h =
     elim (members_in (body_code target) tag) as (λ o. members_in (body_code target) tag ≡ o → read_members target base o ≡ Ok told → IsListing target base (listing_of target told) tag) [
       | None ↦ λ e g. absurd (cc)
       | Some ms ↦ λ e g. record {
-          members = ms;
-          is = members_is (body_code target) tag ms e;
-          read = read_members_of target base told ms (placed_ok (read_from target base Status untold 0 ms) told g);
-        }
+        members = ms;
+        is = members_is (body_code target) tag ms e;
+        read = read_members_of target base told ms (placed_ok (read_from target base Status untold 0 ms) told g);
+      }
     ] refl h
 
 no_members : (target : Target) (tag : Tree) → members_in (body_code target) tag ≡ None → (members : List Tree) → ¬ (tag ≡ list (body_code target) (trees_of members))

@@ -1,11 +1,11 @@
 -- What a listing changes, by key: a deleted key is left without a tag, and a listed one gets its tag. The held rows and
 -- the changes, both ascending by key, make the rows that are held then.
-use Rattle.std.specs.Prelude.{ℕ, List, [], ◌∷◌, Option, Some, None, map, fold}
+use Rattle.std.specs.Prelude.{ℕ, List, [], ◌∷◌, Option, Some, None, fold}
 use Rattle.std.specs.declared.cmp.Ordering.{Ordering}
 use Rattle.std.specs.declared.cmp.Ordering.TheVariants.{Greater}
 use Rattle.std.specs.Ordering.{nat_cmp, match_ordering}
 use Rattle.dmap_tags.specs.Tree.{Tree}
-use Rattle.share_history.specs.Keyed.{put_in, taken_out}
+use Rattle.share_history.specs.Keyed.{put_in}
 
 abbrev pub Change : Type 0
 Change = ℕ × Option Tree

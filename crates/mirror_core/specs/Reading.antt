@@ -2,7 +2,7 @@
 use Rattle.std.specs.Prelude.{ℕ, suc, List, [], ◌∷◌, Bool, true, false, ◌==◌, ◌&&◌, ◌||◌, not, nat_lt, map, Option, Some, None, unwrap_or, is_some, option_map, option_and_then, Result, Ok, Err, if◌then◌else◌}
 use Rattle.std.specs.Option.{option_map_or}
 use Rattle.dmap_tags.specs.Codes.{Four, code}
-use Rattle.dmap_tags.specs.Tree.{Tree, Trees, leaf, list, none, more, tree_list, U8, U32}
+use Rattle.dmap_tags.specs.Tree.{Tree, leaf, list, none, more, tree_list, U8, U32}
 use Rattle.item_model.specs.declared.request.Target.{Target}
 use Rattle.share_history.specs.LastSaid.{only_if}
 use Rattle.share_history.specs.Listings.{Listing}

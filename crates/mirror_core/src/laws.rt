@@ -3,13 +3,11 @@
 ghost use Rattle.mirror_core.specs.Laws.{ListingsAreOne, ListingsAreNotStuck, TagsAreStuckOnce};
 
 /// A tag is at most one listing.
-#[tactic(auto, using(crate::proofs::LawFacts::listings_are_one))]
 pub fn a_tag_is_one_listing()
     ensures { ListingsAreOne }
 {}
 
 /// A tag is not both a listing and refused as none.
-#[tactic(auto, using(crate::proofs::LawFacts::listings_are_not_stuck))]
 pub fn a_listing_is_not_stuck()
     ensures { ListingsAreNotStuck }
 {}

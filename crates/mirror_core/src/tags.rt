@@ -58,13 +58,7 @@ pub(crate) fn number_in(of: Code, tag: &Tag) -> Option<u32>
     ensures { result ≡ number_in of tag.now }
 {
     match &tag.value {
-        Value::U32(n) => {
-            if tag.code == of {
-                Some(*n)
-            } else {
-                None
-            }
-        }
+        Value::U32(n) => { if tag.code == of { Some(*n) } else { None } }
         _ => None,
     }
 }
