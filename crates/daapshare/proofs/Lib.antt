@@ -8,3 +8,4 @@ pub mod Endings
 pub mod Learned
 pub mod Backed
 pub mod Causes
+pub mod Mirrors

@@ -19,3 +19,4 @@ pub mod Backing
 pub mod Learning
 pub mod Rehearses
 pub mod Rehearsing
+pub mod MirrorLaw

@@ -8,6 +8,7 @@ mod back;
 mod check;
 mod codes;
 mod fault;
+pub mod laws;
 mod learn;
 mod list;
 mod listing;

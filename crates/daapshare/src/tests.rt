@@ -13,6 +13,7 @@ use std::test::Fail;
 
 mod back;
 mod codes;
+mod rehearse;
 
 /// The listing of one item with id 7 and name `A`, at revision 3.
 pub(crate) fn one_item() -> &'static [u8] {
