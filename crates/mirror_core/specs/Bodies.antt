@@ -8,6 +8,7 @@ use Rattle.item_model.specs.declared.request.Target.{Target}
 use Rattle.share_history.specs.Listings.{Listing}
 use Rattle.share_history.specs.Bodies.{start_tags, body_code, key_code, gone_tags}
 
+-- whether two codes are one
 abbrev pub is_code : Four → Four → Bool
 is_code a b = (a.0 == b.0) && ((a.1 == b.1) && ((a.2 == b.2) && (a.3 == b.3)))
 

@@ -1,3 +1,4 @@
+-- The law is its lemma.
 use Rattle.mirror_core.proofs.LawFacts.{listings_are_not_stuck}
 use Rattle.mirror_core.proofs.laws.a_listing_is_not_stuck.Goals as goal
 

@@ -1,3 +1,4 @@
+-- The law is its lemma.
 use Rattle.mirror_core.proofs.LawFacts.{listings_are_one}
 use Rattle.mirror_core.proofs.laws.a_tag_is_one_listing.Goals as goal
 
