@@ -1,4 +1,3 @@
-pub mod Listed
 pub mod Tagged
 pub mod Counting
 pub mod Counted

@@ -1,22 +1,19 @@
 //! The full listing of the items that a batch leaves, as a look asks for it.
 
-ghost use Rattle.std.specs.Prelude.{◌≡◌, ◌≤◌, ◌++◌, ◌∷◌, [], List, All as AllOf, length, None, if◌then◌else◌, option_copied, IfOk, OnOk};
+ghost use Rattle.std.specs.Prelude.{◌≡◌, ◌≤◌, length, IfOk};
 ghost use Rattle.item_model.specs.Valid.{AreValid};
-ghost use Rattle.item_model.specs.declared.changes.Edit.{Edit};
 ghost use Rattle.item_model.specs.declared.request.Range.TheVariants.{All};
-ghost use Rattle.item_model.specs.declared.request.Target.TheVariants.{Items};
 ghost use Rattle.item_store.specs.Stands.{StandsFor};
-ghost use Rattle.listing_plan.specs.Plans.{keyed, plan_bytes, IsWritable};
-ghost use Rattle.share_history.specs.Histories.{opening, batches, edits};
-ghost use Rattle.share_history.specs.Keyed.{pairs_at};
-ghost use Rattle.share_history.specs.Rows.{row_at, rows, is_asked};
+ghost use Rattle.listing_plan.specs.Plans.{plan_bytes, IsWritable};
+ghost use Rattle.share_history.specs.Histories.{opening, batches};
 ghost use Rattle.daapshare.specs.Listing.{listing_bytes};
 
 use edit_log::EditLog;
-use item_model::{Batch, Edit, Entries, Entry, Look, Query, Row, Target};
+use item_listings::full_items;
+use item_model::{Batch, Edit, Entries, Entry, Look};
 use item_store::ItemStore;
-use listing_plan::{Plan, PlanRow};
-use share_history::{FIRST_REVISION, is_asked};
+use listing_plan::Plan;
+use share_history::FIRST_REVISION;
 use std::alloc::{AllocError, Global};
 
 /// For how many revisions the store of a share that is listed once keeps what changed. It takes one at least.
@@ -52,9 +49,7 @@ fn planned(alloc: Global, edits: &[Edit], look: Look) -> Result<Plan, AllocError
     ensures writable { IfOk result (λ plan. IsWritable plan) }
 {
     let store = store_of(alloc, edits)?;
-    let rows = asked_rows(alloc, &store, look.query.as_ref())?;
-    let total = rows.len() as u32;
-    Ok(Plan::full(Target::Items, store.revision(), total, rows, look.meta))
+    full_items(alloc, &store, look)
 }
 
 /// The items of a share that is opened with the edits.
@@ -79,53 +74,4 @@ fn history_of(alloc: Global, batch: Batch) -> Result<Entries, AllocError>
         log.append(Entry::Edits { by: 0, batch });
     }
     Ok(Entries::of(log.into_entries()))
-}
-
-/// The items that a query asks for, ascending by id.
-fn asked_rows(
-    alloc: Global,
-    store: &ItemStore,
-    query: Option<&Query>,
-) -> Result<Vec<PlanRow>, AllocError>
-    ensures rows { IfOk result (λ asked. (bs : List (List Edit)) → StandsFor bs store.now
-        → keyed asked.items ≡ rows (edits bs) Items (option_copied query.entry)) }
-    ensures members { IfOk result (λ asked. AllOf (λ row. row.member ≡ None) asked.items) }
-{
-    let mut rows = Vec::new(alloc);
-    for id in &store.ids()? {
-        push_item(&mut rows, store, *id, query)?;
-    }
-    Ok(rows)
-}
-
-/// Adds the item of an id, if it is there and asked for.
-fn push_item(
-    rows: &mut Vec<PlanRow>,
-    store: &ItemStore,
-    id: u32,
-    query: Option<&Query>,
-) -> Result<(), AllocError>
-    ensures rows { OnOk result ((bs : List (List Edit)) → StandsFor bs store.now
-        → keyed rows.new.items ≡ keyed rows.old.items ++ pairs_at (row_at (edits bs) Items (option_copied query.entry)) (id ∷ [])) }
-    ensures members { AllOf (λ row. row.member ≡ None) rows.old.items → AllOf (λ row. row.member ≡ None) rows.new.items }
-{
-    match store.get(id) {
-        Some(row) => push_asked(rows, row, query),
-        None => Ok(()),
-    }
-}
-
-/// Adds a row, if it is asked for.
-fn push_asked(rows: &mut Vec<PlanRow>, row: &Row, query: Option<&Query>) -> Result<(), AllocError>
-    ensures rows { OnOk result (keyed rows.new.items ≡ keyed rows.old.items
-        ++ (if is_asked (option_copied query.entry) row.now then (row.now.id, row.now) ∷ [] else [])) }
-    ensures members { AllOf (λ row. row.member ≡ None) rows.old.items → AllOf (λ row. row.member ≡ None) rows.new.items }
-{
-    if is_asked(query, row) {
-        rows.push(PlanRow {
-            member: None,
-            row: row.copy()?,
-        })?;
-    }
-    Ok(())
 }
