@@ -1,6 +1,0 @@
-//! stub
-#![tactic(auto)]
-
-mod whole;
-
-pub use whole::{Rehearsal, Rehearsed, rehearse};
