@@ -133,14 +133,14 @@ few_pairs value (k ∷ ks) = elim (value k) as (λ v. length (cons_option (optio
   | Some x ↦ omega (arith, few_pairs value ks)
 ]
 
-few_filtered : (p : ℕ → Bool) (ks : List ℕ) → length (filter p ks) ≤ length ks
+pub few_filtered : (p : ℕ → Bool) (ks : List ℕ) → length (filter p ks) ≤ length ks
 few_filtered p [] = omega arith
 few_filtered p (k ∷ ks) = elim (p k) as (λ b. length (cond b (k ∷ filter p ks) (filter p ks)) ≤ length (k ∷ ks)) [
   | true ↦ omega (arith, few_filtered p ks)
   | false ↦ omega (arith, few_filtered p ks)
 ]
 
-few_touched : (bs : List (List Edit)) (base : ℕ) → length (touched bs Items base) ≤ length (edits bs)
+pub few_touched : (bs : List (List Edit)) (base : ℕ) → length (touched bs Items base) ≤ length (edits bs)
 few_touched bs base =
     omega (arith, few_filtered (touches (edits bs) Items (later bs base)) (ascending (named_keys (edits bs))), folded-longer nat_cmp [] (named_keys (edits bs)), few_keys (edits bs))
 

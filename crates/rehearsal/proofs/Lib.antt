@@ -1,2 +1,4 @@
 pub mod DrawFacts
 pub mod AnswerFacts
+pub mod RowFacts
+pub mod BodyFacts
