@@ -2,5 +2,8 @@
 #![tactic(auto)]
 
 pub mod answers;
+mod carried;
 mod draws;
 mod edits;
+mod queries;
+mod summary;
