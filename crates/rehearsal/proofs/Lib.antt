@@ -3,3 +3,4 @@ pub mod AnswerFacts
 pub mod RowFacts
 pub mod BodyFacts
 pub mod CarriedFacts
+pub mod AskFacts

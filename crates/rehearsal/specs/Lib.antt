@@ -5,3 +5,4 @@ pub mod Carried
 pub mod Queries
 pub mod Asks
 pub mod Summary
+pub mod Following
