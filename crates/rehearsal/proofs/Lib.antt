@@ -4,3 +4,4 @@ pub mod RowFacts
 pub mod BodyFacts
 pub mod CarriedFacts
 pub mod AskFacts
+pub mod PlanFacts
