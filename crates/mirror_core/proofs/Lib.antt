@@ -1,0 +1,5 @@
+pub mod TagFacts
+pub mod MergeFacts
+pub mod ReadFacts
+pub mod ApplyFacts
+pub mod LawFacts

@@ -1,0 +1,6 @@
+pub mod Mirrored
+pub mod Bodies
+pub mod Reading
+pub mod ToldSeen
+pub mod Changes
+pub mod Laws

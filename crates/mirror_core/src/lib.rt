@@ -1,0 +1,16 @@
+//! A mirror of one listing of a share: it reads the bodies that the share answers with, and holds what the listing has.
+//! `specs/Bodies.antt` says which tags are listings, and `share_history` what a mirror holds after one.
+#![tactic(auto)]
+
+mod changes;
+pub mod laws;
+mod merging;
+mod mirror;
+mod reading;
+mod steps;
+mod tags;
+#[cfg(test)]
+mod tests;
+mod told;
+
+pub use mirror::{Applied, Mirror, MirrorError};

@@ -1,0 +1,166 @@
+//! A mirror.
+
+ghost use Rattle.std.specs.Prelude.{◌≡◌, ◌≤◌, ◌<◌, [], ℕ, length, Option, Err, IfOk, OnErr, option_map, slice_get};
+ghost use Rattle.share_history.specs.Listings.{Listing};
+ghost use Rattle.share_history.specs.Mirror.{mirror_after, mirror_look};
+ghost use Rattle.mirror_core.specs.Bodies.{IsListing, IsNoListing};
+
+use crate::merging::take_in;
+use crate::reading::read;
+use dmap_tags::Tag;
+use item_model::{Look, Meta, Query, Range, Target};
+use std::alloc::{AllocError, Global};
+use std::marker::Model;
+use thiserror::Error;
+
+/// What a mirror holds of one listing.
+#[derive(Debug, Drop)]
+pub struct Mirror {
+    alloc: Global,
+    target: Target,
+    query: Option<Query>,
+    meta: Meta,
+    revision: u32,
+    // ascending by key
+    rows: Vec<(u32, Tag)>,
+}
+
+impl Model for Mirror {
+    ghost use Rattle.std.specs.Coded.{codes};
+    ghost use Rattle.dmap_tags.specs.Cells.{tree_coded};
+    ghost use Rattle.item_model.specs.QueryCells.{query_coded};
+    ghost use Rattle.mirror_core.specs.Mirrored.{Mirrored};
+
+    ghost Value = { Mirrored };
+
+    ghost coded = { Prim.hlevel (codes, tree_coded, query_coded) };
+
+    ghost use Rattle.share_history.specs.Keyed.{IsAscending};
+
+    ghost view = { λ a. record { target = a.target; query = a.query; meta = a.meta; held = record { revision = a.revision; rows = a.rows.items } } };
+
+    ghost invariant = { λ a. IsAscending a.rows.items };
+}
+
+/// What applying a listing did.
+#[derive(Clone, Copy, Debug, PartialEq, Eq)]
+pub struct Applied {
+    /// The revision that the listing told.
+    pub revision: u32,
+    pub delta: bool,
+    /// How many rows were listed.
+    pub put: u64,
+    /// How many keys were deleted by name.
+    pub dropped: u64,
+    /// How many rows are held then.
+    pub rows: u64,
+}
+
+/// Why a listing was not taken in.
+#[derive(Debug, Drop, PartialEq, Eq, Error)]
+pub enum MirrorError {
+    /// The tag is no listing of the mirror's target: from the member on whose index this is, counted from 0, or
+    /// altogether.
+    #[error("the tag is no listing that the mirror takes")]
+    NotListing { index: Option<u64> },
+    /// The listing is older than what is held.
+    #[error("revision {told} is behind revision {held}")]
+    Backwards { held: u32, told: u32 },
+    #[error("out of memory")]
+    Memory,
+}
+
+impl Mirror {
+    /// A mirror that holds nothing, without memory.
+    pub fn new(alloc: Global, target: Target, query: Option<Query>, meta: Meta) -> Mirror
+        ensures { result ≡ record { target = target; query = query; meta = meta; held = record { revision = 0; rows = [] } } }
+    {
+        Mirror {
+            alloc,
+            target,
+            query,
+            meta,
+            revision: 0,
+            rows: Vec::new(alloc),
+        }
+    }
+
+    /// The held revision, 0 before the first listing.
+    pub fn base(&self) -> u32
+        ensures { result ≡ self.now.held.revision }
+    {
+        self.revision
+    }
+
+    pub fn target(&self) -> Target
+        ensures { result ≡ self.now.target }
+    {
+        self.target
+    }
+
+    /// What the mirror asks with next.
+    pub fn look(&self) -> Result<Look, AllocError>
+        ensures { IfOk result (λ look. look ≡ mirror_look self.now.query self.now.meta self.now.held.revision) }
+    {
+        let query = match &self.query {
+            Some(query) => Some(query.copy()?),
+            None => None,
+        };
+        Ok(Look {
+            query,
+            meta: self.meta.copy()?,
+            base: self.revision,
+            range: Range::All,
+        })
+    }
+
+    pub fn len(&self) -> u64
+        ensures { result ≡ length self.now.held.rows }
+    {
+        self.rows.len() as u64
+    }
+
+    /// The row of a number, counted from 0, ascending by key.
+    pub fn row(&self, n: u64) -> Option<(u32, &Tag)>
+        ensures { option_map (λ row. (row.0, row.1.now)) result ≡ slice_get self.now.held.rows n }
+    {
+        match self.rows.get(n as usize) {
+            Some(row) => Some((row.0, &row.1)),
+            None => None,
+        }
+    }
+
+    /// Takes a listing in. After an `Err` the mirror is as before.
+    pub fn apply(&mut self, body: &Tag) -> Result<Applied, MirrorError>
+        ensures applied { IfOk result (λ applied. (listing : Listing) × IsListing self.old.target self.old.held.revision listing body.now
+            × (self.old.held.revision ≤ listing.revision)
+            × (self.new ≡ record { target = self.old.target; query = self.old.query; meta = self.old.meta; held = mirror_after self.old.held listing })
+            × (applied ≡ record { revision = listing.revision; delta = listing.is_delta; put = length listing.rows; dropped = length listing.gone; rows = length self.new.held.rows })) }
+        ensures no_listing { (index : Option ℕ) → (result ≡ Err (MirrorError.NotListing index)) → IsNoListing self.old.target self.old.held.revision body.now index }
+        ensures backwards { (held told : ℕ) → (result ≡ Err (MirrorError.Backwards held told)) → (listing : Listing) × IsListing self.old.target self.old.held.revision listing body.now × (held ≡ self.old.held.revision) × (told ≡ listing.revision) × (told < held) }
+        ensures unchanged { OnErr result (self.new ≡ self.old) }
+    {
+        let told = match read(self.target, self.revision, body) {
+            Ok(told) => told,
+            Err(index) => return Err(MirrorError::NotListing { index }),
+        };
+        if told.revision < self.revision {
+            return Err(MirrorError::Backwards {
+                held: self.revision,
+                told: told.revision,
+            });
+        }
+        match take_in(self.alloc, self.target, &mut self.rows, told) {
+            Ok(()) => {}
+            Err(_) => return Err(MirrorError::Memory),
+        }
+        self.revision = told.revision;
+        Ok(Applied {
+            revision: told.revision,
+            delta: told.is_delta,
+            put: told.rows.len() as u64,
+            dropped: told.gone.len() as u64,
+            rows: self.rows.len() as u64,
+        })
+    }
+}

@@ -1,0 +1,153 @@
+//! Single tags of a listing.
+
+ghost use Rattle.std.specs.Prelude.{◌≡◌, option_copied};
+ghost use Rattle.std.specs.List.{list_any};
+ghost use Rattle.share_history.specs.Bodies.{body_code, key_code};
+ghost use Rattle.mirror_core.specs.Bodies.{is_code, is_listings};
+ghost use Rattle.mirror_core.specs.Reading.{number_in, mark_in, members_in, row_key, are_rows, are_keys, row_of, key_of};
+
+use dmap_tags::{Code, Tag, Value};
+use item_model::Target;
+
+pub(crate) fn body_code(target: Target) -> Code
+    ensures { result ≡ body_code target }
+{
+    match target {
+        Target::Items => Code(*b"adbs"),
+        Target::Container(_) => Code(*b"apso"),
+    }
+}
+
+pub(crate) fn key_code(target: Target) -> Code
+    ensures { result ≡ key_code target }
+{
+    match target {
+        Target::Items => Code(*b"miid"),
+        Target::Container(_) => Code(*b"mcti"),
+    }
+}
+
+// Whether a listing's own members have the tag's code.
+pub(crate) fn is_listings(tag: &Tag) -> bool
+    ensures { result ≡ is_listings tag.now }
+{
+    let codes = [
+        Code(*b"mstt"),
+        Code(*b"muty"),
+        Code(*b"musr"),
+        Code(*b"mtco"),
+        Code(*b"mrco"),
+        Code(*b"mlcl"),
+        Code(*b"mudl"),
+    ];
+    is_one_of(tag.code, &codes)
+}
+
+fn is_one_of(code: Code, codes: &[Code]) -> bool
+    ensures { result ≡ list_any (λ c. is_code c code) codes.now }
+{
+    for of in codes {
+        if *of == code {
+            return true;
+        }
+    }
+    false
+}
+
+pub(crate) fn number_in(of: Code, tag: &Tag) -> Option<u32>
+    ensures { result ≡ number_in of tag.now }
+{
+    match &tag.value {
+        Value::U32(n) => { if tag.code == of { Some(*n) } else { None } }
+        _ => None,
+    }
+}
+
+// Whether the tag marks a delta or a full listing.
+pub(crate) fn mark_in(tag: &Tag) -> Option<bool>
+    ensures { result ≡ mark_in tag.now }
+{
+    match &tag.value {
+        Value::U8(n) => {
+            if tag.code != Code(*b"muty") {
+                return None;
+            }
+            match *n {
+                0 => Some(false),
+                1 => Some(true),
+                _ => None,
+            }
+        }
+        _ => None,
+    }
+}
+
+#[tactic(auto, using(crate::proofs::TagFacts::listed_again))]
+pub(crate) fn members_in(of: Code, tag: &Tag) -> Option<&[Tag]>
+    ensures { option_copied result ≡ members_in of tag.now }
+{
+    match &tag.value {
+        Value::List(members) => {
+            if tag.code == of {
+                Some(members.as_slice())
+            } else {
+                None
+            }
+        }
+        _ => None,
+    }
+}
+
+// The key that a row begins with.
+pub(crate) fn row_key(target: Target, tag: &Tag) -> Option<u32>
+    ensures { result ≡ row_key target tag.now }
+{
+    match &tag.value {
+        Value::List(members) => {
+            if tag.code != Code(*b"mlit") {
+                return None;
+            }
+            match members.as_slice() {
+                [key, ..] => number_in(key_code(target), key),
+                [] => None,
+            }
+        }
+        _ => None,
+    }
+}
+
+pub(crate) fn are_rows(target: Target, tags: &[Tag]) -> bool
+    ensures { result ≡ are_rows target tags.now }
+{
+    for tag in tags {
+        if row_key(target, tag).is_none() {
+            return false;
+        }
+    }
+    true
+}
+
+pub(crate) fn are_keys(target: Target, tags: &[Tag]) -> bool
+    ensures { result ≡ are_keys target tags.now }
+{
+    for tag in tags {
+        if number_in(key_code(target), tag).is_none() {
+            return false;
+        }
+    }
+    true
+}
+
+// The key of a tag that is a row.
+pub(crate) fn key_of_row(target: Target, tag: &Tag) -> u32
+    ensures { (result, tag.now) ≡ row_of target tag.now }
+{
+    row_key(target, tag).unwrap_or(0)
+}
+
+// The key that a tag of a deleted one tells.
+pub(crate) fn key_of(target: Target, tag: &Tag) -> u32
+    ensures { result ≡ key_of target tag.now }
+{
+    number_in(key_code(target), tag).unwrap_or(0)
+}
