@@ -31,7 +31,8 @@ use Rattle.share_history.proofs.RowFacts.{length-rows}
 use Rattle.listing_plan.proofs.Spelled.{more_length, framed_length}
 use Rattle.listing_plan.proofs.Bodies.{parts_length, gone_length}
 use Rattle.rehearsal.specs.Edits.{row_by, edit_of}
-use Rattle.rehearsal.proofs.RowFacts.{IsMade, AreMade, AreMadeRows, rows_made, made_filter, IsGood, AreGood, rows_good}
+use Rattle.rehearsal.specs.Made.{IsMade, AreMade}
+use Rattle.rehearsal.proofs.RowFacts.{AreMadeRows, rows_made, made_filter, IsGood, AreGood, rows_good}
 use Rattle.rehearsal.proofs.AnswerFacts.{few_filtered, few_touched}
 
 -- ---- the rows of a body

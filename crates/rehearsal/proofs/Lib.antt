@@ -5,3 +5,4 @@ pub mod BodyFacts
 pub mod CarriedFacts
 pub mod AskFacts
 pub mod PlanFacts
+pub mod ListingFacts

@@ -12,7 +12,7 @@ use Rattle.share_history.specs.Histories.{batches, edits, revision}
 use Rattle.rehearsal.specs.Draws.{next, drawn, draw, state}
 use Rattle.rehearsal.specs.Edits.{row_by, edit_of, edit_by, edit_at, edits_from, rehearsed}
 use Rattle.rehearsal.proofs.DrawFacts.{state_more}
-use Rattle.rehearsal.proofs.RowFacts.{IsMade, AreMade}
+use Rattle.rehearsal.specs.Made.{IsMade, AreMade}
 
 -- ---- made edits
 

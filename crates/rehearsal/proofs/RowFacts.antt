@@ -29,18 +29,9 @@ use Rattle.share_history.specs.Named.{named_keys, keys_in}
 use Rattle.share_history.specs.Rows.{rows, row_at, is_asked, if_asked}
 use Rattle.listing_plan.proofs.Spelled.{more_length, framed_length}
 use Rattle.rehearsal.specs.Edits.{row_by, edit_of}
+use Rattle.rehearsal.specs.Made.{IsMade, AreMade}
 
--- ---- made edits and rows
-
--- an edit that draws may make
-pub record IsMade (e : Edit) : Type 0 where
-  pub id : ℕ
-  pub b : ℕ
-  pub c : ℕ
-  pub is : e ≡ edit_of id b c
-  pub from : 1 ≤ id
-  pub to : id ≤ 4096
-  pub named : b < 65536
+-- ---- made rows
 
 pub record IsMadeRow (id : ℕ) (row : Row) : Type 0 where
   pub b : ℕ
@@ -48,9 +39,6 @@ pub record IsMadeRow (id : ℕ) (row : Row) : Type 0 where
   pub is : row ≡ row_by id b c
   pub to : id ≤ 4096
   pub named : b < 65536
-
-abbrev pub AreMade : List Edit → Type 0
-AreMade es = AllByRecursion IsMade es
 
 -- what is found under an id is such a row with that id
 abbrev Finds : ℕ → Option Row → Type 0

@@ -6,3 +6,6 @@ pub mod Queries
 pub mod Asks
 pub mod Summary
 pub mod Following
+pub mod Made
+pub mod Shares
+pub mod Plan

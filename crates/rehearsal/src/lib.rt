@@ -1,9 +1,13 @@
 //! A share that is edited by made-up batches while three mirrors follow it, and the summary of what they held.
 #![tactic(auto)]
 
+mod answering;
 pub mod answers;
 mod carried;
 mod draws;
 mod edits;
+mod plan;
 mod queries;
 mod summary;
+
+pub use plan::Rehearsal;
