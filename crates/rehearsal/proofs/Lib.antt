@@ -6,3 +6,4 @@ pub mod CarriedFacts
 pub mod AskFacts
 pub mod PlanFacts
 pub mod ListingFacts
+pub mod FollowFacts

@@ -6,6 +6,7 @@ pub mod answers;
 mod carried;
 mod draws;
 mod edits;
+mod follower;
 mod plan;
 mod queries;
 mod summary;
