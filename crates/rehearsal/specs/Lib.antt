@@ -9,3 +9,5 @@ pub mod Following
 pub mod Made
 pub mod Shares
 pub mod Plan
+pub mod Histories
+pub mod Running

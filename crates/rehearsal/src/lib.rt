@@ -9,6 +9,9 @@ mod edits;
 mod follower;
 mod plan;
 mod queries;
+mod rehearsing;
+mod run;
 mod summary;
 
 pub use plan::Rehearsal;
+pub use rehearsing::{Rehearsed, rehearse};
