@@ -7,3 +7,4 @@ pub mod AskFacts
 pub mod PlanFacts
 pub mod ListingFacts
 pub mod FollowFacts
+pub mod RunFacts

@@ -12,6 +12,7 @@ use Rattle.share_history.specs.Histories.{batches, edits, revision}
 use Rattle.rehearsal.specs.Draws.{next, drawn, draw, state}
 use Rattle.rehearsal.specs.Edits.{row_by, edit_of, edit_by, edit_at, edits_from, rehearsed}
 use Rattle.rehearsal.proofs.DrawFacts.{state_more}
+use Rattle.rehearsal.specs.Histories.{history_of}
 use Rattle.rehearsal.specs.Made.{IsMade, AreMade}
 
 -- ---- made edits
@@ -106,13 +107,10 @@ batch_valid number place size = all_valid (edits_from number place size) (made_r
 
 -- ---- the history
 
-abbrev entries_of : List (List Edit) → List Entry
-entries_of bs = map (λ batch. Edits 0 batch) bs
-
-pub batches_again : (bs : List (List Edit)) → batches (entries_of bs) ≡ bs
+pub batches_again : (bs : List (List Edit)) → batches (history_of bs) ≡ bs
 batches_again [] = refl
 batches_again (b ∷ bs) = ap (λ l. b ∷ l) (batches_again bs)
 
-pub entries_more : (bs : List (List Edit)) (b : List Edit) → entries_of (bs ++ b ∷ []) ≡ entries_of bs ++ Edits 0 b ∷ []
-entries_more [] b = refl
-entries_more (x ∷ bs) b = ap (λ l. Edits 0 x ∷ l) (entries_more bs b)
+pub history_more : (bs : List (List Edit)) (b : List Edit) → history_of (bs ++ b ∷ []) ≡ history_of bs ++ Edits 0 b ∷ []
+history_more [] b = refl
+history_more (x ∷ bs) b = ap (λ l. Edits 0 x ∷ l) (history_more bs b)
