@@ -136,9 +136,14 @@ body_deep l h = omega (arith, rows_deep l.rows h.rows, gone_deep l.is_delta l.go
 body_short : (l : Listing) → IsReadable l → length (spellings (members l)) ≤ 1073741824
 unfolding members
 body_short l h =
-    omega (arith,
-    parts_length l.is_delta l.revision l.total (length l.rows) (tags_in l.rows) (gone_tags Items l.is_delta l.gone),
-    rows_short l.rows h.rows, gone_short l.is_delta l.gone, h.few, h.few_gone)
+    omega (
+      arith,
+      parts_length l.is_delta l.revision l.total (length l.rows) (tags_in l.rows) (gone_tags Items l.is_delta l.gone),
+      rows_short l.rows h.rows,
+      gone_short l.is_delta l.gone,
+      h.few,
+      h.few_gone,
+    )
 
 body_proper : (l : Listing) → IsReadable l → AreProperTags (members l)
 unfolding members

@@ -52,8 +52,7 @@ pub more_edits : (number place made old new : ℕ) (edits edits' : List Edit) (e
     → new ≡ next (next (next old)) → e ≡ edit_next old → edits' ≡ edits ++ e ∷ []
     → (new ≡ state number (3 * (place + (made + 1)))) × (edits' ≡ edits_from number place (made + 1))
 more_edits number place made old new edits edits' e at have leaves is pushed =
-    let behind : place + made + 1 ≡ place + (made + 1) = omega arith in
-    (
+    let behind : place + made + 1 ≡ place + (made + 1) = omega arith in (
       leaves ∙ ap (λ x. next (next (next x))) at ∙ three_draws number (place + made) ∙ ap (λ n. state number (3 * n)) behind,
       pushed ∙ (λ i. have i ++ (is ∙ ap edit_next at ∙ edit_there number (place + made)) i ∷ []) ∙ sym (map-range_with_len_more (edit_at number) place made (place + made) refl),
     )

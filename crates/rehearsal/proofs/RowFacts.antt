@@ -139,13 +139,15 @@ unfolding tag_of
 tag_length id name artist =
     let one : Trees = more (leaf (code "asar") (Text artist)) none in
     let two : Trees = more (leaf (code "minm") (Text name)) one in
-    omega (arith,
-    framed_length (code "mlit") (spellings (more (leaf (code "miid") (U32 id)) two)),
-    more_length (leaf (code "miid") (U32 id)) two,
-    more_length (leaf (code "minm") (Text name)) one,
-    more_length (leaf (code "asar") (Text artist)) none,
-    framed_length (code "minm") name,
-    framed_length (code "asar") artist)
+    omega (
+      arith,
+      framed_length (code "mlit") (spellings (more (leaf (code "miid") (U32 id)) two)),
+      more_length (leaf (code "miid") (U32 id)) two,
+      more_length (leaf (code "minm") (Text name)) one,
+      more_length (leaf (code "asar") (Text artist)) none,
+      framed_length (code "minm") name,
+      framed_length (code "asar") artist,
+    )
 
 good_tag : (id : ℕ) (name artist : List ℕ) → id < 2 ^ 32 → is_utf8 name ≡ true → is_utf8 artist ≡ true → length name ≤ 14 → length artist ≤ 14 → IsGood (id, tag_of id name artist)
 unfolding tag_of

@@ -135,11 +135,7 @@ fn push_item(
 }
 
 /// Adds a row, if it is asked for.
-fn push_asked(
-    rows: &mut Vec<PlanRow>,
-    row: &Row,
-    query: Option<&Query>,
-) -> Result<(), AllocError>
+fn push_asked(rows: &mut Vec<PlanRow>, row: &Row, query: Option<&Query>) -> Result<(), AllocError>
     ensures rows { OnOk result (keyed rows.new.items ≡ keyed rows.old.items
         ++ (if is_asked (option_copied query.entry) row.now then (row.now.id, row.now) ∷ [] else [])) }
     ensures members { AllOf (λ row. row.member ≡ None) rows.old.items → AllOf (λ row. row.member ≡ None) rows.new.items }

@@ -99,10 +99,8 @@ impl Run {
         ensures stands { Stands plan.now (n + 1) self.new }
         ensures mirrors { OnOk result (Mirrors plan.now (n + 1) self.new) }
     {
-        self.first
-            .after_batch(alloc, table, &self.store, plan, n)?;
-        self.second
-            .after_batch(alloc, table, &self.store, plan, n)?;
+        self.first.after_batch(alloc, table, &self.store, plan, n)?;
+        self.second.after_batch(alloc, table, &self.store, plan, n)?;
         self.third.after_batch(alloc, table, &self.store, plan, n)
     }
 

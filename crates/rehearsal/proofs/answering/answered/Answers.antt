@@ -22,9 +22,9 @@ returns-clause-delta c =
     let s = c.args.store.now in
     on_ok c.take.result
     (λ is_delta told bs share asks.
-        told (listing s.keep bs Items (mirror_look m.query m.meta m.held.revision))
-        (asked_is bs s m c.in_ok-look.look c.in_ok-body.body share asks c.in_ok-look.ensures (c.in_ok-body.ensures bs share))
-        ∙ listing_marks s.keep bs (mirror_look m.query m.meta m.held.revision))
+    told (listing s.keep bs Items (mirror_look m.query m.meta m.held.revision))
+    (asked_is bs s m c.in_ok-look.look c.in_ok-body.body share asks c.in_ok-look.ensures (c.in_ok-body.ensures bs share))
+    ∙ listing_marks s.keep bs (mirror_look m.query m.meta m.held.revision))
     c.take.ensures.delta
 
 pub returns-clause-held : goal.returns-clause-held
@@ -33,6 +33,6 @@ returns-clause-held c =
     let s = c.args.store.now in
     on_ok c.take.result
     (λ is_delta told bs share asks.
-        told (listing s.keep bs Items (mirror_look m.query m.meta m.held.revision))
-        (asked_is bs s m c.in_ok-look.look c.in_ok-body.body share asks c.in_ok-look.ensures (c.in_ok-body.ensures bs share)))
+    told (listing s.keep bs Items (mirror_look m.query m.meta m.held.revision))
+    (asked_is bs s m c.in_ok-look.look c.in_ok-body.body share asks c.in_ok-look.ensures (c.in_ok-body.ensures bs share)))
     c.take.ensures.held

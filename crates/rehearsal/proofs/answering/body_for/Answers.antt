@@ -19,7 +19,7 @@ pub returns : goal.returns
 returns c =
     on_ok c.carried.result
     (λ body told bs share.
-        told (body_tree Items (listing c.args.store.now.keep bs Items c.args.look))
-        (carried_body (listing c.args.store.now.keep bs Items c.args.look) c.in_ok-plan.plan (c.in_ok-plan.ensures bs share.stands)
-        (share_readable bs c.args.store.now c.args.look share c.requires.meta c.requires.whole)))
+    told (body_tree Items (listing c.args.store.now.keep bs Items c.args.look))
+    (carried_body (listing c.args.store.now.keep bs Items c.args.look) c.in_ok-plan.plan (c.in_ok-plan.ensures bs share.stands)
+    (share_readable bs c.args.store.now c.args.look share c.requires.meta c.requires.whole)))
     c.carried.ensures

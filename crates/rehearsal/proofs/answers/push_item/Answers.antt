@@ -14,5 +14,5 @@ pub returns-in-Some-clause-rows : goal.returns-in-Some-clause-rows
 returns-in-Some-clause-rows c =
     on_ok c.push_asked.result
     (λ pushed bs stands.
-        asked_more (edits bs) (option_copied c.args.query) c.args.id c.in-Some.row.now (keyed c.args.rows.now.items) (keyed c.push_asked.new.rows.items) (sym (c.in-Some.ensures bs stands)) pushed)
+    asked_more (edits bs) (option_copied c.args.query) c.args.id c.in-Some.row.now (keyed c.args.rows.now.items) (keyed c.push_asked.new.rows.items) (sym (c.in-Some.ensures bs stands)) pushed)
     c.push_asked.ensures.rows

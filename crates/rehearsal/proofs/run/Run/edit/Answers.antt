@@ -8,8 +8,13 @@ use Rattle.rehearsal.proofs.run.Run.edit.Goals as goal
 
 pub overflow_add-revision : goal.overflow_add-revision
 overflow_add-revision c =
-    omega (arith, c.revision.ensures, c.requires.range.batches_to, c.requires.more,
-    log_revision c.args.plan.now c.args.n c.reserve.new.self.entries c.requires.range c.requires.more (c.in_ok-reserve.ensures.list ∙ c.requires.stands.log))
+    omega (
+      arith,
+      c.revision.ensures,
+      c.requires.range.batches_to,
+      c.requires.more,
+      log_revision c.args.plan.now c.args.n c.reserve.new.self.entries c.requires.range c.requires.more (c.in_ok-reserve.ensures.list ∙ c.requires.stands.log),
+    )
 
 pub apply-requires-clause-next : goal.apply-requires-clause-next
 apply-requires-clause-next c =
