@@ -1,0 +1,20 @@
+-- Bytes of one tag, read by a table that is the standard one.
+use Rattle.std.proofs.Common.{◌≡◌, ◌++◌, ℕ, List, [], true, sym, subst, ◌∙◌, append-nil, Result, Ok, Err, IfOk}
+use Rattle.dmap_tags.specs.Tree.{Tree}
+use Rattle.dmap_tags.specs.Spelling.{spelling}
+use Rattle.code_table.specs.declared.row.CodeRow.{CodeRow}
+use Rattle.code_table.specs.Standard.{standard_rows}
+use Rattle.dmap_stream.specs.WholeTag.{is_accepted, IsProperTag}
+use Rattle.rehearsal.specs.declared.carried.TheConstants.{TOP_LIMIT}
+use Rattle.rehearsal.specs.Carried.{IsCarried}
+
+pub by_table : (rows : List CodeRow) (t : Tree) (bytes : List ℕ) → rows ≡ standard_rows → IsCarried t bytes → is_accepted rows TOP_LIMIT t ≡ true
+by_table rows t bytes same is = subst (λ table. is_accepted table TOP_LIMIT t ≡ true) (sym same) is.accepted
+
+pub alone : (t : Tree) (bytes : List ℕ) → IsCarried t bytes → bytes ≡ spelling t ++ []
+alone t bytes is = is.spelled ∙ sym (append-nil (spelling t))
+
+-- what holds of a value that is answered may be read on
+pub on_ok : {T E : Type 0} {P Q : T → Type 0} (r : Result T E) → ((x : T) → P x → Q x) → IfOk r P → IfOk r Q
+on_ok (Ok x) f h = f x h
+on_ok (Err e) f h = h

@@ -1,0 +1,10 @@
+pub mod DrawFacts
+pub mod AnswerFacts
+pub mod RowFacts
+pub mod BodyFacts
+pub mod CarriedFacts
+pub mod AskFacts
+pub mod PlanFacts
+pub mod ListingFacts
+pub mod FollowFacts
+pub mod RunFacts

@@ -1,0 +1,12 @@
+-- What is carried to a mirror: the bytes of one tag, which a reader by the standard codes takes.
+use Rattle.std.specs.Prelude.{◌≡◌, ℕ, List, true}
+use Rattle.dmap_tags.specs.Tree.{Tree}
+use Rattle.dmap_tags.specs.Spelling.{spelling}
+use Rattle.code_table.specs.Standard.{standard_rows}
+use Rattle.dmap_stream.specs.WholeTag.{is_accepted, IsProperTag}
+use Rattle.rehearsal.specs.declared.carried.TheConstants.{TOP_LIMIT}
+
+pub record IsCarried (t : Tree) (bytes : List ℕ) : Type 0 where
+  pub spelled : bytes ≡ spelling t
+  pub accepted : is_accepted standard_rows TOP_LIMIT t ≡ true
+  pub proper : IsProperTag t

@@ -1,0 +1,13 @@
+pub mod Draws
+pub mod Edits
+pub mod Answers
+pub mod Carried
+pub mod Queries
+pub mod Asks
+pub mod Summary
+pub mod Following
+pub mod Made
+pub mod Shares
+pub mod Plan
+pub mod Histories
+pub mod Running

@@ -1,0 +1,123 @@
+//! A share that is edited, with the mirrors that follow it.
+
+ghost use Rattle.std.specs.Prelude.{◌≡◌, ◌<◌, ◌≤◌, ◌+◌, None, take, IfOk, OnOk};
+ghost use Rattle.code_table.specs.Standard.{standard_rows};
+ghost use Rattle.rehearsal.specs.Following.{IsAt, Follows, IsMirror};
+ghost use Rattle.rehearsal.specs.Plan.{AreInRange, batches_of};
+ghost use Rattle.rehearsal.specs.Queries.{artist_query, year_query};
+ghost use Rattle.rehearsal.specs.Running.{Stands, Mirrors};
+ghost use Rattle.rehearsal.specs.Summary.{summary_text};
+
+use crate::draws::Draws;
+use crate::edits::batch;
+use crate::follower::Follower;
+use crate::plan::Rehearsal;
+use crate::queries::{artist_query, year_query};
+use crate::summary::summary;
+use code_table::CodeTable;
+use edit_log::EditLog;
+use item_model::Entry;
+use item_store::ItemStore;
+use std::alloc::{AllocError, Global};
+
+#[derive(Debug, Drop)]
+pub(crate) struct Run {
+    draws: Draws,
+    pub(crate) log: EditLog,
+    store: ItemStore,
+    first: Follower,
+    second: Follower,
+    third: Follower,
+}
+
+impl Run {
+    pub(crate) fn new(alloc: Global, plan: &Rehearsal) -> Result<Run, AllocError>
+        requires { AreInRange plan.now }
+        ensures stands { IfOk result (λ run. Stands plan.now 0 run) }
+        ensures mirrors { IfOk result (λ run. Mirrors plan.now 0 run) }
+    {
+        let artists = artist_query(alloc)?;
+        let years = year_query(alloc)?;
+        Ok(Run {
+            draws: Draws { state: plan.number },
+            log: EditLog::new(alloc),
+            store: ItemStore::open(alloc, plan.keep),
+            first: Follower::new(alloc, None, 1),
+            second: Follower::new(alloc, Some(artists), 3),
+            third: Follower::new(alloc, Some(years), 300),
+        })
+    }
+
+    // The next batch, behind n others.
+    pub(crate) fn step(
+        &mut self,
+        alloc: Global,
+        table: &CodeTable,
+        plan: &Rehearsal,
+        n: u32,
+    ) -> Result<(), AllocError>
+        requires table { table.now ≡ standard_rows }
+        requires range { AreInRange plan.now }
+        requires more { n < plan.now.batches }
+        requires stands { Stands plan.now n self.old }
+        requires mirrors { Mirrors plan.now n self.old }
+        ensures stands { OnOk result (Stands plan.now (n + 1) self.new) }
+        ensures mirrors { OnOk result (Mirrors plan.now (n + 1) self.new) }
+    {
+        self.edit(alloc, plan, n)?;
+        self.follow(alloc, table, plan, n)
+    }
+
+    fn edit(&mut self, alloc: Global, plan: &Rehearsal, n: u32) -> Result<(), AllocError>
+        requires range { AreInRange plan.now }
+        requires more { n < plan.now.batches }
+        requires stands { Stands plan.now n self.old }
+        ensures stands { OnOk result (Stands plan.now (n + 1) self.new) }
+        ensures first { self.new.first ≡ self.old.first }
+        ensures second { self.new.second ≡ self.old.second }
+        ensures third { self.new.third ≡ self.old.third }
+    {
+        let batch = batch(alloc, &mut self.draws, plan.size)?;
+        self.log.reserve(1)?;
+        self.store
+            .apply(batch.edits.as_slice(), self.log.revision() + 1)?;
+        self.log.append(Entry::Edits { by: 0, batch });
+        Ok(())
+    }
+
+    fn follow(
+        &mut self,
+        alloc: Global,
+        table: &CodeTable,
+        plan: &Rehearsal,
+        n: u32,
+    ) -> Result<(), AllocError>
+        requires table { table.now ≡ standard_rows }
+        requires few { n < 65536 }
+        requires stands { Stands plan.now (n + 1) self.old }
+        requires mirrors { Mirrors plan.now n self.old }
+        ensures stands { Stands plan.now (n + 1) self.new }
+        ensures mirrors { OnOk result (Mirrors plan.now (n + 1) self.new) }
+    {
+        self.first.after_batch(alloc, table, &self.store, plan, n)?;
+        self.second.after_batch(alloc, table, &self.store, plan, n)?;
+        self.third.after_batch(alloc, table, &self.store, plan, n)
+    }
+
+    // The summary after the last batch.
+    pub(crate) fn summary(&self, alloc: Global, plan: &Rehearsal) -> Result<Vec<u8>, AllocError>
+        requires range { AreInRange plan.now }
+        requires stands { Stands plan.now plan.now.batches self.now }
+        requires mirrors { Mirrors plan.now plan.now.batches self.now }
+        ensures { IfOk result (λ text. text.items ≡ summary_text plan.now.keep (batches_of plan.now)) }
+    {
+        summary(
+            alloc,
+            self.store.revision(),
+            self.store.count(),
+            self.first.standing(),
+            self.second.standing(),
+            self.third.standing(),
+        )
+    }
+}
