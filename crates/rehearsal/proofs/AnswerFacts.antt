@@ -1,5 +1,5 @@
 -- The rows that are asked for, taken from the store one id after another, and the listings that they make.
-use Rattle.std.proofs.Common.{◌≡◌, ◌<◌, ◌≤◌, ◌+◌, ◌++◌, ◌∷◌, [], ℕ, List, Bool, true, false, cond, ◌==◌, ◌&&◌, not, nat_le, max, ◌-◌, Option, Some, None, is_some, is_none, map, filter, fold, take, All, length, get_or, unwrap_or, append-nil, if◌then◌else◌, refl, sym, subst, ap, ◌∙◌, arith, length-append}
+use Rattle.std.proofs.Common.{◌≡◌, ◌<◌, ◌≤◌, ◌+◌, ◌++◌, ◌∷◌, [], ℕ, List, Bool, true, false, cond, ◌==◌, Option, Some, None, is_some, is_none, filter, take, All, length, get_or, unwrap_or, append-nil, if◌then◌else◌, refl, sym, subst, ap, ◌∙◌, arith, length-append}
 use Rattle.std.specs.Option.{option_map, option_and_then, option_or}
 use Rattle.std.specs.List.{cons_option}
 use Rattle.std.specs.Map.{keys_of}
@@ -16,16 +16,15 @@ use Rattle.item_model.specs.declared.request.Range.{Range}
 use Rattle.item_model.specs.declared.request.Range.TheVariants.{All as whole_range}
 use Rattle.item_model.specs.declared.request.Target.TheVariants.{Items}
 use Rattle.share_history.specs.Histories.{edits, revision, later}
-use Rattle.share_history.specs.Keyed.{at, IsAscending, AreAscending, ascending, pairs_at}
-use Rattle.share_history.specs.Kept.{is_kept, touches, touched}
+use Rattle.share_history.specs.Keyed.{AreAscending, ascending, pairs_at}
+use Rattle.share_history.specs.Kept.{touches, touched}
 use Rattle.share_history.specs.LastSaid.{last_said, only_if, says_item, item_at}
 use Rattle.share_history.specs.Listings.{Listing, shown_rows, full_listing, delta_listing}
 use Rattle.share_history.specs.Named.{named_keys, keys_in}
 use Rattle.share_history.specs.Ranges.{in_range}
 use Rattle.share_history.specs.Rows.{rows, row_at, library, is_asked, if_asked}
-use Rattle.share_history.proofs.KeyedFacts.{has, has-keys_of, at-pairs_at, ascending-pairs_at, sorted-filter, sorted-ascending}
-use Rattle.share_history.proofs.RowFacts.{at-library, ascending-library, ascending-rows, rows_are, length-rows, folded-longer}
-use Rattle.item_store.specs.Stands.{floor_of}
+use Rattle.share_history.proofs.KeyedFacts.{has-keys_of, at-pairs_at, ascending-pairs_at, sorted-filter, sorted-ascending}
+use Rattle.share_history.proofs.RowFacts.{at-library, ascending-library, rows_are, length-rows, folded-longer}
 use Rattle.listing_plan.specs.declared.row.PlanRow.{PlanRow}
 use Rattle.listing_plan.specs.Plans.{key_of, keys_of_rows, keyed, full_plan, delta_plan, AreRowsOf, AreGone}
 

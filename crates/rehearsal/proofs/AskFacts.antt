@@ -1,5 +1,5 @@
 -- Asks one after another, and what a mirror holds after them.
-use Rattle.std.proofs.Common.{◌≡◌, ◌<◌, ◌≤◌, ◌^◌, ℕ, zero, suc, ◌+◌, ◌-◌, ◌%◌, ◌==◌, ◌||◌, ◌&&◌, not, List, [], ◌∷◌, ◌++◌, Bool, true, false, cond, Option, None, map, take, drop, filter, fold, length, refl, sym, ap, subst, ◌∙◌, arith, length-append, count_by}
+use Rattle.std.proofs.Common.{◌≡◌, ◌≤◌, ℕ, zero, suc, ◌+◌, not, List, [], ◌∷◌, ◌++◌, Bool, true, false, cond, Option, take, drop, filter, fold, length, refl, sym, ap, subst, ◌∙◌, arith, length-append, count_by}
 use Rattle.std.specs.List.{AllByRecursion, range_with_len}
 use Rattle.std.proofs.lemmas.List.Elements.{filter-append}
 use Rattle.std.proofs.lemmas.List.Sums.{sum_by-cons}
@@ -7,7 +7,7 @@ use Rattle.item_model.specs.declared.changes.Edit.{Edit}
 use Rattle.item_model.specs.declared.query.Query.{Query}
 use Rattle.item_model.specs.declared.request.Meta.TheVariants.{Default}
 use Rattle.item_model.specs.declared.request.Target.TheVariants.{Items}
-use Rattle.share_history.specs.Histories.{edits, revision}
+use Rattle.share_history.specs.Histories.{revision}
 use Rattle.share_history.specs.Kept.{is_kept}
 use Rattle.share_history.specs.Listings.{listing}
 use Rattle.share_history.specs.Mirror.{Held, mirror_after, mirrored, mirror_look}

@@ -1,5 +1,5 @@
 -- The body of a listing of such rows is a tag that a reader by the standard codes takes.
-use Rattle.std.proofs.Common.{◌≡◌, ◌<◌, ◌≤◌, ◌^◌, ℕ, suc, max, ◌+◌, ◌*◌, ◌%◌, ◌==◌, List, [], ◌∷◌, ◌++◌, Bool, true, false, cond, ◌&&◌, nat_le, is_none, Option, Some, None, map, filter, fold, length, refl, sym, ap, subst, ◌∙◌, arith, length-append, le-leb}
+use Rattle.std.proofs.Common.{◌≡◌, ◌<◌, ◌≤◌, ◌^◌, ℕ, ◌+◌, ◌*◌, ◌%◌, ◌==◌, List, [], ◌∷◌, ◌++◌, Bool, true, false, cond, ◌&&◌, nat_le, is_none, Some, None, map, filter, fold, length, refl, sym, ap, subst, ◌∙◌, arith, le-leb}
 use Rattle.std.specs.List.{AllByRecursion}
 use Rattle.std.proofs.lemmas.List.{length-map}
 use Rattle.std.specs.Ordering.{nat_cmp, match_ordering}
@@ -7,8 +7,8 @@ use Rattle.std.specs.declared.cmp.Ordering.{Ordering}
 use Rattle.std.specs.declared.cmp.Ordering.TheVariants.{Less, Equal, Greater}
 use Rattle.std.specs.BTreeSet.{insert_key}
 use Rattle.dmap_tags.specs.Codes.{code}
-use Rattle.dmap_tags.specs.Tree.{Tree, Trees, leaf, list, none, more, trees_of, U8, U32}
-use Rattle.dmap_tags.specs.Spelling.{payload, spelling, spellings}
+use Rattle.dmap_tags.specs.Tree.{Tree, Trees, leaf, list, none, more, trees_of, U32}
+use Rattle.dmap_tags.specs.Spelling.{spellings}
 use Rattle.code_table.specs.Fits.{fits, all_fit}
 use Rattle.code_table.specs.Standard.{standard_rows}
 use Rattle.dmap_stream.specs.WholeTag.{levels, levels_in, is_accepted, IsProperTag, AreProperTags}
@@ -28,11 +28,11 @@ use Rattle.share_history.specs.Named.{named_keys, keys_in}
 use Rattle.share_history.specs.Ranges.{in_range}
 use Rattle.share_history.specs.Rows.{rows, row_at}
 use Rattle.share_history.proofs.RowFacts.{length-rows}
-use Rattle.listing_plan.proofs.Spelled.{more_length, framed_length}
+use Rattle.listing_plan.proofs.Spelled.{more_length}
 use Rattle.listing_plan.proofs.Bodies.{parts_length, gone_length}
-use Rattle.rehearsal.specs.Edits.{row_by, edit_of}
+use Rattle.rehearsal.specs.Edits.{row_by}
 use Rattle.rehearsal.specs.Made.{IsMade, AreMade}
-use Rattle.rehearsal.proofs.RowFacts.{AreMadeRows, rows_made, made_filter, IsGood, AreGood, rows_good}
+use Rattle.rehearsal.proofs.RowFacts.{rows_made, made_filter, AreGood, rows_good}
 use Rattle.rehearsal.proofs.AnswerFacts.{few_filtered, few_touched}
 
 -- ---- the rows of a body

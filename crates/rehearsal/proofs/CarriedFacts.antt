@@ -4,7 +4,7 @@ use Rattle.dmap_tags.specs.Tree.{Tree}
 use Rattle.dmap_tags.specs.Spelling.{spelling}
 use Rattle.code_table.specs.declared.row.CodeRow.{CodeRow}
 use Rattle.code_table.specs.Standard.{standard_rows}
-use Rattle.dmap_stream.specs.WholeTag.{is_accepted, IsProperTag}
+use Rattle.dmap_stream.specs.WholeTag.{is_accepted}
 use Rattle.rehearsal.specs.declared.carried.TheConstants.{TOP_LIMIT}
 use Rattle.rehearsal.specs.Carried.{IsCarried}
 

@@ -1,5 +1,5 @@
 -- Draws one after another.
-use Rattle.std.proofs.Common.{◌≡◌, ◌<◌, ◌≤◌, ◌^◌, ℕ, zero, suc, ◌+◌, ◌*◌, ◌/◌, ◌%◌, List, [], ◌∷◌, ◌++◌, map, refl, sym, ap, subst, ◌∙◌, arith, length, decimal, Bool, true, false, ◌&&◌, nat_lt, nat_le, length-append, lit<, lt-ltb, le-leb}
+use Rattle.std.proofs.Common.{◌≡◌, ◌<◌, ◌≤◌, ◌^◌, ℕ, zero, suc, ◌+◌, ◌*◌, List, [], ◌∷◌, ◌++◌, refl, sym, ap, subst, ◌∙◌, arith, length, decimal, Bool, true, false, ◌&&◌, nat_lt, nat_le, length-append, lit<, lt-ltb, le-leb}
 use Rattle.std.specs.Fn.{iterate}
 use Rattle.std.proofs.lemmas.List.FromFn.{map-range_with_len_more}
 use Rattle.item_model.specs.declared.changes.Edit.{Edit}

@@ -1,22 +1,17 @@
 -- A mirror that follows a share, one batch after another.
-use Rattle.std.proofs.Common.{◌≡◌, ◌<◌, ◌≤◌, ℕ, suc, ◌+◌, ◌-◌, ◌%◌, ◌==◌, ◌||◌, List, [], ◌∷◌, ◌++◌, Bool, true, false, cond, not, take, length, Option, refl, sym, ap, subst, ◌∙◌, arith, append-nil, eq-eqb}
-use Rattle.std.proofs.lemmas.List.{length-map}
+use Rattle.std.proofs.Common.{◌≡◌, ◌≤◌, ℕ, ◌+◌, ◌-◌, ◌%◌, ◌==◌, ◌||◌, List, [], ◌∷◌, ◌++◌, Bool, true, false, cond, not, take, Option, refl, sym, ap, subst, ◌∙◌, arith, append-nil, eq-eqb}
 use Rattle.item_model.specs.declared.changes.Edit.{Edit}
 use Rattle.item_model.specs.declared.query.Query.{Query}
-use Rattle.item_model.specs.declared.request.Meta.{Meta}
 use Rattle.item_model.specs.declared.request.Meta.TheVariants.{Default}
 use Rattle.item_model.specs.declared.request.Target.TheVariants.{Items}
 use Rattle.item_store.specs.Store.{Store}
-use Rattle.mirror_core.specs.Mirrored.{Mirrored}
-use Rattle.share_history.specs.Histories.{edits, revision}
 use Rattle.share_history.specs.Kept.{is_kept}
-use Rattle.share_history.specs.Listings.{listing, shown}
-use Rattle.share_history.specs.Mirror.{Held, mirror_after, mirrored, mirror_look}
-use Rattle.share_history.specs.Rows.{rows}
+use Rattle.share_history.specs.Listings.{listing}
+use Rattle.share_history.specs.Mirror.{mirror_after, mirrored, mirror_look}
 use Rattle.rehearsal.specs.declared.follower.Follower.{Follower}
 use Rattle.rehearsal.specs.declared.plan.Rehearsal.{Rehearsal}
 use Rattle.rehearsal.specs.Asks.{is_due, asks, deltas, fulls}
-use Rattle.rehearsal.specs.Following.{nothing_held, held_after, IsAt, Follows, IsMirror}
+use Rattle.rehearsal.specs.Following.{held_after, IsAt, Follows, IsMirror}
 use Rattle.rehearsal.specs.Plan.{batches_of}
 use Rattle.rehearsal.specs.Shares.{MayAsk}
 use Rattle.rehearsal.proofs.AskFacts.{asks_more, catches_up, held_more, base_not_later, deltas_more, fulls_more}

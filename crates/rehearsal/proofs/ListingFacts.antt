@@ -1,9 +1,7 @@
 -- The body of an answer is a listing that a mirror takes.
-use Rattle.std.proofs.Common.{◌≡◌, ◌<◌, ◌≤◌, ◌^◌, ℕ, zero, suc, ◌+◌, List, [], ◌∷◌, ◌++◌, Bool, true, false, cond, ◌&&◌, nat_le, length, map, filter, All, Option, refl, sym, ap, subst, ◌∙◌, arith, true≢false, leb-true}
-use Rattle.std.specs.List.{AllByRecursion}
+use Rattle.std.proofs.Common.{◌≡◌, ◌<◌, ◌≤◌, ℕ, zero, suc, ◌+◌, List, [], ◌∷◌, ◌++◌, Bool, true, false, cond, ◌&&◌, nat_le, length, map, filter, All, refl, sym, ap, subst, ◌∙◌, arith, true≢false, leb-true}
 use Rattle.dmap_tags.specs.Codes.{code}
-use Rattle.dmap_tags.specs.Tree.{Tree, leaf, list, trees_of}
-use Rattle.dmap_tags.specs.Spelling.{spelling}
+use Rattle.dmap_tags.specs.Tree.{Tree, list, trees_of}
 use Rattle.item_model.specs.declared.changes.Edit.{Edit}
 use Rattle.item_model.specs.declared.request.Look.{Look}
 use Rattle.item_model.specs.declared.request.Meta.TheVariants.{Default}
@@ -17,12 +15,12 @@ use Rattle.mirror_core.specs.Bodies.{is_listings, IsRow, IsListing}
 use Rattle.mirror_core.specs.Mirrored.{Mirrored}
 use Rattle.share_history.specs.Mirror.{mirror_look}
 use Rattle.share_history.specs.Bodies.{start_tags, gone_tags, body_tree}
-use Rattle.share_history.specs.Histories.{edits, revision}
+use Rattle.share_history.specs.Histories.{revision}
 use Rattle.share_history.specs.Kept.{is_kept}
 use Rattle.share_history.specs.Listings.{Listing, listing, full_listing, delta_listing}
 use Rattle.rehearsal.specs.Carried.{IsCarried}
 use Rattle.rehearsal.specs.Shares.{IsShare, MayAsk}
-use Rattle.rehearsal.proofs.RowFacts.{AreGood, IsGood}
+use Rattle.rehearsal.proofs.RowFacts.{AreGood}
 use Rattle.rehearsal.proofs.BodyFacts.{IsReadable, body_accepted, body_is_proper, listing_readable}
 
 -- ---- answers as plans

@@ -1,16 +1,14 @@
 -- The batches of a rehearsal: their edits are valid and few.
-use Rattle.std.proofs.Common.{◌≡◌, ◌<◌, ◌≤◌, ◌^◌, ℕ, zero, suc, ◌+◌, ◌-◌, ◌*◌, ◌/◌, ◌%◌, ◌==◌, ◌&&◌, nat_le, nat_lt, List, [], ◌∷◌, ◌++◌, Bool, true, false, cond, map, take, length, All, get_or, refl, sym, ap, subst, ◌∙◌, arith, length-append, le-leb, lt-ltb, add-one}
-use Rattle.std.specs.List.{AllByRecursion, range_with_len}
-use Rattle.std.proofs.lemmas.List.{length-map}
+use Rattle.std.proofs.Common.{◌≡◌, ◌<◌, ◌≤◌, ◌^◌, ℕ, zero, suc, ◌+◌, ◌*◌, ◌%◌, ◌==◌, ◌&&◌, nat_le, nat_lt, List, [], ◌∷◌, ◌++◌, Bool, true, false, cond, map, take, length, refl, sym, ap, subst, ◌∙◌, arith, length-append, le-leb, lt-ltb}
+use Rattle.std.specs.List.{range_with_len}
 use Rattle.std.proofs.lemmas.List.FromFn.{length-map-range_with_len, take-map-range_with_len, map-range_with_len_more}
 use Rattle.item_model.specs.declared.changes.Edit.{Edit}
 use Rattle.item_model.specs.declared.changes.Edit.TheVariants.{PutItem, DropItem}
-use Rattle.item_model.specs.declared.changes.Entry.{Entry}
 use Rattle.item_model.specs.declared.changes.Entry.TheVariants.{Edits}
-use Rattle.item_model.specs.Valid.{IsValid, AreValid, is_id, is_valid}
-use Rattle.share_history.specs.Histories.{batches, edits, revision}
+use Rattle.item_model.specs.Valid.{AreValid, is_id, is_valid}
+use Rattle.share_history.specs.Histories.{batches, edits}
 use Rattle.rehearsal.specs.Draws.{next, drawn, draw, state}
-use Rattle.rehearsal.specs.Edits.{row_by, edit_of, edit_by, edit_at, edits_from, rehearsed}
+use Rattle.rehearsal.specs.Edits.{row_by, edit_by, edit_at, edits_from, rehearsed}
 use Rattle.rehearsal.proofs.DrawFacts.{state_more}
 use Rattle.rehearsal.specs.Histories.{history_of}
 use Rattle.rehearsal.specs.Made.{IsMade, AreMade}

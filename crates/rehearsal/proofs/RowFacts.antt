@@ -1,10 +1,7 @@
 -- The rows of edits that draws make: whatever they are, their tags are small and of the standard codes' kinds.
-use Rattle.std.proofs.Common.{◌≡◌, ◌<◌, ◌≤◌, ◌^◌, ℕ, ◌+◌, ◌*◌, ◌/◌, ◌%◌, List, [], ◌∷◌, ◌++◌, Bool, true, false, cond, ◌==◌, ◌&&◌, Option, Some, None, map, filter, fold, length, codes, decimal, unwrap_or, refl, sym, ap, subst, ◌∙◌, arith, rules, length-append, lit<}
+use Rattle.std.proofs.Common.{◌≡◌, ◌<◌, ◌≤◌, ◌^◌, ℕ, ◌+◌, ◌%◌, List, [], ◌∷◌, ◌++◌, Bool, true, false, cond, ◌==◌, Option, Some, None, filter, length, codes, decimal, unwrap_or, refl, sym, ap, subst, arith, rules, length-append, lit<}
 use Rattle.std.specs.List.{AllByRecursion, cons_option}
 use Rattle.std.specs.Option.{option_map, option_and_then, option_or}
-use Rattle.std.specs.Ordering.{nat_cmp, match_ordering}
-use Rattle.std.specs.declared.cmp.Ordering.TheVariants.{Less, Equal, Greater}
-use Rattle.std.specs.BTreeSet.{insert_key}
 use Rattle.std.specs.Str.{is_utf8, IsAscii}
 use Rattle.std.proofs.lemmas.Bool.{eqb-true}
 use Rattle.std.proofs.lemmas.Fmt.{length-decimal-le, IsAscii-decimal}
@@ -25,10 +22,10 @@ use Rattle.item_model.specs.Projection.{projection}
 use Rattle.share_history.specs.Keyed.{ascending, pairs_at}
 use Rattle.share_history.specs.LastSaid.{last_said, only_if, says_item, item_at}
 use Rattle.share_history.specs.Listings.{shown_rows}
-use Rattle.share_history.specs.Named.{named_keys, keys_in}
+use Rattle.share_history.specs.Named.{named_keys}
 use Rattle.share_history.specs.Rows.{rows, row_at, is_asked, if_asked}
 use Rattle.listing_plan.proofs.Spelled.{more_length, framed_length}
-use Rattle.rehearsal.specs.Edits.{row_by, edit_of}
+use Rattle.rehearsal.specs.Edits.{row_by}
 use Rattle.rehearsal.specs.Made.{IsMade, AreMade}
 
 -- ---- made rows

@@ -1,6 +1,5 @@
 -- A rehearsal, one batch after another, up to its summary.
-use Rattle.std.proofs.Common.{◌≡◌, ◌<◌, ◌≤◌, ◌^◌, ℕ, ◌+◌, ◌*◌, List, [], ◌∷◌, ◌++◌, take, length, Option, None, Result, Ok, Err, OnOk, refl, sym, ap, subst, ◌∙◌, arith, codes}
-use Rattle.std.proofs.Math.Nat.{mul-le-mul_right}
+use Rattle.std.proofs.Common.{◌≡◌, ◌<◌, ◌≤◌, ◌^◌, ℕ, ◌+◌, ◌*◌, List, [], ◌∷◌, ◌++◌, take, length, Option, None, Result, Ok, Err, OnOk, sym, ap, subst, ◌∙◌, arith, codes}
 use Rattle.std.proofs.lemmas.List.{length-map}
 use Rattle.edit_log.proofs.LogFacts.{revision_more}
 use Rattle.item_model.specs.declared.changes.Edit.{Edit}

@@ -1,5 +1,5 @@
 -- What the mirrors of a rehearsal ask for.
-use Rattle.std.specs.Prelude.{List, [], ◌∷◌, Option, Some, None, codes}
+use Rattle.std.specs.Prelude.{[], ◌∷◌, Option, Some, codes}
 use Rattle.item_model.specs.declared.condition.Op.TheVariants.{Is}
 use Rattle.item_model.specs.declared.query.Query.{Query}
 use Rattle.item_model.specs.declared.query.Query.TheVariants.{Cond}

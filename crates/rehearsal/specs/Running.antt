@@ -1,8 +1,5 @@
 -- A rehearsal after so many batches.
-use Rattle.std.specs.Prelude.{◌≡◌, ℕ, ◌*◌, List, None, map, take}
-use Rattle.item_model.specs.declared.changes.Edit.{Edit}
-use Rattle.item_model.specs.declared.changes.Entry.{Entry}
-use Rattle.item_model.specs.declared.changes.Entry.TheVariants.{Edits}
+use Rattle.std.specs.Prelude.{◌≡◌, ℕ, ◌*◌, None, take}
 use Rattle.rehearsal.specs.declared.plan.Rehearsal.{Rehearsal}
 use Rattle.rehearsal.specs.declared.run.Run.{Run}
 use Rattle.rehearsal.specs.Draws.{state}

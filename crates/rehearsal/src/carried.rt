@@ -14,7 +14,7 @@ use listing_plan::{Plan, PlanError};
 use std::alloc::{AllocError, Global};
 
 /// How many bytes of payload a mirror reads of one tag at most.
-pub const TOP_LIMIT: u32 = 1_073_741_824;
+pub(crate) const TOP_LIMIT: u32 = 1_073_741_824;
 
 /// The tag that a plan writes, as a mirror reads it.
 pub(crate) fn carried(alloc: Global, table: &CodeTable, plan: &Plan) -> Result<Tag, AllocError>
@@ -36,7 +36,7 @@ fn written(alloc: Global, plan: &Plan) -> Result<MemSink, AllocError>
     match plan.write(alloc, &mut sink) {
         Ok(()) => Ok(sink),
         Err(PlanError::Memory) => Err(AllocError),
-        // there is room for all bytes, so this does not come
+        // the room is that of all bytes; what a sink fails for otherwise is not told
         Err(PlanError::Failed) => Err(AllocError),
     }
 }
@@ -56,6 +56,8 @@ fn read(alloc: Global, table: &CodeTable, bytes: &[u8]) -> Result<Tag, AllocErro
 fn want_of_memory(error: StreamError) -> AllocError
     requires { error ≡ StreamError.Memory }
 {
-    let _ = error;
-    AllocError
+    match error {
+        StreamError::Memory => AllocError,
+        _ => unreachable!(),
+    }
 }

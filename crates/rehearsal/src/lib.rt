@@ -1,4 +1,6 @@
-//! A share that is edited by made-up batches while three mirrors follow it, and the summary of what they held.
+//! A rehearsal of a share: it is edited by made-up batches, as many and as large as asked for, while three mirrors follow
+//! it, and a summary tells what they held and how they were answered. Both are functions of a few numbers: `specs/` says
+//! which edits are made, when a mirror asks and which of its asks a delta answers, without a share or a mirror.
 #![tactic(auto)]
 
 mod answering;

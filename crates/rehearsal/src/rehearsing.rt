@@ -21,8 +21,17 @@ pub struct Rehearsed {
 
 /// Edits a share by made-up batches while three mirrors follow it, and sums up.
 ///
-/// All mirrors ask for items. The first wants all of them and asks after each batch, the second artists that begin with
-/// `a1` after each third one, the third the year 1983 after each three-hundredth, and each of them after the last.
+/// The number begins a row of draws. Three draws make an edit: the first says which of 4,096 items it is of; of the second,
+/// each fourth number drops the item, and the others put it under a name with that number; the third gives it one of 16
+/// artists and one of 80 years. Each batch makes a revision.
+///
+/// The mirrors ask for items: the first for all of them after each batch, the second for artists that begin with `a1`
+/// after each third, the third for the year 1983 after each three-hundredth, and all of them after the last. Each asks
+/// with the revision that it holds and gets the change since then, or the whole where the share does not keep that.
+/// Every answer goes to its mirror as bytes.
+///
+/// The summary tells the revision, how many items there are, and for each mirror how many rows it holds and how many full
+/// listings and deltas it was answered with.
 pub fn rehearse(alloc: Global, plan: &Rehearsal) -> Result<Rehearsed, AllocError>
     requires { AreInRange plan.now }
     ensures history { IfOk result (λ done. done.history ≡ history_of (rehearsed plan.now.number plan.now.batches plan.now.size)) }

@@ -1,4 +1,4 @@
-use Rattle.std.proofs.Common.{◌≡◌, ◌≤◌, Result, Ok, Err, IfOk, ◌∙◌}
+use Rattle.std.proofs.Common.{◌∙◌}
 use Rattle.item_model.specs.declared.request.Target.TheVariants.{Items}
 use Rattle.share_history.specs.Listings.{listing}
 use Rattle.share_history.specs.Mirror.{mirror_look}

@@ -1,7 +1,5 @@
-use Rattle.std.proofs.Common.{◌≡◌, ◌<◌, ◌≤◌, Err, ap, ◌∙◌, sym, arith}
-use Rattle.mirror_core.specs.declared.mirror.MirrorError.TheVariants.{NotListing, Backwards}
+use Rattle.std.proofs.Common.{◌≡◌, Err, ap, ◌∙◌, arith}
 use Rattle.mirror_core.proofs.LawFacts.{listings_are_one, listings_are_not_stuck}
-use Rattle.share_history.specs.Listings.{Listing}
 use Rattle.share_history.specs.Mirror.{mirror_after}
 use Rattle.rehearsal.proofs.answering.take.Goals as goal
 

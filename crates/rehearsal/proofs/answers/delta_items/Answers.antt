@@ -1,4 +1,4 @@
-use Rattle.std.proofs.Common.{◌≡◌, ◌≤◌, List, length, filter, is_none, option_copied, refl, sym, ap, ◌∙◌, arith, rules}
+use Rattle.std.proofs.Common.{filter, is_none, option_copied, refl, sym, ap, ◌∙◌}
 use Rattle.item_model.specs.declared.request.Target.TheVariants.{Items}
 use Rattle.listing_plan.specs.declared.plan.Plan.TheVariants.{Rows}
 use Rattle.share_history.specs.Histories.{edits}

@@ -1,4 +1,4 @@
-use Rattle.std.proofs.Common.{◌≡◌, ◌≤◌, List, length, option_copied, sym, ap, ◌∙◌, arith, rules}
+use Rattle.std.proofs.Common.{option_copied, ap, ◌∙◌, arith, rules}
 use Rattle.item_model.specs.declared.request.Target.TheVariants.{Items}
 use Rattle.listing_plan.specs.declared.plan.Plan.TheVariants.{Rows}
 use Rattle.share_history.specs.Histories.{edits}

@@ -1,5 +1,4 @@
-use Rattle.std.proofs.Common.{◌≡◌, ◌++◌, ◌∷◌, [], List, option_copied, Result, Ok, Err, OnOk, sym}
-use Rattle.item_model.specs.declared.changes.Edit.{Edit}
+use Rattle.std.proofs.Common.{option_copied, Result, Ok, Err, OnOk, sym}
 use Rattle.share_history.specs.Histories.{edits}
 use Rattle.listing_plan.specs.Plans.{keyed}
 use Rattle.rehearsal.proofs.AnswerFacts.{asked_more}

@@ -1,4 +1,4 @@
-use Rattle.std.proofs.Common.{◌≡◌, ◌++◌, ◌∷◌, [], ℕ, List, take, get_or, option_copied, refl, sym, ap, ◌∙◌, arith, rules}
+use Rattle.std.proofs.Common.{◌++◌, ◌∷◌, [], get_or, option_copied, sym, ap, ◌∙◌, rules}
 use Rattle.item_model.specs.declared.request.Target.TheVariants.{Items}
 use Rattle.share_history.specs.Histories.{edits}
 use Rattle.share_history.specs.Keyed.{pairs_at}

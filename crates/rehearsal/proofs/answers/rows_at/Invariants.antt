@@ -1,4 +1,4 @@
-use Rattle.std.proofs.Common.{◌≡◌, ◌≤◌, ℕ, List, None, All, take, option_copied, length}
+use Rattle.std.proofs.Common.{◌≡◌, List, None, All, take, option_copied}
 use Rattle.item_model.specs.declared.changes.Edit.{Edit}
 use Rattle.item_model.specs.declared.request.Target.TheVariants.{Items}
 use Rattle.item_store.specs.Stands.{StandsFor}

@@ -1,4 +1,4 @@
-use Rattle.std.proofs.Common.{◌≡◌, []}
+use Rattle.std.proofs.Common.{[]}
 use Rattle.rehearsal.proofs.CarriedFacts.{by_table, alone}
 use Rattle.rehearsal.proofs.carried.read.Goals as goal
 

@@ -1,4 +1,4 @@
-use Rattle.std.proofs.Common.{◌≡◌, ◌≤◌, sym, ap, subst, ◌∙◌, arith}
+use Rattle.std.proofs.Common.{◌≡◌, ap, subst, ◌∙◌, arith}
 use Rattle.rehearsal.specs.Histories.{history_of}
 use Rattle.rehearsal.specs.Running.{Stands, Mirrors}
 use Rattle.rehearsal.proofs.RunFacts.{all_batches}

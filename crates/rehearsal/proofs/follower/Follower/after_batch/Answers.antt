@@ -1,4 +1,4 @@
-use Rattle.std.proofs.Common.{◌≡◌, ◌<◌, ◌≤◌, ◌+◌, take, sym, ap, ◌∙◌, arith, rules}
+use Rattle.std.proofs.Common.{◌+◌, take, sym, ap, ◌∙◌}
 use Rattle.rehearsal.specs.Plan.{batches_of}
 use Rattle.rehearsal.proofs.FollowFacts.{not_due, may_ask, was_due, same_mirror}
 use Rattle.rehearsal.proofs.follower.Follower.after_batch.Goals as goal

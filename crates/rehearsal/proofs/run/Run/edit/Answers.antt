@@ -1,7 +1,5 @@
-use Rattle.std.proofs.Common.{◌≡◌, ◌<◌, ◌≤◌, ◌+◌, ◌*◌, ◌++◌, ◌∷◌, [], Fits, w32, take, sym, ap, ◌∙◌, arith, rules}
+use Rattle.std.proofs.Common.{◌+◌, ◌*◌, ◌++◌, ◌∷◌, [], take, sym, ap, ◌∙◌, arith}
 use Rattle.item_model.specs.declared.changes.Entry.TheVariants.{Edits}
-use Rattle.share_history.specs.Histories.{batches, revision}
-use Rattle.rehearsal.specs.Edits.{edits_from}
 use Rattle.rehearsal.specs.Plan.{batches_of}
 use Rattle.rehearsal.proofs.RunFacts.{log_revision, store_revision, few_logged, valid_batch, edited}
 use Rattle.rehearsal.proofs.run.Run.edit.Goals as goal

@@ -1,4 +1,4 @@
-use Rattle.std.proofs.Common.{◌≡◌, None, OnOk}
+use Rattle.std.proofs.Common.{None}
 use Rattle.rehearsal.specs.Queries.{artist_query, year_query}
 use Rattle.rehearsal.proofs.RunFacts.{both_ok}
 use Rattle.rehearsal.proofs.run.Run.follow.Goals as goal

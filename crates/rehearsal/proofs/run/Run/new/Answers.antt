@@ -1,4 +1,4 @@
-use Rattle.std.proofs.Common.{◌≡◌, refl, sym, ap, ◌∙◌}
+use Rattle.std.proofs.Common.{refl}
 use Rattle.rehearsal.proofs.RunFacts.{begun, is_mirror}
 use Rattle.rehearsal.proofs.run.Run.new.Goals as goal
 

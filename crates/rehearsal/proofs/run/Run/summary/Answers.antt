@@ -1,4 +1,4 @@
-use Rattle.std.proofs.Common.{◌≡◌, take, IfOk}
+use Rattle.std.proofs.Common.{take}
 use Rattle.rehearsal.specs.Plan.{batches_of}
 use Rattle.rehearsal.proofs.CarriedFacts.{on_ok}
 use Rattle.rehearsal.proofs.RunFacts.{summed_up}
