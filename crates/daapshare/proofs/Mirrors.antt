@@ -1,8 +1,5 @@
 -- Mirrors of the items, by the laws on batches.
-use Rattle.std.proofs.Common.{◌≡◌, ◌++◌, [], ℕ, List, Option, sym, subst}
-use Rattle.item_model.specs.declared.changes.Entry.{Entry}
-use Rattle.item_model.specs.declared.query.Query.{Query}
-use Rattle.item_model.specs.declared.request.Meta.{Meta}
+use Rattle.std.proofs.Common.{◌≡◌, [], sym, subst}
 use Rattle.item_model.specs.declared.request.Target.TheVariants.{Items}
 use Rattle.share_history.specs.Histories.{batches, revision}
 use Rattle.share_history.specs.Listings.{listing}

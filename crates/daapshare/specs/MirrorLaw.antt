@@ -6,7 +6,7 @@ use Rattle.item_model.specs.declared.request.Meta.{Meta}
 use Rattle.item_model.specs.declared.request.Target.TheVariants.{Items}
 use Rattle.share_history.specs.Histories.{batches, revision}
 use Rattle.share_history.specs.Listings.{listing, full_listing}
-use Rattle.share_history.specs.Mirror.{Held, mirror_after, mirrored, mirror_look}
+use Rattle.share_history.specs.Mirror.{mirror_after, mirrored, mirror_look}
 
 -- a mirror that held all rows of a front of the history holds all rows of the whole after its answer, by a delta where its
 -- revision is kept and by a full listing where it is not

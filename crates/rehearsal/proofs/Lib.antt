@@ -1,5 +1,4 @@
 pub mod DrawFacts
-pub mod AnswerFacts
 pub mod RowFacts
 pub mod BodyFacts
 pub mod CarriedFacts

@@ -30,7 +30,7 @@ pub carried_body : (l : Listing) (plan : Plan) → plan ≡ Rows (record { targe
 carried_body l plan is read = record { spelled = ap plan_bytes is; accepted = body_accepted l read; proper = body_is_proper l read }
 
 pub writable : (l : Listing) (plan : Plan) → plan ≡ Rows (record { target = Items; listing = l }) → IsWritable plan
-writable l plan is = subst IsWritable (sym is) tt
+writable l plan is = subst IsWritable (sym is) refl
 
 pub share_readable : (bs : List (List Edit)) (store : Store) (look : Look) → IsShare bs store → look.meta ≡ Default → look.range ≡ whole_range → IsReadable (listing store.keep bs Items look)
 share_readable bs store look share meta whole = listing_readable store.keep bs look meta whole share.made share.few share.early

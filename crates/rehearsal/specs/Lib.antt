@@ -1,6 +1,5 @@
 pub mod Draws
 pub mod Edits
-pub mod Answers
 pub mod Carried
 pub mod Queries
 pub mod Asks

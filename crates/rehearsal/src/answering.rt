@@ -13,10 +13,10 @@ ghost use Rattle.share_history.specs.Listings.{Listing, listing};
 ghost use Rattle.share_history.specs.Mirror.{mirror_after, mirror_look};
 ghost use Rattle.rehearsal.specs.Shares.{IsShare, MayAsk};
 
-use crate::answers::items_listing;
 use crate::carried::carried;
 use code_table::CodeTable;
 use dmap_tags::Tag;
+use item_listings::items_listing;
 use item_model::Look;
 use item_store::ItemStore;
 use mirror_core::{Mirror, MirrorError};

@@ -4,7 +4,6 @@
 #![tactic(auto)]
 
 mod answering;
-pub mod answers;
 mod carried;
 mod draws;
 mod edits;
