@@ -365,4 +365,4 @@ given (Some command.Check) input before after history output told done =
 given (Some (command.Codes false)) input before after history output told done = tt
 given (Some (command.Codes true)) input before after history output told done =
     (done.rows, subst (IsReply done.rows) (sym (read_whole input before.left after.left done.bytes told done.read done.end)) done.reply)
-given (Some (command.Rehearse number batches size keep)) input before after history output told done = done.within
+given (Some (command.Rehearse number batches size keep)) input before after history output told done = done.done.within

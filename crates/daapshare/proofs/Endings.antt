@@ -13,7 +13,7 @@ use Rattle.daapshare.specs.Faults.{fault_line, fault_status, words_fault}
 use Rattle.daapshare.specs.Seen.{InputSeen, OutputSeen, IsUnread}
 use Rattle.code_table.specs.Standard.{standard_rows}
 use Rattle.daapshare.specs.Codes.{code_lines}
-use Rattle.daapshare.specs.Rehearsing.{RehearseDone, RehearseFails}
+use Rattle.daapshare.specs.Rehearses.{RehearseDone, RehearseFails, RehearseSays}
 use Rattle.daapshare.specs.Commands.{Says, MayRead, IsDone, IsBegun, IsCause, IsFront}
 use Rattle.daapshare.specs.Runs.{Told, Ending, Done, OutputCut, Refused, LineCut, ending_status, Happens, Ends, Decides, IsDecided, IsWritten, Tells, TellsFault}
 use Rattle.listing_plan.specs.Plans.{plan_bytes}
@@ -160,7 +160,7 @@ pub rehearse_done : (number batches size keep : ℕ) (input : InputSeen) (answer
     → IfOk answer (λ a. RehearseDone number batches size keep a.history (plan_bytes a.output))
     → IfOk answer (λ a. IsDone (Some (variant.Rehearse number batches size keep)) input input a.history (plan_bytes a.output))
 rehearse_done number batches size keep input (Ok answer) done =
-    record { unread = record { left = refl; faults = refl }; within = done.within; opened = done.opened; written = done.written }
+    record { unread = record { left = refl; faults = refl }; done = done }
 rehearse_done number batches size keep input (Err fault) done = tt
 
 pub rehearse_failed : (number batches size keep : ℕ) (input : InputSeen) (answer : Result Answer Fault)
@@ -168,19 +168,23 @@ pub rehearse_failed : (number batches size keep : ℕ) (input : InputSeen) (answ
 rehearse_failed number batches size keep input (Ok answer) cause = tt
 rehearse_failed number batches size keep input (Err fault) cause = fails fault cause
   where
+    says : (fault : Fault) → RehearseSays batches size fault → IsCause (Some (variant.Rehearse number batches size keep)) input input fault
+    says Words cause = absurd cause
+    says (Query error) cause = absurd cause
+    says Meta cause = absurd cause
+    says (Records error) cause = absurd cause
+    says (Tags error) cause = absurd cause
+    says (Text line) cause = absurd cause
+    says (Codes error) cause = absurd cause
+    says Read cause = absurd cause
+    says Write cause = absurd cause
+    says InputLimit cause = absurd cause
+    says RehearsalLimit cause = (cause, record { left = refl; faults = refl })
+    says Memory cause = absurd cause
+
     fails : (fault : Fault) → RehearseFails batches size fault → IsCause (Some (variant.Rehearse number batches size keep)) input input fault
-    fails Words cause = absurd cause
-    fails (Query error) cause = absurd cause
-    fails Meta cause = absurd cause
-    fails (Records error) cause = absurd cause
-    fails (Tags error) cause = absurd cause
-    fails (Text line) cause = absurd cause
-    fails (Codes error) cause = absurd cause
-    fails Read cause = absurd cause
-    fails Write cause = absurd cause
-    fails InputLimit cause = absurd cause
-    fails RehearsalLimit cause = (cause, record { left = refl; faults = refl })
-    fails Memory cause = record { left = refl; faults = refl }
+    fails fault (inl is) = subst (IsCause (Some (variant.Rehearse number batches size keep)) input input) (sym is) (record { left = refl; faults = refl })
+    fails fault (inr cause) = says fault cause
 
 -- the ends of `show`
 pub ends_shown : (told : Told) (lines : List ℕ) → IsShownWhole told.input_before told.input_after None lines → IsWritten told.output_before told.output_after lines

@@ -18,5 +18,4 @@ pub mod Showing
 pub mod Backing
 pub mod Learning
 pub mod Rehearses
-pub mod Rehearsing
 pub mod MirrorLaw

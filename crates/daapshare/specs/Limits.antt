@@ -1,4 +1,4 @@
--- How much of its input a command reads, in bytes.
+-- How much a command takes: of its input, in bytes, and of edits.
 use Rattle.std.specs.Prelude.{ℕ}
 
 -- records: 4 MiB

@@ -7,7 +7,7 @@ ghost use Rattle.listing_plan.specs.Plans.{plan_bytes, IsWritable};
 ghost use Rattle.daapshare.specs.Codes.{code_lines};
 ghost use Rattle.daapshare_words.specs.Words.{AreRanged};
 ghost use Rattle.daapshare.specs.Commands.{IsDone, IsCause};
-ghost use Rattle.daapshare.specs.Rehearsing.{RehearseDone, RehearseFails};
+ghost use Rattle.daapshare.specs.Rehearses.{RehearseDone, RehearseFails};
 
 use crate::back::unshown;
 use crate::check::checked;
@@ -125,15 +125,27 @@ pub fn counts<I: Source>(alloc: Global, input: &mut I) -> Result<Answer, Fault>
 }
 
 /// Does `rehearse`, up to writing the output.
-pub fn rehearses(alloc: Global, plan: &Rehearsal) -> Result<Answer, Fault>
-    requires { AreRanged plan.now.number plan.now.batches plan.now.size plan.now.keep }
-    ensures done { IfOk result (λ answer. RehearseDone plan.now.number plan.now.batches plan.now.size plan.now.keep answer.history (plan_bytes answer.output)) }
-    ensures cause { IfErr result (RehearseFails plan.now.batches plan.now.size) }
+pub fn rehearses(
+    alloc: Global,
+    number: u32,
+    batches: u32,
+    size: u32,
+    keep: u32,
+) -> Result<Answer, Fault>
+    requires { AreRanged number batches size keep }
+    ensures done { IfOk result (λ answer. RehearseDone number batches size keep answer.history (plan_bytes answer.output)) }
+    ensures cause { IfErr result (RehearseFails batches size) }
 {
-    if MAX_EDITS < plan.batches as usize * plan.size as usize {
+    if MAX_EDITS < batches as usize * size as usize {
         return Err(Fault::RehearsalLimit);
     }
-    let rehearsed = rehearse(alloc, plan)?;
+    let plan = Rehearsal {
+        number,
+        batches,
+        size,
+        keep,
+    };
+    let rehearsed = rehearse(alloc, &plan)?;
     Ok(Answer {
         history: Some(rehearsed.history),
         output: Plan::Plain(Bytes::from(rehearsed.summary)),

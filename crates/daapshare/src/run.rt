@@ -14,10 +14,10 @@ use daap_outside::{Files, Net, Sink, Source, put_all};
 use daapshare_words::{Command, read_words};
 use item_model::Entries;
 use listing_plan::PlanError;
-use rehearsal::Rehearsal;
 use std::alloc::Global;
 
-/// What a run leaves: the status of the program, and the history of the share, where one was opened.
+/// What a run leaves: the status of the program, and the history of the share, where one was opened and no fault's
+/// line was due.
 #[derive(Debug, Drop)]
 pub struct Outcome {
     pub status: u8,
@@ -109,13 +109,7 @@ fn obeyed<I: Source, W: Sink>(
             size,
             keep,
         } => {
-            let plan = Rehearsal {
-                number: *number,
-                batches: *batches,
-                size: *size,
-                keep: *keep,
-            };
-            let answer = rehearses(alloc, &plan);
+            let answer = rehearses(alloc, *number, *batches, *size, *keep);
             written(alloc, output, answer)
         }
     }

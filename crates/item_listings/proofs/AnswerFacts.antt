@@ -67,7 +67,7 @@ found_id id None h = tt
 found_id id (Some found) h = h
 
 -- the row of an item has the item's id
-item_id : (es : List Edit) (id : ℕ) (row : Row) → item_at es id ≡ Some row → row.id ≡ id
+pub item_id : (es : List Edit) (id : ℕ) (row : Row) → item_at es id ≡ Some row → row.id ≡ id
 item_id es id row is = subst (HasId id) is (found_id id (last_said (says_item id) es) (last_id id es))
 
 -- the pairs at some keys and at one more

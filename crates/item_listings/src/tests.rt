@@ -1,31 +1,20 @@
-//! Answers of a store in which one item was put and then another.
+//! Answers of a store that no batch has changed.
+
+ghost use Rattle.std.specs.Prelude.{◌≡◌, true, IfOk};
+ghost use Rattle.item_model.specs.declared.request.Range.TheVariants.{All};
+ghost use Rattle.listing_plan.specs.Plans.{IsWritable};
 
 use crate::{full_items, items_listing};
 use daap_outside::MemSink;
-use item_model::{Edit, Item, Look, Meta, Range, Row};
+use item_model::{Look, Meta, Range};
 use item_store::ItemStore;
 use listing_plan::Plan;
 use std::alloc::{AllocError, Global};
 use std::test::Fail;
 
-fn puts(alloc: Global, id: u32) -> Edit {
-    Edit::PutItem {
-        row: Row {
-            id,
-            item: Item::new(alloc),
-        },
-    }
-}
-
-// Without clauses, so that a test's proof looks into none of its calls.
-fn store(alloc: Global) -> Result<ItemStore, AllocError> {
-    let mut store = ItemStore::open(alloc, 256);
-    store.apply(&[puts(alloc, 7)], 3)?;
-    store.apply(&[puts(alloc, 9), Edit::DropItem { id: 8 }], 4)?;
-    Ok(store)
-}
-
-fn look(base: u32) -> Look {
+fn look(base: u32) -> Look
+    ensures { result.range ≡ All }
+{
     Look {
         query: None,
         meta: Meta::Default,
@@ -34,17 +23,21 @@ fn look(base: u32) -> Look {
     }
 }
 
-/// The bytes of the listings, the full one and the change since revision 3.
-fn known(base: u32) -> &'static [u8] {
-    match base {
-        3 =>
-            b"adbs\0\0\0\x69mstt\0\0\0\x04\0\0\0\xc8muty\0\0\0\x01\x01musr\0\0\0\x04\0\0\0\x04mtco\0\0\0\x04\0\0\0\x01mrco\0\0\0\x04\0\0\0\x01mlcl\0\0\0\x14mlit\0\0\0\x0cmiid\0\0\0\x04\0\0\0\x09mudl\0\0\0\x0cmiid\0\0\0\x04\0\0\0\x08",
-        _ =>
-            b"adbs\0\0\0\x69mstt\0\0\0\x04\0\0\0\xc8muty\0\0\0\x01\0musr\0\0\0\x04\0\0\0\x04mtco\0\0\0\x04\0\0\0\x02mrco\0\0\0\x04\0\0\0\x02mlcl\0\0\0\x28mlit\0\0\0\x0cmiid\0\0\0\x04\0\0\0\x07mlit\0\0\0\x0cmiid\0\0\0\x04\0\0\0\x09",
-    }
+fn answer(alloc: Global, base: u32) -> Result<Plan, AllocError>
+    ensures { IfOk result (λ plan. IsWritable plan) }
+{
+    items_listing(alloc, &ItemStore::open(alloc, 1), look(base))
 }
 
-fn written(alloc: Global, plan: &Plan) -> Result<Vec<u8>, AllocError> {
+fn whole(alloc: Global) -> Result<Plan, AllocError>
+    ensures { IfOk result (λ plan. IsWritable plan) }
+{
+    full_items(alloc, &ItemStore::open(alloc, 1), look(2))
+}
+
+fn written(alloc: Global, plan: &Plan) -> Result<Vec<u8>, AllocError>
+    requires { IsWritable plan.now }
+{
     let mut sink = MemSink::new(alloc, 256, 256, &[])?;
     match plan.write(alloc, &mut sink) {
         Ok(()) => Vec::from_slice(alloc, sink.taken()),
@@ -52,25 +45,26 @@ fn written(alloc: Global, plan: &Plan) -> Result<Vec<u8>, AllocError> {
     }
 }
 
-fn answers(alloc: Global, base: u32) -> Result<Vec<u8>, AllocError> {
-    let plan = items_listing(alloc, &store(alloc)?, look(base))?;
-    written(alloc, &plan)
-}
-
-fn whole(alloc: Global) -> Result<Vec<u8>, AllocError> {
-    let plan = full_items(alloc, &store(alloc)?, look(3))?;
-    written(alloc, &plan)
+/// The listing of no items at revision 2, and the change that there is none.
+fn known(is_delta: bool) -> &'static [u8] {
+    if is_delta {
+        b"adbs\0\0\0\x49mstt\0\0\0\x04\0\0\0\xc8muty\0\0\0\x01\x01musr\0\0\0\x04\0\0\0\x02mtco\0\0\0\x04\0\0\0\0mrco\0\0\0\x04\0\0\0\0mlcl\0\0\0\0mudl\0\0\0\0"
+    } else {
+        b"adbs\0\0\0\x41mstt\0\0\0\x04\0\0\0\xc8muty\0\0\0\x01\0musr\0\0\0\x04\0\0\0\x02mtco\0\0\0\x04\0\0\0\0mrco\0\0\0\x04\0\0\0\0mlcl\0\0\0\0"
+    }
 }
 
 #[test]
 fn a_kept_base_is_answered_by_the_change(rt: HostRuntime) -> Result<(), Fail> {
-    for base in [0, 3, 5] {
+    for base in [0, 1, 2, 3] {
+        let plan = answer(rt.alloc(), base)?;
         assert_eq!(rt;
-            answers(rt.alloc(), base)?.as_slice(),
-            known(base),
+            written(rt.alloc(), &plan)?.as_slice(),
+            known(base == 2),
             "at {base}"
         );
     }
-    assert_eq!(rt; whole(rt.alloc())?.as_slice(), known(0));
+    let plan = whole(rt.alloc())?;
+    assert_eq!(rt; written(rt.alloc(), &plan)?.as_slice(), known(false));
     Ok(())
 }

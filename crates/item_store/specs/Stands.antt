@@ -7,7 +7,8 @@ use Rattle.share_history.specs.declared.revisions.TheConstants.{FIRST_REVISION}
 use Rattle.share_history.specs.Histories.{revision, edits, up_to}
 use Rattle.share_history.specs.LastSaid.{item_at}
 use Rattle.share_history.specs.Rows.{library}
-use Rattle.item_store.specs.Store.{Store, row_in, versions_of}
+use Rattle.item_store.specs.Changes.{row_of}
+use Rattle.item_store.specs.Store.{Store}
 
 -- the least base that `keep` allows, and no base below the first revision
 abbrev pub floor_of : (keep revision : ℕ) → ℕ
@@ -31,7 +32,7 @@ pub record StandsFor (bs : List (List Edit)) (store : Store) : Type 0 where
   pub revision : store.revision ≡ revision bs
   pub valid : AreValid (edits bs)
   -- at the present revision and above the rows are the present ones
-  pub rows : (id base : ℕ) → store.low ≤ base → row_in (versions_of store id) base ≡ item_at (edits (up_to bs base)) id
+  pub rows : (id base : ℕ) → store.low ≤ base → row_of store.versions id base ≡ item_at (edits (up_to bs base)) id
   pub count : store.count ≡ length (library (edits bs))
   pub named : store.named ≡ map named_items (drop (store.low - FIRST_REVISION) bs)
   pub least : FIRST_REVISION ≤ store.low

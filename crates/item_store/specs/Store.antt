@@ -1,8 +1,7 @@
 -- What a store of items keeps: under each id the rows that it had, and which ids the last batches named.
-use Rattle.std.specs.Prelude.{ℕ, List, [], Bool, Option, unwrap_or, option_and_then, nat_le}
+use Rattle.std.specs.Prelude.{ℕ, List, Bool, Option, option_and_then, nat_le}
 use Rattle.std.specs.List.{find}
 use Rattle.item_model.specs.declared.item.Row.{Row}
-use Rattle.share_history.specs.Keyed.{at}
 use Rattle.item_store.specs.declared.version.Version.{Version}
 
 pub record Store : Type 0 where
@@ -23,6 +22,3 @@ pub record Store : Type 0 where
 -- the row of an id at a revision, by its versions: the newest that is not above the revision
 abbrev pub row_in : List Version → ℕ → Option Row
 row_in versions base = option_and_then (λ v. v.row) (find (λ v. nat_le v.revision base) versions)
-
-abbrev pub versions_of : Store → ℕ → List Version
-versions_of store id = unwrap_or (at id store.versions) []

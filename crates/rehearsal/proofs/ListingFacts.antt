@@ -78,22 +78,28 @@ kept_above keep bs base h =
     let from : 2 ≤ base = leb-true 2 base (first_true (nat_le 2 base) (nat_le base (revision bs) && (nat_le (revision bs) (base + keep) && true)) h) in
     omega arith
 
--- the body of an answer to a look is that listing, for a mirror that holds the look's base
-pub answer_is_listing : (bs : List (List Edit)) (store : Store) (look : Look) → IsShare bs store → look.meta ≡ Default → look.range ≡ whole_range
-    → IsListing Items look.base (listing store.keep bs Items look) (body_tree Items (listing store.keep bs Items look))
-answer_is_listing bs store look share meta whole =
-    let l : Listing = listing store.keep bs Items look in
+-- the body of an answer whose rows begin with their keys is that listing, for a mirror that holds the look's base
+pub body_is_listing : (keep : ℕ) (bs : List (List Edit)) (look : Look) → All (IsRow Items) (listing keep bs Items look).rows
+    → IsListing Items look.base (listing keep bs Items look) (body_tree Items (listing keep bs Items look))
+body_is_listing keep bs look rows =
+    let l : Listing = listing keep bs Items look in
     record {
       members = start_tags l.is_delta l.revision l.total (length l.rows) ++ list (code "mlcl") (trees_of (map (λ row. row.1) l.rows)) ∷ gone_tags Items l.is_delta l.gone;
       is = refl;
       read = record {
         listed = length l.rows;
         told = all_told l.is_delta l.revision l.total (length l.rows) (map (λ row. row.1) l.rows) l.gone;
-        rows = row_of_good l.rows (share_readable bs store look share meta whole).rows;
-        on_held = λ h. kept_above store.keep bs look.base (sym (listing_marks store.keep bs look) ∙ h);
-        full = full_keeps store.keep bs look;
+        rows = rows;
+        on_held = λ h. kept_above keep bs look.base (sym (listing_marks keep bs look) ∙ h);
+        full = full_keeps keep bs look;
       };
     }
+
+-- so is the body of an answer to a look
+pub answer_is_listing : (bs : List (List Edit)) (store : Store) (look : Look) → IsShare bs store → look.meta ≡ Default → look.range ≡ whole_range
+    → IsListing Items look.base (listing store.keep bs Items look) (body_tree Items (listing store.keep bs Items look))
+answer_is_listing bs store look share meta whole =
+    body_is_listing store.keep bs look (row_of_good (listing store.keep bs Items look).rows (share_readable bs store look share meta whole).rows)
 
 -- the same of the look of a mirror
 pub asked_is : (bs : List (List Edit)) (store : Store) (mirror : Mirrored) (look : Look) (body : Tree) → IsShare bs store → MayAsk bs mirror
