@@ -1,12 +1,11 @@
 -- Mirrors of the items, by the laws on batches.
-use Rattle.std.proofs.Common.{◌≡◌, ◌++◌, [], ◌∷◌, ℕ, List, Bool, true, false, cond, Option, Some, None, All, map, filter, get_or, refl, sym, subst, ap, arith}
+use Rattle.std.proofs.Common.{◌≡◌, [], ◌∷◌, ℕ, List, Bool, true, false, cond, Option, Some, None, All, filter, get_or, refl, sym, subst, ap, arith}
 use Rattle.std.specs.Option.{option_map, option_and_then}
 use Rattle.std.specs.List.{cons_option}
 use Rattle.std.proofs.lemmas.List.Elements.{All-map, All-filter, All-cons}
 use Rattle.dmap_tags.specs.Codes.{code}
 use Rattle.dmap_tags.specs.Tree.{list, leaf, more, trees_of, U32}
 use Rattle.item_model.specs.declared.changes.Edit.{Edit}
-use Rattle.item_model.specs.declared.changes.Entry.{Entry}
 use Rattle.item_model.specs.declared.item.Row.{Row}
 use Rattle.item_model.specs.declared.query.Query.{Query}
 use Rattle.item_model.specs.declared.request.Meta.{Meta}
