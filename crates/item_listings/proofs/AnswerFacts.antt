@@ -1,5 +1,5 @@
 -- The rows that are asked for, taken from the store one id after another, and the listings that they make.
-use Rattle.std.proofs.Common.{◌≡◌, ◌<◌, ◌≤◌, ◌+◌, ◌++◌, ◌∷◌, [], ℕ, List, Bool, true, false, cond, ◌==◌, Option, Some, None, is_some, is_none, filter, take, All, length, get_or, unwrap_or, append-nil, if◌then◌else◌, refl, sym, subst, ap, ◌∙◌, arith, length-append}
+use Rattle.std.proofs.Common.{◌≡◌, ◌<◌, ◌≤◌, ◌+◌, ◌++◌, ◌∷◌, [], ℕ, List, Bool, true, false, cond, ◌==◌, Option, Some, None, is_some, is_none, filter, take, All, length, get_or, unwrap_or, if◌then◌else◌, refl, sym, subst, ap, ◌∙◌, arith, length-append}
 use Rattle.std.specs.Option.{option_map, option_and_then, option_or}
 use Rattle.std.specs.List.{cons_option}
 use Rattle.std.specs.Map.{keys_of}
@@ -90,11 +90,8 @@ asked_more es q id row old new found pushed =
     pushed
     ∙ ap (λ l. old ++ l) (asked_pair id row (is_asked q row) (item_id es id row found) ∙ ap (λ o. one_pair id (option_and_then (if_asked q) o)) (sym found))
 
-pub none_more : (es : List Edit) (q : Option Query) (id : ℕ) (old : List (ℕ × Row)) → item_at es id ≡ None → old ≡ old ++ pairs_at (row_at es Items q) (id ∷ [])
-none_more es q id old none = sym (append-nil old) ∙ ap (λ o. old ++ one_pair id (option_and_then (if_asked q) o)) (sym none)
-
 -- the rows at the ids of the library are all rows of a listing of items
-pub rows_at_ids : (es : List Edit) (q : Option Query) → pairs_at (row_at es Items q) (keys_of (library es)) ≡ rows es Items q
+rows_at_ids : (es : List Edit) (q : Option Query) → pairs_at (row_at es Items q) (keys_of (library es)) ≡ rows es Items q
 rows_at_ids es q =
     rows_are es Items q (pairs_at (row_at es Items q) (keys_of (library es)))
     (ascending-pairs_at (row_at es Items q) (keys_of (library es)) (ascending-library es))

@@ -33,9 +33,6 @@ range_more a n = subst (λ k. range_with_len a k ≡ range_with_len a n ++ (a + 
         shift : (a n : ℕ) → a + 1 + n ≡ a + suc n
         shift a n = omega arith
 
-pub no_asks : (period last : ℕ) → asks period last 0 ≡ []
-no_asks period last = refl
-
 pub asks_more : (period last count : ℕ) → asks period last (count + 1) ≡ asks period last count ++ cond (is_due period last (count + 1)) ((count + 1) ∷ []) []
 asks_more period last count =
     ap (filter (is_due period last)) (range_more 1 count ∙ ap (λ n. range_with_len 1 count ++ n ∷ []) comm)
@@ -112,7 +109,6 @@ catches_up keep period last count bs q held is =
     subst (CatchesUp keep (count + 1) bs q) (sym is)
     (from_held keep (count + 1) bs q nothing_held (asks period last count) (from_nothing keep (count + 1) bs q) (within_more count (asks period last count) (asks_within period last count)))
 
--- and holds no later revision than that
 fold_more : {A B : Type 0} (f : B → A → B) (b : B) (xs : List A) (x : A) → fold f b (xs ++ x ∷ []) ≡ f (fold f b xs) x
 fold_more f b [] x = refl
 fold_more f b (y ∷ xs) x = fold_more f (f b y) xs x
@@ -120,6 +116,7 @@ fold_more f b (y ∷ xs) x = fold_more f (f b y) xs x
 pub held_more : (bs : List (List Edit)) (q : Option Query) (ns : List ℕ) (n : ℕ) → held_after bs q (ns ++ n ∷ []) ≡ mirrored (take n bs) Items q Default
 held_more bs q ns n = fold_more (λ _ n. mirrored (take n bs) Items q Default) nothing_held ns n
 
+-- and holds no later revision than that makes
 base_within : (bs : List (List Edit)) (base n : ℕ) (ns : List ℕ) → base ≤ revision (take n bs) → AreWithin n ns → last_base bs base ns ≤ revision (take n bs)
 unfolding last_base
 base_within bs base n [] h within = h

@@ -29,7 +29,7 @@ state_more number n =
     subst (λ k. iterate next k number ≡ next (iterate next n number)) one (iterate_more next n number)
 
 -- the draws of the edit at a place begin behind those of the edits before it
-pub three_draws : (number place : ℕ) → next (next (next (state number (3 * place)))) ≡ state number (3 * (place + 1))
+three_draws : (number place : ℕ) → next (next (next (state number (3 * place)))) ≡ state number (3 * (place + 1))
 three_draws number place =
     let last : 3 * place + 1 + 1 + 1 ≡ 3 * (place + 1) = omega arith in
     ap (λ x. next (next x)) (sym (state_more number (3 * place)))
@@ -37,7 +37,7 @@ three_draws number place =
     ∙ sym (state_more number (3 * place + 1 + 1))
     ∙ ap (state number) last
 
-pub edit_there : (number place : ℕ) → edit_next (state number (3 * place)) ≡ edit_at number place
+edit_there : (number place : ℕ) → edit_next (state number (3 * place)) ≡ edit_at number place
 edit_there number place =
     let second : 3 * place + 1 + 1 ≡ 3 * place + 2 = omega arith in
     let third : 3 * place + 1 + 1 + 1 ≡ 3 * place + 3 = omega arith in

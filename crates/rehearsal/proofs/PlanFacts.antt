@@ -41,7 +41,7 @@ made_append : (xs ys : List Edit) → AreMade xs → AreMade ys → AreMade (xs 
 made_append [] ys h k = k
 made_append (x ∷ xs) ys h k = (h.0, made_append xs ys h.1 k)
 
-pub made_batches : (number size from count : ℕ) → AreMade (edits (map (λ n. edits_from number (n * size) size) (range_with_len from count)))
+made_batches : (number size from count : ℕ) → AreMade (edits (map (λ n. edits_from number (n * size) size) (range_with_len from count)))
 made_batches number size from zero = tt
 made_batches number size from (suc count) =
     made_append (edits_from number (from * size) size) (edits (map (λ n. edits_from number (n * size) size) (range_with_len (from + 1) count))) (made_range number (from * size) size) (made_batches number size (from + 1) count)
