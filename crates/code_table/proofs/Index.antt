@@ -2,10 +2,10 @@
 use Rattle.std.proofs.Common.{◌≡◌, List, [], ◌∷◌, ◌++◌, Bool, true, false, cond, ◌&&◌, ◌||◌, ◌==◌, if◌then◌else◌, Option, Some, None, unwrap_or, refl, sym, ap, ◌∙◌, true≢false, is_some, is_eq, eqb-true}
 use Rattle.std.proofs.lemmas.Bool.{and_parts, or_parts}
 use Rattle.std.proofs.lemmas.Map.Text.{is_eq-slice_cmp}
-use Rattle.dmap_tags.specs.Codes.{Four, code_bytes}
+use Rattle.dmap_tags.specs.Codes.{Four, code_bytes, is_code}
 use Rattle.dmap_tags.specs.declared.kinds.Kind.TheVariants.{Opaque}
 use Rattle.code_table.specs.declared.row.CodeRow.{CodeRow}
-use Rattle.code_table.specs.Rows.{same_code, is_coded, row_kind, code_cmp, kind_at}
+use Rattle.code_table.specs.Rows.{is_coded, row_kind, code_cmp, kind_at}
 
 -- whether a choice gives a value, and its value or another
 some_or : {X : Type 0} (b : Bool) (x : X) (found : Option X) → is_some (if b then Some x else found) ≡ (b || is_some found)
@@ -19,12 +19,12 @@ or_else false x other found = refl
 -- a row has the code where the code has a kind
 pub coded_found : (rows : List CodeRow) (c : Four) → is_some (kind_at rows c) ≡ is_coded c rows
 coded_found [] c = refl
-coded_found (row ∷ rows) c = some_or (same_code row.code c) row.kind (kind_at rows c) ∙ ap (λ b. same_code row.code c || b) (coded_found rows c)
+coded_found (row ∷ rows) c = some_or (is_code row.code c) row.kind (kind_at rows c) ∙ ap (λ b. is_code row.code c || b) (coded_found rows c)
 
 -- the kind of a code is the one that it has, or opaque
 pub kind_found : (rows : List CodeRow) (c : Four) → unwrap_or (kind_at rows c) Opaque ≡ row_kind rows c
 kind_found [] c = refl
-kind_found (row ∷ rows) c = or_else (same_code row.code c) row.kind Opaque (kind_at rows c) ∙ ap (λ k. if same_code row.code c then row.kind else k) (kind_found rows c)
+kind_found (row ∷ rows) c = or_else (is_code row.code c) row.kind Opaque (kind_at rows c) ∙ ap (λ k. if is_code row.code c then row.kind else k) (kind_found rows c)
 
 -- the end of a comparison adds nothing to its test
 and_true : (b : Bool) → b ≡ (b && true)
@@ -32,13 +32,13 @@ and_true true = refl
 and_true false = refl
 
 -- codes are the same where they compare as equal
-same_compared : (a b : Four) → same_code a b ≡ is_eq (code_cmp a b)
+same_compared : (a b : Four) → is_code a b ≡ is_eq (code_cmp a b)
 same_compared a b =
     ap (λ last. (a.0 == b.0) && ((a.1 == b.1) && ((a.2 == b.2) && last))) (and_true (a.3 == b.3))
     ∙ sym (is_eq-slice_cmp (code_bytes a) (code_bytes b))
 
 -- codes that are the same are one
-same_path : (a b : Four) → same_code a b ≡ true → a ≡ b
+same_path : (a b : Four) → is_code a b ≡ true → a ≡ b
 same_path a b h =
     let first = and_parts (a.0 == b.0) ((a.1 == b.1) && ((a.2 == b.2) && (a.3 == b.3))) h in
     let second = and_parts (a.1 == b.1) ((a.2 == b.2) && (a.3 == b.3)) first.1 in
@@ -55,7 +55,7 @@ tests_swapped false b x y z h = refl
 pub kind_more : (rows : List CodeRow) (row : CodeRow) (c : Four) → is_coded row.code rows ≡ false → cond (is_eq (code_cmp row.code c)) (Some row.kind) (kind_at rows c) ≡ kind_at (rows ++ row ∷ []) c
 kind_more [] row c new = ap (λ b. cond b (Some row.kind) None) (sym (same_compared row.code c))
 kind_more (r ∷ rows) row c new =
-    let parts = or_parts (same_code r.code row.code) (is_coded row.code rows) new in
-    sym (tests_swapped (same_code r.code c) (is_eq (code_cmp row.code c)) (Some r.kind) (Some row.kind) (kind_at rows c)
-    (λ is. ap (same_code r.code) (sym (same_path row.code c (same_compared row.code c ∙ is))) ∙ parts.0))
-    ∙ ap (λ k. cond (same_code r.code c) (Some r.kind) k) (kind_more rows row c parts.1)
+    let parts = or_parts (is_code r.code row.code) (is_coded row.code rows) new in
+    sym (tests_swapped (is_code r.code c) (is_eq (code_cmp row.code c)) (Some r.kind) (Some row.kind) (kind_at rows c)
+    (λ is. ap (is_code r.code) (sym (same_path row.code c (same_compared row.code c ∙ is))) ∙ parts.0))
+    ∙ ap (λ k. cond (is_code r.code c) (Some r.kind) k) (kind_more rows row c parts.1)

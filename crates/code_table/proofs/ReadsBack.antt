@@ -4,14 +4,14 @@ use Rattle.std.specs.List.{All}
 use Rattle.std.proofs.lemmas.Bool.{and_parts, or_parts, or_from, not-true, cond-false}
 use Rattle.std.proofs.lemmas.List.{append-nil}
 use Rattle.std.proofs.lemmas.List.Elements.{All-head, All-tail}
-use Rattle.dmap_tags.specs.Codes.{Four}
+use Rattle.dmap_tags.specs.Codes.{Four, is_code}
 use Rattle.dmap_tags.specs.Tree.{trees_of}
 use Rattle.dmap_tags.specs.declared.kinds.Kind.{Kind}
 use Rattle.dmap_tags.specs.declared.kinds.Kind.TheVariants as kind
 use Rattle.code_table.specs.declared.reply.CodeError.{CodeError}
 use Rattle.code_table.specs.declared.reply.CodeError.TheVariants.{Repeated}
 use Rattle.code_table.specs.declared.row.CodeRow.{CodeRow}
-use Rattle.code_table.specs.Rows.{same_code, is_coded, codes_differ}
+use Rattle.code_table.specs.Rows.{is_coded, codes_differ}
 use Rattle.code_table.specs.Reply.{number_of, numbered, type_of, typed_by, entry_of, entry_row, row_more, rows_from, table_reply, table_of}
 use Rattle.code_table.proofs.Tellings.{same_swap}
 
@@ -40,9 +40,9 @@ pub entry_back : (row : CodeRow) → numbered (number_of row.code) ≡ row.code 
 entry_back row back = row_is row (numbered (number_of row.code)) (typed_by (type_of row.kind)) back (type_back row.kind)
 
 -- where no row has the code, that row in the midst has another
-other_between : (c : Four) (before : List CodeRow) (row : CodeRow) (rows : List CodeRow) → is_coded c (before ++ row ∷ rows) ≡ false → same_code row.code c ≡ false
-other_between c [] row rows h = (or_parts (same_code row.code c) (is_coded c rows) h).0
-other_between c (r ∷ before) row rows h = other_between c before row rows (or_parts (same_code r.code c) (is_coded c (before ++ row ∷ rows)) h).1
+other_between : (c : Four) (before : List CodeRow) (row : CodeRow) (rows : List CodeRow) → is_coded c (before ++ row ∷ rows) ≡ false → is_code row.code c ≡ false
+other_between c [] row rows h = (or_parts (is_code row.code c) (is_coded c rows) h).0
+other_between c (r ∷ before) row rows h = other_between c before row rows (or_parts (is_code r.code c) (is_coded c (before ++ row ∷ rows)) h).1
 
 -- where all codes differ, no earlier row has the code of a later one
 new_between : (before : List CodeRow) (row : CodeRow) (rows : List CodeRow) → codes_differ (before ++ row ∷ rows) ≡ true → is_coded row.code before ≡ false
@@ -50,7 +50,7 @@ new_between [] row rows h = refl
 new_between (r ∷ before) row rows h =
     let parts = and_parts (not (is_coded r.code (before ++ row ∷ rows))) (codes_differ (before ++ row ∷ rows)) h in
     let other = other_between r.code before row rows (not-true (is_coded r.code (before ++ row ∷ rows)) parts.0) in
-    or_from (same_code r.code row.code) (is_coded row.code before) (same_swap r.code row.code ∙ other) (new_between before row rows parts.1)
+    or_from (is_code r.code row.code) (is_coded row.code before) (same_swap r.code row.code ∙ other) (new_between before row rows parts.1)
 
 -- a row with a new code is added
 row_new : (index : ℕ) (rows : List CodeRow) (row : CodeRow) (o : Option CodeRow) (next : List CodeRow → Result (List CodeRow) CodeError) → o ≡ Some row → is_coded row.code rows ≡ false → row_more index rows o next ≡ next (rows ++ row ∷ [])

@@ -2,12 +2,12 @@
 use Rattle.std.proofs.Common.{◌≡◌, ◌≢◌, MatchResult, ◌<◌, ℕ, zero, suc, List, length, slice_index_or, take, map, arith, [], ◌∷◌, ◌++◌, Bool, true, false, not, ◌&&◌, ◌==◌, if◌then◌else◌, Option, Some, None, Result, Ok, Err, refl, sym, ap, ◌∙◌}
 use Rattle.std.proofs.lemmas.Bool.{and_parts, and_from, or_parts, or_from, not_from_false, not-true, eqb-true, eqb-false, eq-eqb, ne_eqb, cond-true}
 use Rattle.std.proofs.lemmas.List.{take-map, get_or-map, length-map}
-use Rattle.dmap_tags.specs.Codes.{Four, code}
+use Rattle.dmap_tags.specs.Codes.{Four, code, is_code}
 use Rattle.dmap_tags.specs.Tree.{Tree, Trees, more, tree_code}
 use Rattle.code_table.specs.declared.reply.CodeError.{CodeError}
 use Rattle.code_table.specs.declared.reply.CodeError.TheVariants.{Repeated, Memory}
 use Rattle.code_table.specs.declared.row.CodeRow.{CodeRow}
-use Rattle.code_table.specs.Rows.{same_code, is_coded, codes_differ}
+use Rattle.code_table.specs.Rows.{is_coded, codes_differ}
 use Rattle.code_table.specs.Reply.{row_more, entry_row, rows_from}
 
 eq_sym : (a b : ℕ) → (a == b) ≡ false → (b == a) ≡ false
@@ -20,33 +20,33 @@ eq_swap a b false h = eq_sym a b h
 and_swap : (a a' b b' : Bool) → a ≡ a' → b ≡ b' → (a && b) ≡ (a' && b')
 and_swap a a' b b' h k = ap (λ x. x && b) h ∙ ap (λ x. a' && x) k
 
-pub same_swap : (a b : Four) → same_code a b ≡ same_code b a
+pub same_swap : (a b : Four) → is_code a b ≡ is_code b a
 same_swap a b =
     and_swap _ _ _ _ (sym (eq_swap a.0 b.0 (a.0 == b.0) refl))
     (and_swap _ _ _ _ (sym (eq_swap a.1 b.1 (a.1 == b.1) refl))
     (and_swap _ _ _ _ (sym (eq_swap a.2 b.2 (a.2 == b.2) refl)) (sym (eq_swap a.3 b.3 (a.3 == b.3) refl))))
 
-not_more : (c : Four) (rows : List CodeRow) (row : CodeRow) → is_coded c rows ≡ false → same_code row.code c ≡ false → is_coded c (rows ++ row ∷ []) ≡ false
+not_more : (c : Four) (rows : List CodeRow) (row : CodeRow) → is_coded c rows ≡ false → is_code row.code c ≡ false → is_coded c (rows ++ row ∷ []) ≡ false
 not_more c [] row h k = or_from _ _ k refl
 not_more c (r ∷ rows) row h k =
-    let parts = or_parts (same_code r.code c) (is_coded c rows) h in
-    or_from (same_code r.code c) (is_coded c (rows ++ row ∷ [])) parts.0 (not_more c rows row parts.1 k)
+    let parts = or_parts (is_code r.code c) (is_coded c rows) h in
+    or_from (is_code r.code c) (is_coded c (rows ++ row ∷ [])) parts.0 (not_more c rows row parts.1 k)
 
 -- a row whose code has none of those before it leaves them different
 pub differ_more : (rows : List CodeRow) (row : CodeRow) → codes_differ rows ≡ true → is_coded row.code rows ≡ false → codes_differ (rows ++ row ∷ []) ≡ true
 differ_more [] row h k = refl
 differ_more (r ∷ rows) row h k =
-    let parts = or_parts (same_code r.code row.code) (is_coded row.code rows) k in
+    let parts = or_parts (is_code r.code row.code) (is_coded row.code rows) k in
     let differs = and_parts (not (is_coded r.code rows)) (codes_differ rows) h in
     and_from (not (is_coded r.code (rows ++ row ∷ []))) (codes_differ (rows ++ row ∷ []))
     (not_from_false (is_coded r.code (rows ++ row ∷ [])) (not_more r.code rows row (not-true (is_coded r.code rows) differs.0) (same_swap row.code r.code ∙ parts.0)))
     (differ_more rows row differs.1 parts.1)
 
 -- where no row has the code, the row at a place has another
-other_at : (c : Four) (rows : List CodeRow) (i : ℕ) (d : CodeRow) → is_coded c rows ≡ false → i < length rows → same_code (slice_index_or rows i d).code c ≡ false
+other_at : (c : Four) (rows : List CodeRow) (i : ℕ) (d : CodeRow) → is_coded c rows ≡ false → i < length rows → is_code (slice_index_or rows i d).code c ≡ false
 other_at c [] i d h here = absurd (omega arith)
-other_at c (row ∷ rows) zero d h here = (or_parts (same_code row.code c) (is_coded c rows) h).0
-other_at c (row ∷ rows) (suc i) d h here = other_at c rows i d (or_parts (same_code row.code c) (is_coded c rows) h).1 (omega arith)
+other_at c (row ∷ rows) zero d h here = (or_parts (is_code row.code c) (is_coded c rows) h).0
+other_at c (row ∷ rows) (suc i) d h here = other_at c rows i d (or_parts (is_code row.code c) (is_coded c rows) h).1 (omega arith)
 
 -- where all codes differ, no row has the code of one behind it
 pub new_at : (rows : List CodeRow) (i : ℕ) (d : CodeRow) → codes_differ rows ≡ true → i < length rows → is_coded (slice_index_or rows i d).code (take i rows) ≡ false
@@ -56,7 +56,7 @@ new_at (row ∷ rows) (suc i) d differ here =
     let parts = and_parts (not (is_coded row.code rows)) (codes_differ rows) differ in
     let other = other_at row.code rows i d (not-true (is_coded row.code rows) parts.0) (omega arith) in
     let next = slice_index_or rows i d in
-    or_from (same_code row.code next.code) (is_coded next.code (take i rows)) (same_swap row.code next.code ∙ other) (new_at rows i d parts.1 (omega arith))
+    or_from (is_code row.code next.code) (is_coded next.code (take i rows)) (same_swap row.code next.code ∙ other) (new_at rows i d parts.1 (omega arith))
 
 -- the same of rows that are made of data
 pub new_made_at : {X : Type 0} (made : X → CodeRow) (xs : List X) (i : ℕ) (d : X) → codes_differ (map made xs) ≡ true → i < length xs → is_coded (made (slice_index_or xs i d)).code (map made (take i xs)) ≡ false
@@ -83,12 +83,12 @@ more_err index rows e (Some row) next h = choice_err (is_coded row.code rows) (R
 
 -- a member that is an entry does to the rows what its row does
 pub entry_told : (index : ℕ) (before after : List CodeRow) (t : Tree) (r : Result Unit CodeError)
-    → same_code (tree_code t) (code "mdcl") ≡ true
+    → is_code (tree_code t) (code "mdcl") ≡ true
     → MatchResult r (λ _. row_more index before (entry_row t) Ok ≡ Ok after) (λ e. e ≢ Memory → row_more index before (entry_row t) Ok ≡ Err e)
     → (members : Trees) → MatchResult r (λ _. rows_from index before (more t members) ≡ rows_from (suc index) after members) (λ e. e ≢ Memory → rows_from index before (more t members) ≡ Err e)
 entry_told index before after t (Ok u) is added members =
-    cond-true (same_code (tree_code t) (code "mdcl")) _ (rows_from (suc index) before members) is
+    cond-true (is_code (tree_code t) (code "mdcl")) _ (rows_from (suc index) before members) is
     ∙ more_ok index before after (entry_row t) (λ all. rows_from (suc index) all members) added
 entry_told index before after t (Err e) is added members = λ told.
-    cond-true (same_code (tree_code t) (code "mdcl")) _ (rows_from (suc index) before members) is
+    cond-true (is_code (tree_code t) (code "mdcl")) _ (rows_from (suc index) before members) is
     ∙ more_err index before e (entry_row t) (λ all. rows_from (suc index) all members) (added told)

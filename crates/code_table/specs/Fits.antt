@@ -1,6 +1,7 @@
 -- When a tag fits a table: it and all in it have the kinds that the table gives.
 use Rattle.std.specs.Prelude.{◌≡◌, ℕ, List, [], ◌∷◌, Bool, true, false, not, ◌&&◌, Option, Some, None}
 use Rattle.dmap_tags.specs.Codes.{Four}
+use Rattle.dmap_tags.specs.Kinds.{is_list}
 use Rattle.dmap_tags.specs.Tree as tree
 use Rattle.dmap_tags.specs.Tree.{Leaf, Tree, leaf, list, Trees, none, more}
 use Rattle.dmap_tags.specs.Typed.{leaf_at}
@@ -8,10 +9,6 @@ use Rattle.dmap_tags.specs.declared.kinds.Kind.{Kind}
 use Rattle.dmap_tags.specs.declared.kinds.Kind.TheVariants as kind
 use Rattle.code_table.specs.declared.row.CodeRow.{CodeRow}
 use Rattle.code_table.specs.Rows.{kind_in}
-
-abbrev pub is_list : Kind → Bool
-is_list kind.List = true
-is_list _ = false
 
 abbrev pub is_opaque : Leaf → Bool
 is_opaque (tree.Opaque bytes) = true

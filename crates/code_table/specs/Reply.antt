@@ -1,7 +1,7 @@
 -- How /content-codes tells a table, and how the table is read out of what it tells.
 use Rattle.std.specs.Prelude.{◌≡◌, ℕ, suc, List, [], ◌∷◌, ◌++◌, map, Bool, ◌==◌, if◌then◌else◌, Option, Some, None, unwrap_or, Result, Ok, Err}
 use Rattle.std.specs.Int.{w32, from_be_bytes, to_be_bytes}
-use Rattle.dmap_tags.specs.Codes.{Four, code, code_of, code_bytes}
+use Rattle.dmap_tags.specs.Codes.{Four, code, code_of, code_bytes, is_code}
 use Rattle.dmap_tags.specs.Kinds.{kind_number}
 use Rattle.dmap_tags.specs.Tree as tree
 use Rattle.dmap_tags.specs.Tree.{Leaf, Tree, leaf, list, Trees, none, more, trees_of, tree_code}
@@ -10,7 +10,7 @@ use Rattle.dmap_tags.specs.declared.kinds.Kind.TheVariants as kind
 use Rattle.code_table.specs.declared.reply.CodeError.{CodeError}
 use Rattle.code_table.specs.declared.reply.CodeError.TheVariants.{NotReply, Entry, Repeated}
 use Rattle.code_table.specs.declared.row.CodeRow.{CodeRow}
-use Rattle.code_table.specs.Rows.{same_code, is_coded}
+use Rattle.code_table.specs.Rows.{is_coded}
 
 -- the four bytes of a code as one number, and back
 abbrev pub number_of : Four → ℕ
@@ -45,7 +45,7 @@ table_reply rows = list (code "mccr") (trees_of (leaf (code "mstt") (tree.U32 20
 -- the first tag with that code
 abbrev pub first_in : Four → Trees → Option Tree
 first_in c none = None
-first_in c (more t ts) = if same_code (tree_code t) c then Some t else first_in c ts
+first_in c (more t ts) = if is_code (tree_code t) c then Some t else first_in c ts
 
 -- a code as a number, a type and a name, where the tag has just such a value
 abbrev pub number_in : Option Tree → Option ℕ
@@ -81,9 +81,9 @@ row_more index rows (Some row) next = if is_coded row.code rows then Err (Repeat
 abbrev pub rows_from : ℕ → List CodeRow → Trees → Result (List CodeRow) CodeError
 rows_from index rows none = Ok rows
 rows_from index rows (more t ts) =
-    if same_code (tree_code t) (code "mdcl") then row_more index rows (entry_row t) (λ all. rows_from (suc index) all ts)
+    if is_code (tree_code t) (code "mdcl") then row_more index rows (entry_row t) (λ all. rows_from (suc index) all ts)
     else rows_from (suc index) rows ts
 
 abbrev pub table_of : Tree → Result (List CodeRow) CodeError
 table_of (leaf c l) = Err NotReply
-table_of (list c ts) = if same_code c (code "mccr") then rows_from 0 [] ts else Err NotReply
+table_of (list c ts) = if is_code c (code "mccr") then rows_from 0 [] ts else Err NotReply

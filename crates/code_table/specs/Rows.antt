@@ -1,34 +1,31 @@
 -- What a table of content codes says: the kind of a tag's value and the code of a name, by the first row that has
 -- the code or the name.
-use Rattle.std.specs.Prelude.{◌≡◌, ℕ, List, [], ◌∷◌, Bool, true, false, not, ◌==◌, ◌&&◌, ◌||◌, if◌then◌else◌, Option, Some, None}
+use Rattle.std.specs.Prelude.{◌≡◌, ℕ, List, [], ◌∷◌, Bool, true, false, not, ◌&&◌, ◌||◌, if◌then◌else◌, Option, Some, None}
 use Rattle.std.specs.BTreeMap.{is_at}
 use Rattle.std.specs.Map.{lookup}
 use Rattle.std.specs.Cmp.Lexicographic.{slice_cmp}
 use Rattle.std.specs.declared.cmp.Ordering.{Ordering}
 use Rattle.std.specs.Ordering.{nat_cmp}
 use Rattle.std.specs.Str.{bytes_eq}
-use Rattle.dmap_tags.specs.Codes.{Four, code, code_of, code_bytes}
+use Rattle.dmap_tags.specs.Codes.{Four, code, code_of, code_bytes, is_code}
 use Rattle.dmap_tags.specs.declared.kinds.Kind.{Kind}
 use Rattle.dmap_tags.specs.declared.kinds.Kind.TheVariants.{Text, Opaque}
 use Rattle.code_table.specs.declared.row.CodeRow.{CodeRow}
 use Rattle.code_table.specs.declared.standard.StandardRow.{StandardRow}
 
-abbrev pub same_code : Four → Four → Bool
-same_code a b = (a.0 == b.0) && ((a.1 == b.1) && ((a.2 == b.2) && (a.3 == b.3)))
-
 -- the kind in the row of the code, and opaque where it has none
 abbrev pub row_kind : List CodeRow → Four → Kind
 row_kind [] c = Opaque
-row_kind (row ∷ rows) c = if same_code row.code c then row.kind else row_kind rows c
+row_kind (row ∷ rows) c = if is_code row.code c then row.kind else row_kind rows c
 
 -- the lists of a browse reply: artists, albums, genres, composers
 abbrev pub is_browse_list : Four → Bool
-is_browse_list c = same_code c (code "abar") || (same_code c (code "abal") || (same_code c (code "abgn") || same_code c (code "abcp")))
+is_browse_list c = is_code c (code "abar") || (is_code c (code "abal") || (is_code c (code "abgn") || is_code c (code "abcp")))
 
 -- an mlit of such a list carries the text itself
 abbrev pub is_browse_item : Option Four → Four → Bool
 is_browse_item None c = false
-is_browse_item (Some parent) c = same_code c (code "mlit") && is_browse_list parent
+is_browse_item (Some parent) c = is_code c (code "mlit") && is_browse_list parent
 
 -- the kind of a tag's value, by its code and that of the list around it
 abbrev pub kind_in : List CodeRow → Option Four → Four → Kind
@@ -40,7 +37,7 @@ first_named name (row ∷ rows) = if bytes_eq row.name name then Some row.code e
 
 abbrev pub is_coded : Four → List CodeRow → Bool
 is_coded c [] = false
-is_coded c (row ∷ rows) = same_code row.code c || is_coded c rows
+is_coded c (row ∷ rows) = is_code row.code c || is_coded c rows
 
 -- no code has two rows
 abbrev pub codes_differ : List CodeRow → Bool
@@ -54,7 +51,7 @@ code_cmp a b = slice_cmp nat_cmp (code_bytes a) (code_bytes b)
 -- the kind in the row of the code, where there is one
 abbrev pub kind_at : List CodeRow → Four → Option Kind
 kind_at [] c = None
-kind_at (row ∷ rows) c = if same_code row.code c then Some row.kind else kind_at rows c
+kind_at (row ∷ rows) c = if is_code row.code c then Some row.kind else kind_at rows c
 
 -- no code has two rows, and the map has the kinds in them
 pub record AreIndexed (rows : List CodeRow) (kinds : List (Four × Kind)) : Type 0 where

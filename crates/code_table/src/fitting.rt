@@ -3,7 +3,8 @@
 ghost use Rattle.std.specs.Prelude.{◌≡◌, not, ◌&&◌};
 ghost use Rattle.dmap_tags.specs.Tree.{trees_of};
 ghost use Rattle.dmap_tags.specs.Typed.{leaf_at};
-ghost use Rattle.code_table.specs.Fits.{is_list, is_opaque, fits, all_fit};
+ghost use Rattle.dmap_tags.specs.Kinds.{is_list};
+ghost use Rattle.code_table.specs.Fits.{is_opaque, fits, all_fit};
 
 use crate::table::CodeTable;
 use dmap_tags::{Code, Kind, Tag, Value, is_text};

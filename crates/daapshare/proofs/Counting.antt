@@ -5,6 +5,7 @@ use Rattle.std.proofs.lemmas.List.{append-nil, length-drop}
 use Rattle.dmap_tags.specs.Codes.{Four, code_of}
 use Rattle.dmap_tags.specs.Typed.{leaf_at, value_of}
 use Rattle.dmap_tags.specs.declared.kinds.Kind.{Kind}
+use Rattle.dmap_tags.specs.Kinds.{is_list}
 use Rattle.code_table.specs.declared.row.CodeRow.{CodeRow}
 use Rattle.code_table.specs.Rows.{kind_in}
 use Rattle.dmap_stream.specs.declared.containers.Container.{Container}
@@ -12,7 +13,7 @@ use Rattle.dmap_stream.specs.declared.event.Event.{Event}
 use Rattle.dmap_stream.specs.declared.event.Event.TheVariants.{Open, Leaf, Close}
 use Rattle.dmap_stream.specs.declared.refusal.StreamError.{StreamError}
 use Rattle.dmap_stream.specs.declared.refusal.StreamError.TheVariants.{ShortHead}
-use Rattle.dmap_stream.specs.Walk.{Walk, between, inside, ends, behind, container, is_empty, broken, is_list, closes, open_after, is_short, parent_of, fault_at, told_length, Onward, at_payload, at_body, unless_fault, behind_head, at_head, at_place, walk, walk_from, walk_of}
+use Rattle.dmap_stream.specs.Walk.{Walk, between, inside, ends, behind, container, is_empty, broken, closes, open_after, is_short, parent_of, fault_at, told_length, Onward, at_payload, at_body, unless_fault, behind_head, at_head, at_place, walk, walk_from, walk_of}
 use Rattle.dmap_stream.specs.Reader.{Reader, ready, HasRead, TellsAs}
 use Rattle.dmap_stream.proofs.Readings.{told}
 use Rattle.daapshare.specs.Counting.{with_tag, after_event, no_tops}

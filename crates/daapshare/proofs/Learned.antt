@@ -9,6 +9,7 @@ use Rattle.daapshare_words.specs.declared.words.Command.TheVariants as command
 use Rattle.dmap_tags.specs.Spelling.{payload, spelling}
 use Rattle.dmap_tags.specs.Codes.{code_of}
 use Rattle.dmap_tags.specs.Tree.{Tree}
+use Rattle.dmap_tags.specs.Proper.{IsProperTag}
 use Rattle.code_table.specs.declared.reply.CodeError.{CodeError}
 use Rattle.code_table.specs.declared.reply.CodeError.TheVariants as table
 use Rattle.code_table.specs.declared.row.CodeRow.{CodeRow}
@@ -18,7 +19,7 @@ use Rattle.dmap_stream.proofs.Heads.{IsHead}
 use Rattle.dmap_stream.proofs.Spelled.{begins}
 use Rattle.dmap_stream.proofs.TagsWalk.{tags_read}
 use Rattle.dmap_stream.specs.Walk.{Walk, Ending, between, inside, broken, told_length}
-use Rattle.dmap_stream.specs.WholeTag.{is_accepted, IsProperTag, refusal}
+use Rattle.dmap_stream.specs.WholeTag.{is_accepted, refusal}
 use Rattle.dmap_stream.specs.declared.refusal.StreamError.{StreamError}
 use Rattle.dmap_stream.specs.declared.refusal.StreamError.TheVariants as stream
 use Rattle.daapshare.specs.declared.fault.Fault.{Fault}

@@ -3,6 +3,7 @@ use Rattle.std.specs.Prelude.{◌≡◌, ◌≢◌, ◌⊎◌, ◌++◌, [], ℕ
 use Rattle.std.specs.Io.KnownBytes.{Consumes, IsAtEnd}
 use Rattle.dmap_tags.specs.Spelling.{spelling}
 use Rattle.dmap_tags.specs.Tree.{Tree}
+use Rattle.dmap_tags.specs.Proper.{IsProperTag}
 use Rattle.code_table.specs.declared.reply.CodeError.{CodeError}
 use Rattle.code_table.specs.declared.reply.CodeError.TheVariants as table
 use Rattle.code_table.specs.declared.reply.CodeError.TheVariants.{NotReply}
@@ -10,7 +11,7 @@ use Rattle.code_table.specs.declared.row.CodeRow.{CodeRow}
 use Rattle.code_table.specs.Reply.{table_of}
 use Rattle.code_table.specs.Standard.{standard_rows}
 use Rattle.dmap_stream.specs.Walk.{broken}
-use Rattle.dmap_stream.specs.WholeTag.{is_accepted, IsProperTag, refusal}
+use Rattle.dmap_stream.specs.WholeTag.{is_accepted, refusal}
 use Rattle.dmap_stream.specs.declared.refusal.StreamError.{StreamError}
 use Rattle.dmap_stream.specs.declared.refusal.StreamError.TheVariants as stream
 use Rattle.item_model.specs.declared.changes.Entry.{Entry}

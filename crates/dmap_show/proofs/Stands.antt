@@ -3,11 +3,12 @@ use Rattle.std.proofs.Common.{◌≡◌, ℕ, suc, ◌+◌, ◌<◌, ◌≤◌, 
 use Rattle.std.proofs.lemmas.Bool.{and_parts, and_from}
 use Rattle.std.specs.List.{AllByRecursion}
 use Rattle.dmap_tags.specs.Codes.{Four}
-use Rattle.dmap_tags.specs.Tree.{Tree, leaf, list, Trees, none, more, trees_of}
+use Rattle.dmap_tags.specs.Tree.{Tree, leaf, list, Trees, none, more, trees_of, levels, levels_in}
+use Rattle.dmap_tags.specs.Kinds.{is_list}
 use Rattle.code_table.specs.declared.row.CodeRow.{CodeRow}
 use Rattle.code_table.specs.Rows.{kind_in}
-use Rattle.code_table.specs.Fits.{is_list, fits, all_fit}
-use Rattle.dmap_show.specs.Readable.{IsTag, AreTags, levels, levels_below, IsReadable}
+use Rattle.code_table.specs.Fits.{fits, all_fit}
+use Rattle.dmap_show.specs.Readable.{IsTag, AreTags, IsReadable}
 use Rattle.dmap_show.specs.Standing.{Stands, AllStand, HeadStands}
 
 mutual
@@ -17,7 +18,7 @@ mutual
       let p = and_parts (is_list (kind_in rows parent c)) (all_fit rows c ts) fit in
       (omega arith, (tag.0, (p.0, all_stand rows (suc level) c ts tag.1 p.1 (omega arith))))
 
-  all_stand : (rows : List CodeRow) (level : ℕ) (c : Four) (ts : Trees) → AreTags ts → all_fit rows c ts ≡ true → level + levels_below ts ≤ 32 → AllStand rows level (Some c) ts
+  all_stand : (rows : List CodeRow) (level : ℕ) (c : Four) (ts : Trees) → AreTags ts → all_fit rows c ts ≡ true → level + levels_in ts ≤ 32 → AllStand rows level (Some c) ts
   all_stand rows level c none tags fit low = tt
   all_stand rows level c (more t ts) tags fit low =
       let p = and_parts (fits rows (Some c) t) (all_fit rows c ts) fit in
@@ -29,16 +30,16 @@ mutual
   told rows level parent (list c ts) h =
       let low : level < 32 = h.0 in
       let below = all_told rows (suc level) c ts (omega arith) h.1.1.1 in
-      let deep : suc level + levels_below ts ≤ 32 = below.1.1 in
+      let deep : suc level + levels_in ts ≤ 32 = below.1.1 in
       ((h.1.0, below.0), (and_from _ _ h.1.1.0 below.1.0, omega arith))
 
-  all_told : (rows : List CodeRow) (level : ℕ) (c : Four) (ts : Trees) → level ≤ 32 → AllStand rows level (Some c) ts → AreTags ts × ((all_fit rows c ts ≡ true) × (level + levels_below ts ≤ 32))
+  all_told : (rows : List CodeRow) (level : ℕ) (c : Four) (ts : Trees) → level ≤ 32 → AllStand rows level (Some c) ts → AreTags ts × ((all_fit rows c ts ≡ true) × (level + levels_in ts ≤ 32))
   all_told rows level c none low h = (tt, (refl, omega arith))
   all_told rows level c (more t ts) low h =
       let one = told rows level (Some c) t h.0 in
       let others = all_told rows level c ts low h.1 in
       let deep : level + levels t ≤ 32 = one.1.1 in
-      let below : level + levels_below ts ≤ 32 = others.1.1 in
+      let below : level + levels_in ts ≤ 32 = others.1.1 in
       ((one.0, others.0), (and_from _ _ one.1.0 others.1.0, omega arith))
 
 -- tags at the top

@@ -1,9 +1,9 @@
 -- What may still come in the lists of a draft.
 use Rattle.std.specs.Prelude.{◌≡◌, ◌<◌, ℕ, suc, length, List, [], ◌∷◌, ◌++◌, true, None, Some}
 use Rattle.dmap_tags.specs.Tree.{Tree, list, trees_of}
+use Rattle.dmap_tags.specs.Kinds.{is_list}
 use Rattle.code_table.specs.declared.row.CodeRow.{CodeRow}
 use Rattle.code_table.specs.Rows.{kind_in}
-use Rattle.code_table.specs.Fits.{is_list}
 use Rattle.dmap_show.specs.declared.draft.OpenList.{OpenList}
 use Rattle.dmap_show.specs.Shown.{shown_tags}
 use Rattle.dmap_show.specs.Drafts.{parent_in}

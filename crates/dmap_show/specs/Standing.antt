@@ -2,9 +2,10 @@
 use Rattle.std.specs.Prelude.{◌≡◌, ◌<◌, ℕ, suc, List, true, Option, Some}
 use Rattle.dmap_tags.specs.Codes.{Four}
 use Rattle.dmap_tags.specs.Tree.{Tree, leaf, list, Trees, none, more}
+use Rattle.dmap_tags.specs.Kinds.{is_list}
 use Rattle.code_table.specs.declared.row.CodeRow.{CodeRow}
 use Rattle.code_table.specs.Rows.{kind_in}
-use Rattle.code_table.specs.Fits.{is_list, leaf_fits, fits}
+use Rattle.code_table.specs.Fits.{leaf_fits, fits}
 use Rattle.dmap_show.specs.Readable.{IsCode, IsValue}
 use Rattle.dmap_show.specs.Parts.{head_of, IsHead}
 

@@ -4,12 +4,13 @@ use Rattle.std.proofs.lemmas.Bool.{cond-true, cond-false}
 use Rattle.dmap_tags.specs.Codes.{Four, code_of}
 use Rattle.dmap_tags.specs.declared.kinds.Kind.{Kind}
 use Rattle.dmap_tags.specs.declared.kinds.Kind.TheVariants.{List as Members}
+use Rattle.dmap_tags.specs.Kinds.{is_list}
 use Rattle.code_table.specs.declared.row.CodeRow.{CodeRow}
 use Rattle.code_table.specs.Rows.{kind_in}
 use Rattle.dmap_stream.specs.declared.containers.Container.{Container}
 use Rattle.dmap_stream.specs.declared.position.Position.{Position}
 use Rattle.dmap_stream.specs.declared.refusal.StreamError.{StreamError}
-use Rattle.dmap_stream.specs.Walk.{broken, ends, is_list, parent_of, fault_at, told_length, Onward, at_payload, at_body, unless_fault, behind_head, at_head, walk_from}
+use Rattle.dmap_stream.specs.Walk.{broken, ends, parent_of, fault_at, told_length, Onward, at_payload, at_body, unless_fault, behind_head, at_head, walk_from}
 use Rattle.dmap_stream.specs.Reading.{ready_at, Takes}
 use Rattle.dmap_stream.proofs.Takings.{behind_none}
 use Rattle.dmap_stream.proofs.Wholes.{head_done}

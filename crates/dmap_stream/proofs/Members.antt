@@ -3,8 +3,9 @@ use Rattle.std.proofs.Common.{◌≡◌, ◌≢◌, ℕ, ◌+◌, ◌-◌, ◌<�
 use Rattle.std.proofs.lemmas.List.{append-nil}
 use Rattle.std.proofs.lemmas.Bool.{le-ltb, lt-leb, cond-false, cond-true, and_parts, and_from, eq-eqb, eqb-true, ltb-true}
 use Rattle.dmap_tags.specs.Codes.{Four}
-use Rattle.dmap_tags.specs.Tree.{Tree, leaf, list, Trees, none, more, trees_of}
+use Rattle.dmap_tags.specs.Tree.{Tree, leaf, list, Trees, none, more, trees_of, levels, levels_in}
 use Rattle.dmap_tags.specs.Spelling.{payload, spelling, spellings}
+use Rattle.dmap_tags.specs.Proper.{IsProperTag, AreProperTags}
 use Rattle.code_table.specs.declared.row.CodeRow.{CodeRow}
 use Rattle.code_table.specs.Fits.{fits, all_fit}
 use Rattle.dmap_stream.specs.declared.containers.Container.{Container}
@@ -13,7 +14,7 @@ use Rattle.dmap_stream.specs.declared.event.Event.TheVariants.{Close}
 use Rattle.dmap_stream.specs.declared.refusal.StreamError.{StreamError}
 use Rattle.dmap_stream.specs.declared.refusal.StreamError.TheVariants.{ShortHead, Memory}
 use Rattle.dmap_stream.specs.Walk.{Walk, is_empty, closes, open_after, is_short, parent_of, at_head, walk_from}
-use Rattle.dmap_stream.specs.WholeTag.{levels, levels_in, IsProperTag, AreProperTags, refusal, end_of, IsRoomFor, AreRest, ReadsTag, RefusesTag, ReadsRest, RefusesRest}
+use Rattle.dmap_stream.specs.WholeTag.{refusal, end_of, IsRoomFor, AreRest, ReadsTag, RefusesTag, ReadsRest, RefusesRest}
 use Rattle.dmap_stream.proofs.Settled.{none_end}
 use Rattle.dmap_stream.proofs.WholeTags.{place_ends, count}
 

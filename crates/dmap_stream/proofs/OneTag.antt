@@ -9,11 +9,13 @@ use Rattle.dmap_tags.specs.Tree.{Leaf, U8, Tree, leaf, list, Trees, none, more, 
 use Rattle.dmap_tags.specs.Typed.{leaf_at}
 use Rattle.dmap_tags.specs.Spelling.{leaf_payload, payload, spelling, spellings}
 use Rattle.dmap_tags.specs.declared.kinds.Kind.{Kind}
+use Rattle.dmap_tags.specs.Kinds.{is_list}
+use Rattle.dmap_tags.specs.Proper.{IsProper, IsProperTag, AreProperTags}
 use Rattle.dmap_tags.specs.declared.kinds.Kind.TheVariants as kind
 use Rattle.code_table.specs.declared.row.CodeRow.{CodeRow}
 use Rattle.code_table.specs.Rows.{kind_in}
-use Rattle.code_table.specs.Fits.{is_list, leaf_fits, fits, all_fit}
-use Rattle.dmap_stream.specs.WholeTag.{is_accepted, IsProper, IsProperTag, AreProperTags, IsRoomFor}
+use Rattle.code_table.specs.Fits.{leaf_fits, fits, all_fit}
+use Rattle.dmap_stream.specs.WholeTag.{is_accepted, IsRoomFor}
 use Rattle.dmap_stream.proofs.Heads.{IsHead}
 use Rattle.dmap_stream.proofs.Spelled.{Begins, begins}
 use Rattle.dmap_stream.proofs.Values.{leaf_again}

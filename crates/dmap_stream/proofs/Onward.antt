@@ -5,12 +5,13 @@ use Rattle.std.proofs.lemmas.List.{length-drop}
 use Rattle.dmap_tags.specs.Codes.{Four, code_of}
 use Rattle.dmap_tags.specs.Typed.{leaf_at, value_of}
 use Rattle.dmap_tags.specs.declared.kinds.Kind.{Kind}
+use Rattle.dmap_tags.specs.Kinds.{is_list}
 use Rattle.code_table.specs.declared.row.CodeRow.{CodeRow}
 use Rattle.code_table.specs.Rows.{kind_in}
 use Rattle.dmap_stream.specs.declared.containers.Container.{Container}
 use Rattle.dmap_stream.specs.declared.event.Event.TheVariants.{Open, Leaf}
 use Rattle.dmap_stream.specs.declared.refusal.StreamError.{StreamError}
-use Rattle.dmap_stream.specs.Walk.{Walk, behind, is_list, closes, open_after, is_short, parent_of, fault_at, told_length, container, Onward, at_payload, at_body, unless_fault, behind_head, at_head, at_place, walk, walk_from}
+use Rattle.dmap_stream.specs.Walk.{Walk, behind, closes, open_after, is_short, parent_of, fault_at, told_length, container, Onward, at_payload, at_body, unless_fault, behind_head, at_head, at_place, walk, walk_from}
 
 -- two continuations that say the same where fewer than n bytes are left
 abbrev pub AgreeBelow : ℕ → Onward → Onward → Type 0

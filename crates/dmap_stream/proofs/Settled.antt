@@ -4,12 +4,13 @@ use Rattle.std.specs.Prelude.{option_to_list}
 use Rattle.std.proofs.lemmas.Bool.{lt-ltb}
 use Rattle.dmap_tags.specs.Codes.{Four}
 use Rattle.dmap_tags.specs.declared.kinds.Kind.{Kind}
+use Rattle.dmap_tags.specs.Kinds.{is_list}
 use Rattle.code_table.specs.declared.row.CodeRow.{CodeRow}
 use Rattle.dmap_stream.specs.declared.containers.Container.{Container}
 use Rattle.dmap_stream.specs.declared.event.Event.TheVariants.{Close}
 use Rattle.dmap_stream.specs.declared.position.Position.{Position}
 use Rattle.dmap_stream.specs.declared.position.Phase.TheVariants.{Head, Payload}
-use Rattle.dmap_stream.specs.Walk.{closes, open_after, is_list, at_head, at_payload, walk_from}
+use Rattle.dmap_stream.specs.Walk.{closes, open_after, at_head, at_payload, walk_from}
 use Rattle.dmap_stream.specs.Reading.{ready_at, resumed, is_due}
 
 second_empty : {A : Type 0} (o : Option A) (xs : List A) → option_to_list o ++ xs ≡ [] → xs ≡ []

@@ -10,12 +10,13 @@ use Rattle.dmap_tags.specs.Typed.{leaf_at, value_of}
 use Rattle.dmap_tags.specs.Seen.{tree_with}
 use Rattle.dmap_tags.specs.Spelling.{payload, spelling, spellings}
 use Rattle.dmap_tags.specs.declared.kinds.Kind.{Kind}
+use Rattle.dmap_tags.specs.Kinds.{is_list}
 use Rattle.code_table.specs.declared.row.CodeRow.{CodeRow}
 use Rattle.code_table.specs.Rows.{kind_in}
 use Rattle.dmap_stream.specs.declared.containers.Container.{Container}
 use Rattle.dmap_stream.specs.declared.refusal.StreamError.{StreamError}
 use Rattle.dmap_stream.specs.declared.refusal.StreamError.TheVariants.{ShortHead}
-use Rattle.dmap_stream.specs.Walk.{Walk, between, inside, broken, ends, is_empty, is_list, closes, open_after, is_short, parent_of, fault_at, told_length, container, at_payload, at_body, unless_fault, at_head, walk_from, walk_of}
+use Rattle.dmap_stream.specs.Walk.{Walk, between, inside, broken, ends, is_empty, closes, open_after, is_short, parent_of, fault_at, told_length, container, at_payload, at_body, unless_fault, at_head, walk_from, walk_of}
 use Rattle.dmap_stream.specs.WholeTag.{AreAccepted, ReadsTag, ReadsRest}
 use Rattle.dmap_stream.proofs.Heads.{head_fault, head_list, head_value}
 use Rattle.dmap_stream.proofs.Members.{Passed, none_passed, more_passed, all_passed, IsDue, due_goes}

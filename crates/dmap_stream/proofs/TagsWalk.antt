@@ -9,6 +9,8 @@ use Rattle.dmap_tags.specs.Tree.{Leaf, Tree, leaf, list, Trees, none, more, tree
 use Rattle.dmap_tags.specs.Typed.{value_of}
 use Rattle.dmap_tags.specs.Spelling.{leaf_payload, payload, spelling, spellings}
 use Rattle.dmap_tags.specs.declared.kinds.Kind.{Kind}
+use Rattle.dmap_tags.specs.Kinds.{is_list}
+use Rattle.dmap_tags.specs.Proper.{IsProperTag}
 use Rattle.code_table.specs.declared.row.CodeRow.{CodeRow}
 use Rattle.code_table.specs.Rows.{kind_in}
 use Rattle.code_table.specs.Fits.{leaf_fits}
@@ -16,14 +18,14 @@ use Rattle.dmap_stream.specs.declared.containers.Container.{Container}
 use Rattle.dmap_stream.specs.declared.event.Event.{Event}
 use Rattle.dmap_stream.specs.declared.event.Event.TheVariants.{Open, Close}
 use Rattle.dmap_stream.specs.declared.refusal.StreamError.TheVariants.{ShortHead}
-use Rattle.dmap_stream.specs.Walk.{Walk, between, broken, ends, behind, is_list, closes, open_after, is_short, parent_of, container, at_head, at_place, walk_from, walk_of}
-use Rattle.dmap_stream.specs.WholeTag.{is_accepted, IsProperTag, AreAccepted, IsRoomFor, AreRest}
+use Rattle.dmap_stream.specs.Walk.{Walk, between, broken, ends, behind, closes, open_after, is_short, parent_of, container, at_head, at_place, walk_from, walk_of}
+use Rattle.dmap_stream.specs.WholeTag.{is_accepted, AreAccepted, IsRoomFor, AreRest}
 use Rattle.dmap_stream.specs.Events.{events_of, events_of_all}
 use Rattle.dmap_stream.proofs.Heads.{IsHead, head_list, head_value}
 use Rattle.dmap_stream.proofs.Members.{next_room, next_rest}
 use Rattle.dmap_stream.proofs.Onward.{walk_on}
 use Rattle.dmap_stream.proofs.Values.{leaf_again}
-use Rattle.dmap_stream.proofs.WholeTags.{same_kinds, list_kind, no_value, room_at_top}
+use Rattle.dmap_stream.proofs.WholeTags.{list_kind, no_value, room_at_top}
 use Rattle.dmap_stream.proofs.Wholes.{payload_done}
 
 -- events, and others behind them
@@ -120,7 +122,7 @@ mutual
       let parts = and_parts _ _ room.fit in
       let deep = room.deep in
       head_list onward rows limit at around (head_of (list c ts)) (spellings ts ++ rest) c (length (spellings ts)) (parent_of around) kind
-      (spelled_head (list c ts) room.told) (sym room.room) refl refl (sym (same_kinds kind) ∙ parts.0)
+      (spelled_head (list c ts) room.told) (sym room.room) refl refl parts.0
       ∙ ap (behind (Open c (length (spellings ts)) at ∷ []))
       (tags_go rows limit (at + 8) inner around ts rest
       (record { list = refl; fit = parts.1; proper = room.proper; deep = omega arith; told = room.told; ends = refl })

@@ -14,10 +14,10 @@ use Rattle.dmap_tags.specs.Typed.{leaf_at, value_of}
 use Rattle.dmap_tags.specs.Seen.{tree_with}
 use Rattle.dmap_tags.specs.Spelling.{leaf_payload}
 use Rattle.dmap_tags.specs.declared.kinds.Kind.{Kind}
+use Rattle.dmap_tags.specs.Kinds.{is_list}
+use Rattle.dmap_tags.specs.Proper.{IsProper}
 use Rattle.dmap_tags.specs.declared.kinds.Kind.TheVariants as kind
 use Rattle.code_table.specs.Fits.{leaf_fits, is_opaque}
-use Rattle.dmap_stream.specs.Walk.{is_list}
-use Rattle.dmap_stream.specs.WholeTag.{IsProper}
 
 pub seen_leaf : (c : Four) (l : Leaf) → tree_with c (value_of l) ≡ leaf c l
 seen_leaf c (tree.U8 n) = refl

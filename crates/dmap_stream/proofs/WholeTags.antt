@@ -5,22 +5,23 @@ use Rattle.std.proofs.lemmas.List.{take-append-drop, length-take}
 use Rattle.std.proofs.lemmas.Bool.{lt-ltb, le-ltb, ltb-false, le-leb, leb-true, leb-false, cond-true, cond-false, and_parts, and_from, eq-eqb}
 use Rattle.dmap_tags.specs.Codes.{Four, code_of}
 use Rattle.dmap_tags.specs.Tree as tree
-use Rattle.dmap_tags.specs.Tree.{Leaf, Tree, leaf, list, Trees, tree_code}
+use Rattle.dmap_tags.specs.Tree.{Leaf, Tree, leaf, list, Trees, tree_code, levels}
 use Rattle.dmap_tags.specs.Typed.{leaf_at, value_of}
 use Rattle.dmap_tags.specs.Seen.{tree_with}
 use Rattle.dmap_tags.specs.Spelling.{leaf_payload, payload, spelling}
 use Rattle.dmap_tags.specs.declared.kinds.Kind.{Kind}
 use Rattle.dmap_tags.specs.declared.kinds.Kind.TheVariants as kind
 use Rattle.dmap_tags.specs.declared.tree.Value.{Value}
+use Rattle.dmap_tags.specs.Kinds.{is_list}
+use Rattle.dmap_tags.specs.Proper.{IsProperTag}
 use Rattle.code_table.specs.declared.row.CodeRow.{CodeRow}
 use Rattle.code_table.specs.Rows.{kind_in}
-use Rattle.code_table.specs.Fits as table
 use Rattle.code_table.specs.Fits.{fits, all_fit, leaf_fits}
 use Rattle.dmap_stream.specs.declared.containers.Container.{Container}
 use Rattle.dmap_stream.specs.declared.refusal.StreamError.{StreamError}
 use Rattle.dmap_stream.specs.declared.refusal.StreamError.TheVariants.{TooLarge, TooDeep, Overrun, ShortHead, Truncated, Memory}
-use Rattle.dmap_stream.specs.Walk.{Walk, Ending, between, inside, broken, ends, is_empty, is_list, open_after, is_short, parent_of, fault_at, passes, told_length, container, at_payload, at_body, unless_fault, at_head, at_place, walk_from}
-use Rattle.dmap_stream.specs.WholeTag.{is_accepted, levels, IsProperTag, refusal, IsRoomFor, AreRest, ReadsTag, RefusesTag, ReadsRest, RefusesRest}
+use Rattle.dmap_stream.specs.Walk.{Walk, Ending, between, inside, broken, ends, is_empty, open_after, is_short, parent_of, fault_at, passes, told_length, container, at_payload, at_body, unless_fault, at_head, at_place, walk_from}
+use Rattle.dmap_stream.specs.WholeTag.{is_accepted, refusal, IsRoomFor, AreRest, ReadsTag, RefusesTag, ReadsRest, RefusesRest}
 use Rattle.dmap_stream.proofs.Heads.{IsHead, head_fault, head_list, head_value}
 use Rattle.dmap_stream.proofs.Onward.{walk_on}
 use Rattle.dmap_stream.proofs.Spelled.{Begins, begins, spelled}
@@ -45,21 +46,6 @@ opening bytes head rest c len front back within small code told = record {
   whole = record { count = ap length front ∙ length-take 8 bytes ∙ (omega arith); code = code; told = told };
   small = subst AreBytes (sym front) (bytes_take 8 bytes small);
 }
-
-pub same_kinds : (k : Kind) → table.is_list k ≡ is_list k
-same_kinds kind.U8 = refl
-same_kinds kind.I8 = refl
-same_kinds kind.U16 = refl
-same_kinds kind.I16 = refl
-same_kinds kind.U32 = refl
-same_kinds kind.I32 = refl
-same_kinds kind.U64 = refl
-same_kinds kind.I64 = refl
-same_kinds kind.Text = refl
-same_kinds kind.Date = refl
-same_kinds kind.Version = refl
-same_kinds kind.List = refl
-same_kinds kind.Opaque = refl
 
 opened : {bytes head rest : List ℕ} {c : Four} {len : ℕ} (u : Tree) (more : List ℕ) → Opens bytes head rest c len → length (payload u) < 2 ^ 32 → bytes ≡ spelling u ++ more → Begins c len rest more u
 opened {bytes} {head} {rest} {c} {len} u more o less is = begins head rest more c len u o.whole less (sym o.split ∙ is)
@@ -117,7 +103,7 @@ value_only : (rows : List CodeRow) (parent : Option Four) (kind : Kind) (u : Tre
     u ≡ leaf (tree_code u) (leaf_at kind (payload u))
 value_only rows parent kind (leaf c l) told value fit proper = ap (leaf c) (sym (leaf_again kind l (ap (λ k. leaf_fits k l) (sym told) ∙ fit) proper))
 value_only rows parent kind (list c ts) told value fit proper =
-    absurd (let bad : true ≡ false = sym (and_parts _ _ fit).0 ∙ ap table.is_list told ∙ same_kinds kind ∙ value in cc)
+    absurd (let bad : true ≡ false = sym (and_parts _ _ fit).0 ∙ ap is_list told ∙ value in cc)
 
 -- the levels that are there already
 pub not_deep : (limit at : ℕ) (around : List Container) (c : Four) (len : ℕ) → None ≡ fault_at limit at around c len → length around < 32
@@ -248,7 +234,7 @@ pub list_read : (rows : List CodeRow) (limit at : ℕ) (around : List Container)
 list_read rows limit at around bytes head rest later c len parent kind ts o i holds r =
     record {
       spelled = o.split ∙ spelled head rest later c len t o.whole o.small refl count r.spelled;
-      fit = and_from _ _ (ap table.is_list (kind_of t i refl) ∙ same_kinds kind ∙ holds) (r.fit c refl);
+      fit = and_from _ _ (ap is_list (kind_of t i refl) ∙ holds) (r.fit c refl);
       proper = r.proper;
       deep = let d = r.deep in omega arith;
       room = ap (fault_at limit at around c) (sym count) ∙ sym i.fault;

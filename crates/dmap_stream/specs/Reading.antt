@@ -1,12 +1,13 @@
 -- Where a reader stands: which events are ready, and what further bytes will say.
 use Rattle.std.specs.Prelude.{◌≡◌, ◌≢◌, ℕ, ◌+◌, ◌<◌, ◌≤◌, List, [], ◌++◌, length, take, Bool, true, false, not, ◌&&◌, nat_lt, option_to_list, Result, Ok, Err}
+use Rattle.dmap_tags.specs.Kinds.{is_list}
 use Rattle.code_table.specs.declared.row.CodeRow.{CodeRow}
 use Rattle.dmap_stream.specs.declared.event.Event.{Event}
 use Rattle.dmap_stream.specs.declared.position.Position.{Position}
 use Rattle.dmap_stream.specs.declared.position.Phase.TheVariants.{Head, Payload}
 use Rattle.dmap_stream.specs.declared.refusal.StreamError.{StreamError}
 use Rattle.dmap_stream.specs.declared.refusal.StreamError.TheVariants.{Memory}
-use Rattle.dmap_stream.specs.Walk.{Walk, broken, ends, behind, is_empty, is_list, closes, open_after, at_head, at_payload, walk_from}
+use Rattle.dmap_stream.specs.Walk.{Walk, broken, ends, behind, is_empty, closes, open_after, at_head, at_payload, walk_from}
 
 -- the events that are ready: what led to the place, and then the lists that end there
 abbrev pub ready_at : Position → List Event

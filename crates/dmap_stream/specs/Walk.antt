@@ -3,9 +3,9 @@
 use Rattle.std.specs.Prelude.{ℕ, zero, suc, ◌+◌, List, [], ◌∷◌, ◌++◌, length, take, drop, Bool, true, false, ◌&&◌, ◌==◌, nat_lt, nat_le, if◌then◌else◌, Option, Some, None}
 use Rattle.std.specs.Int.{from_be_bytes, w32}
 use Rattle.dmap_tags.specs.Codes.{Four, code_of}
+use Rattle.dmap_tags.specs.Kinds.{is_list}
 use Rattle.dmap_tags.specs.Typed.{leaf_at, value_of}
 use Rattle.dmap_tags.specs.declared.kinds.Kind.{Kind}
-use Rattle.dmap_tags.specs.declared.kinds.Kind.TheVariants.{U8, I8, U16, I16, U32, I32, U64, I64, Text, Date, Version, List as Members, Opaque}
 use Rattle.code_table.specs.declared.row.CodeRow.{CodeRow}
 use Rattle.code_table.specs.Rows.{kind_in}
 use Rattle.dmap_stream.specs.declared.containers.Container.{Container}
@@ -34,21 +34,6 @@ behind es w = record { events = es ++ w.events; ending = w.ending }
 abbrev pub is_empty : {A : Type 0} → List A → Bool
 is_empty [] = true
 is_empty (x ∷ xs) = false
-
-abbrev pub is_list : Kind → Bool
-is_list Members = true
-is_list U8 = false
-is_list I8 = false
-is_list U16 = false
-is_list I16 = false
-is_list U32 = false
-is_list I32 = false
-is_list U64 = false
-is_list I64 = false
-is_list Text = false
-is_list Date = false
-is_list Version = false
-is_list Opaque = false
 
 -- the lists that end at a place are closed there, the inner before the outer
 abbrev pub closes : ℕ → List Container → List Event

@@ -1,10 +1,9 @@
 -- Reading one whole tag off the front of bytes: which tags are accepted, and what a refusal tells.
-use Rattle.std.specs.Prelude.{◌≡◌, ◌≢◌, FitsSigned, ℕ, suc, ◌+◌, ◌<◌, ◌≤◌, ◌^◌, max, List, [], ◌∷◌, ◌++◌, length, Bool, true, ◌&&◌, nat_le, Some, None}
-use Rattle.std.specs.Int.{w8, w16, w32, w64}
+use Rattle.std.specs.Prelude.{◌≡◌, ◌≢◌, ℕ, ◌+◌, ◌<◌, ◌≤◌, ◌^◌, List, [], ◌∷◌, ◌++◌, length, Bool, true, ◌&&◌, nat_le, Some, None}
 use Rattle.std.specs.List.{AllByRecursion}
-use Rattle.std.specs.Str.{is_utf8}
 use Rattle.dmap_tags.specs.Codes.{Four}
-use Rattle.dmap_tags.specs.Tree.{Leaf, U8, I8, U16, I16, U32, I32, U64, I64, Text, Date, Version, Opaque, Tree, leaf, list, Trees, none, more, tree_code}
+use Rattle.dmap_tags.specs.Tree.{Tree, Trees, tree_code, levels, levels_in}
+use Rattle.dmap_tags.specs.Proper.{IsProperTag, AreProperTags}
 use Rattle.dmap_tags.specs.Spelling.{payload, spelling, spellings}
 use Rattle.code_table.specs.declared.row.CodeRow.{CodeRow}
 use Rattle.code_table.specs.Fits.{fits, all_fit}
@@ -13,43 +12,9 @@ use Rattle.dmap_stream.specs.declared.refusal.StreamError.{StreamError}
 use Rattle.dmap_stream.specs.declared.refusal.StreamError.TheVariants.{Truncated, Memory}
 use Rattle.dmap_stream.specs.Walk.{Ending, between, inside, broken, parent_of, fault_at, at_head, walk_from}
 
--- how many levels of tags there are, a tag alone having one
-abbrev mutual
-  pub levels : Tree → ℕ
-  levels (leaf c l) = 1
-  levels (list c ts) = suc (levels_in ts)
-
-  pub levels_in : Trees → ℕ
-  levels_in none = 0
-  levels_in (more t ts) = max (levels t) (levels_in ts)
-
 -- a top tag that is accepted: it fits the table, has 32 levels at most, and its payload is within the limit
 abbrev pub is_accepted : List CodeRow → ℕ → Tree → Bool
 is_accepted rows limit t = fits rows None t && (nat_le (levels t) 32 && nat_le (length (payload t)) limit)
-
--- a value as a program has it: a number in its kind's range, a text in UTF-8
-abbrev pub IsProper : Leaf → Type 0
-IsProper (U8 n) = n < 2 ^ 8
-IsProper (I8 z) = FitsSigned w8 z
-IsProper (U16 n) = n < 2 ^ 16
-IsProper (I16 z) = FitsSigned w16 z
-IsProper (U32 n) = n < 2 ^ 32
-IsProper (I32 z) = FitsSigned w32 z
-IsProper (U64 n) = n < 2 ^ 64
-IsProper (I64 z) = FitsSigned w64 z
-IsProper (Text bytes) = is_utf8 bytes ≡ true
-IsProper (Date n) = n < 2 ^ 32
-IsProper (Version n) = n < 2 ^ 32
-IsProper (Opaque bytes) = Unit {0}
-
-abbrev mutual
-  pub IsProperTag : Tree → Type 0
-  IsProperTag (leaf c l) = IsProper l
-  IsProperTag (list c ts) = AreProperTags ts
-
-  pub AreProperTags : Trees → Type 0
-  AreProperTags none = Unit {0}
-  AreProperTags (more t ts) = IsProperTag t × AreProperTags ts
 
 -- top tags that are accepted, each with values as a program has them
 abbrev pub AreAccepted : List CodeRow → ℕ → List Tree → Type 0

@@ -2,7 +2,8 @@
 
 ghost use Rattle.std.specs.Prelude.{◌≡◌, ◌≤◌, length};
 ghost use Rattle.dmap_tags.specs.Codes.{code_of};
-ghost use Rattle.dmap_stream.specs.Walk.{is_list, told_length};
+ghost use Rattle.dmap_tags.specs.Kinds.{is_list};
+ghost use Rattle.dmap_stream.specs.Walk.{told_length};
 
 use dmap_tags::{Code, Kind};
 

@@ -5,9 +5,10 @@ ghost use Rattle.std.specs.Prelude.{◌≡◌, ◌<◌, ◌^◌, ◌++◌, ℕ, 
 ghost use Rattle.std.specs.List.{AllByRecursion};
 ghost use Rattle.dmap_tags.specs.Tree.{Tree, trees_of};
 ghost use Rattle.dmap_tags.specs.Spelling.{spelling, spellings};
+ghost use Rattle.dmap_tags.specs.Proper.{IsProperTag};
 ghost use Rattle.code_table.specs.declared.row.CodeRow.{CodeRow};
 ghost use Rattle.dmap_stream.specs.Walk.{between, behind, walk_from, walk_of};
-ghost use Rattle.dmap_stream.specs.WholeTag.{is_accepted, IsProperTag, AreAccepted};
+ghost use Rattle.dmap_stream.specs.WholeTag.{is_accepted, AreAccepted};
 ghost use Rattle.dmap_stream.specs.Events.{events_of, events_of_all};
 
 /// Bytes that begin with an accepted tag tell its events, and then what the bytes behind it tell.

@@ -3,7 +3,8 @@
 ghost use Rattle.std.specs.Prelude.{◌≡◌, ◌+◌, ◌^◌, ◌<◌, ◌≤◌, ◌∷◌, [], ◌++◌, length, true, false, not, List, ℕ, None, IfOk, IfSome, IfNone, MatchResult};
 ghost use Rattle.code_table.specs.declared.row.CodeRow.{CodeRow};
 ghost use Rattle.dmap_tags.specs.Typed.{leaf_at, value_of};
-ghost use Rattle.dmap_stream.specs.Walk.{is_empty, is_list, closes, open_after, is_short, at_head, at_payload, at_body, walk_from};
+ghost use Rattle.dmap_tags.specs.Kinds.{is_list};
+ghost use Rattle.dmap_stream.specs.Walk.{is_empty, closes, open_after, is_short, at_head, at_payload, at_body, walk_from};
 ghost use Rattle.dmap_stream.specs.Reading.{ready_at, resumed, is_due, bytes_taken, Moves, Takes, is_between};
 
 use crate::buffer::Buffer;

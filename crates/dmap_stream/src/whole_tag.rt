@@ -3,8 +3,9 @@
 ghost use Rattle.std.specs.Prelude.{◌≡◌, ◌≢◌, ◌⊎◌, ◌+◌, ◌≤◌, ◌++◌, ℕ, List, length, take, true, Err, IfOk, IfErr, OnOk, MatchResult};
 ghost use Rattle.dmap_tags.specs.Tree.{Tree, trees_of};
 ghost use Rattle.dmap_tags.specs.Spelling.{spelling};
+ghost use Rattle.dmap_tags.specs.Proper.{IsProperTag};
 ghost use Rattle.dmap_stream.specs.Walk.{between, inside, walk_of};
-ghost use Rattle.dmap_stream.specs.WholeTag.{is_accepted, IsProperTag, refusal, ReadsTag, RefusesTag, ReadsRest, RefusesRest};
+ghost use Rattle.dmap_stream.specs.WholeTag.{is_accepted, refusal, ReadsTag, RefusesTag, ReadsRest, RefusesRest};
 
 use crate::containers::{Container, Containers};
 use crate::head::{head_of, is_list};

@@ -1,5 +1,5 @@
 -- A content code: the four bytes that open a tag, as DMAP sends them.
-use Rattle.std.specs.Prelude.{◌≡◌, ◌<◌, ℕ, List, [], ◌∷◌, length, get_or, codes, refl}
+use Rattle.std.specs.Prelude.{◌≡◌, ◌<◌, ℕ, List, [], ◌∷◌, Bool, ◌==◌, ◌&&◌, length, get_or, codes, refl}
 use Rattle.std.specs.Coded.{Coded, code_by, coded×, coded_ℕ}
 use Prim.Native.String.{String}
 use Rattle.std.proofs.Common.{arith}
@@ -18,6 +18,10 @@ code_of bytes = (get_or bytes 0 0, get_or bytes 1 0, get_or bytes 2 0, get_or by
 -- the code of a literal, as "mlit"
 abbrev pub code : String → Four
 code s = code_of (codes s)
+
+-- whether two codes are one
+abbrev pub is_code : Four → Four → Bool
+is_code a b = (a.0 == b.0) && ((a.1 == b.1) && ((a.2 == b.2) && (a.3 == b.3)))
 
 -- the number that the four bytes spell, as a 32-bit value sends it
 abbrev pub four_code : Coded Four

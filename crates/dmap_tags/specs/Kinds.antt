@@ -1,5 +1,5 @@
 -- The kinds of values and the numbers by which /content-codes tells them.
-use Rattle.std.specs.Prelude.{◌≡◌, ◌<◌, ◌⊎◌, ℕ, Option, Some, None}
+use Rattle.std.specs.Prelude.{◌≡◌, ◌<◌, ◌⊎◌, ℕ, Bool, true, false, Option, Some, None}
 use Rattle.dmap_tags.specs.declared.kinds.Kind.{Kind}
 use Rattle.dmap_tags.specs.declared.kinds.Kind.TheVariants.{U8, I8, U16, I16, U32, I32, U64, I64, Text, Date, Version, List, Opaque}
 
@@ -21,3 +21,19 @@ kind_number Opaque = None
 -- the kind of that number, and opaque where no kind has it
 abbrev pub IsKindOf : ℕ → Kind → Type 0
 IsKindOf n kind = (kind_number kind ≡ Some n) ⊎ ((kind ≡ Opaque) × ((n ≡ 0) ⊎ (12 < n)))
+
+-- the kind whose values are tags
+abbrev pub is_list : Kind → Bool
+is_list List = true
+is_list U8 = false
+is_list I8 = false
+is_list U16 = false
+is_list I16 = false
+is_list U32 = false
+is_list I32 = false
+is_list U64 = false
+is_list I64 = false
+is_list Text = false
+is_list Date = false
+is_list Version = false
+is_list Opaque = false

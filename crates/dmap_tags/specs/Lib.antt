@@ -2,6 +2,7 @@ pub mod Codes
 pub mod CodeSeen
 pub mod Kinds
 pub mod Tree
+pub mod Proper
 pub mod Spelling
 pub mod Begins
 pub mod Cells

@@ -1,5 +1,5 @@
 -- A tag as contracts see it: a content code with one value, or with a list of further tags.
-use Rattle.std.specs.Prelude.{ℕ, ℤ, List, [], ◌∷◌, ◌+◌, suc}
+use Rattle.std.specs.Prelude.{ℕ, ℤ, List, [], ◌∷◌, ◌+◌, suc, max}
 use Rattle.dmap_tags.specs.Codes.{Four}
 
 -- the value of a tag that is no list
@@ -48,3 +48,13 @@ abbrev mutual
   pub sizes_of : Trees → ℕ
   sizes_of none = 0
   sizes_of (more t ts) = suc (size_of t + sizes_of ts)
+
+-- how many levels of tags there are, a tag alone having one
+abbrev mutual
+  pub levels : Tree → ℕ
+  levels (leaf c l) = 1
+  levels (list c ts) = suc (levels_in ts)
+
+  pub levels_in : Trees → ℕ
+  levels_in none = 0
+  levels_in (more t ts) = max (levels t) (levels_in ts)

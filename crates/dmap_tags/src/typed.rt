@@ -12,6 +12,7 @@ use std::alloc::{AllocError, Global};
 use std::str::from_utf8;
 
 /// The value of a payload that is no list's: opaque where the payload doesn't fit the kind.
+#[inline(always)]
 pub fn leaf(alloc: Global, kind: Kind, payload: &[u8]) -> Result<Value, AllocError>
     requires { kind ≢ Kind.List }
     ensures { IfOk result (λ v. v ≡ value_of (leaf_at kind payload.now)) }
@@ -43,6 +44,7 @@ pub fn is_text(bytes: &[u8]) -> bool
     }
 }
 
+#[inline(always)]
 fn number(kind: Kind, payload: &[u8]) -> Option<Value>
     ensures { result ≡ option_map value_of (number_at kind payload.now) }
 {

@@ -4,7 +4,7 @@ use Rattle.std.specs.Option.{option_map_or}
 use Rattle.std.specs.List.{All}
 use Rattle.std.proofs.lemmas.Bool.{and_parts, and_from}
 use Rattle.std.proofs.lemmas.List.Elements.{All-nil, All-cons, All-head, All-tail, filter-append}
-use Rattle.dmap_tags.specs.Codes.{Four, code}
+use Rattle.dmap_tags.specs.Codes.{Four, code, is_code}
 use Rattle.dmap_tags.specs.Tree.{Tree, Trees, leaf, list, none, more, trees_of, tree_list, U8, I8, U16, I16, U32, I32, U64, I64, Text, Date, Version, Opaque}
 use Rattle.item_model.specs.declared.request.Target.{Target}
 use Rattle.item_model.specs.declared.request.Target.TheVariants.{Items, Container}
@@ -13,7 +13,7 @@ use Rattle.share_history.specs.Listings.{Listing}
 use Rattle.share_history.specs.Bodies.{start_tags, body_code, key_code, gone_tags}
 use Rattle.mirror_core.specs.declared.told.Due.{Due}
 use Rattle.mirror_core.specs.declared.told.Due.TheVariants.{Status, Kind, Revision, Total, Listed, Rows, Gone, Nothing}
-use Rattle.mirror_core.specs.Bodies.{is_code, is_listings, IsRow, AreMembersOf, IsListing, Begins, IsStuck, IsNoListing}
+use Rattle.mirror_core.specs.Bodies.{is_listings, IsRow, AreMembersOf, IsListing, Begins, IsStuck, IsNoListing}
 use Rattle.mirror_core.specs.Reading.{Told, untold, number_in, marked, mark_in, members_in, row_key, are_rows, are_keys, row_of, key_of, listing_of, after_rows, step, ended, read_from, placed, read_members, read_tag}
 use Rattle.mirror_core.proofs.TagFacts.{listed_again}
 

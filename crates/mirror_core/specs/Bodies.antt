@@ -1,16 +1,12 @@
 -- Which tags a mirror takes for listings. Of the members of a body those with one of seven codes are looked at: they have to be
 -- what a listing of the target has, in its order. Members with other codes are skipped.
-use Rattle.std.specs.Prelude.{◌≡◌, ◌<◌, ◌+◌, ℕ, List, [], ◌∷◌, ◌++◌, Bool, true, false, ◌==◌, ◌&&◌, length, map, take, filter, Option, Some, None, All, ◌⊎◌}
+use Rattle.std.specs.Prelude.{◌≡◌, ◌<◌, ◌+◌, ℕ, List, [], ◌∷◌, ◌++◌, Bool, true, false, length, map, take, filter, Option, Some, None, All, ◌⊎◌}
 use Rattle.std.specs.List.{list_any}
-use Rattle.dmap_tags.specs.Codes.{Four, code}
+use Rattle.dmap_tags.specs.Codes.{Four, code, is_code}
 use Rattle.dmap_tags.specs.Tree.{Tree, Trees, leaf, list, more, trees_of, tree_code, U32}
 use Rattle.item_model.specs.declared.request.Target.{Target}
 use Rattle.share_history.specs.Listings.{Listing}
 use Rattle.share_history.specs.Bodies.{start_tags, body_code, key_code, gone_tags}
-
--- whether two codes are one
-abbrev pub is_code : Four → Four → Bool
-is_code a b = (a.0 == b.0) && ((a.1 == b.1) && ((a.2 == b.2) && (a.3 == b.3)))
 
 -- the codes that a listing's own members have
 abbrev pub listing_codes : List Four

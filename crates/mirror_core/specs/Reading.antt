@@ -1,7 +1,7 @@
 -- How a body is read: one member after the other, and what is due next.
 use Rattle.std.specs.Prelude.{ℕ, suc, List, [], ◌∷◌, Bool, true, false, ◌==◌, ◌&&◌, ◌||◌, not, nat_lt, map, Option, Some, None, unwrap_or, is_some, option_map, option_and_then, Result, Ok, Err, if◌then◌else◌}
 use Rattle.std.specs.Option.{option_map_or}
-use Rattle.dmap_tags.specs.Codes.{Four, code}
+use Rattle.dmap_tags.specs.Codes.{Four, code, is_code}
 use Rattle.dmap_tags.specs.Tree.{Tree, leaf, list, none, more, tree_list, U8, U32}
 use Rattle.item_model.specs.declared.request.Target.{Target}
 use Rattle.share_history.specs.LastSaid.{only_if}
@@ -9,7 +9,7 @@ use Rattle.share_history.specs.Listings.{Listing}
 use Rattle.share_history.specs.Bodies.{body_code, key_code}
 use Rattle.mirror_core.specs.declared.told.Due.{Due}
 use Rattle.mirror_core.specs.declared.told.Due.TheVariants.{Status, Kind, Revision, Total, Listed, Rows, Gone, Nothing}
-use Rattle.mirror_core.specs.Bodies.{is_code, is_listings}
+use Rattle.mirror_core.specs.Bodies.{is_listings}
 
 -- what was read of a listing, its rows and deleted keys as tags
 pub record Told : Type 0 where

@@ -2,8 +2,9 @@
 
 ghost use Rattle.std.specs.Prelude.{◌≡◌, option_copied};
 ghost use Rattle.std.specs.List.{list_any};
+ghost use Rattle.dmap_tags.specs.Codes.{is_code};
 ghost use Rattle.share_history.specs.Bodies.{body_code, key_code};
-ghost use Rattle.mirror_core.specs.Bodies.{is_code, is_listings};
+ghost use Rattle.mirror_core.specs.Bodies.{is_listings};
 ghost use Rattle.mirror_core.specs.Reading.{number_in, mark_in, members_in, row_key, are_rows, are_keys, row_of, key_of};
 
 use dmap_tags::{Code, Tag, Value};

@@ -7,11 +7,12 @@ use Rattle.std.specs.declared.cmp.Ordering.{Ordering}
 use Rattle.std.specs.declared.cmp.Ordering.TheVariants.{Less, Equal, Greater}
 use Rattle.std.specs.BTreeSet.{insert_key}
 use Rattle.dmap_tags.specs.Codes.{code}
-use Rattle.dmap_tags.specs.Tree.{Tree, Trees, leaf, list, none, more, trees_of, U32}
+use Rattle.dmap_tags.specs.Tree.{Tree, Trees, leaf, list, none, more, trees_of, U32, levels, levels_in}
 use Rattle.dmap_tags.specs.Spelling.{spellings}
+use Rattle.dmap_tags.specs.Proper.{IsProperTag, AreProperTags}
 use Rattle.code_table.specs.Fits.{fits, all_fit}
 use Rattle.code_table.specs.Standard.{standard_rows}
-use Rattle.dmap_stream.specs.WholeTag.{levels, levels_in, is_accepted, IsProperTag, AreProperTags}
+use Rattle.dmap_stream.specs.WholeTag.{is_accepted}
 use Rattle.item_model.specs.declared.changes.Edit.{Edit}
 use Rattle.item_model.specs.declared.changes.Edit.TheVariants.{PutItem, DropItem}
 use Rattle.item_model.specs.declared.item.Row.{Row}

@@ -7,11 +7,11 @@ use Rattle.std.proofs.lemmas.Bool.{eqb-true}
 use Rattle.std.proofs.lemmas.Fmt.{length-decimal-le, IsAscii-decimal}
 use Rattle.std.proofs.lemmas.Str.{IsAscii-append, IsUtf8-from_ascii, is_utf8-from_IsUtf8}
 use Rattle.dmap_tags.specs.Codes.{code}
-use Rattle.dmap_tags.specs.Tree.{Tree, Trees, leaf, list, none, more, U32, Text}
+use Rattle.dmap_tags.specs.Tree.{Tree, Trees, leaf, list, none, more, U32, Text, levels}
 use Rattle.dmap_tags.specs.Spelling.{spelling, spellings}
+use Rattle.dmap_tags.specs.Proper.{IsProperTag}
 use Rattle.code_table.specs.Fits.{fits}
 use Rattle.code_table.specs.Standard.{standard_rows}
-use Rattle.dmap_stream.specs.WholeTag.{levels, IsProperTag}
 use Rattle.item_model.specs.declared.changes.Edit.{Edit}
 use Rattle.item_model.specs.declared.changes.Edit.TheVariants.{PutItem, DropItem}
 use Rattle.item_model.specs.declared.item.Row.{Row}

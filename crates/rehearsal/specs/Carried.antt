@@ -2,8 +2,9 @@
 use Rattle.std.specs.Prelude.{◌≡◌, ℕ, List, true}
 use Rattle.dmap_tags.specs.Tree.{Tree}
 use Rattle.dmap_tags.specs.Spelling.{spelling}
+use Rattle.dmap_tags.specs.Proper.{IsProperTag}
 use Rattle.code_table.specs.Standard.{standard_rows}
-use Rattle.dmap_stream.specs.WholeTag.{is_accepted, IsProperTag}
+use Rattle.dmap_stream.specs.WholeTag.{is_accepted}
 use Rattle.rehearsal.specs.declared.carried.TheConstants.{TOP_LIMIT}
 
 pub record IsCarried (t : Tree) (bytes : List ℕ) : Type 0 where

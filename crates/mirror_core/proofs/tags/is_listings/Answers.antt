@@ -1,7 +1,8 @@
 -- The code of the tag is the one that its tree begins with.
 use Rattle.std.proofs.Common.{ap, ◌∙◌}
 use Rattle.std.specs.List.{list_any}
-use Rattle.mirror_core.specs.Bodies.{is_code, listing_codes}
+use Rattle.dmap_tags.specs.Codes.{is_code}
+use Rattle.mirror_core.specs.Bodies.{listing_codes}
 use Rattle.mirror_core.proofs.TagFacts.{code_seen}
 use Rattle.mirror_core.proofs.tags.is_listings.Goals as goal
 

@@ -1,6 +1,6 @@
 use Rattle.std.proofs.Common.{◌≡◌, drop}
 use Rattle.std.specs.List.{list_any}
-use Rattle.mirror_core.specs.Bodies.{is_code}
+use Rattle.dmap_tags.specs.Codes.{is_code}
 use Rattle.mirror_core.proofs.tags.is_one_of.Given as goal
 
 abbrev pub invariant-loop-of : goal.invariant-loop-of
