@@ -1,0 +1,15 @@
+//! Values under keys, as they were at each revision that is kept. Contracts see under each key the versions of its value,
+//! the newest first, and a look-up at a revision finds the newest version that did not come after it.
+#![tactic(auto)]
+
+mod by_key;
+mod older;
+mod steps;
+#[cfg(test)]
+mod tests;
+mod version;
+mod versions;
+mod walks;
+
+pub use version::Version;
+pub use versions::Versions;
