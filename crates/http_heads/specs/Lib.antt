@@ -1,0 +1,9 @@
+pub mod Limits
+pub mod Frames
+pub mod Scanning
+pub mod Fields
+pub mod Heads
+pub mod HeadsRead
+pub mod Messages
+pub mod Gathering
+pub mod Laws

@@ -1,0 +1,66 @@
+//! Bytes that came.
+
+ghost use Rattle.std.specs.Prelude.{◌≡◌, [], ◌++◌, length, OnOk, OnErr};
+
+use std::alloc::{AllocError, Global};
+use std::marker::Model;
+use std::mem;
+
+/// Bytes that grow as they come, never by a length that was only announced.
+#[derive(Debug, Drop)]
+pub struct Buffer {
+    bytes: Vec<u8>,
+}
+
+impl Model for Buffer {
+    ghost use Rattle.std.specs.Prelude.{List, ℕ};
+
+    ghost Value = { List ℕ };
+
+    ghost view = { λ a. a.bytes.items };
+}
+
+impl Buffer {
+    pub fn new(alloc: Global) -> Buffer
+        ensures { result ≡ [] }
+    {
+        Buffer {
+            bytes: Vec::new(alloc),
+        }
+    }
+
+    pub fn len(&self) -> usize
+        ensures { result ≡ length self.now }
+    {
+        self.bytes.len()
+    }
+
+    pub fn as_slice(&self) -> &[u8]
+        ensures { result.now ≡ self.now }
+    {
+        self.bytes.as_slice()
+    }
+
+    pub fn clear(&mut self)
+        ensures { self.new ≡ [] }
+    {
+        self.bytes.clear();
+    }
+
+    /// Adds the piece. An `Err` changes nothing.
+    pub fn extend(&mut self, piece: &[u8]) -> Result<(), AllocError>
+        ensures ok { OnOk result (self.new ≡ self.old ++ piece.now) }
+        ensures err { OnErr result (self.new ≡ self.old) }
+    {
+        self.bytes.extend_from_slice(piece)
+    }
+
+    /// Hands the bytes out, without memory, and is then empty.
+    pub fn take_out(&mut self) -> Vec<u8>
+        ensures out { result.items ≡ self.old }
+        ensures emptied { self.new ≡ [] }
+    {
+        let empty = Vec::new(*self.bytes.allocator());
+        mem::replace(&mut self.bytes, empty)
+    }
+}

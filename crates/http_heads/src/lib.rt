@@ -1,0 +1,23 @@
+//! The heads of HTTP/1.x messages (RFC 9112), and the messages that bytes are: requests and replies are gathered
+//! from bytes as they come, however they are cut, and refused exactly where no message begins so.
+#![tactic(auto)]
+
+mod buffer;
+mod fields;
+mod gathering;
+mod heads;
+mod kind;
+pub mod laws;
+mod limits;
+mod refusal;
+mod replies;
+mod scanning;
+#[cfg(test)]
+mod tests;
+
+pub use gathering::Gatherer;
+pub use heads::{Head, read_head};
+pub use kind::Kind;
+pub use limits::{BODY_BYTES, FIELDS, HEAD_BYTES, LINES, REPLY_BYTES};
+pub use refusal::HeadError;
+pub use replies::{ReplyHead, read_reply_head};
