@@ -1,0 +1,36 @@
+//! The lock, the passes that its users have, and the turn of one of them.
+ghost use Rattle.std.specs.Prelude.{◌≡◌, ◌≤◌, length, Some};
+
+use crate::gate::Gate;
+use crate::law::{Key, Law};
+use crate::recorded::Recorded;
+use crate::view::View;
+use atomic_table::{Seat, Table};
+use std::alloc::Global;
+
+/// A state that passes take turns at.
+#[derive(Drop)]
+pub struct ShareLock<S: Recorded> {
+    pub(crate) gate: Gate,
+    pub(crate) table: Table<Option<S>, View<S::Entry, S::Settings>, Key<S>, Law, Global>,
+    pub(crate) passes: u32,
+    ghost sized: { (table.shared.table_id.words ≡ 4) × (table.shared.table_id.slots ≡ 1) },
+    ghost counted: { (table.shared.key.passes ≡ passes) × (1 ≤ passes) },
+}
+
+/// The right to take turns at one lock, under a number that no other pass of it has.
+#[derive(Drop)]
+pub struct Pass<S: Recorded> {
+    pub(crate) number: u32,
+    pub(crate) seen: u64,
+    pub(crate) is_over: bool,
+    pub(crate) seat: Seat<Option<S>, View<S::Entry, S::Settings>>,
+    ghost named: { seat.me.0.number ≡ Some number },
+    ghost known: { length seat.me.0.seen ≡ seen },
+}
+
+/// The state, for as long as a pass has it. It is given back to the lock, or taken out for good.
+pub struct Turn<'a, S: Recorded> {
+    pub(crate) pass: &'a mut Pass<S>,
+    pub(crate) state: S,
+}
