@@ -34,14 +34,6 @@ shown_more old item ps i d h =
     append_assoc old _ _
     ∙ ap (λ xs. old ++ xs) (sym (filter_map-append _ (take i ps) (get_or ps i d ∷ [])) ∙ ap (shown item) (sym (take_more ps i d h)))
 
--- the same, each property once
-pub first_more : (old : List Tree) (item : List (Property × PropValue)) (ps : List Property) (i : ℕ) (d : Property) → i < length ps → (old ++ shown item (first_mentions (take i ps))) ++ shown item (new_mention (take i ps) (get_or ps i d)) ≡ old ++ shown item (first_mentions (take (i + 1) ps))
-first_more old item ps i d h =
-    append_assoc old _ _
-    ∙ ap (λ xs. old ++ xs)
-    (sym (filter_map-append _ (first_mentions (take i ps)) (new_mention (take i ps) (get_or ps i d)))
-    ∙ ap (shown item) (sym (first_last (take i ps) (get_or ps i d)) ∙ ap first_mentions (sym (take_more ps i d h))))
-
 other_step : (n s m : Bool) (x : Property) (xs rest : List Property) (p : Property) → n ≡ not s → (s ≡ true → is_same x p ≡ false) → mentions rest p ≡ m → mentions (cond n (x ∷ rest) rest) p ≡ (is_same x p || m)
 other_step true s m x xs rest p e f h = ap (λ b. is_same x p || b) h
 other_step false true m x xs rest p e f h = rw (f refl) h

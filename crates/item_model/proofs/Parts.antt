@@ -3,7 +3,7 @@ use Rattle.std.proofs.Common.{◌≡◌, ◌+◌, ◌<◌, ◌++◌, ℕ, Bool, 
 use Rattle.std.specs.List.{count_by, list_any}
 use Rattle.std.proofs.lemmas.Bool.Decides.{nat_tests}
 use Rattle.std.proofs.lemmas.List.Sums.{sum_by-cons}
-use Rattle.item_model.specs.declared.request.TheConstants.{META_NAMES}
+use Rattle.item_model.specs.Limits.{names_limit}
 use Rattle.item_model.specs.Names.{parts, onto}
 
 onto_again : (c : ℕ) (xs : List (List ℕ)) → onto (c ∷ []) xs ≡ onto [] (onto (c ∷ []) xs)
@@ -46,7 +46,7 @@ or_parts true b h = absurd (cc)
 or_parts false b h = (refl, h)
 
 -- the test of the code, which counts commas
-pub too_many_parts : (text : List ℕ) (n : ℕ) → n ≡ count_by (λ c. c == 44) text → nat_le META_NAMES n ≡ not (nat_le (length (parts text)) META_NAMES)
+pub too_many_parts : (text : List ℕ) (n : ℕ) → n ≡ count_by (λ c. c == 44) text → nat_le names_limit n ≡ not (nat_le (length (parts text)) names_limit)
 too_many_parts text n e = rw (parts_counted text, ← e) (above_limit n)
 
 front_step : (b : Bool) (c : ℕ) (front : List ℕ) (xs : List (List ℕ)) → b ≡ false → cond b ([] ∷ onto front xs) (onto (c ∷ []) (onto front xs)) ≡ onto (c ∷ front) xs

@@ -3,11 +3,10 @@ use Rattle.std.proofs.Common.{◌≡◌, ℕ, true, slice_index_or, refl, sym, a
 use Rattle.std.proofs.lemmas.Bool.{eqb-true}
 use Rattle.item_model.specs.declared.property.Property.{Property}
 use Rattle.item_model.specs.declared.property.Property.TheVariants.{Minm, Mikd, Mper, Asar, Asal, Asaa, Asgn, Ascp, Ascm, Agrp, Asfm, Asyr, Astn, Astc, Asdn, Asdc, Asbr, Asbt, Astm, Assr, Assz, Asur, Asco, Aemk, Asda, Asdm}
-use Rattle.item_model.specs.declared.property.TheConstants.{PROPERTIES}
-use Rattle.item_model.specs.Properties.{rank_of, is_same}
+use Rattle.item_model.specs.Properties.{all_properties, rank_of, is_same}
 
 abbrev pub property_at : ℕ → Property
-property_at n = slice_index_or PROPERTIES n Minm
+property_at n = slice_index_or all_properties n Minm
 
 -- the table has each property at its place
 pub at_rank : (p : Property) → property_at (rank_of p) ≡ p

@@ -8,7 +8,7 @@ use Rattle.item_model.specs.declared.property.Property.{Property}
 use Rattle.item_model.specs.declared.property.Property.TheVariants.{Minm, Mikd, Mper, Asar, Asal, Asaa, Asgn, Ascp, Ascm, Agrp, Asfm, Asyr, Astn, Astc, Asdn, Asdc, Asbr, Asbt, Astm, Assr, Assz, Asur, Asco, Aemk, Asda, Asdm}
 use Rattle.item_model.specs.declared.request.Meta.{Meta}
 use Rattle.item_model.specs.declared.request.Meta.TheVariants.{Default, All, Names}
-use Rattle.item_model.specs.declared.request.TheConstants.{META_NAMES}
+use Rattle.item_model.specs.Limits.{names_limit}
 use Rattle.item_model.specs.Properties.{property_name, property_named}
 use Rattle.item_model.specs.Projection.{first_mentions}
 use Rattle.item_model.specs.Names.{parts, named, meta_of, meta_text, names_text, more_names}
@@ -154,19 +154,19 @@ nonempty : (n : ℕ) → 0 < n → (n == 0) ≡ false
 nonempty n h = grind (arith, nat_tests)
 
 -- the text of distinct properties, not too many, reads as them
-names_read : (ps : List Property) → first_mentions ps ≡ ps → length ps ≤ META_NAMES → meta_of (names_text ps) ≡ Some (Names ps)
+names_read : (ps : List Property) → first_mentions ps ≡ ps → length ps ≤ names_limit → meta_of (names_text ps) ≡ Some (Names ps)
 unfolding property_named
 names_read [] d h = refl
 names_read (p ∷ ps) d h =
-    let few : length (map property_name (p ∷ ps)) ≤ META_NAMES = omega (arith, count_names (p ∷ ps), h) in
+    let few : length (map property_name (p ∷ ps)) ≤ names_limit = omega (arith, count_names (p ∷ ps), h) in
     rw (parts_names p ps, le-leb _ _ few, nonempty _ (not_empty p (more_names ps)), not_all p (more_names ps), known_names (p ∷ ps), d) refl
 
 -- properties that some text names are distinct and not too many
 pub record Came (text : List ℕ) (ps : List Property) : Type 0 where
-  pub few : nat_le (length (parts text)) META_NAMES ≡ true
+  pub few : nat_le (length (parts text)) names_limit ≡ true
   pub known : named (parts text) ≡ ps
 
-came_step : (text : List ℕ) (ps : List Property) (b e a : Bool) → nat_le (length (parts text)) META_NAMES ≡ b → cond b (Some (cond e Default (cond a All (Names (named (parts text)))))) None ≡ Some (Names ps) → Came text ps
+came_step : (text : List ℕ) (ps : List Property) (b e a : Bool) → nat_le (length (parts text)) names_limit ≡ b → cond b (Some (cond e Default (cond a All (Names (named (parts text)))))) None ≡ Some (Names ps) → Came text ps
 came_step text ps true true a k h = absurd (cc)
 came_step text ps true false true k h = absurd (cc)
 came_step text ps true false false k h = record { few = k; known = cc }
@@ -177,12 +177,12 @@ pub reads_back : (text : List ℕ) (meta : Meta) → meta_of text ≡ Some meta 
 reads_back text Default h = refl
 reads_back text All h = refl
 reads_back text (Names ps) h =
-    let came = came_step text ps (nat_le (length (parts text)) META_NAMES) (length text == 0) (bytes_eq text (codes "all")) refl h in
+    let came = came_step text ps (nat_le (length (parts text)) names_limit) (length text == 0) (bytes_eq text (codes "all")) refl h in
     let again : first_mentions ps ≡ ps = subst (λ qs. first_mentions qs ≡ qs) came.known (first_again (filter_map property_named (parts text))) in
-    let some : length (parts text) ≤ META_NAMES = leb-true _ _ came.few in
-    let few : length (named (parts text)) ≤ META_NAMES =
+    let some : length (parts text) ≤ names_limit = leb-true _ _ came.few in
+    let few : length (named (parts text)) ≤ names_limit =
     omega (arith, some, first_fewer (filter_map property_named (parts text)), known_fewer property_named (parts text)) in
-    names_read ps again (subst (λ qs. length qs ≤ META_NAMES) came.known few)
+    names_read ps again (subst (λ qs. length qs ≤ names_limit) came.known few)
 
 -- the same of the text that a call answers
 pub printed_reads : {E : Type 0} → (r : Result (List ℕ) E) (meta : Meta) → IfOk r (λ printed. printed ≡ meta_text meta) → IfOk r (λ printed. (text : List ℕ) → meta_of text ≡ Some meta → meta_of printed ≡ Some meta)

@@ -6,7 +6,7 @@ use Rattle.dmap_tags.specs.declared.kinds.Kind.TheVariants.{U8, I8, U16, I16, U3
 use Rattle.item_model.specs.declared.property.Property.{Property}
 use Rattle.item_model.specs.declared.item.PropValue.{PropValue}
 use Rattle.item_model.specs.declared.item.PropValue.TheVariants.{Number, Text as Words}
-use Rattle.item_model.specs.declared.item.TheConstants.{TEXT_BYTES}
+use Rattle.item_model.specs.Limits.{text_limit}
 use Rattle.item_model.specs.Properties.{rank_of, is_same, property_kind}
 
 -- how many numbers there are of a kind, from 0 on; a kind that is no number has none
@@ -27,7 +27,7 @@ numbers_of Opaque = 0
 
 -- a text that is not empty and not too long, where the kind is text
 abbrev pub is_text_of : Kind → List ℕ → Bool
-is_text_of Text bytes = nat_lt 0 (length bytes) && nat_le (length bytes) TEXT_BYTES
+is_text_of Text bytes = nat_lt 0 (length bytes) && nat_le (length bytes) text_limit
 is_text_of U8 bytes = false
 is_text_of U16 bytes = false
 is_text_of U32 bytes = false

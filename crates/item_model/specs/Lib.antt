@@ -1,3 +1,4 @@
+pub mod Limits
 pub mod Properties
 pub mod Items
 pub mod QueryTree

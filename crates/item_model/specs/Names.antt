@@ -6,7 +6,7 @@ use Rattle.std.specs.Str.{bytes_eq}
 use Rattle.item_model.specs.declared.property.Property.{Property}
 use Rattle.item_model.specs.declared.request.Meta.{Meta}
 use Rattle.item_model.specs.declared.request.Meta.TheVariants.{Default, All, Names}
-use Rattle.item_model.specs.declared.request.TheConstants.{META_NAMES}
+use Rattle.item_model.specs.Limits.{names_limit}
 use Rattle.item_model.specs.Properties.{property_name, property_named}
 use Rattle.item_model.specs.Projection.{first_mentions, new_mention}
 
@@ -33,7 +33,7 @@ asked_by text =
 
 -- what a text asks for, and nothing where it has too many names
 abbrev pub meta_of : List ℕ → Option Meta
-meta_of text = if nat_le (length (parts text)) META_NAMES then Some (asked_by text) else None
+meta_of text = if nat_le (length (parts text)) names_limit then Some (asked_by text) else None
 
 -- the names of further properties, each behind a comma
 abbrev pub more_names : List Property → List ℕ

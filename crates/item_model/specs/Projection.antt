@@ -9,13 +9,13 @@ use Rattle.dmap_tags.specs.Tree as tree
 use Rattle.dmap_tags.specs.declared.kinds.Kind.{Kind}
 use Rattle.dmap_tags.specs.declared.kinds.Kind.TheVariants.{U8, I8, U16, I16, U32, I32, U64, I64, Text, Date, Version, List as Members, Opaque}
 use Rattle.item_model.specs.declared.property.Property.{Property}
-use Rattle.item_model.specs.declared.property.TheConstants.{PROPERTIES, DEFAULT_PROJECTION}
+use Rattle.item_model.specs.declared.property.Property.TheVariants.{Mikd, Minm, Asar, Asal, Astn, Astm}
 use Rattle.item_model.specs.declared.item.PropValue.{PropValue}
 use Rattle.item_model.specs.declared.item.PropValue.TheVariants.{Number, Text as Words}
 use Rattle.item_model.specs.declared.item.Row.{Row}
 use Rattle.item_model.specs.declared.request.Meta.{Meta}
 use Rattle.item_model.specs.declared.request.Meta.TheVariants.{Default, All, Names}
-use Rattle.item_model.specs.Properties.{is_same, property_code, property_kind}
+use Rattle.item_model.specs.Properties.{all_properties, is_same, property_code, property_kind}
 use Rattle.item_model.specs.Items.{value_of}
 
 -- each property once, where it is first mentioned
@@ -30,10 +30,14 @@ mentions ps p = list_any (λ q. is_same q p) ps
 abbrev pub new_mention : List Property → Property → List Property
 new_mention ps p = if mentions ps p then [] else p ∷ []
 
+-- what a listing shows where nothing is asked for, in order
+abbrev pub default_projection : List Property
+default_projection = Mikd ∷ Minm ∷ Asar ∷ Asal ∷ Astn ∷ Astm ∷ []
+
 -- the properties that are asked for, in order
 abbrev pub asked : Meta → List Property
-asked Default = DEFAULT_PROJECTION
-asked All = PROPERTIES
+asked Default = default_projection
+asked All = all_properties
 asked (Names ps) = first_mentions ps
 
 -- a number of that kind; no item has a number of a kind that isn't named first
@@ -69,5 +73,9 @@ abbrev pub keys : Option ℕ → ℕ → List Tree
 keys None id = leaf (code "miid") (tree.U32 id) ∷ []
 keys (Some member) id = leaf (code "mcti") (tree.U32 member) ∷ leaf (code "miid") (tree.U32 id) ∷ []
 
+-- the tag that lists a row with these properties
+abbrev pub listed_row : Row → Option ℕ → List Property → Tree
+listed_row row member ps = list (code "mlit") (trees_of (keys member row.id ++ shown row.item ps))
+
 abbrev pub projection : Row → Option ℕ → Meta → Tree
-projection row member meta = list (code "mlit") (trees_of (keys member row.id ++ shown row.item (asked meta)))
+projection row member meta = listed_row row member (asked meta)

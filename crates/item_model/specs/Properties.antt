@@ -1,6 +1,6 @@
 -- The properties of an item, as DAAP names them: each has a content code, a name, a kind of values and a
 -- place in the order of listings.
-use Rattle.std.specs.Prelude.{Bool, ◌==◌, ℕ, List, Option, codes}
+use Rattle.std.specs.Prelude.{Bool, ◌==◌, ℕ, List, [], ◌∷◌, Option, codes}
 use Rattle.std.specs.List.{find}
 use Rattle.std.specs.Str.{bytes_eq}
 use Rattle.dmap_tags.specs.Codes.{Four, code, code_bytes}
@@ -8,7 +8,6 @@ use Rattle.dmap_tags.specs.declared.kinds.Kind.{Kind}
 use Rattle.dmap_tags.specs.declared.kinds.Kind.TheVariants.{U8, U16, U32, U64, Text, Date}
 use Rattle.item_model.specs.declared.property.Property.{Property}
 use Rattle.item_model.specs.declared.property.Property.TheVariants.{Minm, Mikd, Mper, Asar, Asal, Asaa, Asgn, Ascp, Ascm, Agrp, Asfm, Asyr, Astn, Astc, Asdn, Asdc, Asbr, Asbt, Astm, Assr, Assz, Asur, Asco, Aemk, Asda, Asdm}
-use Rattle.item_model.specs.declared.property.TheConstants.{PROPERTIES}
 
 -- the content code of a property's tags, its name in queries, records and the `meta` parameter, and the
 -- kind of its values
@@ -81,10 +80,16 @@ rank_of Asdm = 25
 abbrev pub is_same : Property → Property → Bool
 is_same p q = rank_of p == rank_of q
 
+-- all properties, in the order of listings
+abbrev pub all_properties : List Property
+all_properties =
+    Minm ∷ Mikd ∷ Mper ∷ Asar ∷ Asal ∷ Asaa ∷ Asgn ∷ Ascp ∷ Ascm ∷ Agrp ∷ Asfm ∷ Asyr ∷ Astn ∷ Astc ∷ Asdn ∷ Asdc ∷ Asbr
+    ∷ Asbt ∷ Astm ∷ Assr ∷ Assz ∷ Asur ∷ Asco ∷ Aemk ∷ Asda ∷ Asdm ∷ []
+
 -- the property of a name, and none where no property has it
 unfoldable pub property_named : List ℕ → Option Property
-property_named name = find (λ p. bytes_eq (property_name p) name) PROPERTIES
+property_named name = find (λ p. bytes_eq (property_name p) name) all_properties
 
 -- the property of a content code, and none where no property has it
 unfoldable pub property_coded : Four → Option Property
-property_coded c = find (λ p. bytes_eq (code_bytes (property_code p)) (code_bytes c)) PROPERTIES
+property_coded c = find (λ p. bytes_eq (code_bytes (property_code p)) (code_bytes c)) all_properties

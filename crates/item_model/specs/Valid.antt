@@ -5,7 +5,7 @@ use Rattle.item_model.specs.QuerySeen.{tree_of}
 use Rattle.item_model.specs.Proper.{is_proper}
 use Rattle.item_model.specs.declared.changes.Edit.{Edit}
 use Rattle.item_model.specs.declared.changes.Edit.TheVariants.{PutItem, DropItem, PutList, PutRule, DropList, PutMember, DropMember}
-use Rattle.item_model.specs.declared.item.TheConstants.{TEXT_BYTES}
+use Rattle.item_model.specs.Limits.{text_limit}
 
 -- the id of an item or of a member
 abbrev pub is_id : ℕ → Bool
@@ -16,7 +16,7 @@ abbrev pub is_list_id : ℕ → Bool
 is_list_id n = nat_le 2 n && nat_lt n (2 ^ 32)
 
 abbrev pub is_list_name : List ℕ → Bool
-is_list_name name = nat_le (length name) TEXT_BYTES
+is_list_name name = nat_le (length name) text_limit
 
 abbrev pub is_valid : Edit → Bool
 is_valid (PutItem row) = is_id row.id

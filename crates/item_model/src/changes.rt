@@ -2,8 +2,8 @@
 
 ghost use Rattle.std.specs.Prelude.{◌≡◌, ◌++◌, ◌∷◌, [], OnOk, OnErr, IfOk};
 
-use crate::item::Row;
 use crate::query::Query;
+use crate::shared::SharedRow;
 use dmap_tags::Text;
 use std::alloc::{AllocError, Global};
 use std::marker::Model;
@@ -11,7 +11,7 @@ use std::marker::Model;
 /// One change of the library or of its lists. Ids of items and members begin at 1, ids of lists at 2.
 #[derive(Debug, Drop)]
 pub enum Edit {
-    PutItem { row: Row },
+    PutItem { row: SharedRow },
     DropItem { id: u32 },
     PutList { list: u32, name: Text },
     PutRule { list: u32, name: Text, rule: Query },
@@ -22,12 +22,12 @@ pub enum Edit {
 }
 
 impl Edit {
-    /// An edit of its own with the same contents.
+    /// An edit with the same contents, which shares the row with this one.
     pub fn copy(&self) -> Result<Edit, AllocError>
         ensures { IfOk result (λ c. c ≡ self.now) }
     {
         Ok(match self {
-            Edit::PutItem { row } => Edit::PutItem { row: row.copy()? },
+            Edit::PutItem { row } => Edit::PutItem { row: row.share()? },
             Edit::DropItem { id } => Edit::DropItem { id: *id },
             Edit::PutList { list, name } => Edit::PutList {
                 list: *list,

@@ -2,12 +2,13 @@
 
 ghost use Rattle.std.specs.Prelude.{◌≡◌, ◌+◌, ◌++◌, ◌<◌, ◌∷◌, ◌↔◌, ℕ, List, Some, None, OnOk, IfOk, IfSome, option_copied, count_by, ◌==◌, not, nat_le, length, string_bytes};
 ghost use Rattle.item_model.specs.Properties.{property_named};
+ghost use Rattle.item_model.specs.Limits.{names_limit};
 ghost use Rattle.item_model.specs.Names.{meta_of, asked_by, meta_text, names_text, named, parts, parts_behind, with_known};
 
-use crate::projection::mentions;
 use crate::properties::Properties;
 use crate::property::{Property, property_of_name};
 use crate::request::{META_NAMES, Meta};
+use crate::shown::mentions;
 use dmap_tags::Text;
 use std::alloc::{AllocError, AllocFailed, Global};
 use thiserror::Error;
@@ -58,7 +59,7 @@ impl Meta {
 }
 
 fn has_too_many(text: &[u8]) -> bool
-    ensures { result ≡ not (nat_le (length (parts text.now)) META_NAMES) }
+    ensures { result ≡ not (nat_le (length (parts text.now)) names_limit) }
 {
     META_NAMES <= commas(text)
 }
@@ -94,8 +95,8 @@ fn read_names(alloc: Global, text: &[u8]) -> Result<Properties, AllocError>
     Ok(properties)
 }
 
-// The part before the first comma, and the text behind that comma.
-fn first_part(text: &[u8]) -> (&[u8], Option<&[u8]>)
+/// The part before the first comma, and the text behind that comma, if there is one.
+pub fn first_part(text: &[u8]) -> (&[u8], Option<&[u8]>)
     ensures parts { parts text.now ≡ result.0.now ∷ parts_behind (option_copied result.1) }
     ensures shorter { IfSome result.1 (λ rest. length rest.now < length text.now) }
 {

@@ -6,11 +6,12 @@ ghost use Rattle.dmap_tags.specs.Tree.{leaf, U32};
 ghost use Rattle.dmap_tags.specs.Seen.{tree_with};
 ghost use Rattle.item_model.specs.Properties.{property_code};
 ghost use Rattle.item_model.specs.Items.{is_value_of, numbers_of};
-ghost use Rattle.item_model.specs.Projection.{projection, first_mentions, mentions, new_mention, number_leaf, property_tag, shown, keys};
+ghost use Rattle.item_model.specs.Projection.{projection, number_leaf, property_tag, shown, keys};
 
 use crate::item::{Item, PropValue, Row};
-use crate::property::{DEFAULT_PROJECTION, PROPERTIES, Property};
+use crate::property::Property;
 use crate::request::Meta;
+use crate::shown::ShownProperties;
 use dmap_tags::{Code, Kind, Tag, Tags, Value};
 use std::alloc::{AllocError, Global};
 
@@ -24,13 +25,10 @@ pub fn project(
 ) -> Result<Tag, AllocError>
     ensures { IfOk result (λ tag. tag ≡ projection row.now member meta.now) }
 {
+    let shown = ShownProperties::of(meta);
     let mut tags = Tags::new(alloc);
     push_keys(&mut tags, member, row.id)?;
-    match meta {
-        Meta::Default => push_shown(&mut tags, &row.item, &DEFAULT_PROJECTION)?,
-        Meta::All => push_shown(&mut tags, &row.item, &PROPERTIES)?,
-        Meta::Names(properties) => push_named(&mut tags, &row.item, properties.as_slice())?,
-    }
+    push_shown(&mut tags, &row.item, shown.as_slice())?;
     Ok(Tag {
         code: Code(*b"mlit"),
         value: Value::List(tags),
@@ -63,43 +61,6 @@ fn push_shown(tags: &mut Tags, item: &Item, properties: &[Property]) -> Result<(
         push_property(tags, item, *property)?;
     }
     Ok(())
-}
-
-// The same with each property once.
-fn push_named(tags: &mut Tags, item: &Item, properties: &[Property]) -> Result<(), AllocError>
-    ensures { OnOk result (tags.new ≡ tags.old ++ shown item.now (first_mentions properties.now)) }
-{
-    for (i, property) in properties.iter().enumerate() {
-        let (before, _) = properties.split_at(i);
-        push_unless(tags, item, before, *property)?;
-    }
-    Ok(())
-}
-
-// The property, unless it was mentioned before.
-fn push_unless(
-    tags: &mut Tags,
-    item: &Item,
-    before: &[Property],
-    property: Property,
-) -> Result<(), AllocError>
-    ensures { OnOk result (tags.new ≡ tags.old ++ shown item.now (new_mention before.now property)) }
-{
-    if mentions(before, property) {
-        return Ok(());
-    }
-    push_property(tags, item, property)
-}
-
-pub(crate) fn mentions(properties: &[Property], property: Property) -> bool
-    ensures { result ≡ mentions properties.now property }
-{
-    for p in properties {
-        if p.rank() == property.rank() {
-            return true;
-        }
-    }
-    false
 }
 
 fn push_property(tags: &mut Tags, item: &Item, property: Property) -> Result<(), AllocError>

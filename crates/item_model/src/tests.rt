@@ -2,7 +2,7 @@
 
 use crate::{
     Batch, Cond, Edit, Edits, Entries, Entry, Item, ItemError, Look, Meta, MetaError, Op, Pattern,
-    PropValue, Properties, Property, Queries, Query, Range, Row, Texts, project,
+    PropValue, Properties, Property, Queries, Query, Range, Row, SharedRow, Texts, project,
 };
 use dmap_tags::{Code, Kind, Text, encode_into};
 use std::alloc::{AllocError, Global};
@@ -205,7 +205,7 @@ fn a_copied_look_asks_for_the_same(rt: HostRuntime) -> Result<(), Fail> {
 fn copied_batch(alloc: Global) -> Result<Batch, ItemError> {
     let mut edits = Edits::new(alloc);
     edits.push(Edit::PutItem {
-        row: song(alloc)?.copy()?,
+        row: SharedRow::new(alloc, song(alloc)?.copy()?)?,
     })?;
     edits.push(Edit::PutRule {
         list: 2,
@@ -218,7 +218,13 @@ fn copied_batch(alloc: Global) -> Result<Batch, ItemError> {
 #[test]
 fn a_copied_batch_has_the_same_edits(rt: HostRuntime) -> Result<(), Fail> {
     let batch = copied_batch(rt.alloc())?;
-    assert_eq!(rt; batch.edits.as_slice().len(), 2);
+    match batch.edits.as_slice() {
+        [Edit::PutItem { row }, Edit::PutRule { list: 2, .. }] => {
+            let listed = spelled(rt.alloc(), row.share()?.row(), None, &Meta::All)?;
+            assert!(rt; listed.as_slice() == WHOLE_SONG.as_slice());
+        }
+        _ => assert!(rt; false, "an item and a rule"),
+    }
     let mut entries = Entries::new(rt.alloc());
     entries.push(Entry::Edits { by: 1, batch })?;
     assert_eq!(rt; entries.as_slice().len(), 1);

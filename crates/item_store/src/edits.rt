@@ -31,7 +31,7 @@ fn id_of(edit: &Edit) -> Option<u32>
     ensures { option_to_list result ≡ items_in edit.now }
 {
     match edit {
-        Edit::PutItem { row } => Some(row.id),
+        Edit::PutItem { row } => Some(row.row().id),
         Edit::DropItem { id } => Some(*id),
         _ => None,
     }
@@ -73,7 +73,7 @@ fn take_in_one(
     ensures others { (q base : ℕ) → names_item q edit.now ≡ false → row_of held.new.entries q base ≡ row_of held.old.entries q base }
 {
     match edit {
-        Edit::PutItem { row } => match row.copy() {
+        Edit::PutItem { row } => match row.row().copy() {
             Ok(copy) => set(alloc, held, count, copy.id, Some(copy), revision),
             Err(error) => Err(error),
         },

@@ -5,7 +5,7 @@ ghost use Rattle.item_model.specs.Valid.{IsValid, AreValid};
 
 use crate::ItemStore;
 use dmap_tags::Text;
-use item_model::{Edit, Item, PropValue, Property, Row};
+use item_model::{Edit, Item, PropValue, Property, Row, SharedRow};
 use std::alloc::{AllocError, Global};
 use std::process::Abort;
 use std::test::Fail;
@@ -21,7 +21,7 @@ fn edit(alloc: Global, id: u32, name: &str) -> Result<Edit, Fail>
     let mut item = Item::new(alloc);
     item.put(Property::Minm, PropValue::Text(Text::of(alloc, name)?))?;
     Ok(Edit::PutItem {
-        row: Row { id, item },
+        row: SharedRow::new(alloc, Row { id, item })?,
     })
 }
 

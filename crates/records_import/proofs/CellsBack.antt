@@ -13,7 +13,7 @@ use Rattle.item_model.specs.Items.{is_of_kind, is_value_of, numbers_of, with_val
 use Rattle.item_model.specs.Properties.{property_kind}
 use Rattle.item_model.specs.declared.item.PropValue.{PropValue}
 use Rattle.item_model.specs.declared.item.PropValue.TheVariants.{Number, Text}
-use Rattle.item_model.specs.declared.item.TheConstants.{TEXT_BYTES}
+use Rattle.item_model.specs.Limits.{text_limit}
 use Rattle.item_model.specs.declared.property.Property.{Property}
 use Rattle.records_import.specs.Number.{is_number, number_of}
 use Rattle.records_import.specs.Records.{Properties, with_cell, with_property}
@@ -97,11 +97,11 @@ number_by kind.List p n h v = number_from_back p n v
 number_by kind.Opaque p n h v = number_from_back p n v
 
 -- a text that is not too long reads back
-pub text_back : (text : List ℕ) → IsUtf8 text → nat_le (length text) TEXT_BYTES ≡ true → text_in text ≡ Ok (Text text)
+pub text_back : (text : List ℕ) → IsUtf8 text → nat_le (length text) text_limit ≡ true → text_in text ≡ Ok (Text text)
 text_back text utf8 short = rw (is_utf8-from_IsUtf8 text utf8, short) refl
 
 text_by : (k : Kind) (p : Property) (text : List ℕ) → is_of_kind k (Text text) ≡ true → IsUtf8 text → by_kind k p text ≡ Ok (Text text)
-text_by kind.Text p text h utf8 = text_back text utf8 (and_parts (nat_lt 0 (length text)) (nat_le (length text) TEXT_BYTES) h).1
+text_by kind.Text p text h utf8 = text_back text utf8 (and_parts (nat_lt 0 (length text)) (nat_le (length text) text_limit) h).1
 text_by kind.U8 p text h utf8 = absurd (cc h)
 text_by kind.I8 p text h utf8 = absurd (cc h)
 text_by kind.U16 p text h utf8 = absurd (cc h)
@@ -116,7 +116,7 @@ text_by kind.List p text h utf8 = absurd (cc h)
 text_by kind.Opaque p text h utf8 = absurd (cc h)
 
 text_some : (k : Kind) (text : List ℕ) → is_of_kind k (Text text) ≡ true → 0 < length text
-text_some kind.Text text h = ltb-true 0 (length text) (and_parts (nat_lt 0 (length text)) (nat_le (length text) TEXT_BYTES) h).0
+text_some kind.Text text h = ltb-true 0 (length text) (and_parts (nat_lt 0 (length text)) (nat_le (length text) text_limit) h).0
 text_some kind.U8 text h = absurd (cc h)
 text_some kind.I8 text h = absurd (cc h)
 text_some kind.U16 text h = absurd (cc h)

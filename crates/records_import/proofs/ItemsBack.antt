@@ -5,11 +5,10 @@ use Rattle.csv.specs.Records.{AllText}
 use Rattle.item_model.proofs.Places.{value_fits}
 use Rattle.item_model.proofs.Ranks.{same_property}
 use Rattle.item_model.specs.Items.{is_item, is_value_of, rises_from, value_of, with_value}
-use Rattle.item_model.specs.Properties.{is_same, rank_of}
+use Rattle.item_model.specs.Properties.{all_properties, is_same, rank_of}
 use Rattle.item_model.specs.declared.item.PropValue.{PropValue}
 use Rattle.item_model.specs.declared.property.Property.{Property}
 use Rattle.item_model.specs.declared.property.Property.TheVariants.{Minm, Mikd, Mper, Asar, Asal, Asaa, Asgn, Ascp, Ascm, Agrp, Asfm, Asyr, Astn, Astc, Asdn, Asdc, Asbr, Asbt, Astm, Assr, Assz, Asur, Asco, Aemk, Asda, Asdm}
-use Rattle.item_model.specs.declared.property.TheConstants.{PROPERTIES}
 use Rattle.records_import.specs.Records.{Properties, properties_of, with_cell, with_cells}
 use Rattle.records_import.specs.Values.{property_flaw}
 use Rattle.records_import.specs.Written.{property_cell, value_cell, written_columns}
@@ -22,7 +21,7 @@ abbrev AreFrom : ℕ → List Property → Type 0
 AreFrom n [] = 26 ≤ n
 AreFrom n (p ∷ ps) = (rank_of p ≡ n) × AreFrom (suc n) ps
 
-all_properties : AreFrom 0 PROPERTIES
+all_properties : AreFrom 0 all_properties
 all_properties = (refl, (refl, (refl, (refl, (refl, (refl, (refl, (refl, (refl, (refl, (refl, (refl, (refl, (refl, (refl, (refl, (refl, (refl, (refl, (refl, (refl, (refl, (refl, (refl, (refl, (refl, omega arith))))))))))))))))))))))))))
 
 -- entries of properties before a rank
@@ -191,7 +190,7 @@ read_from item n (p ∷ ps) set left from s text =
 -- the cells of an item set its properties
 pub item_back : (item : Properties) → is_item item ≡ true → AllText (map (property_cell item) written_columns)
     → properties_of written_columns (map (property_cell item) written_columns) ≡ item
-item_back item h text = read_from item 0 PROPERTIES [] item all_properties (record { whole = refl; below = tt; above = h }) text
+item_back item h text = read_from item 0 all_properties [] item all_properties (record { whole = refl; below = tt; above = h }) text
 
 sound_value : (p : Property) (o : Option PropValue) → IfSome o (λ v. is_value_of p v ≡ true) → IsUtf8 (value_cell o) → None ≡ property_flaw p (value_cell o)
 sound_value p None fits utf8 = refl

@@ -13,7 +13,7 @@ use Rattle.item_model.specs.Valid.{AreValid, IsValid, is_id, is_list_id, is_list
 use Rattle.item_model.specs.declared.changes.Edit.{Edit}
 use Rattle.item_model.specs.declared.item.PropValue.{PropValue}
 use Rattle.item_model.specs.declared.item.PropValue.TheVariants.{Number, Text}
-use Rattle.item_model.specs.declared.item.TheConstants.{TEXT_BYTES}
+use Rattle.item_model.specs.Limits.{text_limit}
 use Rattle.item_model.specs.declared.property.Property.{Property}
 use Rattle.item_model.specs.declared.property.Property.TheVariants.{Minm}
 use Rattle.item_model.specs.declared.refusal.RecordWhy.{RecordWhy}
@@ -126,11 +126,11 @@ number_fits p (Some n) v h = elim (cases_Bool (is_value_of p (Number n))) [
 ]
 
 text_fits : (b : ℕ) (bytes : List ℕ) (v : PropValue) → text_in (b ∷ bytes) ≡ Ok v → is_of_kind kind.Text v ≡ true
-text_fits b bytes v h = elim (cases_Bool (is_utf8 (b ∷ bytes) && nat_le (length (b ∷ bytes)) TEXT_BYTES)) [
+text_fits b bytes v h = elim (cases_Bool (is_utf8 (b ∷ bytes) && nat_le (length (b ∷ bytes)) text_limit)) [
   | inl good ↦
       let e : ◌≡◌ {A = Result PropValue RecordWhy} (Ok (Text (b ∷ bytes))) (Ok v) = rw good at h in
       let same : Text (b ∷ bytes) ≡ v = cc e in
-      rw (← same) (and_from _ _ (lt-ltb 0 (suc (length bytes)) (omega arith)) (and_parts (is_utf8 (b ∷ bytes)) (nat_le (length (b ∷ bytes)) TEXT_BYTES) good).1)
+      rw (← same) (and_from _ _ (lt-ltb 0 (suc (length bytes)) (omega arith)) (and_parts (is_utf8 (b ∷ bytes)) (nat_le (length (b ∷ bytes)) text_limit) good).1)
   | inr bad ↦ absurd (cc (rw bad at h))
 ]
 
@@ -177,7 +177,7 @@ cells_item (c ∷ columns) (cell ∷ cells) item h = cells_item columns cells (w
 short_text : (o : Option PropValue) → IfSome o (λ v. is_value_of Minm v ≡ true) → is_list_name (name_text o) ≡ true
 short_text None h = refl
 short_text (Some (Number n)) h = refl
-short_text (Some (Text name)) h = (and_parts (nat_lt 0 (length name)) (nat_le (length name) TEXT_BYTES) h).1
+short_text (Some (Text name)) h = (and_parts (nat_lt 0 (length name)) (nat_le (length name) text_limit) h).1
 
 name_short : (columns : List Column) (cells : Cells) → is_list_name (name_in (properties_of columns cells)) ≡ true
 name_short columns cells = short_text (value_of Minm (properties_of columns cells)) (value_fits Minm 0 (properties_of columns cells) (cells_item columns cells [] refl))

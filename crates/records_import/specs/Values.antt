@@ -7,7 +7,7 @@ use Rattle.item_model.specs.Items.{is_value_of}
 use Rattle.item_model.specs.Properties.{property_kind}
 use Rattle.item_model.specs.declared.item.PropValue.{PropValue}
 use Rattle.item_model.specs.declared.item.PropValue.TheVariants as value
-use Rattle.item_model.specs.declared.item.TheConstants.{TEXT_BYTES}
+use Rattle.item_model.specs.Limits.{text_limit}
 use Rattle.item_model.specs.declared.property.Property.{Property}
 use Rattle.item_model.specs.declared.query.Query.{Query}
 use Rattle.item_model.specs.declared.refusal.RecordWhy.{RecordWhy}
@@ -41,7 +41,7 @@ needed_id least cell = if is_empty cell then Err reason.Missing else id_in least
 
 -- a text is UTF-8 and not too long
 abbrev pub text_in : List ℕ → Result PropValue RecordWhy
-text_in cell = if is_utf8 cell && nat_le (length cell) TEXT_BYTES then Ok (value.Text cell) else Err reason.Text
+text_in cell = if is_utf8 cell && nat_le (length cell) text_limit then Ok (value.Text cell) else Err reason.Text
 
 abbrev pub number_from : Property → Option ℕ → Result PropValue RecordWhy
 number_from p None = Err reason.Number

@@ -1,13 +1,12 @@
 -- A batch as records: the rows that are written for it, below a header with all columns.
 use Rattle.std.specs.Prelude.{ℕ, List, [], ◌∷◌, ◌++◌, codes, decimal, map, Option, Some, None, Ok, if◌then◌else◌}
 use Rattle.item_model.specs.Items.{value_of}
-use Rattle.item_model.specs.Properties.{property_name}
+use Rattle.item_model.specs.Properties.{all_properties, property_name}
 use Rattle.item_model.specs.QuerySeen.{tree_of}
 use Rattle.item_model.specs.declared.changes.Edit.{Edit}
 use Rattle.item_model.specs.declared.changes.Edit.TheVariants.{PutItem, DropItem, PutList, PutRule, DropList, PutMember, DropMember}
 use Rattle.item_model.specs.declared.item.PropValue.{PropValue}
 use Rattle.item_model.specs.declared.item.PropValue.TheVariants as value
-use Rattle.item_model.specs.declared.property.TheConstants.{PROPERTIES}
 use Rattle.records_import.specs.Actions.{is_item, is_list, is_name, is_rule}
 use Rattle.records_import.specs.Records.{BatchReads, Properties}
 use Rattle.records_import.specs.Table.{Cells, table_of}
@@ -22,7 +21,7 @@ pub record IsReadable (edits : List Edit) : Type 0 where
 
 -- the columns below the first three: all properties in the order of listings, and then what lists and members need
 abbrev pub written_columns : List Column
-written_columns = map (λ p. holds.Property p) PROPERTIES ++ holds.Query ∷ holds.List ∷ holds.Item ∷ []
+written_columns = map (λ p. holds.Property p) all_properties ++ holds.Query ∷ holds.List ∷ holds.Item ∷ []
 
 abbrev pub column_name : Column → List ℕ
 column_name (holds.Property p) = property_name p

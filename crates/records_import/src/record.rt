@@ -13,7 +13,7 @@ use crate::table::{cell, width};
 use crate::values::{CellError, Values, read_id};
 use csv::ByteRecord;
 use dmap_tags::Text;
-use item_model::{Edit, Item, PropValue, Property, RecordWhy, Row};
+use item_model::{Edit, Item, PropValue, Property, RecordWhy, Row, SharedRow};
 use std::alloc::{AllocError, Global};
 
 /// The edit of the record with this number, from 1.
@@ -106,7 +106,7 @@ fn edit_from(
     } = values;
     match action {
         Action::PutItem => Ok(Some(Edit::PutItem {
-            row: Row { id, item },
+            row: SharedRow::new(alloc, Row { id, item })?,
         })),
         Action::DropItem => Ok(Some(Edit::DropItem { id })),
         Action::PutList => {

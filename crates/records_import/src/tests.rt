@@ -97,9 +97,9 @@ fn field(row: u64, column: u64, why: RecordWhy) -> Option<RecordError> {
 /// The id and the name of an item that is put.
 fn named(batch: &Batch, place: usize) -> Option<(u32, Option<&str>)> {
     match batch.edits.as_slice().get(place)? {
-        Edit::PutItem { row } => match row.item.get(Property::Minm) {
-            Some(PropValue::Text(name)) => Some((row.id, Some(name.as_str()))),
-            _ => Some((row.id, None)),
+        Edit::PutItem { row } => match row.row().item.get(Property::Minm) {
+            Some(PropValue::Text(name)) => Some((row.row().id, Some(name.as_str()))),
+            _ => Some((row.row().id, None)),
         },
         _ => None,
     }
@@ -276,7 +276,7 @@ fn each_kind() -> &'static [u8] {
 /// The numbers of an edit: its kind, and the ids that it names.
 fn numbers(edit: &Edit) -> (u32, u32, u32, u32) {
     match edit {
-        Edit::PutItem { row } => (0, row.id, 0, 0),
+        Edit::PutItem { row } => (0, row.row().id, 0, 0),
         Edit::DropItem { id } => (1, *id, 0, 0),
         Edit::PutList { list, .. } => (2, *list, 0, 0),
         Edit::PutRule { list, .. } => (3, *list, 0, 0),

@@ -130,7 +130,7 @@ fn id_of(edit: &Edit) -> u32
     ensures { result ≡ written_id edit.now }
 {
     match edit {
-        Edit::PutItem { row } => row.id,
+        Edit::PutItem { row } => row.row().id,
         Edit::DropItem { id } => *id,
         Edit::PutList { list, .. } => *list,
         Edit::PutRule { list, .. } => *list,
@@ -146,7 +146,7 @@ fn cell_of(alloc: Global, edit: &Edit, column: Column) -> Result<String, AllocEr
     ensures { IfOk result (λ cell. string_bytes cell ≡ written_cell edit.now column) }
 {
     match edit {
-        Edit::PutItem { row } => property_cell(alloc, &row.item, column),
+        Edit::PutItem { row } => property_cell(alloc, &row.row().item, column),
         Edit::DropItem { .. } => Ok(String::new(alloc)),
         Edit::PutList { name, .. } => name_cell(alloc, name.as_str(), column),
         Edit::PutRule { name, rule, .. } => rule_cell(alloc, name.as_str(), rule, column),

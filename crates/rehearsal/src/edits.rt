@@ -10,7 +10,7 @@ ghost use Rattle.rehearsal.specs.Edits.{row_by, edit_next, edits_from};
 
 use crate::draws::Draws;
 use dmap_tags::Text;
-use item_model::{Batch, Edit, Edits, Item, ItemError, PropValue, Property, Row};
+use item_model::{Batch, Edit, Edits, Item, ItemError, PropValue, Property, Row, SharedRow};
 use itoa::Buffer;
 use std::alloc::{AllocError, Global};
 
@@ -37,7 +37,7 @@ fn edit(alloc: Global, draws: &mut Draws) -> Result<Edit, AllocError>
     if b % 4 == 0 {
         return Ok(Edit::DropItem { id });
     }
-    let row = row(alloc, id, b, c)?;
+    let row = SharedRow::new(alloc, row(alloc, id, b, c)?)?;
     Ok(Edit::PutItem { row })
 }
 

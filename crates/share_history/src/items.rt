@@ -13,8 +13,8 @@ fn item_after<'a>(found: Option<&'a Row>, edit: &'a Edit, id: u32) -> Option<&'a
 {
     match edit {
         Edit::PutItem { row } => {
-            if row.id == id {
-                return Some(row);
+            if row.row().id == id {
+                return Some(row.row());
             }
             found
         }

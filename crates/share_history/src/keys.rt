@@ -16,7 +16,7 @@ fn key_of(edit: &Edit) -> Option<u32>
     ensures { option_to_list result ≡ keys_in edit.now }
 {
     match edit {
-        Edit::PutItem { row } => Some(row.id),
+        Edit::PutItem { row } => Some(row.row().id),
         Edit::DropItem { id } => Some(*id),
         Edit::PutMember { member, .. } | Edit::DropMember { member, .. } => Some(*member),
         Edit::PutList { .. } | Edit::PutRule { .. } | Edit::DropList { .. } => None,

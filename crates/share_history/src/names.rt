@@ -20,7 +20,7 @@ fn names_item(edit: &Edit, id: u32) -> bool
     ensures { result ≡ names (Named.Item id) edit.now }
 {
     match edit {
-        Edit::PutItem { row } => row.id == id,
+        Edit::PutItem { row } => row.row().id == id,
         Edit::DropItem { id: dropped } => *dropped == id,
         _ => false,
     }

@@ -9,7 +9,7 @@ use crate::*;
 use dmap_tags::{Tag, Text, encode_into};
 use item_model::{
     Batch, Browse, Cond, Edit, Edits, Entry, Item, ItemError, Look, Meta, Op, Pattern, PropValue,
-    Properties, Property, Queries, Query, Range, Row, Target, Texts,
+    Properties, Property, Queries, Query, Range, Row, SharedRow, Target, Texts,
 };
 use std::alloc::{AllocError, Global};
 use std::process::Abort;
@@ -151,7 +151,7 @@ fn song(
         item.put(Property::Aemk, PropValue::Number(kind))?;
     }
     Ok(Edit::PutItem {
-        row: Row { id, item },
+        row: SharedRow::new(alloc, Row { id, item })?,
     })
 }
 

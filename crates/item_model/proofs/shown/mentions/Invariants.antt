@@ -1,6 +1,6 @@
 use Rattle.std.proofs.Common.{◌≡◌, drop}
 use Rattle.item_model.specs.Projection.{mentions}
-use Rattle.item_model.proofs.projection.mentions.Given as goal
+use Rattle.item_model.proofs.shown.mentions.Given as goal
 
 -- what was passed is not the property
 abbrev pub invariant-loop-p : goal.invariant-loop-p

@@ -1,0 +1,58 @@
+//! Rows with more than one owner.
+
+ghost use Rattle.std.specs.Prelude.{◌≡◌, IfOk};
+
+use crate::item::Row;
+use std::alloc::{AllocError, Global};
+use std::marker::Model;
+use std::sync::Arc;
+
+/// A row that may have several owners, in any threads, so that a batch, the history that keeps it and a store have its
+/// texts once. Contracts see the row.
+#[derive(Debug, Drop)]
+pub struct SharedRow {
+    row: Arc<Row, Global>,
+}
+
+impl Model for SharedRow {
+    ghost use Rattle.std.specs.Arc.{arc_value};
+    ghost use Rattle.item_model.specs.declared.item.Row.{Row};
+
+    ghost Value = { Row };
+
+    ghost view = { λ a. arc_value a.row };
+}
+
+impl SharedRow {
+    /// The row's first owner.
+    pub fn new(alloc: Global, row: Row) -> Result<SharedRow, AllocError>
+        ensures { IfOk result (λ shared. shared ≡ row) }
+    {
+        match Arc::new(alloc, row) {
+            Ok(row) => Ok(SharedRow { row }),
+            Err(_) => Err(AllocError),
+        }
+    }
+
+    pub fn row(&self) -> &Row
+        ensures { result.now ≡ self.now }
+    {
+        &self.row
+    }
+
+    /// One more owner. It is refused where the count of owners is full, and takes no memory of its own.
+    pub fn share(&self) -> Result<SharedRow, AllocError>
+        ensures { IfOk result (λ shared. shared ≡ self.now) }
+    {
+        Ok(SharedRow {
+            row: Arc::try_clone(&self.row)?,
+        })
+    }
+}
+
+// A shared row may go from thread to thread and be read in several: without this no crate above could hand one on.
+fn may_be_shared<T: Send + Sync>() {}
+
+fn rows_may_be_shared() {
+    may_be_shared::<SharedRow>();
+}
