@@ -1,12 +1,14 @@
 -- First mentions weigh no more than all properties together, whatever each property weighs.
-use Rattle.std.proofs.Common.{◌≡◌, ◌≤◌, ◌<◌, ◌+◌, ◌&&◌, ℕ, zero, suc, Bool, true, false, not, List, [], ◌∷◌, ◌++◌, length, get_or, cond, refl, sym, ap, subst, ◌∙◌, eq-eqb, arith}
+use Rattle.std.proofs.Common.{◌≡◌, ◌≤◌, ◌<◌, ◌+◌, ◌&&◌, ℕ, zero, suc, Bool, true, false, not, List, [], ◌∷◌, ◌++◌, length, length-append, take, slice_set, get_or, cond, refl, sym, ap, subst, ◌∙◌, eq-eqb, arith}
 use Rattle.std.specs.List.{filter}
+use Rattle.std.proofs.lemmas.List.{take_more_set, length-take-le}
 use Rattle.item_model.specs.declared.property.Property.{Property}
 use Rattle.item_model.specs.declared.property.Property.TheVariants.{Minm, Mikd, Mper, Asar, Asal, Asaa, Asgn, Ascp, Ascm, Agrp, Asfm, Asyr, Astn, Astc, Asdn, Asdc, Asbr, Asbt, Astm, Assr, Assz, Asur, Asco, Aemk, Asda, Asdm}
 use Rattle.item_model.specs.Properties.{all_properties, rank_of, is_same}
-use Rattle.item_model.specs.Projection.{default_projection, first_mentions, new_mention}
+use Rattle.item_model.specs.Projection.{default_projection, first_mentions, mentions, new_mention}
 use Rattle.item_model.proofs.Ranks.{at_rank}
 use Rattle.item_model.proofs.Mentions.{first_last, mentions_first}
+use Rattle.item_model.proofs.Distinct.{first_again}
 
 -- what properties weigh together
 abbrev pub total : (Property → ℕ) → List Property → ℕ
@@ -134,6 +136,25 @@ default_once = refl
 -- a mention adds to the first mentions what it adds to the mentions
 pub mention_last : (ps : List Property) (p : Property) → first_mentions ps ++ new_mention (first_mentions ps) p ≡ first_mentions (ps ++ p ∷ [])
 mention_last ps p = ap (λ b. first_mentions ps ++ cond b [] (p ∷ [])) (mentions_first ps p) ∙ sym (first_last ps p)
+
+-- and the mentions stay first ones
+pub mention_once : (ps : List Property) (p : Property) → first_mentions ps ≡ ps → first_mentions (ps ++ new_mention ps p) ≡ ps ++ new_mention ps p
+mention_once ps p h =
+    let last : ps ++ new_mention ps p ≡ first_mentions (ps ++ p ∷ []) = subst (λ qs. qs ++ new_mention qs p ≡ first_mentions (ps ++ p ∷ [])) h (mention_last ps p) in
+    ap first_mentions last ∙ first_again (ps ++ p ∷ []) ∙ sym last
+
+-- a new property comes behind those that are kept, each once
+pub kept_once : (room : List Property) (n : ℕ) (p : Property) → n < length room → mentions (take n room) p ≡ false → first_mentions (take n room) ≡ take n room → first_mentions (take (n + 1) (slice_set room n p)) ≡ take (n + 1) (slice_set room n p)
+kept_once room n p lt new h =
+    let e : take (n + 1) (slice_set room n p) ≡ take n room ++ p ∷ [] = take_more_set room n p lt in
+    rw e (subst (λ b. first_mentions (take n room ++ cond b [] (p ∷ [])) ≡ take n room ++ cond b [] (p ∷ [])) new (mention_once (take n room) p h))
+
+-- a new property that still fits has a place left
+pub place_left : (room : List Property) (n : ℕ) (p : Property) → length room ≡ 26 → n ≤ 26 → mentions (take n room) p ≡ false → length (take n room ++ new_mention (take n room) p) ≤ 26 → n < length room
+place_left room n p full few new h =
+    let le : n ≤ length room = omega (arith, full, few) in
+    let fits : length (take n room ++ p ∷ []) ≤ 26 = subst (λ b. length (take n room ++ cond b [] (p ∷ [])) ≤ 26) new h in
+    omega (arith, full, fits, length-append (take n room) (p ∷ []), length-take-le n room le)
 
 -- and there is room for it
 pub mention_room : (ps : List Property) (p : Property) → length (first_mentions ps ++ new_mention (first_mentions ps) p) ≤ 26

@@ -15,14 +15,15 @@ pub struct ShownProperties {
 }
 
 impl Model for ShownProperties {
-    ghost use Rattle.std.specs.Prelude.{List, take, ◌≤◌};
+    ghost use Rattle.std.specs.Prelude.{List, take, ◌≤◌, ◌≡◌};
     ghost use Rattle.item_model.specs.declared.property.Property.{Property};
+    ghost use Rattle.item_model.specs.Projection.{first_mentions};
 
     ghost Value = { List Property };
 
     ghost view = { λ a. take a.len a.room };
 
-    ghost invariant = { λ a. a.len ≤ 26 };
+    ghost invariant = { λ a. (a.len ≤ 26) × (first_mentions (take a.len a.room) ≡ take a.len a.room) };
 }
 
 impl ShownProperties {
@@ -39,7 +40,8 @@ impl ShownProperties {
     }
 
     pub fn as_slice(&self) -> &[Property]
-        ensures { result.now ≡ self.now }
+        ensures shown { result.now ≡ self.now }
+        ensures once { first_mentions self.now ≡ self.now }
     {
         let (shown, _) = self.room.split_at(self.len);
         shown

@@ -1,4 +1,4 @@
-use Rattle.std.proofs.Common.{◌≡◌, ◌≤◌, ◌++◌, ◌∙◌, take, get_or, length, ap, sym, subst}
+use Rattle.std.proofs.Common.{◌≤◌, ◌++◌, ◌∙◌, take, get_or, length, ap, sym, subst}
 use Rattle.std.proofs.lemmas.List.{take_more}
 use Rattle.item_model.specs.declared.property.Property.TheVariants.{Minm}
 use Rattle.item_model.specs.Projection.{first_mentions, new_mention}
