@@ -4,4 +4,8 @@ pub mod Places
 pub mod NetCounts
 pub mod MemSource
 pub mod MemSink
+pub mod Kept
+pub mod MemLink
+pub mod MemDoor
+pub mod MemNet
 pub mod Reading

@@ -1,5 +1,5 @@
 -- What a sink in memory tells beside its meaning as a sink: how it was set, its room, and which call comes next.
-use Rattle.std.specs.Prelude.{◌≡◌, ℕ, ◌+◌, ◌-◌, ◌^◌, min, List, vec_len}
+use Rattle.std.specs.Prelude.{◌≡◌, ◌==◌, ℕ, ◌+◌, ◌-◌, ◌^◌, min, if◌then◌else◌, List, length, vec_len}
 use Rattle.daap_outside.specs.declared.memory.sink.MemSink.{MemSink}
 
 -- the bytes that it has taken
@@ -21,6 +21,10 @@ failing_calls sink = sink.failing.items
 -- the number of the next call, which stays at the last number of its type
 abbrev pub next_call : MemSink → ℕ
 next_call sink = min (sink.calls + 1) (2 ^ 64 - 1)
+
+-- for how many bytes more it is sure to have room: its whole room, unless some call may fail
+abbrev pub sure_room : MemSink → ℕ
+sure_room sink = if length (failing_calls sink) == 0 then room_left sink else 0
 
 -- a call was counted, and the sink is set as before
 pub record CountsCall (before now : MemSink) : Type 0 where

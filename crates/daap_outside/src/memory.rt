@@ -1,7 +1,11 @@
 //! The forms in memory, for tests and for commands that use no net and no files.
 ghost use Rattle.std.specs.Prelude.{◌≡◌, IfOk};
 
+pub mod asked;
+pub mod door;
 pub mod files;
+mod kept;
+pub mod link;
 pub mod net;
 pub mod sink;
 pub mod source;

@@ -4,14 +4,16 @@ ghost use Rattle.daap_outside.specs.Counts.{CountsFaults, Rose, RisesWith};
 ghost use Rattle.daap_outside.specs.Told.{BeginsEmpty, Grows, GrowsByTold};
 ghost use Rattle.daap_outside.specs.Places.{Accepts, OpensDoors, Returned, returned};
 ghost use Rattle.daap_outside.specs.NetCounts.{CountsNetFaults};
+ghost use Rattle.daap_outside.specs.declared.net.NetError.TheVariants.{Failed as failed, Memory};
 
 use crate::faulted::{Failed, Faulted};
 use crate::link::Link;
+use std::alloc::AllocError;
 use thiserror::Error;
 
 /// A place to wait for links at. Several doors may stand at one place.
 pub trait Door: Faulted {
-    type L: Link + Drop;
+    type L: Link + Drop + Send;
 
     // The inputs of the links that will come, in order, where they are told.
     ghost coming: { Self → Option (List (List ℕ)) };
@@ -53,11 +55,27 @@ pub enum NetError {
     Memory,
 }
 
+impl From<Failed> for NetError {
+    ghost from_gives = { λ _ e. e ≡ failed };
+
+    fn from(_fault: Failed) -> NetError {
+        NetError::Failed
+    }
+}
+
+impl From<AllocError> for NetError {
+    ghost from_gives = { λ _ e. e ≡ Memory };
+
+    fn from(_error: AllocError) -> NetError {
+        NetError::Memory
+    }
+}
+
 /// What opens doors and connects links.
 pub trait Net: Faulted {
-    type L: Link + Drop;
+    type L: Link + Drop + Send;
 
-    type D: Door<L = Self::L> + Drop;
+    type D: Door<L = Self::L> + Drop + Send;
 
     // The places asked for so far, each with its number of doors, or 0 for a connection, where they are told.
     ghost asked: { Self → Option (List (List ℕ × ℕ)) };

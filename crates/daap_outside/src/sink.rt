@@ -1,5 +1,5 @@
 //! What bytes are written to.
-ghost use Rattle.std.specs.Prelude.{◌≡◌, ℕ, ◌<◌, ◌≤◌, List, length, IfOk, OnOk, OnErr, Option};
+ghost use Rattle.std.specs.Prelude.{◌≡◌, ℕ, ◌+◌, ◌<◌, ◌≤◌, List, length, IsOk, IfOk, OnOk, OnErr, Option};
 ghost use Rattle.std.specs.Io.KnownBytes.{Appends, WriteAppends};
 ghost use Rattle.daap_outside.specs.Counts.{CountsFaults};
 ghost use Rattle.daap_outside.specs.Told.{AppendsPrefix};
@@ -14,6 +14,9 @@ pub trait Sink: Faulted {
     // Told bytes that a write leaves alone: of a link, those that are left to read.
     ghost beside_taken: { Self → Option (List ℕ) };
 
+    // For so many bytes more it is sure to have room: no write of them fails. None where nothing is known.
+    ghost sure_room: { Self → ℕ } = { λ _. 0 };
+
     /// Writes from the front of the piece, and answers how many bytes: one or more.
     /// Where nothing can be taken, a fault is counted.
     fn write(&mut self, piece: &[u8]) -> Result<usize, Failed>
@@ -21,6 +24,8 @@ pub trait Sink: Faulted {
         ensures some { IfOk result (λ n. 0 < n) }
         ensures within { IfOk result (λ n. n ≤ length piece.now) }
         ensures taken_grows { WriteAppends (taken self.old) (taken self.new) result piece.now }
+        ensures sure { 0 < sure_room self.old → IsOk result }
+        ensures sure_stays { IfOk result (λ n. sure_room self.old ≤ sure_room self.new + n) }
         ensures beside { beside_taken self.new ≡ beside_taken self.old }
         ensures count { CountsFaults (Self.faults self.old) (Self.faults self.new) result };
 }
@@ -29,6 +34,8 @@ pub trait Sink: Faulted {
 /// After `Failed` some of the first bytes may have been taken.
 pub fn put_all<W: Sink>(sink: &mut W, bytes: &[u8]) -> Result<(), Failed>
     ensures all { OnOk result (Appends (W.taken sink.old) (W.taken sink.new) bytes.now) }
+    ensures sure { length bytes.now ≤ W.sure_room sink.old → IsOk result }
+    ensures sure_stays { OnOk result (W.sure_room sink.old ≤ W.sure_room sink.new + length bytes.now) }
     ensures part { OnErr result (AppendsPrefix (W.taken sink.old) (W.taken sink.new) bytes.now) }
     ensures beside { W.beside_taken sink.new ≡ W.beside_taken sink.old }
     ensures count { CountsFaults (W.faults sink.old) (W.faults sink.new) result }

@@ -3,9 +3,11 @@ ghost use Rattle.std.specs.Prelude.{◌≡◌, ◌<◌, ◌++◌, ◌∷◌, [],
 ghost use Rattle.std.specs.Io.KnownBytes.{Appends};
 ghost use Rattle.daap_outside.specs.Counts.{Rose};
 ghost use Rattle.daap_outside.specs.Told.{Grows};
+ghost use Rattle.daap_outside.specs.MemLink.{IsNew};
+ghost use Rattle.daap_outside.specs.MemDoor.{IsNew as is_new_door};
 
 use super::*;
-use std::alloc::Global;
+use std::alloc::{AllocError, Global};
 use std::io;
 use std::io::{ErrorKind, Read, Write};
 use std::test::Fail;
@@ -70,6 +72,15 @@ fn greeted<D: Door>(door: &mut D, bytes: &[u8]) -> Result<bool, Failed>
     let _sent = put_all(&mut link, bytes);
     door.done(link);
     Ok(true)
+}
+
+// The bytes, by way of a sink that has room for all of them.
+fn spelled(alloc: Global, bytes: &[u8]) -> Result<Vec<u8>, AllocError>
+    ensures { IfOk result (λ all. all.items ≡ bytes.now) }
+{
+    let mut sink = MemSink::new(alloc, bytes.len(), 2, &[])?;
+    put_all(&mut sink, bytes).unwrap();
+    Ok(sink.into_taken())
 }
 
 #[test]
@@ -179,10 +190,126 @@ fn the_standard_streams_fit(rt: HostRuntime) -> Result<(), Fail> {
 }
 
 #[test]
+fn a_write_into_its_own_room_is_sure(rt: HostRuntime) -> Result<(), Fail> {
+    assert_eq!(rt;
+        spelled(rt.alloc(), b"abcde")?.as_slice(),
+        b"abcde".as_slice()
+    );
+    Ok(())
+}
+
+// Reads and writes once, and answers whether each failed.
+fn exchanged(link: &mut MemLink) -> (bool, bool) {
+    let mut room = [0; 4];
+    (heard(link, &mut room).is_err(), link.write(b"xyz").is_err())
+}
+
+#[test]
+fn a_link_fails_at_each_read_and_each_write_in_turn(rt: HostRuntime) -> Result<(), Fail> {
+    let alloc = rt.alloc();
+    for failing in 1..4 {
+        let input = MemSource::new(alloc, b"abcde", 2, &[failing])?;
+        let mut link = MemLink::new(input, MemSink::new(alloc, 9, 2, &[failing])?);
+        for call in 1..4 {
+            let fails = call == failing;
+            assert_eq!(rt; exchanged(&mut link), (fails, fails));
+        }
+        let back = link.returned();
+        assert!(rt; is_back(&back, b"xyxy", true));
+    }
+    Ok(())
+}
+
+// A link with an input, and room for 9 bytes.
+fn linked(alloc: Global, input: &[u8]) -> Result<MemLink, AllocError>
+    ensures { IfOk result IsNew }
+{
+    let source = MemSource::new(alloc, input, 4, &[])?;
+    Ok(MemLink::new(source, MemSink::new(alloc, 9, 4, &[])?))
+}
+
+// A door at which two links come, whose second wait fails, with room for so many that come back.
+fn opened(alloc: Global, room: usize) -> Result<MemDoor, AllocError>
+    ensures { IfOk result is_new_door }
+{
+    let mut door = MemDoor::new(alloc, &[2], room)?;
+    door.add(linked(alloc, b"one")?)?;
+    door.add(linked(alloc, b"two")?)?;
+    Ok(door)
+}
+
+fn is_back(link: &Returned, bytes: &[u8], faulted: bool) -> bool {
+    link.bytes.as_slice() == bytes && link.faulted == faulted
+}
+
+fn is_asked(asked: &Asked, place: &[u8], doors: u32) -> bool {
+    asked.place() == place && asked.doors() == doors
+}
+
+#[test]
+fn a_door_gives_its_links_in_order(rt: HostRuntime) -> Result<(), Fail> {
+    let alloc = rt.alloc();
+    let mut door = opened(alloc, 2)?;
+    assert!(rt; matches!(greeted(&mut door, b"first"), Ok(true)));
+    assert!(rt; matches!(greeted(&mut door, b"not sent"), Err(Failed)));
+    assert!(rt; matches!(greeted(&mut door, b"second, too long"), Ok(true)));
+    assert!(rt; matches!(greeted(&mut door, b"not sent"), Ok(false)));
+    assert!(rt;
+        matches!(door.written(), Some([first, second])
+        if is_back(first, b"first", false) && is_back(second, b"second, t", true))
+    );
+    Ok(())
+}
+
+#[test]
+fn a_net_gives_what_was_put_there(rt: HostRuntime) -> Result<(), Fail> {
+    let alloc = rt.alloc();
+    let mut net = MemNet::with_room(alloc, &[2], 4, 4)?;
+    net.add_door(opened(alloc, 2)?)?;
+    net.add_door(MemDoor::new(alloc, &[], 0)?)?;
+    net.add_link(linked(alloc, b"three")?)?;
+    assert!(rt; matches!(net.listen("here", 3), Err(NetError::Failed)));
+    assert!(rt; matches!(net.connect("set to fail"), Err(Failed)));
+    let mut doors = net.listen("here", 1)?;
+    if let Some(mut door) = doors.pop() {
+        assert!(rt; matches!(greeted(&mut door, b"hello"), Ok(true)));
+        net.shut(door);
+    }
+    sent(&mut net, "there", b"bye")?;
+    assert!(rt;
+        matches!(net.asked(), Some([too_many, fails, here, there])
+        if is_asked(too_many, b"here", 3) && is_asked(fails, b"set to fail", 0)
+            && is_asked(here, b"here", 1) && is_asked(there, b"there", 0))
+    );
+    assert!(rt;
+        matches!(net.written(), Some([hello, bye])
+        if is_back(hello, b"hello", false) && is_back(bye, b"bye", false))
+    );
+    assert!(rt; net.connect("there").is_err());
+    Ok(())
+}
+
+#[test]
+fn a_list_without_room_is_told_no_more(rt: HostRuntime) -> Result<(), Fail> {
+    let alloc = rt.alloc();
+    let mut door = opened(alloc, 0)?;
+    assert!(rt; door.written().is_some());
+    assert!(rt; matches!(greeted(&mut door, b"lost"), Ok(true)));
+    assert!(rt; door.written().is_none());
+    let mut net = MemNet::with_room(alloc, &[], 1, 1)?;
+    assert!(rt; net.connect("first").is_err());
+    assert!(rt; net.asked().is_some());
+    assert!(rt; net.connect("second").is_err());
+    assert!(rt; net.asked().is_none());
+    net.shut(door);
+    assert!(rt; net.written().is_none());
+    Ok(())
+}
+
+#[test]
 fn nothing_is_reached_where_nothing_is_held(rt: HostRuntime) {
-    let mut net = MemNet::new();
+    let mut net = MemNet::new(rt.alloc());
     assert!(rt; matches!(net.listen("127.0.0.1:3689", 2), Err(NetError::Failed)));
     assert!(rt; matches!(sent(&mut net, "127.0.0.1:3689", b"hello"), Err(Failed)));
-    assert!(rt; net.connect("127.0.0.1:3689").is_err());
     assert!(rt; matches!(MemFiles::new().open("edits"), Err(Failed)));
 }

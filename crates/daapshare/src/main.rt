@@ -59,7 +59,7 @@ fn run_on<R: Read, W: Write>(
             input,
             output,
             &mut MemFiles::new(),
-            &mut MemNet::new(),
+            &mut MemNet::new(alloc),
         ),
         Err(_) => refused(alloc, output, &Fault::Memory),
     }

@@ -81,7 +81,7 @@ pub(crate) fn run_over(
         &mut input,
         &mut output,
         &mut MemFiles::new(),
-        &mut MemNet::new(),
+        &mut MemNet::new(alloc),
     );
     Ok(Ran {
         status: outcome.status,

@@ -1,96 +1,150 @@
-//! A net in memory that holds no links yet.
-ghost use Rattle.std.specs.Prelude.{◌≡◌, None, IsErr, IsErrOf, refl};
-ghost use Rattle.daap_outside.specs.Counts.{Rose};
+//! A net in memory.
+ghost use Rattle.std.specs.Prelude.{◌≡◌, ◌↔◌, ◌⊎◌, ◌∷◌, ◌++◌, ◌-◌, ◌+◌, ◌^◌, ◌<◌, ◌≤◌, ℕ, min, [], Some, None, IfOk, IfSome, IsErr, IsErrOf, OnOk, OnErr, All, Contains, map, length, take, drop, option_and_then};
+ghost use Rattle.std.specs.Option.{option_copied};
+ghost use Rattle.daap_outside.specs.Counts.{CountsFaults, RisesWith};
+ghost use Rattle.daap_outside.specs.NetCounts.{CountsNetFaults};
+ghost use Rattle.daap_outside.specs.Told.{BeginsEmpty, Grows, GrowsByTold};
+ghost use Rattle.daap_outside.specs.Places.{OpensDoors, returned};
+ghost use Rattle.daap_outside.specs.MemLink.{IsNew as is_new_link};
+ghost use Rattle.daap_outside.specs.MemDoor.{IsNew as is_new_door};
 
 use crate::faulted::{Failed, Faulted, counted};
-use crate::link::Link;
-use crate::net::{Door, Net, NetError};
-use crate::sink::Sink;
-use crate::source::Source;
+use crate::memory::asked::{Asked, PLACE_ROOM};
+use crate::memory::copied;
+use crate::memory::door::MemDoor;
+use crate::memory::kept::Kept;
+use crate::memory::link::{MemLink, Returned};
+use crate::net::{Net, NetError};
+use std::alloc::{AllocError, Global};
+use std::collections::VecDeque;
+use std::mem;
 
-/// A link with no bytes, on which each call fails. It tells nothing.
-#[derive(Drop)]
-pub struct MemLink {
-    faults: u64,
-}
-
-impl Faulted for MemLink {
-    ghost faults = { λ link. link.faults };
-}
-
-impl Source for MemLink {
-    ghost left = { λ _. None };
-
-    ghost beside_left = { λ _. None };
-
-    fn read(&mut self, _room: &mut [u8]) -> Result<usize, Failed>
-        ensures fails { IsErr result }
-        ensures count { Rose self.old.faults self.new.faults }
-    {
-        Err(counted(&mut self.faults))
-    }
-}
-
-impl Sink for MemLink {
-    ghost taken = { λ _. None };
-
-    ghost beside_taken = { λ _. None };
-
-    fn write(&mut self, _piece: &[u8]) -> Result<usize, Failed>
-        ensures fails { IsErr result }
-        ensures count { Rose self.old.faults self.new.faults }
-    {
-        Err(counted(&mut self.faults))
-    }
-}
-
-impl Link for MemLink {
-    ghost read_leaves_taken = { λ _. refl };
-
-    ghost write_leaves_left = { λ _. refl };
-}
-
-/// A door at which each wait for a link fails. It tells nothing.
-#[derive(Drop)]
-pub struct MemDoor {
-    faults: u64,
-}
-
-impl Faulted for MemDoor {
-    ghost faults = { λ door. door.faults };
-}
-
-impl Door for MemDoor {
-    type L = MemLink;
-
-    ghost coming = { λ _. None };
-
-    ghost written = { λ _. None };
-
-    fn accept(&mut self) -> Result<Option<MemLink>, Failed>
-        ensures fails { IsErr result }
-        ensures count { Rose self.old.faults self.new.faults }
-    {
-        Err(counted(&mut self.faults))
-    }
-
-    fn nudge(&mut self) {}
-
-    fn done(&mut self, _link: MemLink) {}
-}
-
-/// A net with no places: each call that can fail does. It tells nothing.
+/// A net whose doors and links were put there. Each is given once, in order, whatever the place.
+/// Where too few are left, the call fails.
+///
+/// It tells the places asked for and the links given back for as long as it has room for them.
+/// Some of its calls of `listen` and `connect` may be set to fail; the first has the number 1.
 #[derive(Drop)]
 pub struct MemNet {
+    doors: Vec<MemDoor>,
+    links: VecDeque<MemLink>,
+    failing: Vec<u64>,
+    calls: u64,
+    asked: Kept<Asked>,
+    written: Kept<Returned>,
     faults: u64,
+    ghost new_doors: { All is_new_door doors.items },
+    ghost new_links: { All is_new_link links.items },
 }
 
 impl MemNet {
-    /// A net with no fault counted.
-    pub fn new() -> MemNet
-        ensures { ⟦<MemNet as Faulted>⟧.faults result ≡ 0 }
+    ghost use Rattle.daap_outside.specs.MemNet.{doors_of, links_of, asked_of, asked_room, written_of, written_room, failing_calls, next_call, with_place, CountsCall, IsSetAlike};
+
+    /// A net that reaches nothing, without room for what it tells.
+    pub fn new(alloc: Global) -> MemNet
+        ensures doors { doors_of result ≡ [] }
+        ensures links { links_of result ≡ [] }
+        ensures asked { asked_of result ≡ Some [] }
+        ensures written { written_of result ≡ Some [] }
+        ensures faults { ⟦<MemNet as Faulted>⟧.faults result ≡ 0 }
+        ensures failing_calls { failing_calls result ≡ [] }
+        ensures first_call { next_call result ≡ 1 }
     {
-        MemNet { faults: 0 }
+        MemNet {
+            doors: Vec::new(alloc),
+            links: VecDeque::new(alloc),
+            failing: Vec::new(alloc),
+            calls: 0,
+            asked: Kept::new(alloc),
+            written: Kept::new(alloc),
+            faults: 0,
+        }
+    }
+
+    /// A net that reaches nothing yet, with room for so many places asked for and so many links
+    /// given back. The calls with the numbers `failing` fail.
+    pub fn with_room(
+        alloc: Global,
+        failing: &[u64],
+        places: usize,
+        links: usize,
+    ) -> Result<MemNet, AllocError>
+        ensures doors { IfOk result (λ net. doors_of net ≡ []) }
+        ensures links { IfOk result (λ net. links_of net ≡ []) }
+        ensures asked { IfOk result (λ net. asked_of net ≡ Some []) }
+        ensures asked_room { IfOk result (λ net. asked_room net ≡ places) }
+        ensures written { IfOk result (λ net. written_of net ≡ Some []) }
+        ensures written_room { IfOk result (λ net. written_room net ≡ links) }
+        ensures faults { IfOk result (λ net. ⟦<MemNet as Faulted>⟧.faults net ≡ 0) }
+        ensures failing_calls { IfOk result (λ net. failing_calls net ≡ failing.now) }
+        ensures first_call { IfOk result (λ net. next_call net ≡ 1) }
+    {
+        let mut net = MemNet::new(alloc);
+        net.failing = copied(alloc, failing)?;
+        net.asked = Kept::with_room(alloc, places)?;
+        net.written = Kept::with_room(alloc, links)?;
+        Ok(net)
+    }
+
+    /// Adds a door to be opened behind the others.
+    pub fn add_door(&mut self, door: MemDoor) -> Result<(), AllocError>
+        requires { is_new_door door }
+        ensures ok { OnOk result (doors_of self.new ≡ doors_of self.old ++ door ∷ []) }
+        ensures err { OnErr result (doors_of self.new ≡ doors_of self.old) }
+        ensures rest { IsSetAlike self.old self.new }
+        ensures links_stay { links_of self.new ≡ links_of self.old }
+    {
+        self.doors.push(door)?;
+        Ok(())
+    }
+
+    /// Adds a link to be connected behind the others.
+    pub fn add_link(&mut self, link: MemLink) -> Result<(), AllocError>
+        requires { is_new_link link }
+        ensures ok { OnOk result (links_of self.new ≡ links_of self.old ++ link ∷ []) }
+        ensures err { OnErr result (links_of self.new ≡ links_of self.old) }
+        ensures rest { IsSetAlike self.old self.new }
+        ensures doors_stay { doors_of self.new ≡ doors_of self.old }
+    {
+        self.links.push_back(link)?;
+        Ok(())
+    }
+
+    // Counts a call, and tells the place. The call fails where it is set to.
+    fn ask(&mut self, place: &str, doors: u32) -> Result<(), Failed>
+        ensures fails { IsErr result ↔ Contains (failing_calls self.old) (next_call self.old) }
+        ensures told { asked_of self.new ≡ with_place (asked_of self.old) (asked_room self.old) place.now doors }
+        ensures asked_room { asked_room self.old ≤ asked_room self.new + 1 }
+        ensures called { CountsCall self.old self.new }
+        ensures written_stays { self.new.written ≡ self.old.written }
+        ensures doors_stay { self.new.doors ≡ self.old.doors }
+        ensures links_stay { self.new.links ≡ self.old.links }
+        ensures count { CountsFaults self.old.faults self.new.faults result }
+    {
+        self.calls = self.calls.saturating_add(1);
+        if place.len() <= PLACE_ROOM {
+            self.asked.keep(Asked::new(place, doors));
+        } else {
+            self.asked.end();
+        }
+        if self.failing.contains(&self.calls) {
+            return Err(counted(&mut self.faults));
+        }
+        Ok(())
+    }
+
+    /// The places asked for so far, where they are told.
+    pub fn asked(&self) -> Option<&[Asked]>
+        ensures { option_copied result ≡ asked_of self.now }
+    {
+        self.asked.items()
+    }
+
+    /// The links given back so far, where they are told.
+    pub fn written(&self) -> Option<&[Returned]>
+        ensures { option_copied result ≡ written_of self.now }
+    {
+        self.written.items()
     }
 }
 
@@ -103,38 +157,106 @@ impl Net for MemNet {
 
     type D = MemDoor;
 
-    ghost asked = { λ _. None };
+    ghost use Rattle.std.specs.Prelude.{Some};
+    ghost use Rattle.daap_outside.specs.MemNet.{doors_of, links_of, door_inputs, input_next, asked_of, asked_room, written_of, written_room, failing_calls, next_call, with_place, CountsCall};
+    ghost use Rattle.daap_outside.specs.MemDoor.{coming_of, written_of as written_at, faults_of as faults_at};
+    ghost use Rattle.daap_outside.specs.MemLink.{input_of, output_of, faults_of, returned_link};
+    ghost use Rattle.daap_outside.specs.MemSource.{left_of};
+    ghost use Rattle.daap_outside.specs.MemSink.{taken_of};
+    ghost use Rattle.daap_outside.specs.Kept.{keeps};
 
-    ghost written = { λ _. None };
+    ghost asked = { asked_of };
 
-    ghost door_links = { λ _. None };
+    ghost written = { written_of };
 
-    ghost next_input = { λ _. None };
+    ghost door_links = { λ net. Some (door_inputs net) };
 
-    fn listen(&mut self, _place: &str, _number: u32) -> Result<Vec<MemDoor>, NetError>
-        ensures fails { IsErrOf result NetError.Failed }
-        ensures count { Rose self.old.faults self.new.faults }
+    ghost next_input = { input_next };
+
+    fn listen(&mut self, place: &str, number: u32) -> Result<Vec<MemDoor>, NetError>
+        ensures as_many { IfOk result (λ ds. length ds.items ≡ number) }
+        ensures fresh { IfOk result (λ ds. All (λ d. faults_at d ≡ 0) ds.items) }
+        ensures unwritten { IfOk result (λ ds. All (λ d. BeginsEmpty (written_of self.old) (written_at d)) ds.items) }
+        ensures links { IfOk result (λ ds. OpensDoors (Some (door_inputs self.old)) (Some (door_inputs self.new))
+            (map (λ d. Some (coming_of d)) ds.items)) }
+        ensures first { IfOk result (λ ds. doors_of self.old ≡ ds.items ++ doors_of self.new) }
+        ensures failed { OnErr result (doors_of self.new ≡ doors_of self.old) }
+        ensures fails { IsErrOf result NetError.Failed
+            ↔ (Contains (failing_calls self.old) (next_call self.old) ⊎ (length (doors_of self.old) < number)) }
+        ensures asks { Grows (asked_of self.old) (asked_of self.new) ((place.now, number) ∷ []) }
+        ensures told { asked_of self.new ≡ with_place (asked_of self.old) (asked_room self.old) place.now number }
+        ensures asked_room { asked_room self.old ≤ asked_room self.new + 1 }
+        ensures called { CountsCall self.old self.new }
+        ensures written_stays { written_of self.new ≡ written_of self.old }
+        ensures written_room_stays { written_room self.new ≡ written_room self.old }
+        ensures links_stay { links_of self.new ≡ links_of self.old }
+        ensures count { CountsNetFaults self.old.faults self.new.faults result }
     {
-        counted(&mut self.faults);
-        Err(NetError::Failed)
+        self.ask(place, number)?;
+        if self.doors.len() < number as usize {
+            return Err(NetError::from(counted(&mut self.faults)));
+        }
+        let later = self.doors.split_off(number as usize)?;
+        Ok(mem::replace(&mut self.doors, later))
     }
 
-    fn connect(&mut self, _place: &str) -> Result<MemLink, Failed>
-        ensures fails { IsErr result }
-        ensures count { Rose self.old.faults self.new.faults }
+    fn connect(&mut self, place: &str) -> Result<MemLink, Failed>
+        ensures fresh { IfOk result (λ link. faults_of link ≡ 0) }
+        ensures unwritten { IfOk result (λ link. BeginsEmpty (written_of self.old) (Some (taken_of (output_of link)))) }
+        ensures input { IfOk result (λ link. IfSome (input_next self.old)
+            (λ input. Some (left_of (input_of link)) ≡ Some input)) }
+        ensures first { IfOk result (λ link. links_of self.old ≡ link ∷ links_of self.new) }
+        ensures failed { OnErr result (links_of self.new ≡ links_of self.old) }
+        ensures fails { IsErr result
+            ↔ (Contains (failing_calls self.old) (next_call self.old) ⊎ (links_of self.old ≡ [])) }
+        ensures asks { Grows (asked_of self.old) (asked_of self.new) ((place.now, 0) ∷ []) }
+        ensures told { asked_of self.new ≡ with_place (asked_of self.old) (asked_room self.old) place.now 0 }
+        ensures asked_room { asked_room self.old ≤ asked_room self.new + 1 }
+        ensures called { CountsCall self.old self.new }
+        ensures written_stays { written_of self.new ≡ written_of self.old }
+        ensures written_room_stays { written_room self.new ≡ written_room self.old }
+        ensures links_stay { doors_of self.new ≡ doors_of self.old }
+        ensures count { CountsFaults self.old.faults self.new.faults result }
     {
-        Err(counted(&mut self.faults))
-    }
-
-    fn shut(&mut self, door: MemDoor) {
-        if door.faults > 0 {
-            counted(&mut self.faults);
+        self.ask(place, 0)?;
+        match self.links.pop_front() {
+            Some(link) => Ok(link),
+            None => Err(counted(&mut self.faults)),
         }
     }
 
-    fn hang_up(&mut self, link: MemLink) {
-        if link.faults > 0 {
+    fn shut(&mut self, door: MemDoor)
+        ensures asked_stays { asked_of self.new ≡ asked_of self.old }
+        ensures asked_room_stays { asked_room self.new ≡ asked_room self.old }
+        ensures written_grows { GrowsByTold (written_of self.old) (written_of self.new) (written_at door) }
+        ensures told { written_of self.new
+            ≡ option_and_then (keeps (written_of self.old) (written_room self.old)) (written_at door) }
+        ensures links_stay { doors_of self.new ≡ doors_of self.old }
+        ensures next_stays { links_of self.new ≡ links_of self.old }
+        ensures count { RisesWith self.old.faults self.new.faults (faults_at door) }
+    {
+        if door.is_faulted() {
             counted(&mut self.faults);
         }
+        self.written.keep_all(door.into_written());
+    }
+
+    fn hang_up(&mut self, link: MemLink)
+        ensures asked_stays { asked_of self.new ≡ asked_of self.old }
+        ensures asked_room_stays { asked_room self.new ≡ asked_room self.old }
+        ensures written_grows { GrowsByTold (written_of self.old) (written_of self.new)
+            (returned (Some (taken_of (output_of link))) (faults_of link)) }
+        ensures told { written_of self.new
+            ≡ keeps (written_of self.old) (written_room self.old) (returned_link link ∷ []) }
+        ensures written_room { written_room self.new ≡ written_room self.old - 1 }
+        ensures links_stay { doors_of self.new ≡ doors_of self.old }
+        ensures next_stays { links_of self.new ≡ links_of self.old }
+        ensures count { RisesWith self.old.faults self.new.faults (faults_of link) }
+    {
+        let back = link.returned();
+        if back.faulted {
+            counted(&mut self.faults);
+        }
+        self.written.keep(back);
     }
 }

@@ -1,5 +1,5 @@
 //! A sink over room in memory.
-ghost use Rattle.std.specs.Prelude.{◌≡◌, ◌↔◌, ◌⊎◌, ◌<◌, ◌≤◌, ◌+◌, ℕ, min, [], Some, None, IfOk, IsErr, MatchResult, Contains, length, vec_len, vec_capacity};
+ghost use Rattle.std.specs.Prelude.{◌≡◌, ◌↔◌, ◌⊎◌, ◌<◌, ◌≤◌, ◌+◌, ℕ, min, [], Some, None, IfOk, IsOk, IsErr, MatchResult, Contains, length, vec_len, vec_capacity};
 ghost use Rattle.std.specs.Io.KnownBytes.{WriteAppends};
 ghost use Rattle.daap_outside.specs.Counts.{CountsFaults};
 
@@ -38,6 +38,8 @@ impl MemSink {
         ensures taken { IfOk result (λ sink. ⟦<MemSink as Sink>⟧.taken sink ≡ Some []) }
         ensures faults { IfOk result (λ sink. ⟦<MemSink as Faulted>⟧.faults sink ≡ 0) }
         ensures room { IfOk result (λ sink. room_left sink ≡ room) }
+        // With no call that fails, a write into its room is sure to be taken.
+        ensures sure { IfOk result (λ sink. failing.now ≡ [] → ⟦<MemSink as Sink>⟧.sure_room sink ≡ room) }
         ensures pieces { IfOk result (λ sink. pieces_of sink ≡ per_call) }
         ensures failing_calls { IfOk result (λ sink. failing_calls sink ≡ failing.now) }
         ensures first_call { IfOk result (λ sink. next_call sink ≡ 1) }
@@ -58,6 +60,13 @@ impl MemSink {
     {
         self.taken.as_slice()
     }
+
+    /// The bytes that it has taken, without a copy.
+    pub fn into_taken(self) -> Vec<u8>
+        ensures { Some result.items ≡ ⟦<MemSink as Sink>⟧.taken self }
+    {
+        self.taken
+    }
 }
 
 impl Faulted for MemSink {
@@ -65,17 +74,21 @@ impl Faulted for MemSink {
 }
 
 impl Sink for MemSink {
-    ghost use Rattle.daap_outside.specs.MemSink.{taken_of, room_left, per_call as pieces_of, failing_calls, next_call, CountsCall};
+    ghost use Rattle.daap_outside.specs.MemSink.{taken_of, room_left, per_call as pieces_of, failing_calls, next_call, sure_room as sure_room_of, CountsCall};
 
     ghost taken = { λ sink. Some (taken_of sink) };
 
     ghost beside_taken = { λ _. None };
+
+    ghost sure_room = { sure_room_of };
 
     fn write(&mut self, piece: &[u8]) -> Result<usize, Failed>
         requires { 0 < length piece.now }
         ensures some { IfOk result (λ n. 0 < n) }
         ensures within { IfOk result (λ n. n ≤ length piece.now) }
         ensures taken_grows { WriteAppends (Some (taken_of self.old)) (Some (taken_of self.new)) result piece.now }
+        ensures sure { 0 < sure_room_of self.old → IsOk result }
+        ensures sure_stays { IfOk result (λ n. sure_room_of self.old ≤ sure_room_of self.new + n) }
         ensures count { CountsFaults self.old.faults self.new.faults result }
         ensures amount { IfOk result (λ n.
             n ≡ min (min (length piece.now) (pieces_of self.old)) (room_left self.old)) }

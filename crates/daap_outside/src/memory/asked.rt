@@ -1,0 +1,54 @@
+//! The places that a net in memory was asked for.
+ghost use Rattle.std.specs.Prelude.{◌≡◌, ◌≤◌, length};
+
+use std::marker::Model;
+
+/// The most bytes of a place that is told: a host's name of 253, a colon, and a port of five digits.
+pub(crate) const PLACE_ROOM: usize = 259;
+
+/// A place that was asked for, with the number of doors, or 0 for a connection.
+#[derive(Drop)]
+pub struct Asked {
+    text: [u8; PLACE_ROOM],
+    len: usize,
+    doors: u32,
+}
+
+impl Model for Asked {
+    ghost use Rattle.std.specs.Prelude.{List, ℕ, ◌≤◌, take, length};
+
+    ghost Value = { List ℕ × ℕ };
+
+    ghost view = { λ a. (take a.len a.text, a.doors) };
+
+    ghost invariant = { λ a. a.len ≤ length a.text };
+}
+
+impl Asked {
+    pub(crate) fn new(place: &str, doors: u32) -> Asked
+        requires { length place.now ≤ PLACE_ROOM }
+        ensures { result ≡ (place.now, doors) }
+    {
+        let mut text = [0; PLACE_ROOM];
+        text[..place.len()].copy_from_slice(place.as_bytes());
+        Asked {
+            text,
+            len: place.len(),
+            doors,
+        }
+    }
+
+    /// The place, as it was given.
+    pub fn place(&self) -> &[u8]
+        ensures { result.now ≡ self.now.0 }
+    {
+        &self.text[..self.len]
+    }
+
+    /// The number of doors, or 0 for a connection.
+    pub fn doors(&self) -> u32
+        ensures { result ≡ self.now.1 }
+    {
+        self.doors
+    }
+}

@@ -1,0 +1,149 @@
+//! A link in memory.
+ghost use Rattle.std.specs.Prelude.{◌≡◌, ◌↔◌, ◌⊎◌, ◌<◌, ◌≤◌, ◌+◌, ℕ, min, Some, IfOk, IsOk, IsErr, MatchResult, Contains, length, refl};
+ghost use Rattle.std.specs.Io.{ReadsAtMost};
+ghost use Rattle.std.specs.Io.KnownBytes.{ReadConsumes, WriteAppends};
+ghost use Rattle.daap_outside.specs.Counts.{CountsFaults};
+ghost use Rattle.daap_outside.specs.Told.{AnswersEnd};
+
+use crate::faulted::{Failed, Faulted, counted};
+use crate::link::Link;
+use crate::memory::sink::MemSink;
+use crate::memory::source::MemSource;
+use crate::sink::Sink;
+use crate::source::Source;
+use std::marker::Model;
+
+/// Gives the bytes of a source, takes bytes into the room of a sink, and tells both.
+/// Which reads and which writes fail is set by the two.
+#[derive(Drop)]
+pub struct MemLink {
+    input: MemSource,
+    output: MemSink,
+    faults: u64,
+}
+
+impl MemLink {
+    ghost use Rattle.daap_outside.specs.MemLink.{input_of, output_of, returned_link};
+
+    /// A link with no fault counted.
+    pub fn new(input: MemSource, output: MemSink) -> MemLink
+        ensures input { input_of result ≡ input }
+        ensures output { output_of result ≡ output }
+        ensures faults { ⟦<MemLink as Faulted>⟧.faults result ≡ 0 }
+    {
+        MemLink {
+            input,
+            output,
+            faults: 0,
+        }
+    }
+
+    /// The bytes that it has taken.
+    pub fn taken(&self) -> &[u8]
+        ensures { Some result.now ≡ ⟦<MemLink as Sink>⟧.taken self.now }
+    {
+        self.output.taken()
+    }
+
+    /// What is told of it once it is given back.
+    pub(crate) fn returned(self) -> Returned
+        ensures { result ≡ returned_link self }
+    {
+        Returned {
+            faulted: self.faults > 0,
+            bytes: self.output.into_taken(),
+        }
+    }
+}
+
+impl Faulted for MemLink {
+    ghost faults = { λ link. link.faults };
+}
+
+impl Source for MemLink {
+    ghost use Rattle.daap_outside.specs.MemSource.{left_of, per_call as pieces_of, failing_calls, next_call, CountsCall};
+    ghost use Rattle.daap_outside.specs.MemSink.{taken_of};
+    ghost use Rattle.daap_outside.specs.MemLink.{input_of, output_of};
+
+    ghost left = { λ link. Some (left_of link.input) };
+
+    ghost beside_left = { λ link. Some (taken_of link.output) };
+
+    fn read(&mut self, room: &mut [u8]) -> Result<usize, Failed>
+        requires { 0 < length room.old }
+        ensures within { ReadsAtMost result room.new }
+        ensures moved { ReadConsumes (Some (left_of (input_of self.old))) (Some (left_of (input_of self.new))) result room.new }
+        ensures end { IfOk result (λ n. AnswersEnd (Some (left_of (input_of self.old))) n) }
+        ensures beside { output_of self.new ≡ output_of self.old }
+        ensures count { CountsFaults self.old.faults self.new.faults result }
+        ensures amount { IfOk result (λ n.
+            n ≡ min (min (length (left_of (input_of self.old))) (length room.old)) (pieces_of (input_of self.old))) }
+        ensures called { CountsCall (input_of self.old) (input_of self.new) }
+        ensures fails { IsErr result
+            ↔ Contains (failing_calls (input_of self.old)) (next_call (input_of self.old)) }
+    {
+        match self.input.read(room) {
+            Ok(n) => Ok(n),
+            Err(Failed) => Err(counted(&mut self.faults)),
+        }
+    }
+}
+
+impl Sink for MemLink {
+    ghost use Rattle.daap_outside.specs.MemSource.{left_of};
+    ghost use Rattle.daap_outside.specs.MemSink.{taken_of, room_left, per_call as pieces_of, failing_calls, next_call, sure_room as sure_room_of, CountsCall};
+    ghost use Rattle.daap_outside.specs.MemLink.{input_of, output_of};
+
+    ghost taken = { λ link. Some (taken_of link.output) };
+
+    ghost beside_taken = { λ link. Some (left_of link.input) };
+
+    ghost sure_room = { λ link. sure_room_of link.output };
+
+    fn write(&mut self, piece: &[u8]) -> Result<usize, Failed>
+        requires { 0 < length piece.now }
+        ensures some { IfOk result (λ n. 0 < n) }
+        ensures within { IfOk result (λ n. n ≤ length piece.now) }
+        ensures taken_grows { WriteAppends (Some (taken_of (output_of self.old))) (Some (taken_of (output_of self.new))) result piece.now }
+        ensures sure { 0 < sure_room_of (output_of self.old) → IsOk result }
+        ensures sure_stays { IfOk result (λ n. sure_room_of (output_of self.old) ≤ sure_room_of (output_of self.new) + n) }
+        ensures beside { input_of self.new ≡ input_of self.old }
+        ensures count { CountsFaults self.old.faults self.new.faults result }
+        ensures amount { IfOk result (λ n.
+            n ≡ min (min (length piece.now) (pieces_of (output_of self.old))) (room_left (output_of self.old))) }
+        ensures room_shrinks { MatchResult result
+            (λ n. room_left (output_of self.new) + n ≡ room_left (output_of self.old))
+            (λ _. room_left (output_of self.new) ≡ room_left (output_of self.old)) }
+        ensures called { CountsCall (output_of self.old) (output_of self.new) }
+        ensures fails { IsErr result
+            ↔ (Contains (failing_calls (output_of self.old)) (next_call (output_of self.old)) ⊎ (room_left (output_of self.old) ≡ 0)) }
+    {
+        match self.output.write(piece) {
+            Ok(n) => Ok(n),
+            Err(Failed) => Err(counted(&mut self.faults)),
+        }
+    }
+}
+
+impl Link for MemLink {
+    ghost read_leaves_taken = { λ _. refl };
+
+    ghost write_leaves_left = { λ _. refl };
+}
+
+/// What is told of a link that was given back.
+#[derive(Drop)]
+pub struct Returned {
+    /// The bytes that were written to it.
+    pub bytes: Vec<u8>,
+    /// Whether a call on it failed.
+    pub faulted: bool,
+}
+
+impl Model for Returned {
+    ghost use Rattle.std.specs.Prelude.{List, ℕ, Bool};
+
+    ghost Value = { List ℕ × Bool };
+
+    ghost view = { λ a. (a.bytes.items, a.faulted) };
+}
