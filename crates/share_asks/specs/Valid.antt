@@ -1,6 +1,6 @@
 -- Valid wants: those that the bytes of a request may give. Queries are proper, edits are ones that records may
 -- give, and no error is want of memory, which is no answer to a request.
-use Rattle.std.specs.Prelude.{◌≡◌, ◌≢◌, ℕ, Option, Some, None, Result, Ok, Err, Unit}
+use Rattle.std.specs.Prelude.{◌≡◌, ◌≢◌, ℕ, Option, Some, None, Result, Ok, Err}
 use Rattle.item_model.specs.Proper.{IsProper}
 use Rattle.item_model.specs.Valid.{AreValid}
 use Rattle.item_model.specs.declared.query.Query.{Query}
