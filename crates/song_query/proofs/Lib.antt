@@ -4,11 +4,13 @@ pub mod Digits
 pub mod Complete
 pub mod Draft
 pub mod Sound
-pub mod Laws
+pub mod MachineLaws
 pub mod Wide
 pub mod Nested
 pub mod Reached
+pub mod Queries
 pub mod Once
+pub mod Decided
 pub mod Depths
 pub mod Forms
 pub mod Least
@@ -16,3 +18,4 @@ pub mod Shallowest
 pub mod Peaks
 pub mod Printed
 pub mod ReadLaws
+pub mod ReadAgain

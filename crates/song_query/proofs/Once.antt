@@ -1,5 +1,5 @@
--- A text that reads is not refused, and one that is refused has one refusal. Want of memory alone is no part of this.
-use Rattle.std.proofs.Common.{◌≡◌, ◌≢◌, ◌≤◌, ◌<◌, ◌+◌, ℕ, List, [], length, take, Ok, Err, refl, sym, ap, ◌∙◌, subst, ⊎_elim, arith, append-nil}
+-- A text has one answer: it reads as one query, or has one refusal. Want of memory alone is no part of this.
+use Rattle.std.proofs.Common.{◌≡◌, ◌≢◌, ◌≤◌, ◌<◌, ◌+◌, ℕ, List, [], length, take, Result, Ok, Err, refl, sym, ap, ◌∙◌, subst, ⊎_elim, arith, append-nil}
 use Rattle.std.proofs.Math.Seq.{take-length}
 use Rattle.std.proofs.lemmas.Bool.{cases_lt}
 use Rattle.item_model.specs.QuerySeen.{tree_of}
@@ -12,10 +12,12 @@ use Rattle.item_model.specs.declared.refusal.QueryWhy.TheVariants.{End, Byte}
 use Rattle.song_query.specs.Reading.{QueryReads, Begins, IsStuck}
 use Rattle.song_query.specs.Nesting.{open_at_end}
 use Rattle.song_query.specs.Answers.{IsShallow, IsTooDeep, IsRefusedAt, Answers}
-use Rattle.song_query.specs.declared.limits.TheConstants.{OPEN_PARENTHESES}
+use Rattle.song_query.specs.Limits.{open_parentheses}
+use Rattle.song_query.proofs.MachineLaws.{one_reading}
+use Rattle.song_query.proofs.Queries.{one_query}
 
 -- the whole of a text that reads begins one
-whole_begins : (text : List ℕ) (query : QueryTree) → QueryReads text query → Begins (take (length text) text)
+pub whole_begins : (text : List ℕ) (query : QueryTree) → QueryReads text query → Begins (take (length text) text)
 whole_begins text query h = record {
   more = [];
   query = query;
@@ -27,8 +29,8 @@ deep_is_behind : (text : List ℕ) (m n : ℕ) → IsTooDeep text m → IsShallo
 deep_is_behind text m n h k =
     ⊎_elim
     (λ (before : m < n).
-    let few : open_at_end (take (m + 1) text) ≤ OPEN_PARENTHESES = k (m + 1) (omega arith) in
-    let many : OPEN_PARENTHESES < open_at_end (take (m + 1) text) = h.deep in
+    let few : open_at_end (take (m + 1) text) ≤ open_parentheses = k (m + 1) (omega arith) in
+    let many : open_parentheses < open_at_end (take (m + 1) text) = h.deep in
     absurd (omega arith))
     (λ (behind : n ≤ m). behind)
     (cases_lt m n)
@@ -74,3 +76,11 @@ refusal_once text (TooDeep m) (At n w) p r h k = absurd (deep_or_stuck text m n 
 refusal_once text (At m v) TooLong p r h k = absurd (omega (arith, h.0, k))
 refusal_once text (At m v) (TooDeep n) p r h k = absurd (deep_or_stuck text n m k.1 h.1 h.3)
 refusal_once text (At m v) (At n w) p r h k = cause_once text m n v w (stuck_once text m n h.1 k.1) h.2 k.2
+
+-- two answers of a text are the same
+pub one_answer : (text : List ℕ) (a b : Result Query QueryError) → a ≢ Err Memory → b ≢ Err Memory → Answers text a → Answers text b → a ≡ b
+one_answer text (Ok q) (Ok r) p s h k = ap (λ (x : Query). Ok x) (one_query q r (one_reading text (tree_of q) (tree_of r) h.1 k.1))
+one_answer text (Ok q) (Err e) p s h k = absurd (answers_once text q e (λ m. s (ap (λ (x : QueryError). Err x) m)) h k)
+one_answer text (Err d) (Ok r) p s h k = absurd (answers_once text r d (λ m. p (ap (λ (x : QueryError). Err x) m)) k h)
+one_answer text (Err d) (Err e) p s h k =
+    ap (λ (x : QueryError). Err x) (refusal_once text d e (λ m. p (ap (λ (x : QueryError). Err x) m)) (λ m. s (ap (λ (x : QueryError). Err x) m)) h k)

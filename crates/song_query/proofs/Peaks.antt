@@ -17,7 +17,7 @@ use Rattle.song_query.proofs.Shallowest.{form_shallow}
 use Rattle.song_query.proofs.Nested.{name_inside}
 
 -- what is open before the bytes is open at once in them
-at_least : (w : Where) (n : ℕ) (bytes : List ℕ) → n ≤ most_open w n bytes
+pub at_least : (w : Where) (n : ℕ) (bytes : List ℕ) → n ≤ most_open w n bytes
 at_least w n [] = omega arith
 at_least w n (c ∷ cs) = omega arith
 

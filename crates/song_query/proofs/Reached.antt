@@ -13,13 +13,13 @@ use Rattle.item_model.specs.declared.refusal.QueryWhy.TheVariants.{End, Byte}
 use Rattle.song_query.specs.Seen.{Taken, refused_at}
 use Rattle.song_query.specs.declared.parts.Refusal.{Refusal}
 use Rattle.song_query.specs.declared.parts.Refusal.TheVariants.{Byte as ByteRefused, Deep, Memory}
-use Rattle.song_query.specs.declared.limits.TheConstants.{OPEN_PARENTHESES, QUERY_BYTES}
+use Rattle.song_query.specs.Limits.{open_parentheses, query_bytes}
 use Rattle.song_query.specs.Machine.{State, start, go, bind, run, is_end, level_query}
 use Rattle.song_query.specs.Reading.{QueryReads, Begins, IsStuck}
 use Rattle.song_query.specs.Nesting.{open_at_end}
 use Rattle.song_query.specs.Answers.{IsShallow, Answers}
 use Rattle.song_query.proofs.Complete.{run_append}
-use Rattle.song_query.proofs.Laws.{accepted, begins, stuck_at, stuck_end, not_over}
+use Rattle.song_query.proofs.MachineLaws.{accepted, begins, stuck_at, stuck_end, not_over}
 use Rattle.song_query.proofs.Wide.{AreWide, wide_bytes, char_long}
 use Rattle.song_query.proofs.Nested.{nested, wide_behind}
 
@@ -55,11 +55,10 @@ bind_some : (o : Option State) → bind o (λ t. Some t) ≡ o
 bind_some None = refl
 bind_some (Some t) = refl
 
-first_ran : (text rest : List ℕ) (place c : ℕ) (s : State) (t : Option State) → drop place text ≡ encode_utf8 c ++ rest → run start (take place text) ≡ Some s
-    → go s (get_or (encode_utf8 c) 0 0) ≡ t → run start (take (place + 1) text) ≡ t
-first_ran text rest place c s t e h k =
-    let f = first_left (encode_utf8 c) rest (char_long c) in
-    ran_on text (get_or (encode_utf8 c) 0 0 ∷ []) f.0 place s t (e ∙ f.1) h (bind_some (go s (get_or (encode_utf8 c) 0 0)) ∙ k)
+-- one byte more
+byte_ran : (text rest : List ℕ) (place c : ℕ) (s : State) (t : Option State) → drop place text ≡ c ∷ rest → run start (take place text) ≡ Some s
+    → go s c ≡ t → run start (take (place + 1) text) ≡ t
+byte_ran text rest place c s t e h k = ran_on text (c ∷ []) rest place s t e h (bind_some (go s c) ∙ k)
 
 wide_each : (b : ℕ) (bytes : List ℕ) → 128 ≤ b → AreWide bytes → (i : ℕ) → i < length (b ∷ bytes) → 128 ≤ get_or (b ∷ bytes) i 0
 wide_each b bytes h k zero x = h
@@ -86,7 +85,7 @@ shallow_in text rest bytes place n e w h k =
     ap open_at_end parts ∙ wide_behind (take place text) (take more bytes) (wide_take more bytes w)
 
 shallow_on : (text rest : List ℕ) (place c n : ℕ) (t : State) → drop place text ≡ encode_utf8 c ++ rest → IsShallow text place
-    → run start (take (place + length (encode_utf8 c)) text) ≡ Some t → length t.outer ≤ OPEN_PARENTHESES → n ≤ place + length (encode_utf8 c) → open_at_end (take n text) ≤ OPEN_PARENTHESES
+    → run start (take (place + length (encode_utf8 c)) text) ≡ Some t → length t.outer ≤ open_parentheses → n ≤ place + length (encode_utf8 c) → open_at_end (take n text) ≤ open_parentheses
 shallow_on text rest place c n t e s r d h =
     ⊎_elim
     (λ (before : n < place + 1). s n (omega arith))
@@ -98,14 +97,22 @@ shallow_on text rest place c n t e s r d h =
     let count : open_at_end (take n text) ≡ length t.outer = ap (λ x. open_at_end (take x text)) last ∙ nested (take (place + length (encode_utf8 c)) text) t r in
     omega arith)
     (λ (high : 128 ≤ c).
-    let before : open_at_end (take place text) ≤ OPEN_PARENTHESES = s place (omega arith) in
+    let before : open_at_end (take place text) ≤ open_parentheses = s place (omega arith) in
     let same : open_at_end (take n text) ≡ open_at_end (take place text) = shallow_in text rest (encode_utf8 c) place n e (wide_bytes c high) (omega arith) h in
     omega arith)
     (cases_lt c 128))
     (cases_lt n (place + 1))
 
+-- one place more
+shallow_more : (text : List ℕ) (place n : ℕ) → IsShallow text place → open_at_end (take (place + 1) text) ≤ open_parentheses → n ≤ place + 1
+    → open_at_end (take n text) ≤ open_parentheses
+shallow_more text place n s last h = elim (cases_lt place n) [
+  | inl over ↦ (let at : place + 1 ≡ n = omega arith in subst (λ m. open_at_end (take m text) ≤ open_parentheses) at last)
+  | inr within ↦ s n within
+]
+
 -- one character more
-pub char_reached : (text rest : List ℕ) (place c : ℕ) (s t : State) → Reached text place s → drop place text ≡ encode_utf8 c ++ rest → run s (encode_utf8 c) ≡ Some t → length t.outer ≤ OPEN_PARENTHESES
+pub char_reached : (text rest : List ℕ) (place c : ℕ) (s t : State) → Reached text place s → drop place text ≡ encode_utf8 c ++ rest → run s (encode_utf8 c) ≡ Some t → length t.outer ≤ open_parentheses
     → Reached text (place + length (encode_utf8 c)) t
 char_reached text rest place c s t h e r d =
     let ran : run start (take (place + length (encode_utf8 c)) text) ≡ Some t = ran_on text (encode_utf8 c) rest place s (Some t) e h.ran r in
@@ -115,23 +122,33 @@ char_reached text rest place c s t h e r d =
       shallow = λ n x. shallow_on text rest place c n t e h.shallow ran d x;
     }
 
--- a character that no query goes on with
-pub byte_answer : (text rest : List ℕ) (place c : ℕ) (s : State) → Reached text place s → drop place text ≡ encode_utf8 c ++ rest → go s (get_or (encode_utf8 c) 0 0) ≡ None
-    → length text ≤ QUERY_BYTES → Answers text (Err (At place Byte))
-byte_answer text rest place c s h e r l =
-    let long = left_within text (encode_utf8 c) rest place e h.within in
-    let some = char_long c in
+-- a byte more, with which not too many parentheses are open
+pub byte_reached : (text rest : List ℕ) (place c : ℕ) (s t : State) → Reached text place s → drop place text ≡ c ∷ rest → go s c ≡ Some t → length t.outer ≤ open_parentheses
+    → Reached text (place + 1) t
+byte_reached text rest place c s t h e r d =
+    let ran : run start (take (place + 1) text) ≡ Some t = byte_ran text rest place c s (Some t) e h.ran r in
+    let count : open_at_end (take (place + 1) text) ≡ length t.outer = nested (take (place + 1) text) t ran in
+    record {
+      within = left_within text (c ∷ []) rest place e h.within;
+      ran = ran;
+      shallow = λ n x. shallow_more text place n h.shallow (omega arith) x;
+    }
+
+-- a byte that no query goes on with
+pub byte_stops : (text rest : List ℕ) (place c : ℕ) (s : State) → Reached text place s → drop place text ≡ c ∷ rest → go s c ≡ None
+    → length text ≤ query_bytes → Answers text (Err (At place Byte))
+byte_stops text rest place c s h e r l =
+    let long = left_within text (c ∷ []) rest place e h.within in
     let inside : place < length text = omega arith in
     let apart : place ≢ length text = omega arith in
-    (l, stuck_at text place s inside h.ran (first_ran text rest place c s None e h.ran r), apart, h.shallow)
+    (l, stuck_at text place s inside h.ran (byte_ran text rest place c s None e h.ran r), apart, h.shallow)
 
 -- a parenthesis too many
-pub deep_answer : (text rest : List ℕ) (place c : ℕ) (s t : State) → Reached text place s → drop place text ≡ encode_utf8 c ++ rest → go s (get_or (encode_utf8 c) 0 0) ≡ Some t
-    → OPEN_PARENTHESES < length t.outer → length text ≤ QUERY_BYTES → Answers text (Err (TooDeep place))
-deep_answer text rest place c s t h e r d l =
-    let long = left_within text (encode_utf8 c) rest place e h.within in
-    let some = char_long c in
-    let ran : run start (take (place + 1) text) ≡ Some t = first_ran text rest place c s (Some t) e h.ran r in
+pub byte_too_deep : (text rest : List ℕ) (place c : ℕ) (s t : State) → Reached text place s → drop place text ≡ c ∷ rest → go s c ≡ Some t
+    → open_parentheses < length t.outer → length text ≤ query_bytes → Answers text (Err (TooDeep place))
+byte_too_deep text rest place c s t h e r d l =
+    let long = left_within text (c ∷ []) rest place e h.within in
+    let ran : run start (take (place + 1) text) ≡ Some t = byte_ran text rest place c s (Some t) e h.ran r in
     let count = nested (take (place + 1) text) t ran in
     (l, record { within = omega arith; begins = begins (take (place + 1) text) t ran; deep = omega arith; first = h.shallow })
 
@@ -139,23 +156,27 @@ deep_answer text rest place c s t h e r d l =
 at_end : (text : List ℕ) (place : ℕ) → place ≤ length text → length text ≤ place → place ≡ length text
 at_end text place h k = omega arith
 
-pub end_answer : (text : List ℕ) (place : ℕ) (s : State) → Reached text place s → length text ≤ place → is_end s ≡ false → length text ≤ QUERY_BYTES
+pub end_answer : (text : List ℕ) (place : ℕ) (s : State) → Reached text place s → length text ≤ place → is_end s ≡ false → length text ≤ query_bytes
     → Answers text (Err (At place End))
 end_answer text place s h k e l =
     let whole : run start text ≡ Some s = ap (run start) (sym (take_all place text k)) ∙ h.ran in
     let last : place ≡ length text = omega (arith, h.within) in
     (l, subst (IsStuck text) (sym last) (stuck_end text s whole), (last, not_over text s whole e), h.shallow)
 
-pub ok_answer : (text : List ℕ) (place : ℕ) (s : State) (q : Query) → Reached text place s → length text ≤ place → is_end s ≡ true → tree_of q ≡ level_query s.level → length text ≤ QUERY_BYTES
+pub ok_answer : (text : List ℕ) (place : ℕ) (s : State) (q : Query) → Reached text place s → length text ≤ place → is_end s ≡ true → tree_of q ≡ level_query s.level → length text ≤ query_bytes
     → Answers text (Ok q)
 ok_answer text place s q h k e m l =
     let whole : run start text ≡ Some s = ap (run start) (sym (take_all place text k)) ∙ h.ran in
     let last : place ≡ length text = omega (arith, h.within) in
     (l, subst (QueryReads text) (sym m) (accepted text s whole e), subst (IsShallow text) last h.shallow)
 
--- a character that is not taken
+-- a character that is not taken, by its first byte
 pub refusal_answer : (text rest : List ℕ) (place c : ℕ) (s t : State) (refusal : Refusal) → Reached text place s → drop place text ≡ encode_utf8 c ++ rest → Taken s c t (Err refusal)
-    → length text ≤ QUERY_BYTES → Answers text (Err (refused_at place refusal))
-refusal_answer text rest place c s t ByteRefused h e r l = byte_answer text rest place c s h e r l
-refusal_answer text rest place c s t Deep h e r l = deep_answer text rest place c s r.0 h e r.1 r.2 l
+    → length text ≤ query_bytes → Answers text (Err (refused_at place refusal))
+refusal_answer text rest place c s t ByteRefused h e r l =
+    let first = first_left (encode_utf8 c) rest (char_long c) in
+    byte_stops text first.0 place (get_or (encode_utf8 c) 0 0) s h (e ∙ first.1) r l
+refusal_answer text rest place c s t Deep h e r l =
+    let first = first_left (encode_utf8 c) rest (char_long c) in
+    byte_too_deep text first.0 place (get_or (encode_utf8 c) 0 0) s r.0 h (e ∙ first.1) r.1 r.2 l
 refusal_answer text rest place c s t Memory h e r l = tt

@@ -13,8 +13,9 @@ use Rattle.item_model.specs.declared.refusal.QueryWhy.TheVariants.{End, Byte}
 use Rattle.song_query.specs.Grammar.{Atom, piece_of, is_value, CondForm, cond_meaning, is_cond, UnitForm, cond, group, AndForm, one, more, OrForm, only, either, joined, unit_meaning, units, members, is_unit, is_and, is_or}
 use Rattle.song_query.specs.Reading.{QueryReads, Begins}
 use Rattle.song_query.specs.Answers.{IsShallow, Answers, Gives, IsComplete}
-use Rattle.song_query.proofs.Laws.{one_reading}
+use Rattle.song_query.proofs.MachineLaws.{one_reading}
 use Rattle.song_query.proofs.Least.{some_units, some_members}
+use Rattle.song_query.proofs.Once.{whole_begins}
 
 some_pieces : (starred : List (List Atom)) (last : List ℕ) → has_one (map piece_of starred ++ last ∷ []) ≡ true
 some_pieces [] last = refl
@@ -63,14 +64,6 @@ mutual
 pub reads_proper : (text : List ℕ) (q : QueryTree) → QueryReads text q → is_proper q ≡ true
 reads_proper text q r =
     subst (λ x. is_proper x ≡ true) (sym r.means) (joined_or (members r.form.body) (some_members r.form.body) (members_proper r.form.body r.valid))
-
--- a text that reads begins one that does
-whole_begins : (text : List ℕ) (q : QueryTree) → QueryReads text q → Begins (take (length text) text)
-whole_begins text q r = record {
-  more = [];
-  query = q;
-  reads = subst (λ x. QueryReads x q) (sym (append-nil (take (length text) text) ∙ take-length text)) r;
-}
 
 -- an answer is the query of each reading
 pub answers_complete : (text : List ℕ) (r : Result Query QueryError) → Answers text r → IsComplete text r

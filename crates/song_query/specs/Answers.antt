@@ -9,17 +9,17 @@ use Rattle.item_model.specs.declared.refusal.QueryWhy.{QueryWhy}
 use Rattle.item_model.specs.declared.refusal.QueryWhy.TheVariants.{End, Byte}
 use Rattle.song_query.specs.Reading.{QueryReads, HasNoReading, Begins, IsStuck}
 use Rattle.song_query.specs.Nesting.{open_at_end}
-use Rattle.song_query.specs.declared.limits.TheConstants.{QUERY_BYTES, OPEN_PARENTHESES}
+use Rattle.song_query.specs.Limits.{query_bytes, open_parentheses}
 
 -- no more parentheses are open at once up to the place than may be
 abbrev pub IsShallow : List ℕ → ℕ → Type 0
-IsShallow text place = (n : ℕ) → n ≤ place → open_at_end (take n text) ≤ OPEN_PARENTHESES
+IsShallow text place = (n : ℕ) → n ≤ place → open_at_end (take n text) ≤ open_parentheses
 
 -- the byte there is the first parenthesis too many, and a text that reads may go on with it
 pub record IsTooDeep (text : List ℕ) (place : ℕ) : Type 0 where
   pub within : place < length text
   pub begins : Begins (take (place + 1) text)
-  pub deep : OPEN_PARENTHESES < open_at_end (take (place + 1) text)
+  pub deep : open_parentheses < open_at_end (take (place + 1) text)
   pub first : IsShallow text place
 
 abbrev pub IsRefusedAt : List ℕ → ℕ → QueryWhy → Type 0
@@ -27,10 +27,10 @@ IsRefusedAt text place End = (place ≡ length text) × HasNoReading text
 IsRefusedAt text place Byte = place ≢ length text
 
 abbrev pub Answers : List ℕ → Result Query QueryError → Type 0
-Answers text (Ok query) = (length text ≤ QUERY_BYTES) × QueryReads text (tree_of query) × IsShallow text (length text)
-Answers text (Err TooLong) = QUERY_BYTES < length text
-Answers text (Err (TooDeep place)) = (length text ≤ QUERY_BYTES) × IsTooDeep text place
-Answers text (Err (At place why)) = (length text ≤ QUERY_BYTES) × IsStuck text place × IsRefusedAt text place why × IsShallow text place
+Answers text (Ok query) = (length text ≤ query_bytes) × QueryReads text (tree_of query) × IsShallow text (length text)
+Answers text (Err TooLong) = query_bytes < length text
+Answers text (Err (TooDeep place)) = (length text ≤ query_bytes) × IsTooDeep text place
+Answers text (Err (At place why)) = (length text ≤ query_bytes) × IsStuck text place × IsRefusedAt text place why × IsShallow text place
 Answers text (Err Memory) = ⊤
 
 -- the query is answered, if there is memory
@@ -44,4 +44,4 @@ Gives query (Err Memory) = ⊤
 -- each query that the text reads as within the limits is answered
 abbrev pub IsComplete : List ℕ → Result Query QueryError → Type 0
 IsComplete text result =
-    (query : QueryTree) → QueryReads text query → length text ≤ QUERY_BYTES → IsShallow text (length text) → Gives query result
+    (query : QueryTree) → QueryReads text query → length text ≤ query_bytes → IsShallow text (length text) → Gives query result

@@ -1,14 +1,20 @@
 -- What follows from the definitions. Each fact here is proved for all texts.
-use Rattle.std.specs.Prelude.{◌≡◌, ◌≢◌, ℕ, List, Ok, Err}
+use Rattle.std.specs.Prelude.{◌≡◌, ◌≢◌, ℕ, List, Result, Err}
+use Rattle.item_model.specs.QueryTree.{QueryTree}
 use Rattle.item_model.specs.declared.query.Query.{Query}
 use Rattle.item_model.specs.declared.refusal.QueryError.{QueryError}
 use Rattle.item_model.specs.declared.refusal.QueryError.TheVariants.{Memory}
 use Rattle.song_query.specs.Answers.{Answers}
+use Rattle.song_query.specs.Reading.{QueryReads}
 
--- a text that reads as a query has no refusal but for want of memory
-abbrev pub ReadTextsAreNotRefused : Type 0
-ReadTextsAreNotRefused = (text : List ℕ) (q : Query) (e : QueryError) → e ≢ Memory → Answers text (Ok q) → Answers text (Err e) → ⊥
+-- a text reads as at most one query
+abbrev pub TextsReadOnce : Type 0
+TextsReadOnce = (text : List ℕ) (q r : QueryTree) → QueryReads text q → QueryReads text r → q ≡ r
 
--- no text has two refusals but for want of memory
-abbrev pub RefusalsAreOne : Type 0
-RefusalsAreOne = (text : List ℕ) (d e : QueryError) → d ≢ Memory → e ≢ Memory → Answers text (Err d) → Answers text (Err e) → d ≡ e
+-- a text has an answer other than want of memory
+abbrev pub TextsHaveAnswers : Type 0
+TextsHaveAnswers = (text : List ℕ) → (answer : Result Query QueryError) × (answer ≢ Err Memory) × Answers text answer
+
+-- and no other one
+abbrev pub AnswersAreOne : Type 0
+AnswersAreOne = (text : List ℕ) (a b : Result Query QueryError) → a ≢ Err Memory → b ≢ Err Memory → Answers text a → Answers text b → a ≡ b

@@ -2,6 +2,7 @@ pub mod Glob
 pub mod Holds
 pub mod Grammar
 pub mod Reading
+pub mod Limits
 pub mod Nesting
 pub mod Answers
 pub mod Machine

@@ -5,7 +5,7 @@ use Rattle.item_model.specs.declared.refusal.QueryError.{QueryError}
 use Rattle.item_model.specs.declared.refusal.QueryError.TheVariants.{TooDeep, At, Memory as QueryMemory}
 use Rattle.item_model.specs.declared.refusal.QueryWhy.TheVariants.{Byte as QueryByte}
 use Rattle.song_query.specs.Machine.{Place, due, close, apart, opened, named, bang, valued, slashed, State, here, go, run}
-use Rattle.song_query.specs.declared.limits.TheConstants.{OPEN_PARENTHESES}
+use Rattle.song_query.specs.Limits.{open_parentheses}
 use Rattle.song_query.specs.declared.parts.Partial.{Partial}
 use Rattle.song_query.specs.declared.parts.Place.{Place as PlaceName}
 use Rattle.song_query.specs.declared.parts.Place.TheVariants.{Due, Close, Apart, Opened, Named, Bang, Valued, Slashed}
@@ -36,12 +36,12 @@ refused_at place Memory = QueryMemory
 abbrev pub Stepped : Option State → State → Result (Unit {0}) Refusal → Type 0
 Stepped next new (Ok _) = next ≡ Some new
 Stepped next new (Err Byte) = next ≡ None
-Stepped next new (Err Deep) = (t : State) × (next ≡ Some t) × (OPEN_PARENTHESES < length t.outer)
+Stepped next new (Err Deep) = (t : State) × (next ≡ Some t) × (open_parentheses < length t.outer)
 Stepped next new (Err Memory) = ⊤
 
 -- the same for the bytes of a character, of which the first is refused
 abbrev pub Taken : State → ℕ → State → Result (Unit {0}) Refusal → Type 0
 Taken old c new (Ok _) = run old (encode_utf8 c) ≡ Some new
 Taken old c new (Err Byte) = go old (get_or (encode_utf8 c) 0 0) ≡ None
-Taken old c new (Err Deep) = (t : State) × (go old (get_or (encode_utf8 c) 0 0) ≡ Some t) × (OPEN_PARENTHESES < length t.outer)
+Taken old c new (Err Deep) = (t : State) × (go old (get_or (encode_utf8 c) 0 0) ≡ Some t) × (open_parentheses < length t.outer)
 Taken old c new (Err Memory) = ⊤

@@ -3,6 +3,7 @@
 #![tactic(auto)]
 
 mod globs;
+pub mod laws;
 mod levels;
 mod limits;
 mod matching;
@@ -10,7 +11,6 @@ mod parts;
 mod printing;
 mod reader;
 mod reading;
-pub mod refusals;
 mod steps;
 #[cfg(test)]
 mod tests;

@@ -1,6 +1,6 @@
 //! What a reader of queries keeps.
 
-ghost use Rattle.song_query.specs.declared.limits.TheConstants.{OPEN_PARENTHESES};
+ghost use Rattle.song_query.specs.Limits.{open_parentheses};
 ghost use Rattle.std.specs.Prelude.{◌≡◌, ◌≤◌, [], ◌++◌, ◌∷◌, OnOk, IfOk, string_bytes, length};
 
 use crate::levels::{Level, Levels};
@@ -68,7 +68,7 @@ pub struct Reader {
     pub partial: Partial,
     pub level: Level,
     pub outer: Levels,
-    pub ghost shallow: { length outer ≤ OPEN_PARENTHESES },
+    pub ghost shallow: { length outer ≤ open_parentheses },
 }
 
 impl Partial {

@@ -1,9 +1,10 @@
 //! Queries printed as texts.
 
-ghost use Rattle.std.specs.Prelude.{◌≡◌, ◌≤◌, ◌++◌, ◌∷◌, [], ℕ, List, true, map, length, OnOk, IfOk, string_bytes};
+ghost use Rattle.std.specs.Prelude.{◌≡◌, ◌≤◌, ◌++◌, ◌∷◌, [], ℕ, List, true, map, length, OnOk, IfOk, string_bytes, Ok};
 ghost use Rattle.item_model.specs.QueryTree.{QueryTree, queries_of};
 ghost use Rattle.item_model.specs.QuerySeen.{tree_of};
 ghost use Rattle.item_model.specs.Proper.{IsProper};
+ghost use Rattle.song_query.specs.Answers.{Answers};
 ghost use Rattle.song_query.specs.Grammar.{print_op};
 ghost use Rattle.song_query.specs.Nesting.{deepest};
 ghost use Rattle.song_query.specs.Printing.{is_before_mark, is_escaped, printed, printed_and, printed_and_more, printed_char, printed_cond, printed_member, printed_more, printed_or, printed_or_more, printed_piece, printed_pieces, printed_unit};
@@ -13,13 +14,16 @@ use dmap_tags::Text;
 use item_model::{Cond, Op, Query};
 use std::alloc::{AllocError, Global};
 
-/// The shortest text of a query, and the one with the fewest open parentheses.
+/// The shortest text of a query, and the one with the fewest open parentheses: where some text is read as the query,
+/// this one is.
 pub fn print(alloc: Global, query: &Query) -> Result<Text, AllocError>
     requires { IsProper query.now }
     ensures text { IfOk result (λ t. t ≡ printed (tree_of query.now)) }
     ensures reads { IfOk result (λ t. QueryReads t (tree_of query.now)) }
+    ensures only { IfOk result (λ t. (other : QueryTree) → QueryReads t other → other ≡ tree_of query.now) }
     ensures least { IfOk result (λ t. (other : List ℕ) → QueryReads other (tree_of query.now) → length t ≤ length other) }
     ensures shallowest { IfOk result (λ t. (other : List ℕ) → QueryReads other (tree_of query.now) → deepest t ≤ deepest other) }
+    ensures read_again { IfOk result (λ t. (other : List ℕ) → Answers other (Ok query.now) → Answers t (Ok query.now)) }
 {
     let mut out = String::new(alloc);
     push_query(&mut out, query)?;

@@ -4,6 +4,7 @@ ghost use Rattle.std.specs.Prelude.{◌≡◌, ◌≤◌, true, IfOk, length};
 ghost use Rattle.item_model.specs.Proper.{is_proper};
 ghost use Rattle.item_model.specs.QuerySeen.{tree_of};
 ghost use Rattle.song_query.specs.Answers.{Answers, IsComplete};
+ghost use Rattle.song_query.specs.Limits.{query_bytes};
 ghost use Rattle.song_query.specs.Seen.{refused_at};
 
 use crate::limits::QUERY_BYTES;
@@ -26,7 +27,7 @@ pub fn read(alloc: Global, text: &str) -> Result<Query, QueryError>
 
 // A text that is not too long.
 fn read_short(alloc: Global, text: &str) -> Result<Query, QueryError>
-    requires { length text.now ≤ QUERY_BYTES }
+    requires { length text.now ≤ query_bytes }
     ensures { Answers text.now result }
 {
     let mut reader = Reader::new(alloc);
