@@ -318,7 +318,7 @@ listed_or_refused query meta input fault.Words listable says = says
 listed_or_refused query meta input (fault.Query error) listable says = query_is_read query meta error listable.asked says
 listed_or_refused query meta input fault.Meta listable says = meta_is_read query meta listable.asked says
 listed_or_refused query meta input (fault.Records error) listable says =
-    batch_once (records_of input) listable.edits error says.1.cause listable.read.read says.1.refused
+    batch_once (records_of input) listable.edits error listable.read.read says.1.refused
 listed_or_refused query meta input (fault.Tags error) listable says = says
 listed_or_refused query meta input (fault.Text line) listable says = says
 listed_or_refused query meta input (fault.Codes error) listable says = says

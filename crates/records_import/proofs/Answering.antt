@@ -8,7 +8,7 @@ use Rattle.item_model.specs.declared.changes.Edit.{Edit}
 use Rattle.records_import.specs.Columns.{header_of}
 use Rattle.records_import.specs.Records.{BatchReads, RecordAnswers, RecordsAnswer, UnderHeader}
 use Rattle.records_import.specs.Table.{Cells}
-use Rattle.records_import.specs.declared.batch.TheConstants.{MOST_RECORDS}
+use Rattle.records_import.specs.Limits.{most_records}
 use Rattle.records_import.specs.declared.header.Column.{Column}
 use Rattle.records_import.specs.declared.refusal.RecordError.{RecordError}
 use Rattle.records_import.specs.declared.refusal.RecordError.TheVariants.{Memory, TooMany}
@@ -34,13 +34,13 @@ behind_more columns row cells records all edits edit told here (Ok rest) h =
 behind_more columns row cells records all edits edit told here (Err fault) h = told (Err fault) (inr (edit, here, h))
 
 -- of more records than a batch has, one more than it has are enough
-enough : (columns : List Column) (row k : ℕ) (records : List Cells) (answer : Result (List Edit) RecordError) → row ≤ MOST_RECORDS + 1 → row + k ≡ MOST_RECORDS + 2
+enough : (columns : List Column) (row k : ℕ) (records : List Cells) (answer : Result (List Edit) RecordError) → row ≤ most_records + 1 → row + k ≡ most_records + 2
     → RecordsAnswer columns row (take k records) answer → RecordsAnswer columns row records answer
 enough columns row zero records answer below count h = absurd (omega arith)
 enough columns row (suc k) [] answer below count h = h
-enough columns row (suc k) (cells ∷ records) (Ok edits) below count h = elim (cases_Bool (nat_lt row (suc MOST_RECORDS))) [
+enough columns row (suc k) (cells ∷ records) (Ok edits) below count h = elim (cases_Bool (nat_lt row (suc most_records))) [
   | inl within ↦
-      let lower : row < suc MOST_RECORDS = ltb-true row (suc MOST_RECORDS) within in
+      let lower : row < suc most_records = ltb-true row (suc most_records) within in
       (h.0, h.1, h.2, enough columns (suc row) k records (Ok h.1) (omega arith) (omega arith) h.3, h.4)
   | inr past ↦
       let none : ◌≡◌ {A = Result Edit RecordError} (Ok h.0) (Err (TooMany row)) = rw past at h.2 in
@@ -48,9 +48,9 @@ enough columns row (suc k) (cells ∷ records) (Ok edits) below count h = elim (
 ]
 enough columns row (suc k) (cells ∷ records) (Err fault) below count h = elim h [
   | inl here ↦ inl here
-  | inr later ↦ elim (cases_Bool (nat_lt row (suc MOST_RECORDS))) [
+  | inr later ↦ elim (cases_Bool (nat_lt row (suc most_records))) [
     | inl within ↦
-        let lower : row < suc MOST_RECORDS = ltb-true row (suc MOST_RECORDS) within in
+        let lower : row < suc most_records = ltb-true row (suc most_records) within in
         inr (later.0, later.1, enough columns (suc row) k records (Err fault) (omega arith) (omega arith) later.2)
     | inr past ↦
         let none : ◌≡◌ {A = Result Edit RecordError} (Ok later.0) (Err (TooMany row)) = rw past at later.1 in
@@ -59,12 +59,12 @@ enough columns row (suc k) (cells ∷ records) (Err fault) below count h = elim 
 ]
 
 under_enough : (header : Result (List Column) RecordError) (records : List Cells) (answer : Result (List Edit) RecordError)
-    → UnderHeader header (take (MOST_RECORDS + 1) records) answer → UnderHeader header records answer
-under_enough (Ok columns) records answer h = enough columns 1 (MOST_RECORDS + 1) records answer (omega arith) (omega arith) h
+    → UnderHeader header (take (most_records + 1) records) answer → UnderHeader header records answer
+under_enough (Ok columns) records answer h = enough columns 1 (most_records + 1) records answer (omega arith) (omega arith) h
 under_enough (Err fault) records answer h = h
 
 -- so the first rows answer what all of them do
-pub first_enough : (rows : List Cells) (answer : Result (List Edit) RecordError) → BatchReads (take (MOST_RECORDS + 2) rows) answer → BatchReads rows answer
+pub first_enough : (rows : List Cells) (answer : Result (List Edit) RecordError) → BatchReads (take (most_records + 2) rows) answer → BatchReads rows answer
 unfolding BatchReads
 first_enough [] answer h = h
 first_enough (header ∷ records) answer h = under_enough (header_of header) records answer h
@@ -73,7 +73,7 @@ first_enough (header ∷ records) answer h = under_enough (header_of header) rec
 abbrev pub Told : List Cells → Result (List Edit) RecordError → Type 0
 Told rows result = MatchResult result (λ edits. BatchReads rows (Ok edits)) (λ fault. fault ≢ Memory → BatchReads rows (Err fault))
 
-pub whole_told : (rows first : List Cells) (result : Result (List Edit) RecordError) → first ≡ take (MOST_RECORDS + 2) rows → Told first result → Told rows result
+pub whole_told : (rows first : List Cells) (result : Result (List Edit) RecordError) → first ≡ take (most_records + 2) rows → Told first result → Told rows result
 whole_told rows first (Ok edits) e h = first_enough rows (Ok edits) (subst (λ some. BatchReads some (Ok edits)) e h)
 whole_told rows first (Err fault) e h = λ other. first_enough rows (Err fault) (subst (λ some. BatchReads some (Err fault)) e (h other))
 

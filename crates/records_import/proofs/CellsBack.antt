@@ -15,7 +15,8 @@ use Rattle.item_model.specs.declared.item.PropValue.{PropValue}
 use Rattle.item_model.specs.declared.item.PropValue.TheVariants.{Number, Text}
 use Rattle.item_model.specs.Limits.{text_limit}
 use Rattle.item_model.specs.declared.property.Property.{Property}
-use Rattle.records_import.specs.Number.{is_number, number_of}
+use Rattle.records_import.specs.Limits.{cell_digits}
+use Rattle.records_import.specs.Number.{is_number, cell_number}
 use Rattle.records_import.specs.Records.{Properties, with_cell, with_property}
 use Rattle.records_import.specs.Values.{by_kind, id_in, is_empty, needed_id, number_from, property_flaw, property_in, text_in}
 use Rattle.records_import.specs.Written.{value_cell}
@@ -29,13 +30,13 @@ digits_test [] h = refl
 digits_test (b ∷ bs) h = and_from _ _ (digit_test b h.0) (digits_test bs h.1)
 
 -- a number in plain decimal is one to twenty digits
-is_number_written : (n : ℕ) → n < 2 ^ 64 → is_number (decimal n) ≡ true
+is_number_written : (n : ℕ) → n < 2 ^ 64 → is_number cell_digits (decimal n) ≡ true
 is_number_written n h =
     let some : 1 ≤ length (decimal n) = omega (arith, decimal_nonempty n h) in
     let few : length (decimal n) ≤ 20 = length-decimal-le 20 n (omega arith) (omega arith) h in
     and_from _ _ (and_from _ _ (le-leb 1 (length (decimal n)) some) (le-leb (length (decimal n)) 20 few)) (digits_test (decimal n) (decimal_is_IsNumeral n h).0.1)
 
-pub number_back : (n : ℕ) → n < 2 ^ 64 → number_of (decimal n) ≡ Some n
+pub number_back : (n : ℕ) → n < 2 ^ 64 → cell_number (decimal n) ≡ Some n
 number_back n h = rw (is_number_written n h) (ap Some (decimal_is_IsNumeral n h).1)
 
 filled : (cell : List ℕ) → 0 < length cell → is_empty cell ≡ false
@@ -78,7 +79,7 @@ small : (p : Property) (n : ℕ) → is_value_of p (Number n) ≡ true → n < 2
 small p n h = omega (arith, ltb-true n (numbers_of (property_kind p)) h, few_numbers (property_kind p))
 
 -- the number of a property reads back
-number_from_back : (p : Property) (n : ℕ) → is_value_of p (Number n) ≡ true → number_from p (number_of (decimal n)) ≡ Ok (Number n)
+number_from_back : (p : Property) (n : ℕ) → is_value_of p (Number n) ≡ true → number_from p (cell_number (decimal n)) ≡ Ok (Number n)
 number_from_back p n h = rw (number_back n (small p n h)) (rw h refl)
 
 number_by : (k : Kind) (p : Property) (n : ℕ) → is_of_kind k (Number n) ≡ true → is_value_of p (Number n) ≡ true → by_kind k p (decimal n) ≡ Ok (Number n)

@@ -21,8 +21,8 @@ abbrev AreFrom : ℕ → List Property → Type 0
 AreFrom n [] = 26 ≤ n
 AreFrom n (p ∷ ps) = (rank_of p ≡ n) × AreFrom (suc n) ps
 
-all_properties : AreFrom 0 all_properties
-all_properties = (refl, (refl, (refl, (refl, (refl, (refl, (refl, (refl, (refl, (refl, (refl, (refl, (refl, (refl, (refl, (refl, (refl, (refl, (refl, (refl, (refl, (refl, (refl, (refl, (refl, (refl, omega arith))))))))))))))))))))))))))
+from_first : AreFrom 0 all_properties
+from_first = (refl, (refl, (refl, (refl, (refl, (refl, (refl, (refl, (refl, (refl, (refl, (refl, (refl, (refl, (refl, (refl, (refl, (refl, (refl, (refl, (refl, (refl, (refl, (refl, (refl, (refl, omega arith))))))))))))))))))))))))))
 
 -- entries of properties before a rank
 abbrev AreBelow : ℕ → Properties → Type 0
@@ -190,7 +190,7 @@ read_from item n (p ∷ ps) set left from s text =
 -- the cells of an item set its properties
 pub item_back : (item : Properties) → is_item item ≡ true → AllText (map (property_cell item) written_columns)
     → properties_of written_columns (map (property_cell item) written_columns) ≡ item
-item_back item h text = read_from item 0 all_properties [] item all_properties (record { whole = refl; below = tt; above = h }) text
+item_back item h text = read_from item 0 all_properties [] item from_first (record { whole = refl; below = tt; above = h }) text
 
 sound_value : (p : Property) (o : Option PropValue) → IfSome o (λ v. is_value_of p v ≡ true) → IsUtf8 (value_cell o) → None ≡ property_flaw p (value_cell o)
 sound_value p None fits utf8 = refl

@@ -12,7 +12,7 @@ use Rattle.records_import.specs.Table.{Cells}
 use Rattle.records_import.specs.Values.{id_in}
 use Rattle.records_import.specs.declared.action.Action.{Action}
 use Rattle.records_import.specs.declared.action.Action.TheVariants as does
-use Rattle.records_import.specs.declared.batch.TheConstants.{MOST_RECORDS}
+use Rattle.records_import.specs.Limits.{most_records}
 use Rattle.records_import.specs.declared.header.Column.{Column}
 use Rattle.records_import.specs.declared.header.Column.TheVariants as holds
 use Rattle.records_import.specs.declared.refusal.RecordError.{RecordError}
@@ -59,7 +59,7 @@ within_kept false row columns cells edit h = absurd (cc h)
 records_kept : (columns : List Column) (row : ℕ) (records : List Cells) (edits : List Edit) → RecordsAnswer columns row records (Ok edits) → AreKept edits
 records_kept columns row [] edits h = rw h tt
 records_kept columns row (cells ∷ records) edits h =
-    rw h.4 (within_kept (nat_lt row (suc MOST_RECORDS)) row columns cells h.0 h.2, records_kept columns (suc row) records h.1 h.3)
+    rw h.4 (within_kept (nat_lt row (suc most_records)) row columns cells h.0 h.2, records_kept columns (suc row) records h.1 h.3)
 
 under_kept : (header : Result (List Column) RecordError) (records : List Cells) (edits : List Edit) → UnderHeader header records (Ok edits) → AreKept edits
 under_kept (Ok columns) records edits h = records_kept columns 1 records edits h

@@ -4,7 +4,6 @@ pub mod ReadBack
 mod Rows
 mod Walks
 mod Answering
-mod Proper
 mod ValidEdits
 mod Written
 mod Texts
@@ -14,3 +13,4 @@ mod RulesBack
 mod Kept
 mod RowsBack
 pub mod Once
+pub mod Decided

@@ -1,25 +1,27 @@
--- Rows that read as a batch are not refused, and rows that are refused have one refusal.
+-- Rows have one answer: they read as one batch, or have one refusal.
 use Rattle.std.proofs.Common.{◌≡◌, ◌≢◌, ℕ, suc, List, [], ◌∷◌, length, get_or, drop, nat_lt, ◌==◌, ◌+◌, Bool, true, false, Option, Some, None, Result, Ok, Err, refl, sym, ap, ◌∙◌, inl, inr}
 use Rattle.std.proofs.lemmas.Bool.{false≢true}
 use Rattle.std.specs.Str.{is_utf8}
 use Rattle.item_model.specs.declared.changes.Edit.{Edit}
+use Rattle.item_model.specs.declared.changes.Edit.TheVariants as an_edit
 use Rattle.item_model.specs.declared.query.Query.{Query}
 use Rattle.item_model.specs.declared.refusal.QueryError.{QueryError}
 use Rattle.item_model.specs.declared.refusal.RecordWhy.{RecordWhy}
 use Rattle.item_model.specs.declared.refusal.RecordWhy.TheVariants as reason
-use Rattle.song_query.proofs.Once.{answers_once, refusal_once}
+use Rattle.song_query.proofs.Once.{answers_once, refusal_once, one_answer as one_answer_of_text}
 use Rattle.records_import.specs.Actions.{least_id, uses}
 use Rattle.records_import.specs.Columns.{header_of}
-use Rattle.records_import.specs.Records.{AreSound, IsLeftmost, FurtherAnswer, WithId, WithAction, OfLength, WithinBatch, RecordAnswers, RecordsAnswer, UnderHeader, BatchReads, action_of}
+use Rattle.records_import.specs.Records.{AreSound, IsLeftmost, FurtherAnswer, WithId, WithAction, OfLength, WithinBatch, RecordAnswers, RecordsAnswer, UnderHeader, BatchReads, action_of, EditIs, cell_under, name_in, properties_of}
 use Rattle.records_import.specs.Rules.{RuleReads}
 use Rattle.records_import.specs.Table.{Cells}
 use Rattle.records_import.specs.Values.{ReadFlaw, TextFlaw, RuleFlaw, UsedFlaw, FlawBy, CellFlaw, id_in}
 use Rattle.records_import.specs.declared.action.Action.{Action}
-use Rattle.records_import.specs.declared.batch.TheConstants.{MOST_RECORDS}
+use Rattle.records_import.specs.declared.action.Action.TheVariants as does
+use Rattle.records_import.specs.Limits.{most_records}
 use Rattle.records_import.specs.declared.header.Column.{Column}
 use Rattle.records_import.specs.declared.header.Column.TheVariants as holds
 use Rattle.records_import.specs.declared.refusal.RecordError.{RecordError}
-use Rattle.records_import.specs.declared.refusal.RecordError.TheVariants.{Field, Memory}
+use Rattle.records_import.specs.declared.refusal.RecordError.TheVariants.{Field}
 
 -- the text of a rule is not both read and refused
 rule_once : (text : List ℕ) (rule : Query) (e : QueryError) → RuleReads text (Ok rule) → RuleReads text (Err e) → ⊥
@@ -28,6 +30,12 @@ rule_once text rule e h k = answers_once text rule e (λ m. k.0 (ap (λ (x : Que
 rule_refusal_once : (text : List ℕ) (d e : QueryError) → RuleReads text (Err d) → RuleReads text (Err e) → d ≡ e
 rule_refusal_once text d e h k =
     refusal_once text d e (λ m. h.0 (ap (λ (x : QueryError). Err x) m)) (λ m. k.0 (ap (λ (x : QueryError). Err x) m)) h.1 k.1
+
+rule_same : (text : List ℕ) (p q : Query) → RuleReads text (Ok p) → RuleReads text (Ok q) → p ≡ q
+rule_same text p q h k = ok_is (one_answer_of_text text (Ok p) (Ok q) h.0 k.0 h.1 k.1)
+  where
+    ok_is : ◌≡◌ {A = Result Query QueryError} (Ok p) (Ok q) → p ≡ q
+    ok_is e = cc
 
 -- a cell has one flaw or none
 read_flaw_once : (cell : List ℕ) (f g : Option RecordWhy) → ReadFlaw cell f → ReadFlaw cell g → f ≡ g
@@ -99,24 +107,22 @@ leftmost_once action row place (c ∷ columns) (cell ∷ cells) d e h k = elim h
   ]
 ]
 
--- two answers are both no refusal, or the same refusal
-abbrev Agree : (A : Type 0) → Result A RecordError → Result A RecordError → Type 0
-Agree A (Ok x) (Ok y) = Unit {0}
-Agree A (Ok x) (Err e) = ⊥
-Agree A (Err d) (Ok y) = ⊥
-Agree A (Err d) (Err e) = d ≡ e
+-- two answers that are one
+same_answer : (A : Type 0) (a b answer : Result A RecordError) → a ≡ answer → b ≡ answer → a ≡ b
+same_answer A a b answer h k = h ∙ sym k
 
--- as where both are one refusal
-refused_agree : (A : Type 0) (a b : Result A RecordError) (fault : RecordError) → a ≡ Err fault → b ≡ Err fault → Agree A a b
-refused_agree A (Ok x) b fault h k = absurd (cc)
-refused_agree A (Err d) (Ok y) fault h k = absurd (cc)
-refused_agree A (Err d) (Err e) fault h k = cc
-
--- or both a value
-given_agree : (A : Type 0) (a b : Result A RecordError) (x : A) → a ≡ Ok x → b ≡ Ok x → Agree A a b
-given_agree A (Ok y) (Ok z) x h k = tt
-given_agree A (Ok y) (Err e) x h k = absurd (cc)
-given_agree A (Err d) b x h k = absurd (cc)
+-- an edit of the same cells is the same
+edit_once : (action : Action) (id : ℕ) (columns : List Column) (cells : Cells) (x y : Edit) → EditIs action id columns cells x → EditIs action id columns cells y → x ≡ y
+edit_once does.PutItem id columns cells x y h k = h ∙ sym k
+edit_once does.DropItem id columns cells x y h k = h ∙ sym k
+edit_once does.PutList id columns cells x y h k = h ∙ sym k
+edit_once does.PutRule id columns cells x y h k =
+    h.2
+    ∙ ap (λ rule. an_edit.PutRule id (name_in (properties_of columns cells)) rule) (rule_same (cell_under holds.Query columns cells) h.0 k.0 h.1 k.1)
+    ∙ sym k.2
+edit_once does.DropList id columns cells x y h k = h ∙ sym k
+edit_once does.PutMember id columns cells x y h k = h ∙ sym k
+edit_once does.DropMember id columns cells x y h k = h ∙ sym k
 
 no_edit_twice : (action : Action) (row id : ℕ) (columns : List Column) (cells : Cells) (edit : Edit) (fault : RecordError)
     → FurtherAnswer action row id columns cells (Ok edit) → FurtherAnswer action row id columns cells (Err fault) → ⊥
@@ -125,12 +131,9 @@ no_edit_twice action row id columns cells edit fault h k = elim k [
   | inr missing ↦ false≢true (sym h.1 ∙ missing.1)
 ]
 
-further_agree : (action : Action) (row id : ℕ) (columns : List Column) (cells : Cells) (a b : Result Edit RecordError)
-    → FurtherAnswer action row id columns cells a → FurtherAnswer action row id columns cells b → Agree Edit a b
-further_agree action row id columns cells (Ok x) (Ok y) h k = tt
-further_agree action row id columns cells (Ok x) (Err e) h k = no_edit_twice action row id columns cells x e h k
-further_agree action row id columns cells (Err d) (Ok y) h k = no_edit_twice action row id columns cells y d k h
-further_agree action row id columns cells (Err d) (Err e) h k = elim h [
+fault_once : (action : Action) (row id : ℕ) (columns : List Column) (cells : Cells) (d e : RecordError)
+    → FurtherAnswer action row id columns cells (Err d) → FurtherAnswer action row id columns cells (Err e) → d ≡ e
+fault_once action row id columns cells d e h k = elim h [
   | inl one ↦ elim k [
     | inl other ↦ leftmost_once action row 4 columns cells d e one other
     | inr missing ↦ absurd (sound_cells_once action row 4 columns cells d missing.0 one)
@@ -141,77 +144,121 @@ further_agree action row id columns cells (Err d) (Err e) h k = elim h [
   ]
 ]
 
-with_id_agree : (action : Action) (row : ℕ) (columns : List Column) (cells : Cells) (id : Result ℕ RecordWhy) (a b : Result Edit RecordError)
-    → WithId action row columns cells id a → WithId action row columns cells id b → Agree Edit a b
-with_id_agree action row columns cells (Ok id) a b h k = further_agree action row id columns cells a b h k
-with_id_agree action row columns cells (Err why) a b h k = refused_agree Edit a b _ h k
+further_once : (action : Action) (row id : ℕ) (columns : List Column) (cells : Cells) (a b : Result Edit RecordError)
+    → FurtherAnswer action row id columns cells a → FurtherAnswer action row id columns cells b → a ≡ b
+further_once action row id columns cells (Ok x) (Ok y) h k = ap (λ (z : Edit). Ok z) (edit_once action id columns cells x y h.2 k.2)
+further_once action row id columns cells (Ok x) (Err e) h k = absurd (no_edit_twice action row id columns cells x e h k)
+further_once action row id columns cells (Err d) (Ok y) h k = absurd (no_edit_twice action row id columns cells y d k h)
+further_once action row id columns cells (Err d) (Err e) h k = ap (λ (z : RecordError). Err z) (fault_once action row id columns cells d e h k)
 
-with_action_agree : (row : ℕ) (columns : List Column) (cells : Cells) (action : Result Action RecordError) (a b : Result Edit RecordError)
-    → WithAction row columns cells action a → WithAction row columns cells action b → Agree Edit a b
-with_action_agree row columns cells (Ok action) a b h k =
-    with_id_agree action row columns (drop 3 cells) (id_in (least_id action) (get_or cells 2 [])) a b h k
-with_action_agree row columns cells (Err fault) a b h k = refused_agree Edit a b fault h k
+with_id_once : (action : Action) (row : ℕ) (columns : List Column) (cells : Cells) (id : Result ℕ RecordWhy) (a b : Result Edit RecordError)
+    → WithId action row columns cells id a → WithId action row columns cells id b → a ≡ b
+with_id_once action row columns cells (Ok id) a b h k = further_once action row id columns cells a b h k
+with_id_once action row columns cells (Err why) a b h k = same_answer Edit a b _ h k
 
-of_length_agree : (is_long : Bool) (row : ℕ) (columns : List Column) (cells : Cells) (a b : Result Edit RecordError)
-    → OfLength is_long row columns cells a → OfLength is_long row columns cells b → Agree Edit a b
-of_length_agree true row columns cells a b h k = with_action_agree row columns cells (action_of row (get_or cells 0 []) (get_or cells 1 [])) a b h k
-of_length_agree false row columns cells a b h k = refused_agree Edit a b _ h k
+with_action_once : (row : ℕ) (columns : List Column) (cells : Cells) (action : Result Action RecordError) (a b : Result Edit RecordError)
+    → WithAction row columns cells action a → WithAction row columns cells action b → a ≡ b
+with_action_once row columns cells (Ok action) a b h k =
+    with_id_once action row columns (drop 3 cells) (id_in (least_id action) (get_or cells 2 [])) a b h k
+with_action_once row columns cells (Err fault) a b h k = same_answer Edit a b _ h k
 
-within_batch_agree : (is_within : Bool) (row : ℕ) (columns : List Column) (cells : Cells) (a b : Result Edit RecordError)
-    → WithinBatch is_within row columns cells a → WithinBatch is_within row columns cells b → Agree Edit a b
-within_batch_agree true row columns cells a b h k = of_length_agree (length cells == length columns + 3) row columns cells a b h k
-within_batch_agree false row columns cells a b h k = refused_agree Edit a b _ h k
+of_length_once : (is_long : Bool) (row : ℕ) (columns : List Column) (cells : Cells) (a b : Result Edit RecordError)
+    → OfLength is_long row columns cells a → OfLength is_long row columns cells b → a ≡ b
+of_length_once true row columns cells a b h k = with_action_once row columns cells (action_of row (get_or cells 0 []) (get_or cells 1 [])) a b h k
+of_length_once false row columns cells a b h k = same_answer Edit a b _ h k
 
--- two answers of a record agree
-record_agrees : (columns : List Column) (row : ℕ) (cells : Cells) (a b : Result Edit RecordError)
-    → RecordAnswers columns row cells a → RecordAnswers columns row cells b → Agree Edit a b
-record_agrees columns row cells a b h k = within_batch_agree (nat_lt row (suc MOST_RECORDS)) row columns cells a b h k
+within_batch_once : (is_within : Bool) (row : ℕ) (columns : List Column) (cells : Cells) (a b : Result Edit RecordError)
+    → WithinBatch is_within row columns cells a → WithinBatch is_within row columns cells b → a ≡ b
+within_batch_once true row columns cells a b h k = of_length_once (length cells == length columns + 3) row columns cells a b h k
+within_batch_once false row columns cells a b h k = same_answer Edit a b _ h k
 
--- and so do two of records: not both edits and a refusal
+-- two answers of a record are the same
+record_once : (columns : List Column) (row : ℕ) (cells : Cells) (a b : Result Edit RecordError)
+    → RecordAnswers columns row cells a → RecordAnswers columns row cells b → a ≡ b
+record_once columns row cells a b h k = within_batch_once (nat_lt row (suc most_records)) row columns cells a b h k
+
+-- so a record that is an edit is not refused, and has one edit and one fault
+not_both : (columns : List Column) (row : ℕ) (cells : Cells) (edit : Edit) (fault : RecordError)
+    → RecordAnswers columns row cells (Ok edit) → RecordAnswers columns row cells (Err fault) → ⊥
+not_both columns row cells edit fault h k = ok_err (record_once columns row cells (Ok edit) (Err fault) h k)
+  where
+    ok_err : ◌≡◌ {A = Result Edit RecordError} (Ok edit) (Err fault) → ⊥
+    ok_err e = cc
+
+one_edit : (columns : List Column) (row : ℕ) (cells : Cells) (x y : Edit) → RecordAnswers columns row cells (Ok x) → RecordAnswers columns row cells (Ok y) → x ≡ y
+one_edit columns row cells x y h k = ok_is (record_once columns row cells (Ok x) (Ok y) h k)
+  where
+    ok_is : ◌≡◌ {A = Result Edit RecordError} (Ok x) (Ok y) → x ≡ y
+    ok_is e = cc
+
+one_fault : (columns : List Column) (row : ℕ) (cells : Cells) (d e : RecordError) → RecordAnswers columns row cells (Err d) → RecordAnswers columns row cells (Err e) → d ≡ e
+one_fault columns row cells d e h k = err_is (record_once columns row cells (Err d) (Err e) h k)
+  where
+    err_is : ◌≡◌ {A = Result Edit RecordError} (Err d) (Err e) → d ≡ e
+    err_is x = cc
+
+-- records are not both edits and a refusal
 no_edits_twice : (columns : List Column) (row : ℕ) (records : List Cells) (edits : List Edit) (fault : RecordError)
     → RecordsAnswer columns row records (Ok edits) → RecordsAnswer columns row records (Err fault) → ⊥
 no_edits_twice columns row [] edits fault h k = k
 no_edits_twice columns row (cells ∷ records) edits fault h k = elim k [
-  | inl here ↦ record_agrees columns row cells (Ok h.0) (Err fault) h.2 here
+  | inl here ↦ not_both columns row cells h.0 fault h.2 here
   | inr later ↦ no_edits_twice columns (suc row) records h.1 fault h.3 later.2
 ]
 
+-- they have one list of edits
+edits_once : (columns : List Column) (row : ℕ) (records : List Cells) (xs ys : List Edit)
+    → RecordsAnswer columns row records (Ok xs) → RecordsAnswer columns row records (Ok ys) → xs ≡ ys
+edits_once columns row [] xs ys h k = h ∙ sym k
+edits_once columns row (cells ∷ records) xs ys h k =
+    h.4
+    ∙ ap (λ edit. edit ∷ h.1) (one_edit columns row cells h.0 k.0 h.2 k.2)
+    ∙ ap (λ rest. k.0 ∷ rest) (edits_once columns (suc row) records h.1 k.1 h.3 k.3)
+    ∙ sym k.4
+
+-- and one fault
 records_fault_once : (columns : List Column) (row : ℕ) (records : List Cells) (d e : RecordError)
     → RecordsAnswer columns row records (Err d) → RecordsAnswer columns row records (Err e) → d ≡ e
 records_fault_once columns row [] d e h k = absurd h
 records_fault_once columns row (cells ∷ records) d e h k = elim h [
   | inl here ↦ elim k [
-    | inl there ↦ record_agrees columns row cells (Err d) (Err e) here there
-    | inr later ↦ absurd (record_agrees columns row cells (Ok later.0) (Err d) later.1 here)
+    | inl there ↦ one_fault columns row cells d e here there
+    | inr later ↦ absurd (not_both columns row cells later.0 d later.1 here)
   ]
   | inr later ↦ elim k [
-    | inl there ↦ absurd (record_agrees columns row cells (Ok later.0) (Err e) later.1 there)
+    | inl there ↦ absurd (not_both columns row cells later.0 e later.1 there)
     | inr behind ↦ records_fault_once columns (suc row) records d e later.2 behind.2
   ]
 ]
 
-records_agree : (columns : List Column) (row : ℕ) (records : List Cells) (a b : Result (List Edit) RecordError)
-    → RecordsAnswer columns row records a → RecordsAnswer columns row records b → Agree (List Edit) a b
-records_agree columns row records (Ok x) (Ok y) h k = tt
-records_agree columns row records (Ok x) (Err e) h k = no_edits_twice columns row records x e h k
-records_agree columns row records (Err d) (Ok y) h k = no_edits_twice columns row records y d k h
-records_agree columns row records (Err d) (Err e) h k = records_fault_once columns row records d e h k
+records_once : (columns : List Column) (row : ℕ) (records : List Cells) (a b : Result (List Edit) RecordError)
+    → RecordsAnswer columns row records a → RecordsAnswer columns row records b → a ≡ b
+records_once columns row records (Ok x) (Ok y) h k = ap (λ (z : List Edit). Ok z) (edits_once columns row records x y h k)
+records_once columns row records (Ok x) (Err e) h k = absurd (no_edits_twice columns row records x e h k)
+records_once columns row records (Err d) (Ok y) h k = absurd (no_edits_twice columns row records y d k h)
+records_once columns row records (Err d) (Err e) h k = ap (λ (z : RecordError). Err z) (records_fault_once columns row records d e h k)
 
-under_header_agree : (header : Result (List Column) RecordError) (records : List Cells) (a b : Result (List Edit) RecordError)
-    → UnderHeader header records a → UnderHeader header records b → Agree (List Edit) a b
-under_header_agree (Ok columns) records a b h k = records_agree columns 1 records a b h k
-under_header_agree (Err fault) records a b h k = refused_agree (List Edit) a b fault h k
+under_header_once : (header : Result (List Column) RecordError) (records : List Cells) (a b : Result (List Edit) RecordError)
+    → UnderHeader header records a → UnderHeader header records b → a ≡ b
+under_header_once (Ok columns) records a b h k = records_once columns 1 records a b h k
+under_header_once (Err fault) records a b h k = same_answer (List Edit) a b _ h k
 
--- two answers of a text's rows agree
-batch_agrees : (rows : List Cells) (a b : Result (List Edit) RecordError) → BatchReads rows a → BatchReads rows b → Agree (List Edit) a b
+-- two answers of a text's rows are the same
+pub one_answer : (rows : List Cells) (a b : Result (List Edit) RecordError) → BatchReads rows a → BatchReads rows b → a ≡ b
 unfolding BatchReads
-batch_agrees [] a b h k = given_agree (List Edit) a b [] h k
-batch_agrees (header ∷ records) a b h k = under_header_agree (header_of header) records a b h k
+one_answer [] a b h k = same_answer (List Edit) a b _ h k
+one_answer (header ∷ records) a b h k = under_header_once (header_of header) records a b h k
+
+-- so they read as one batch
+pub batch_same : (rows : List Cells) (a b : List Edit) → BatchReads rows (Ok a) → BatchReads rows (Ok b) → a ≡ b
+batch_same rows a b h k = ok_is (one_answer rows (Ok a) (Ok b) h k)
+  where
+    ok_is : ◌≡◌ {A = Result (List Edit) RecordError} (Ok a) (Ok b) → a ≡ b
+    ok_is e = cc
 
 -- rows that read as a batch are not refused
-pub batch_once : (rows : List Cells) (edits : List Edit) (e : RecordError) → e ≢ Memory → BatchReads rows (Ok edits) → BatchReads rows (Err e) → ⊥
-batch_once rows edits e other h k = batch_agrees rows (Ok edits) (Err e) h k
-
--- two refusals of rows are the same
-pub batch_refusal_once : (rows : List Cells) (d e : RecordError) → d ≢ Memory → e ≢ Memory → BatchReads rows (Err d) → BatchReads rows (Err e) → d ≡ e
-batch_refusal_once rows d e p r h k = batch_agrees rows (Err d) (Err e) h k
+pub batch_once : (rows : List Cells) (edits : List Edit) (e : RecordError) → BatchReads rows (Ok edits) → BatchReads rows (Err e) → ⊥
+batch_once rows edits e h k = ok_err (one_answer rows (Ok edits) (Err e) h k)
+  where
+    ok_err : ◌≡◌ {A = Result (List Edit) RecordError} (Ok edits) (Err e) → ⊥
+    ok_err x = cc

@@ -22,7 +22,7 @@ use Rattle.records_import.specs.Values.{CellFlaw, FlawBy, flaw_of, id_in, needed
 use Rattle.records_import.specs.Written.{IsReadable, written_cell, written_columns, written_header, written_id, written_kind, written_op, written_row, written_rows}
 use Rattle.records_import.specs.declared.action.Action.{Action}
 use Rattle.records_import.specs.declared.action.Action.TheVariants as does
-use Rattle.records_import.specs.declared.batch.TheConstants.{MOST_RECORDS}
+use Rattle.records_import.specs.Limits.{most_records}
 use Rattle.records_import.specs.declared.header.Column.{Column}
 use Rattle.records_import.specs.declared.header.Column.TheVariants as holds
 use Rattle.records_import.proofs.CellsBack.{digits_back, id_back, needed_back, text_back}
@@ -162,14 +162,14 @@ edit_back (DropMember list member) valid kept text =
     ap (λ l. DropMember l member) (sym (digits_back 2 list (and_parts (is_list_id list) (is_id member) valid).0))
 
 -- a record reads back as its edit
-record_back : (row : ℕ) (edit : Edit) → row < suc MOST_RECORDS → IsValid edit → IsKept edit → AllText (written_cells edit)
+record_back : (row : ℕ) (edit : Edit) → row < suc most_records → IsValid edit → IsKept edit → AllText (written_cells edit)
     → RecordAnswers written_columns row (written_row edit) (Ok edit)
 record_back row edit few valid kept text =
     record_answers written_columns row (written_row edit) (action_for edit) (written_id edit) (Ok edit)
-    (lt-ltb row (suc MOST_RECORDS) few) refl (action_back row edit) (edit_id_back edit valid)
+    (lt-ltb row (suc most_records) few) refl (action_back row edit) (edit_id_back edit valid)
     (cells_sound edit valid kept written_columns text, none_lacks edit, edit_back edit valid kept text)
 
-records_back : (row : ℕ) (edits : List Edit) → row + length edits ≤ MOST_RECORDS + 1 → AreValid edits → AreKept edits → AreTexts edits
+records_back : (row : ℕ) (edits : List Edit) → row + length edits ≤ most_records + 1 → AreValid edits → AreKept edits → AreTexts edits
     → RecordsAnswer written_columns row (map written_row edits) (Ok edits)
 records_back row [] few valid kept text = refl
 records_back row (edit ∷ edits) few valid kept text = (
@@ -185,7 +185,7 @@ header_back : header_of written_header ≡ Ok written_columns
 unfolding property_named
 header_back = refl
 
-batch_back : (edits : List Edit) → length edits ≤ MOST_RECORDS → AreValid edits → AreKept edits → AreTexts edits → BatchReads (written_rows edits) (Ok edits)
+batch_back : (edits : List Edit) → length edits ≤ most_records → AreValid edits → AreKept edits → AreTexts edits → BatchReads (written_rows edits) (Ok edits)
 unfolding BatchReads
 batch_back edits few valid kept text =
     subst (λ r. UnderHeader r (map written_row edits) (Ok edits)) (sym header_back) (records_back 1 edits (omega arith) valid kept text)

@@ -1,5 +1,5 @@
 -- The printed text of a rule that was read stands within the limits, and reads back as the rule.
-use Rattle.std.proofs.Common.{◌≡◌, ◌≤◌, ◌∷◌, ◌++◌, [], ℕ, zero, suc, List, None, true, false, Ok, IsUtf8, refl, sym, subst, length, take, arith}
+use Rattle.std.proofs.Common.{◌≡◌, ◌∷◌, ◌++◌, [], ℕ, List, None, true, false, Ok, IsUtf8, refl, sym, subst}
 use Rattle.std.proofs.lemmas.Bool.{and_parts}
 use Rattle.std.proofs.lemmas.Str.{is_utf8-from_IsUtf8}
 use Rattle.std.specs.Str.{is_utf8}
@@ -7,54 +7,15 @@ use Rattle.item_model.specs.Proper.{are_proper, have_two, is_proper}
 use Rattle.item_model.specs.QuerySeen.{tree_of}
 use Rattle.item_model.specs.QueryTree.{QueryTree, condition, and_of, or_of, QueryTrees, no_queries, more_queries}
 use Rattle.item_model.specs.declared.query.Query.{Query}
-use Rattle.song_query.proofs.Forms.{prints}
-use Rattle.song_query.proofs.Least.{text_least}
-use Rattle.song_query.proofs.Peaks.{text_shallowest}
-use Rattle.song_query.specs.Answers.{IsShallow}
-use Rattle.song_query.specs.Nesting.{Where, outside, deepest, most_open, open_behind, open_next, where_next}
 use Rattle.song_query.specs.Printing.{printed, printed_and, printed_and_more, printed_member, printed_or, printed_or_more, printed_unit}
-use Rattle.song_query.specs.declared.limits.TheConstants.{OPEN_PARENTHESES}
 use Rattle.records_import.specs.Rules.{RuleReads}
 use Rattle.records_import.specs.Values.{ReadFlaw, RuleFlaw, TextFlaw, is_empty}
-use Rattle.records_import.proofs.Proper.{reads_proper}
-
--- no fewer are open at some time than at the start
-most_now : (w : Where) (n : ℕ) (text : List ℕ) → n ≤ most_open w n text
-most_now w n [] = omega arith
-most_now w n (c ∷ cs) = omega arith
-
--- the most that are open are no fewer than those at any place
-most_there : (w : Where) (n : ℕ) (text : List ℕ) (k : ℕ) → open_behind w n (take k text) ≤ most_open w n text
-most_there w n text zero = most_now w n text
-most_there w n [] (suc k) = omega arith
-most_there w n (c ∷ cs) (suc k) = omega (arith, most_there (where_next w c) (open_next w n c) cs k)
-
--- and no more than those at all places
-most_bounded : (w : Where) (n : ℕ) (text : List ℕ) (most : ℕ) → ((k : ℕ) → k ≤ length text → open_behind w n (take k text) ≤ most) → most_open w n text ≤ most
-most_bounded w n [] most h = h 0 (omega arith)
-most_bounded w n (c ∷ cs) most h =
-    let here : n ≤ most = h 0 (omega arith) in
-    let rest = most_bounded (where_next w c) (open_next w n c) cs most (λ k below. h (suc k) (omega (arith, below))) in
-    omega (arith, here, rest)
-
--- a text is shallow where no more parentheses are open at once than in a shallow one
-shallow_too : (text other : List ℕ) → deepest text ≤ deepest other → IsShallow other (length other) → IsShallow text (length text)
-shallow_too text other fewer shallow = λ n below.
-    omega (arith, fewer, most_there outside 0 text n, most_bounded outside 0 other OPEN_PARENTHESES shallow)
+use Rattle.song_query.proofs.ReadAgain.{read_again}
+use Rattle.song_query.proofs.ReadLaws.{reads_proper}
 
 -- the printed text of a rule reads as the rule, where some text does
 pub rule_back : (rule : Query) (text : List ℕ) → RuleReads text (Ok rule) → RuleReads (printed (tree_of rule)) (Ok rule)
-rule_back rule text reads =
-    let q = tree_of rule in
-    let answered = reads.1 in
-    let proper : is_proper q ≡ true = reads_proper text q answered.1 in (
-      λ e. absurd (cc e),
-      (
-        omega (arith, answered.0, text_least text q answered.1),
-        prints q proper,
-        shallow_too (printed q) text (text_shallowest text q proper answered.1) answered.2,
-      ),
-    )
+rule_back rule text reads = (λ e. absurd (cc e), read_again rule text reads.1)
 
 filled_front : (a b : List ℕ) → is_empty a ≡ false → is_empty (a ++ b) ≡ false
 filled_front [] b h = absurd (cc h)

@@ -19,18 +19,18 @@ use Rattle.item_model.specs.declared.property.Property.TheVariants.{Minm}
 use Rattle.item_model.specs.declared.refusal.RecordWhy.{RecordWhy}
 use Rattle.records_import.specs.Actions.{lacks, least_id, uses}
 use Rattle.records_import.specs.Columns.{has_column, header_of, is_same_column}
-use Rattle.records_import.specs.Number.{number_of}
+use Rattle.records_import.specs.Number.{cell_number}
 use Rattle.records_import.specs.Records.{AreSound, BatchReads, EditIs, OfLength, Properties, RecordsAnswer, UnderHeader, WithAction, WithId, WithinBatch, action_of, cell_under, name_in, name_text, number_under, properties_of, with_cell, with_cells, with_property}
 use Rattle.records_import.specs.Table.{Cells}
 use Rattle.records_import.specs.Values.{FlawBy, by_kind, flaw_of, id_from, id_in, needed_id, number_from, property_in, text_in}
 use Rattle.records_import.specs.declared.action.Action.{Action}
 use Rattle.records_import.specs.declared.action.Action.TheVariants as does
-use Rattle.records_import.specs.declared.batch.TheConstants.{MOST_RECORDS}
+use Rattle.records_import.specs.Limits.{most_records}
 use Rattle.records_import.specs.declared.header.Column.{Column}
 use Rattle.records_import.specs.declared.header.Column.TheVariants as holds
 use Rattle.records_import.specs.declared.refusal.RecordError.{RecordError}
 use Rattle.records_import.proofs.Answering.{Told}
-use Rattle.records_import.proofs.Proper.{reads_proper}
+use Rattle.song_query.proofs.ReadLaws.{reads_proper}
 use Rattle.records_import.proofs.Walks.{entry_used, list_used, number_value}
 
 -- an id in a cell is in its range
@@ -45,10 +45,10 @@ ranged least (Some n) id h = elim (cases_Bool (nat_le least n && nat_lt n (2 ^ 3
 ]
 
 id_ranged : (least : ℕ) (cell : List ℕ) (id : ℕ) → id_in least cell ≡ Ok id → (nat_le least id && nat_lt id (2 ^ 32)) ≡ true
-id_ranged least cell id h = ranged least (number_of cell) id h
+id_ranged least cell id h = ranged least (cell_number cell) id h
 
 -- and is what the cell writes
-numbered : (least : ℕ) (cell : List ℕ) (n : Option ℕ) (id : ℕ) → number_of cell ≡ n → id_from least n ≡ Ok id → id ≡ digits_value 10 cell
+numbered : (least : ℕ) (cell : List ℕ) (n : Option ℕ) (id : ℕ) → cell_number cell ≡ n → id_from least n ≡ Ok id → id ≡ digits_value 10 cell
 numbered least cell None id e h = absurd (cc h)
 numbered least cell (Some n) id e h = elim (cases_Bool (nat_le least n && nat_lt n (2 ^ 32))) [
   | inl good ↦
@@ -62,7 +62,7 @@ numbered least cell (Some n) id e h = elim (cases_Bool (nat_le least n && nat_lt
 needed_by : (least : ℕ) (cell : List ℕ) (r : Result ℕ RecordWhy) → id_in least cell ≡ r → None ≡ flaw_of r
     → (nat_le least (digits_value 10 cell) && nat_lt (digits_value 10 cell) (2 ^ 32)) ≡ true
 needed_by least cell (Ok id) e h =
-    subst (λ n. (nat_le least n && nat_lt n (2 ^ 32)) ≡ true) (numbered least cell (number_of cell) id refl e) (id_ranged least cell id e)
+    subst (λ n. (nat_le least n && nat_lt n (2 ^ 32)) ≡ true) (numbered least cell (cell_number cell) id refl e) (id_ranged least cell id e)
 needed_by least cell (Err why) e h = absurd (cc h)
 
 needed_ranged : (least : ℕ) (cell : List ℕ) → None ≡ flaw_of (needed_id least cell)
@@ -134,8 +134,8 @@ text_fits b bytes v h = elim (cases_Bool (is_utf8 (b ∷ bytes) && nat_le (lengt
   | inr bad ↦ absurd (cc (rw bad at h))
 ]
 
-as_kind : (k : Kind) (p : Property) (cell : List ℕ) (v : PropValue) → property_kind p ≡ k → number_from p (number_of cell) ≡ Ok v → is_of_kind k v ≡ true
-as_kind k p cell v e h = subst (λ q. is_of_kind q v ≡ true) e (number_fits p (number_of cell) v h)
+as_kind : (k : Kind) (p : Property) (cell : List ℕ) (v : PropValue) → property_kind p ≡ k → number_from p (cell_number cell) ≡ Ok v → is_of_kind k v ≡ true
+as_kind k p cell v e h = subst (λ q. is_of_kind q v ≡ true) e (number_fits p (cell_number cell) v h)
 
 kind_fits : (k : Kind) (p : Property) (b : ℕ) (bytes : List ℕ) (v : PropValue) → property_kind p ≡ k → by_kind k p (b ∷ bytes) ≡ Ok v → is_of_kind k v ≡ true
 kind_fits kind.Text p b bytes v e h = text_fits b bytes v h
@@ -228,23 +228,23 @@ valid_more : (edit : Edit) (rest : List Edit) → IsValid edit → AreValid rest
 valid_more edit rest first others zero d h = first
 valid_more edit rest first others (suc k) d h = others k d (omega arith)
 
-records_valid : (columns : List Column) (row : ℕ) (records : List Cells) (edits : List Edit) → row ≤ MOST_RECORDS + 1 → RecordsAnswer columns row records (Ok edits)
-    → AreValid edits × (row + length edits ≤ MOST_RECORDS + 1)
+records_valid : (columns : List Column) (row : ℕ) (records : List Cells) (edits : List Edit) → row ≤ most_records + 1 → RecordsAnswer columns row records (Ok edits)
+    → AreValid edits × (row + length edits ≤ most_records + 1)
 records_valid columns row [] edits below h = rw h (λ k d inside. absurd (omega arith), omega arith)
 records_valid columns row (cells ∷ records) edits below h =
-    let here = within_valid (nat_lt row (suc MOST_RECORDS)) row columns cells h.0 h.2 in
-    let few : row < suc MOST_RECORDS = ltb-true row (suc MOST_RECORDS) here.0 in
+    let here = within_valid (nat_lt row (suc most_records)) row columns cells h.0 h.2 in
+    let few : row < suc most_records = ltb-true row (suc most_records) here.0 in
     let rest = records_valid columns (suc row) records h.1 (omega arith) h.3 in
     rw h.4 (valid_more h.0 h.1 here.1 rest.0, omega (arith, rest.1))
 
 under_valid : (header : Result (List Column) RecordError) (records : List Cells) (edits : List Edit) → UnderHeader header records (Ok edits)
-    → AreValid edits × (length edits ≤ MOST_RECORDS)
+    → AreValid edits × (length edits ≤ most_records)
 under_valid (Ok columns) records edits h =
     let told = records_valid columns 1 records edits (omega arith) h in
     (told.0, omega (arith, told.1))
 under_valid (Err fault) records edits h = absurd (cc h)
 
-pub batch_valid : (rows : List Cells) (edits : List Edit) → BatchReads rows (Ok edits) → AreValid edits × (length edits ≤ MOST_RECORDS)
+pub batch_valid : (rows : List Cells) (edits : List Edit) → BatchReads rows (Ok edits) → AreValid edits × (length edits ≤ most_records)
 unfolding BatchReads
 batch_valid [] edits h =
     let none : ◌≡◌ {A = List Edit} edits [] = cc h in
@@ -256,6 +256,6 @@ pub read_valid : (rows : List Cells) (result : Result (List Edit) RecordError) �
 read_valid rows (Ok edits) h = (batch_valid rows edits h).0
 read_valid rows (Err fault) h = tt
 
-pub read_few : (rows : List Cells) (result : Result (List Edit) RecordError) → Told rows result → IfOk result (λ edits. length edits ≤ MOST_RECORDS)
+pub read_few : (rows : List Cells) (result : Result (List Edit) RecordError) → Told rows result → IfOk result (λ edits. length edits ≤ most_records)
 read_few rows (Ok edits) h = (batch_valid rows edits h).1
 read_few rows (Err fault) h = tt

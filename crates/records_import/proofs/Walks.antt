@@ -10,7 +10,8 @@ use Rattle.item_model.specs.declared.refusal.RecordWhy.{RecordWhy}
 use Rattle.item_model.specs.declared.refusal.RecordWhy.TheVariants.{Missing}
 use Rattle.records_import.specs.Actions.{least_id, uses}
 use Rattle.records_import.specs.Columns.{has_column, is_same_column}
-use Rattle.records_import.specs.Number.{is_number, number_of}
+use Rattle.records_import.specs.Limits.{cell_digits}
+use Rattle.records_import.specs.Number.{is_number, cell_number}
 use Rattle.records_import.specs.Records.{AreSound, FurtherAnswer, IsLeftmost, RecordAnswers, action_of, cell_under, name_in, number_under, properties_of, with_cell, with_cells}
 use Rattle.records_import.specs.Rules.{RuleReads}
 use Rattle.records_import.specs.Table.{Cells}
@@ -18,7 +19,7 @@ use Rattle.records_import.specs.Values.{CellFlaw, FlawBy, id_in}
 use Rattle.records_import.specs.Walk.{Added, AddedBy, Walked, edit_from, member_edit, no_values}
 use Rattle.records_import.specs.declared.action.Action.{Action}
 use Rattle.records_import.specs.declared.action.Action.TheVariants.{PutItem, DropItem, PutList, PutRule, DropList, PutMember, DropMember}
-use Rattle.records_import.specs.declared.batch.TheConstants.{MOST_RECORDS}
+use Rattle.records_import.specs.Limits.{most_records}
 use Rattle.records_import.specs.declared.header.Column.{Column}
 use Rattle.records_import.specs.declared.header.Column.TheVariants as holds
 use Rattle.records_import.specs.declared.refusal.RecordError.{RecordError}
@@ -85,8 +86,8 @@ walked_item action (c ∷ columns) (cell ∷ cells) before after w =
     ∙ ap (λ item. with_cells item columns cells) (item_kept (uses action c) c cell before w.0 w.1 w.2)
 
 -- what a number's cell writes
-pub number_value : (cell : List ℕ) (n : ℕ) → number_of cell ≡ Some n → n ≡ digits_value 10 cell
-number_value cell n h = elim (cases_Bool (is_number cell)) [
+pub number_value : (cell : List ℕ) (n : ℕ) → cell_number cell ≡ Some n → n ≡ digits_value 10 cell
+number_value cell n h = elim (cases_Bool (is_number cell_digits cell)) [
   | inl digits ↦
       let e : Some (digits_value 10 cell) ≡ Some n = rw digits at h in
       cc e
@@ -269,7 +270,7 @@ walked_edit DropMember row id columns cells after w =
 
 -- what the further cells answer, a record with an action and an id answers
 pub record_answers : (columns : List Column) (row : ℕ) (cells : Cells) (action : Action) (id : ℕ) (answer : Result Edit RecordError)
-    → nat_lt row (suc MOST_RECORDS) ≡ true → (length cells == length columns + 3) ≡ true
+    → nat_lt row (suc most_records) ≡ true → (length cells == length columns + 3) ≡ true
     → action_of row (get_or cells 0 []) (get_or cells 1 []) ≡ Ok action → id_in (least_id action) (get_or cells 2 []) ≡ Ok id
     → FurtherAnswer action row id columns (drop 3 cells) answer → RecordAnswers columns row cells answer
 record_answers columns row cells action id answer few same acts numbered further = rw (few, same, acts, numbered) further

@@ -1,4 +1,5 @@
 pub mod Number
+pub mod Limits
 pub mod Table
 pub mod Writing
 pub mod Columns

@@ -19,7 +19,7 @@ use Rattle.records_import.specs.Table.{Cells}
 use Rattle.records_import.specs.Values.{CellFlaw, id_in, property_in}
 use Rattle.records_import.specs.declared.action.Action.{Action}
 use Rattle.records_import.specs.declared.action.Action.TheVariants as does
-use Rattle.records_import.specs.declared.batch.TheConstants.{MOST_RECORDS}
+use Rattle.records_import.specs.Limits.{most_records}
 use Rattle.records_import.specs.declared.header.Column.{Column}
 use Rattle.records_import.specs.declared.header.Column.TheVariants as holds
 use Rattle.records_import.specs.declared.refusal.RecordError.{RecordError}
@@ -133,7 +133,7 @@ WithinBatch false row columns cells answer = answer ≡ Err (TooMany row)
 
 -- what the record of this number, from 1, answers: its edit, or its fault
 abbrev pub RecordAnswers : List Column → ℕ → Cells → Result Edit RecordError → Type 0
-RecordAnswers columns row cells answer = WithinBatch (nat_lt row (suc MOST_RECORDS)) row columns cells answer
+RecordAnswers columns row cells answer = WithinBatch (nat_lt row (suc most_records)) row columns cells answer
 
 -- what records answer, from the one of this number on: the edits of all, or the fault of the first at fault
 abbrev pub RecordsAnswer : List Column → ℕ → List Cells → Result (List Edit) RecordError → Type 0

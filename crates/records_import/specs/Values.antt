@@ -13,7 +13,7 @@ use Rattle.item_model.specs.declared.query.Query.{Query}
 use Rattle.item_model.specs.declared.refusal.RecordWhy.{RecordWhy}
 use Rattle.item_model.specs.declared.refusal.RecordWhy.TheVariants as reason
 use Rattle.records_import.specs.Actions.{uses}
-use Rattle.records_import.specs.Number.{number_of}
+use Rattle.records_import.specs.Number.{cell_number}
 use Rattle.records_import.specs.Rules.{RuleReads}
 use Rattle.records_import.specs.declared.action.Action.{Action}
 use Rattle.records_import.specs.declared.header.Column.{Column}
@@ -33,7 +33,7 @@ id_from least None = Err reason.Number
 id_from least (Some n) = if nat_le least n && nat_lt n (2 ^ 32) then Ok n else Err reason.Range
 
 abbrev pub id_in : ℕ → List ℕ → Result ℕ RecordWhy
-id_in least cell = id_from least (number_of cell)
+id_in least cell = id_from least (cell_number cell)
 
 -- an id that the record can't do without
 abbrev pub needed_id : ℕ → List ℕ → Result ℕ RecordWhy
@@ -49,7 +49,7 @@ number_from p (Some n) = if is_value_of p (value.Number n) then Ok (value.Number
 
 abbrev pub by_kind : Kind → Property → List ℕ → Result PropValue RecordWhy
 by_kind kind.Text p cell = text_in cell
-by_kind _ p cell = number_from p (number_of cell)
+by_kind _ p cell = number_from p (cell_number cell)
 
 -- the value of a property in a cell that is not empty
 abbrev pub property_in : Property → List ℕ → Result PropValue RecordWhy

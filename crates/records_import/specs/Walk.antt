@@ -6,7 +6,7 @@ use Rattle.item_model.specs.declared.changes.Edit.TheVariants as an_edit
 use Rattle.item_model.specs.declared.query.Query.{Query}
 use Rattle.item_model.specs.declared.refusal.RecordWhy.{RecordWhy}
 use Rattle.records_import.specs.Actions.{uses}
-use Rattle.records_import.specs.Number.{number_of}
+use Rattle.records_import.specs.Number.{cell_number}
 use Rattle.records_import.specs.Records.{name_in, with_cell}
 use Rattle.records_import.specs.Rules.{RuleReads}
 use Rattle.records_import.specs.Table.{Cells}
@@ -27,8 +27,8 @@ no_values = record { item = []; rule = None; list = None; entry = None }
 abbrev pub Added : Column → List ℕ → Values → Values → Type 0
 Added (holds.Property p) cell before after = after ≡ record before { item = with_cell (holds.Property p) cell before.item }
 Added holds.Query cell before after = (rule : Query) × RuleReads cell (Ok rule) × (after ≡ record before { rule = Some rule })
-Added holds.List cell before after = (id : ℕ) × (number_of cell ≡ Some id) × (after ≡ record before { list = Some id })
-Added holds.Item cell before after = (id : ℕ) × (number_of cell ≡ Some id) × (after ≡ record before { entry = Some id })
+Added holds.List cell before after = (id : ℕ) × (cell_number cell ≡ Some id) × (after ≡ record before { list = Some id })
+Added holds.Item cell before after = (id : ℕ) × (cell_number cell ≡ Some id) × (after ≡ record before { entry = Some id })
 
 abbrev pub AddedBy : Bool → Column → List ℕ → Values → Values → Type 0
 AddedBy true column cell before after = Added column cell before after

@@ -1,5 +1,5 @@
 -- A batch as records: the rows that are written for it, below a header with all columns.
-use Rattle.std.specs.Prelude.{ℕ, List, [], ◌∷◌, ◌++◌, codes, decimal, map, Option, Some, None, Ok, if◌then◌else◌}
+use Rattle.std.specs.Prelude.{◌≡◌, ℕ, List, [], ◌∷◌, ◌++◌, codes, decimal, map, Option, Some, None, Result, Ok, if◌then◌else◌}
 use Rattle.item_model.specs.Items.{value_of}
 use Rattle.item_model.specs.Properties.{all_properties, property_name}
 use Rattle.item_model.specs.QuerySeen.{tree_of}
@@ -12,12 +12,17 @@ use Rattle.records_import.specs.Records.{BatchReads, Properties}
 use Rattle.records_import.specs.Table.{Cells, table_of}
 use Rattle.records_import.specs.declared.header.Column.{Column}
 use Rattle.records_import.specs.declared.header.Column.TheVariants as holds
+use Rattle.records_import.specs.declared.refusal.RecordError.{RecordError}
 use Rattle.song_query.specs.Printing.{printed}
 
 -- a batch that reading gives: some text reads as it
 pub record IsReadable (edits : List Edit) : Type 0 where
   pub text : List ℕ
   pub reads : BatchReads (table_of text) (Ok edits)
+
+-- the rows read as the edits, and have no other answer
+abbrev pub ReadsOnlyAs : List Cells → List Edit → Type 0
+ReadsOnlyAs rows edits = (answer : Result (List Edit) RecordError) → BatchReads rows answer → answer ≡ Ok edits
 
 -- the columns below the first three: all properties in the order of listings, and then what lists and members need
 abbrev pub written_columns : List Column

@@ -3,6 +3,7 @@
 ghost use Rattle.std.specs.Prelude.{◌≡◌, ◌≢◌, ◌≤◌, length, map, Ok, Err, IfOk, MatchResult};
 ghost use Rattle.csv.specs.Records.{fields_of};
 ghost use Rattle.item_model.specs.Valid.{AreValid};
+ghost use Rattle.records_import.specs.Limits.{most_records};
 ghost use Rattle.records_import.specs.Records.{BatchReads, RecordsAnswer};
 ghost use Rattle.records_import.specs.Table.{table_of};
 
@@ -23,7 +24,7 @@ pub const MOST_RECORDS: usize = 65_536;
 pub fn read_batch(alloc: Global, bytes: &[u8]) -> Result<Batch, RecordError>
     ensures exact { MatchResult result (λ batch. BatchReads (table_of bytes.now) (Ok batch)) (λ e. e ≢ RecordError.Memory → BatchReads (table_of bytes.now) (Err e)) }
     ensures valid { IfOk result (λ batch. AreValid batch) }
-    ensures few { IfOk result (λ batch. length batch ≤ MOST_RECORDS) }
+    ensures few { IfOk result (λ batch. length batch ≤ most_records) }
 {
     // One record more than a batch has, below the header, shows that there are too many.
     let rows = rows_of(alloc, bytes, MOST_RECORDS + 2)?;

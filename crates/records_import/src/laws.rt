@@ -1,14 +1,18 @@
-//! What holds of all batches. Each function does nothing; its contract is a fact that follows from the
-//! definitions.
+//! What holds of all rows. Each function does nothing; its contract is a fact that follows from the definitions.
 
-ghost use Rattle.records_import.specs.Laws.{ReadBatchesAreNotRefused, RefusalsAreOne};
+ghost use Rattle.records_import.specs.Laws.{AnswersAreOne, RowsHaveAnswers, RowsReadOnce};
 
-/// Rows that read as a batch are not refused as well.
-pub fn a_batch_is_not_both_read_and_refused()
-    ensures { ReadBatchesAreNotRefused }
+/// Rows read as at most one batch.
+pub fn rows_read_as_one_batch()
+    ensures { RowsReadOnce }
 {}
 
-/// A refused batch has one fault at one place.
-pub fn a_batch_has_one_refusal()
-    ensures { RefusalsAreOne }
+/// Rows read as a batch, or are refused.
+pub fn rows_have_an_answer()
+    ensures { RowsHaveAnswers }
+{}
+
+/// Rows are not both read and refused, and refused for one fault at one place.
+pub fn rows_have_one_answer()
+    ensures { AnswersAreOne }
 {}

@@ -3,7 +3,7 @@
 ghost use Rattle.std.specs.Prelude.{◌≡◌, ◌≢◌, ◌<◌, ◌^◌, Some, None, Ok, Err, true, false, IfOk, MatchResult, option_map, if◌then◌else◌};
 ghost use Rattle.std.specs.Str.{is_utf8};
 ghost use Rattle.records_import.specs.Actions.{uses};
-ghost use Rattle.records_import.specs.Number.{number_of};
+ghost use Rattle.records_import.specs.Number.{cell_number};
 ghost use Rattle.records_import.specs.Records.{with_cell};
 ghost use Rattle.records_import.specs.Values.{RuleFlaw, by_kind, id_in, is_empty, needed_id, number_from, property_flaw, property_in, text_in};
 ghost use Rattle.records_import.specs.Rules.{RuleReads};
@@ -11,7 +11,7 @@ ghost use Rattle.records_import.specs.Walk.{CellTaken, ForCause, UsedTaken, no_v
 
 use crate::action::Action;
 use crate::header::Column;
-use crate::number::read_number;
+use crate::number::read_cell;
 use crate::rule::read_rule;
 use dmap_tags::{Kind, Text};
 use item_model::{Item, ItemError, PropValue, Property, Query, QueryError, RecordWhy, TEXT_BYTES};
@@ -156,9 +156,9 @@ fn text_value(alloc: Global, cell: &[u8]) -> Result<PropValue, CellError>
 }
 
 fn number_value(property: Property, cell: &[u8]) -> Result<PropValue, RecordWhy>
-    ensures { result ≡ number_from property (number_of cell.now) }
+    ensures { result ≡ number_from property (cell_number cell.now) }
 {
-    let Some(number) = read_number(cell) else {
+    let Some(number) = read_cell(cell) else {
         return Err(RecordWhy::Number);
     };
     let Ok(number) = u64::try_from(number) else {
@@ -211,7 +211,7 @@ fn needed_id(cell: &[u8], least: u32) -> Result<u32, RecordWhy>
 pub fn read_id(cell: &[u8], least: u32) -> Result<u32, RecordWhy>
     ensures { result ≡ id_in least cell.now }
 {
-    let Some(number) = read_number(cell) else {
+    let Some(number) = read_cell(cell) else {
         return Err(RecordWhy::Number);
     };
     let Ok(id) = u32::try_from(number) else {

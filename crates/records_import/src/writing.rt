@@ -9,7 +9,7 @@ ghost use Rattle.records_import.specs.Actions.{is_item, is_list, is_name, is_rul
 ghost use Rattle.records_import.specs.Records.{BatchReads};
 ghost use Rattle.records_import.specs.Table.{Cells, table_of, table_text};
 ghost use Rattle.records_import.specs.Writing.{HasCells};
-ghost use Rattle.records_import.specs.Written.{IsReadable, column_name, property_cell, value_cell, written_cell, written_columns, written_id, written_kind, written_op, written_rows};
+ghost use Rattle.records_import.specs.Written.{IsReadable, ReadsOnlyAs, column_name, property_cell, value_cell, written_cell, written_columns, written_id, written_kind, written_op, written_rows};
 ghost use Rattle.song_query.specs.Printing.{printed};
 
 use crate::header::Column;
@@ -28,6 +28,7 @@ pub fn write_batch(alloc: Global, batch: &Batch) -> Result<Bytes, AllocError>
     requires { IsReadable batch.now }
     ensures text { IfOk result (λ b. b ≡ table_text (written_rows batch.now)) }
     ensures reads_back { IfOk result (λ b. BatchReads (table_of b) (Ok batch.now)) }
+    ensures only { IfOk result (λ b. ReadsOnlyAs (table_of b) batch.now) }
 {
     let columns = written_columns(alloc)?;
     let header = header_row(alloc, columns.as_slice())?;

@@ -11,14 +11,14 @@ use Rattle.records_import.proofs.number.read_number.Goals as goal
 -- one more digit
 pub loop-byte-preserved : goal.loop-byte-preserved
 loop-byte-preserved c =
-    let cell = c.args.cell.now in
+    let bytes = c.args.digits.now in
     let i = c.loop-byte.byte-index in
     let inv = c.loop-byte.invariant in
-    let inside : i < length cell = omega arith in
-    let more : i + 1 ≤ length cell = omega arith in
+    let inside : i < length bytes = omega arith in
+    let more : i + 1 ≤ length bytes = omega arith in
     let digit = sym c.if-not-is_ascii_digit.ensures.value in
-    let digits : list_all is_ascii_digit (take (i + 1) cell) ≡ true = rw (list_all_more is_ascii_digit cell i 0 inside, inv.digits) digit in
-    let written : c.loop-byte.value * 10 + (get_or cell i 0 - 48) ≡ digits_value 10 (take (i + 1) cell) =
-    omega (arith, digits_value_more 10 cell i inside, digit_distance (get_or cell i 0) digit, inv.written) in
-    let short : length (take (i + 1) cell) ≤ 20 = rw (length-take-le (i + 1) cell more) (omega arith) in
-    record { digits = digits; written = written; small = rw written (digits_small (take (i + 1) cell) digits short) }
+    let digits : list_all is_ascii_digit (take (i + 1) bytes) ≡ true = rw (list_all_more is_ascii_digit bytes i 0 inside, inv.digits) digit in
+    let written : c.loop-byte.value * 10 + (get_or bytes i 0 - 48) ≡ digits_value 10 (take (i + 1) bytes) =
+    omega (arith, digits_value_more 10 bytes i inside, digit_distance (get_or bytes i 0) digit, inv.written) in
+    let short : length (take (i + 1) bytes) ≤ 20 = rw (length-take-le (i + 1) bytes more) (omega arith) in
+    record { digits = digits; written = written; small = rw written (digits_small (take (i + 1) bytes) digits short) }

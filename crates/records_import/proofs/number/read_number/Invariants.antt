@@ -7,7 +7,7 @@ use Rattle.records_import.proofs.number.read_number.Given as goal
 -- the digits so far, and the number that they write
 abbrev pub invariant-loop-byte : goal.invariant-loop-byte
 invariant-loop-byte l = record {
-  digits : list_all is_ascii_digit (take l.byte-index l.cell) ≡ true;
-  written : l.value ≡ digits_value 10 (take l.byte-index l.cell);
+  digits : list_all is_ascii_digit (take l.byte-index l.digits) ≡ true;
+  written : l.value ≡ digits_value 10 (take l.byte-index l.digits);
   small : l.value < 10 ^ 20;
 }

@@ -6,6 +6,7 @@ use Rattle.records_import.specs.Records.{BatchReads}
 use Rattle.records_import.specs.Table.{table_of, table_text}
 use Rattle.records_import.specs.Writing.{HasWritten}
 use Rattle.records_import.specs.Written.{written_cell, written_columns, written_header, written_row, written_rows}
+use Rattle.records_import.proofs.Once.{one_answer}
 use Rattle.records_import.proofs.RowsBack.{batch_text_back}
 use Rattle.records_import.proofs.Texts.{AreTexts, texts_behind}
 use Rattle.records_import.proofs.ValidEdits.{batch_valid}
@@ -78,3 +79,9 @@ pub returns-clause-reads_back : goal.returns-clause-reads_back
 returns-clause-reads_back c =
     let told = whole c in
     subst (λ text. BatchReads (table_of text) (Ok c.args.batch.now)) (sym told.0) (batch_text_back c.args.batch.now c.requires told.1)
+
+pub returns-clause-only : goal.returns-clause-only
+returns-clause-only c answer reads =
+    let told = whole c in
+    let back = subst (λ text. BatchReads (table_of text) (Ok c.args.batch.now)) (sym told.0) (batch_text_back c.args.batch.now c.requires told.1) in
+    one_answer (table_of c.from.result) answer (Ok c.args.batch.now) reads back
