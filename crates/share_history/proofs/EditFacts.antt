@@ -6,7 +6,7 @@ use Rattle.std.specs.List.{list_any}
 use Rattle.std.proofs.lemmas.List.Folds.{list_any-append}
 use Rattle.std.proofs.lemmas.Grind.{flat_map-append}
 use Rattle.std.proofs.Math.Seq.{take-append_seam}
-use Rattle.share_history.specs.declared.revisions.TheConstants.{FIRST_REVISION}
+use Rattle.share_history.specs.Numbers.{first_revision}
 use Rattle.item_model.specs.declared.item.Row.{Row}
 use Rattle.item_model.specs.declared.changes.Edit.{Edit}
 use Rattle.item_model.specs.declared.changes.Entry.{Entry}
@@ -260,12 +260,12 @@ said_entries_left says h i e before lt is =
 
 -- the edits up to a revision and those after it are all edits
 pub edits-split : (bs : List (List Edit)) (v : ℕ) → edits bs ≡ edits (up_to bs v) ++ later bs v
-edits-split bs v = ap edits (sym (take-append-drop (v - FIRST_REVISION) bs)) ∙ flat_map-append (λ b. b) (up_to bs v) (drop (v - FIRST_REVISION) bs)
+edits-split bs v = ap edits (sym (take-append-drop (v - first_revision) bs)) ∙ flat_map-append (λ b. b) (up_to bs v) (drop (v - first_revision) bs)
 
 -- the batches up to the revision that they make are they
 pub up_to-revision : (bs cs : List (List Edit)) → up_to (bs ++ cs) (revision bs) ≡ bs
 up_to-revision bs cs =
-    let e : length bs + FIRST_REVISION - FIRST_REVISION ≡ length bs = omega arith in ap (λ n. take n (bs ++ cs)) e ∙ take-append_seam bs cs
+    let e : length bs + first_revision - first_revision ≡ length bs = omega arith in ap (λ n. take n (bs ++ cs)) e ∙ take-append_seam bs cs
 
 -- one more batch makes one more revision
 pub revision_more : (bs : List (List Edit)) (b : List Edit) → revision (bs ++ b ∷ []) ≡ revision bs + 1
@@ -284,4 +284,12 @@ batches-until (suc n) (Logout by id ∷ h) = batches-until (suc n) h
 batches-until (suc n) (Stop by ∷ h) = batches-until (suc n) h
 
 pub batches-at_revision : (h : List Entry) (v : ℕ) → batches (at_revision h v) ≡ up_to (batches h) v
-batches-at_revision h v = batches-until (v - FIRST_REVISION) h
+batches-at_revision h v = batches-until (v - first_revision) h
+
+-- what some edits more say, after what the others left
+pub said_more_edits : {A : Type 0} (says : Edit → Option (Option A)) (es ds : List Edit) → unwrap_or (last_said says (es ++ ds)) None ≡ unwrap_or (last_said says ds) (unwrap_or (last_said says es) None)
+said_more_edits says es ds = ap (λ o. unwrap_or o None) (last_said-append says es ds) ∙ either (last_said says ds) (last_said says es)
+  where
+    either : {A : Type 0} (a b : Option (Option A)) → unwrap_or (option_or a b) None ≡ unwrap_or a (unwrap_or b None)
+    either None b = refl
+    either (Some x) b = refl

@@ -1,13 +1,17 @@
 -- Keys that a loop over edits, or over entries, puts into a set one after the other.
-use Rattle.std.proofs.Common.{◌≡◌, ℕ, zero, suc, ◌+◌, ◌-◌, ◌<◌, Bool, true, false, ◌||◌, cond, map, filter, arith, Option, Some, None, append-nil, append_assoc, length-append, List, [], ◌∷◌, ◌++◌, length, get_or, drop, fold, flat_map, refl, sym, ap, ◌∙◌}
+use Rattle.std.proofs.Common.{◌≡◌, ℕ, zero, suc, ◌+◌, ◌-◌, ◌<◌, ◌≤◌, Bool, true, false, ◌||◌, cond, map, filter, arith, Option, Some, None, append-nil, append_assoc, length-append, List, [], ◌∷◌, ◌++◌, length, get_or, drop, take, fold, flat_map, refl, sym, ap, ◌∙◌}
 use Rattle.std.specs.Option.{option_to_list}
 use Rattle.std.specs.List.{list_any, cons_option}
 use Rattle.std.proofs.lemmas.List.Folds.{list_any-append}
 use Rattle.std.proofs.lemmas.Grind.{flat_map-append}
+use Rattle.std.proofs.lemmas.List.{drop_all, take_all, take_more}
+use Rattle.std.specs.Ordering.{nat_cmp}
+use Rattle.std.specs.BTreeSet.{insert_key}
 use Rattle.item_model.specs.declared.changes.Edit.{Edit}
 use Rattle.item_model.specs.declared.changes.Entry.{Entry}
 use Rattle.item_model.specs.declared.changes.Entry.TheVariants.{Edits, Login, Logout, Stop}
-use Rattle.share_history.specs.Histories.{batches, edits_in, all_edits}
+use Rattle.share_history.specs.Histories.{batches, edits_in, all_edits, until_edits}
+use Rattle.share_history.specs.Keyed.{ascending}
 use Rattle.share_history.proofs.EditFacts.{drop_more, all_edits-cons}
 
 pub fold-append : {A B : Type 0} (f : B → A → B) (b : B) (xs ys : List A) → fold f b (xs ++ ys) ≡ fold f (fold f b xs) ys
@@ -73,3 +77,31 @@ filtered_next p done xs i x lt is = kept_or_not (p x) done x (filter p (drop (i 
 pub edits_left : (h : List Entry) (i : ℕ) (e : Entry) → i < length h → e ≡ get_or h i e → length (all_edits (drop i h)) ≡ length (edits_in e) + length (all_edits (drop (i + 1) h))
 edits_left h i e lt is =
     ap (λ xs. length (all_edits xs)) (drop_more h i e lt is) ∙ ap length (all_edits-cons e (drop (i + 1) h)) ∙ length-append (edits_in e) (all_edits (drop (i + 1) h))
+
+-- the history up to the n-th batch begins with its first entry
+until_first : (n : ℕ) (e : Entry) (h : List Entry) → 0 < n → until_edits n (e ∷ h) ≡ e ∷ until_edits (n - length (batches (e ∷ []))) h
+until_first zero e h pos = absurd (omega arith)
+until_first (suc n) (Edits by batch) h pos = ap (λ m. Edits by batch ∷ until_edits m h) (let same : n ≡ suc n - 1 = omega arith in same)
+until_first (suc n) (Login by id) h pos = ap (λ m. Login by id ∷ until_edits m h) (let same : suc n ≡ suc n - 0 = omega arith in same)
+until_first (suc n) (Logout by id) h pos = ap (λ m. Logout by id ∷ until_edits m h) (let same : suc n ≡ suc n - 0 = omega arith in same)
+until_first (suc n) (Stop by) h pos = ap (λ m. Stop by ∷ until_edits m h) (let same : suc n ≡ suc n - 0 = omega arith in same)
+
+pub until_left : (n : ℕ) (h : List Entry) (i : ℕ) (e : Entry) → 0 < n → i < length h → e ≡ get_or h i e
+    → take (i + 1) h ++ until_edits (n - length (batches (e ∷ []))) (drop (i + 1) h) ≡ take i h ++ until_edits n (drop i h)
+until_left n h i e pos lt is =
+    ap (λ front. front ++ until_edits (n - length (batches (e ∷ []))) (drop (i + 1) h)) (take_more h i e lt ∙ ap (λ x. take i h ++ x ∷ []) (sym is))
+    ∙ append_assoc (take i h) (e ∷ []) (until_edits (n - length (batches (e ∷ []))) (drop (i + 1) h))
+    ∙ ap (λ rest. take i h ++ rest) (sym (ap (until_edits n) (drop_more h i e lt is) ∙ until_first n e (drop (i + 1) h) pos))
+
+until_nothing : (n : ℕ) → until_edits n [] ≡ []
+until_nothing zero = refl
+until_nothing (suc n) = refl
+
+-- where nothing is left, all was passed
+pub until_end : (n : ℕ) (h : List Entry) (i : ℕ) → length h ≤ i → take i h ++ until_edits n (drop i h) ≡ h
+until_end n h i over =
+    ap (λ rest. take i h ++ until_edits n rest) (drop_all i h over) ∙ ap (λ rest. take i h ++ rest) (until_nothing n) ∙ append-nil (take i h) ∙ take_all i h over
+
+-- the keys of some edits more come behind those of the others
+pub keys_on : (keys : Edit → List ℕ) (es ds : List Edit) → fold (insert_key nat_cmp) (ascending (flat_map keys es)) (flat_map keys ds) ≡ ascending (flat_map keys (es ++ ds))
+keys_on keys es ds = sym (ap ascending (flat_map-append keys es ds) ∙ fold-append (insert_key nat_cmp) [] (flat_map keys es) (flat_map keys ds))

@@ -1,26 +1,25 @@
 -- The laws of lists, members, bases and bodies.
-use Rattle.std.proofs.Common.{◌≡◌, ℕ, ◌+◌, ◌-◌, ◌<◌, Bool, true, false, cond, ◌&&◌, ◌==◌, nat_le, List, [], ◌∷◌, ◌++◌, map, filter, length, refl, sym, ap, ◌∙◌, subst, true≢false, inl, inr, Option, Some, None, is_none, unwrap_or, arith, eq-eqb, leb-true, drop_of_length-le, append_assoc, append-nil}
+use Rattle.std.proofs.Common.{◌≡◌, ℕ, ◌+◌, ◌-◌, ◌<◌, Bool, true, false, cond, ◌&&◌, ◌==◌, nat_le, List, [], ◌∷◌, ◌++◌, map, filter, length, refl, sym, ap, ◌∙◌, subst, true≢false, inl, inr, Option, Some, None, is_none, is_some, not, unwrap_or, arith, eq-eqb, leb-true, drop_of_length-le, append_assoc, append-nil}
 use Rattle.std.specs.Option.{option_and_then}
 use Rattle.std.specs.List.{list_any}
-use Rattle.std.proofs.lemmas.Bool.{false_from_ne_true}
+use Rattle.std.proofs.lemmas.Bool.{false_from_ne_true, false≢true}
 use Rattle.std.proofs.lemmas.List.{length-map}
 use Rattle.dmap_tags.specs.Tree.{Tree, trees_of, tree_list}
 use Rattle.item_model.specs.declared.query.Query.{Query}
 use Rattle.item_model.specs.declared.changes.Edit.{Edit}
 use Rattle.item_model.specs.declared.changes.Edit.TheVariants.{PutItem, DropItem, PutList, PutRule, DropList, PutMember, DropMember}
-use Rattle.item_model.specs.declared.request.Target.TheVariants.{Container}
-use Rattle.share_history.specs.declared.revisions.TheConstants.{FIRST_REVISION}
-use Rattle.share_history.specs.declared.selection.TheConstants.{BASE_LIST}
+use Rattle.item_model.specs.declared.request.Target.TheVariants.{Items, Container}
+use Rattle.share_history.specs.Numbers.{first_revision, base_list}
 use Rattle.share_history.specs.Keyed.{ascending}
 use Rattle.share_history.specs.Histories.{edits, later, revision}
 use Rattle.share_history.specs.LastSaid.{Playlist, Plain, Ruled, only_if, says_list, says_member, item_at, list_at, member_at}
 use Rattle.share_history.specs.Named.{names_list, named_keys}
 use Rattle.share_history.specs.Rows.{if_asked, in_list, row_at, rows}
-use Rattle.share_history.specs.Kept.{is_left, touches}
+use Rattle.share_history.specs.Kept.{is_kept, is_left, touches}
 use Rattle.share_history.specs.Listings.{shown_rows}
-use Rattle.share_history.specs.Laws.{is_plain, puts_member, LibraryAscends, OpensWithTheBatch, ListsBeginWithoutMembers, ListsBeginEmpty, MembersNeedAList, MembersFollowTheirItems, BasesArePast, NothingChangedSinceNow, BodiesTellTheirRows}
+use Rattle.share_history.specs.Laws.{is_plain, puts_member, LibraryAscends, OpensWithTheBatch, ListsBeginWithoutMembers, ListsBeginEmpty, MembersNeedAList, MembersFollowTheirItems, BasesArePast, NewTargetsAreNotKept, NothingChangedSinceNow, BodiesTellTheirRows}
 use Rattle.share_history.proofs.KeyedFacts.{sorted-ascending}
-use Rattle.share_history.proofs.EditFacts.{first_false, second_false, list_more, member_more, list_stays, member_stays, edits-opening}
+use Rattle.share_history.proofs.EditFacts.{both_false, first_false, second_false, edits-split, up_to-revision, list_more, member_more, list_stays, member_stays, edits-opening}
 use Rattle.share_history.proofs.RowFacts.{rows_are, ascending-library}
 use Rattle.share_history.proofs.TouchFacts.{untouched}
 
@@ -46,11 +45,11 @@ pub lists_begin_without_members : ListsBeginWithoutMembers
 lists_begin_without_members es e c m h = member_more es e c m ∙ ap (λ said. unwrap_or said (member_at es c m)) (says_gone e c m h)
 
 -- what a target shows of a container that is not container 1
-container_row : (es : List Edit) (c : ℕ) (q : Option Query) (k : ℕ) → (c == BASE_LIST) ≡ false
+container_row : (es : List Edit) (c : ℕ) (q : Option Query) (k : ℕ) → (c == base_list) ≡ false
     → row_at es (Container c) q k ≡ option_and_then (if_asked q) (in_list (list_at es c) es c k)
 container_row es c q k h = ap (λ b. option_and_then (if_asked q) (cond b (item_at es k) (in_list (list_at es c) es c k))) h
 
-no_rows : (es : List Edit) (c : ℕ) (q : Option Query) → (c == BASE_LIST) ≡ false → ((k : ℕ) → in_list (list_at es c) es c k ≡ None) → rows es (Container c) q ≡ []
+no_rows : (es : List Edit) (c : ℕ) (q : Option Query) → (c == base_list) ≡ false → ((k : ℕ) → in_list (list_at es c) es c k ≡ None) → rows es (Container c) q ≡ []
 no_rows es c q h empty =
     sym (rows_are es (Container c) q [] (sorted-ascending []) (λ k. sym (container_row es c q k h ∙ ap (option_and_then (if_asked q)) (empty k))))
 
@@ -125,14 +124,36 @@ and_false true b h = h
 and_false false b h = refl
 
 pub bases_are_past : BasesArePast
-bases_are_past keep bs t base (inl h) = ap (λ b. b && (nat_le base (revision bs) && (nat_le (revision bs) (base + keep) && is_left t (later bs base)))) (not_le FIRST_REVISION base h)
+bases_are_past keep bs t base (inl h) = ap (λ b. b && (nat_le base (revision bs) && (nat_le (revision bs) (base + keep) && is_left t (later bs base)))) (not_le first_revision base h)
 bases_are_past keep bs t base (inr h) =
-    and_false (nat_le FIRST_REVISION base) (nat_le base (revision bs) && (nat_le (revision bs) (base + keep) && is_left t (later bs base)))
+    and_false (nat_le first_revision base) (nat_le base (revision bs) && (nat_le (revision bs) (base + keep) && is_left t (later bs base)))
     (ap (λ b. b && (nat_le (revision bs) (base + keep) && is_left t (later bs base))) (not_le base (revision bs) h))
+
+-- a list that is named after the base is not kept, and one that is not stands as it did
+new_list : (keep : ℕ) (bs cs : List (List Edit)) (c : ℕ) (named : Bool) → (c == base_list) ≡ false → list_any (names_list c) (later (bs ++ cs) (revision bs)) ≡ named
+    → is_some (list_at (edits bs) c) ≡ false → is_some (list_at (edits (bs ++ cs)) c) ≡ true → is_kept keep (bs ++ cs) (Container c) (revision bs) ≡ false
+new_list keep bs cs c true other named gone there =
+    and_false _ _ (and_false _ _ (and_false (nat_le (revision (bs ++ cs)) (revision bs + keep)) _ (both_false _ _ other (ap not named))))
+new_list keep bs cs c false other unnamed gone there =
+    let parts : edits (bs ++ cs) ≡ edits bs ++ later (bs ++ cs) (revision bs) =
+    edits-split (bs ++ cs) (revision bs) ∙ ap (λ front. edits front ++ later (bs ++ cs) (revision bs)) (up_to-revision bs cs) in
+    let same : list_at (edits (bs ++ cs)) c ≡ list_at (edits bs) c =
+    ap (λ es. list_at es c) parts ∙ list_stays (edits bs) (later (bs ++ cs) (revision bs)) c unnamed in
+    absurd (false≢true (sym gone ∙ ap is_some (sym same) ∙ there))
+
+new_container : (keep : ℕ) (bs cs : List (List Edit)) (c : ℕ) (is_base : Bool) → (c == base_list) ≡ is_base
+    → cond is_base true (is_some (list_at (edits bs) c)) ≡ false → cond is_base true (is_some (list_at (edits (bs ++ cs)) c)) ≡ true
+    → is_kept keep (bs ++ cs) (Container c) (revision bs) ≡ false
+new_container keep bs cs c true e gone there = absurd (false≢true (sym gone))
+new_container keep bs cs c false e gone there = new_list keep bs cs c (list_any (names_list c) (later (bs ++ cs) (revision bs))) e refl gone there
+
+pub new_targets_are_not_kept : NewTargetsAreNotKept
+new_targets_are_not_kept keep bs cs Items gone there = absurd (false≢true (sym gone))
+new_targets_are_not_kept keep bs cs (Container c) gone there = new_container keep bs cs c (c == base_list) refl gone there
 
 -- no edits came after the present revision
 later-now : (bs : List (List Edit)) → later bs (revision bs) ≡ []
-later-now bs = ap edits (drop_of_length-le bs {i = length bs + FIRST_REVISION - FIRST_REVISION} (omega arith))
+later-now bs = ap edits (drop_of_length-le bs {i = length bs + first_revision - first_revision} (omega arith))
 
 none_pass : {A : Type 0} (p : A → Bool) → ((x : A) → p x ≡ false) → (xs : List A) → filter p xs ≡ []
 none_pass p h [] = refl

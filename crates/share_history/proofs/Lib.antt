@@ -1,6 +1,7 @@
 pub mod KeyedFacts
 pub mod EditFacts
 pub mod RowFacts
+pub mod OwnFacts
 pub mod TouchFacts
 pub mod MirrorFacts
 pub mod LawFacts

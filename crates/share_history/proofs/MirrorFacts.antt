@@ -9,7 +9,7 @@ use Rattle.item_model.specs.declared.changes.Edit.{Edit}
 use Rattle.item_model.specs.declared.request.Meta.{Meta}
 use Rattle.item_model.specs.declared.request.Target.{Target}
 use Rattle.item_model.specs.Projection.{projection}
-use Rattle.share_history.specs.declared.revisions.TheConstants.{FIRST_REVISION}
+use Rattle.share_history.specs.Numbers.{first_revision}
 use Rattle.share_history.specs.Keyed.{at, put_in, taken_out, IsAscending, ascending}
 use Rattle.share_history.specs.Histories.{edits, later, revision, up_to}
 use Rattle.share_history.specs.Named.{named_keys}
@@ -122,7 +122,7 @@ mirrors_follow keep bs t q meta base =
     → mirror_after (mirrored (up_to bs base) t q meta) (cond b (delta_listing bs t (mirror_look q meta base) base) (full_listing bs t (mirror_look q meta base))) ≡ mirrored bs t q meta) [
       | true ↦ λ kept. λ i. record {
         revision = revision bs;
-        rows = delta_applied (edits (up_to bs base)) (edits bs) (later bs base) (edits-split bs base) t q meta (fourth_true (nat_le FIRST_REVISION base) (nat_le base (revision bs)) (nat_le (revision bs) (base + keep)) (is_left t (later bs base)) kept) i;
+        rows = delta_applied (edits (up_to bs base)) (edits bs) (later bs base) (edits-split bs base) t q meta (fourth_true (nat_le first_revision base) (nat_le base (revision bs)) (nat_le (revision bs) (base + keep)) (is_left t (later bs base)) kept) i;
       }
       | false ↦ λ _. full_listings_suffice (mirrored (up_to bs base) t q meta) bs t q meta base
     ] refl

@@ -10,7 +10,7 @@ use Rattle.item_model.specs.declared.request.Look.{Look}
 use Rattle.item_model.specs.declared.request.Target.{Target}
 use Rattle.item_model.specs.declared.query.Query.{Query}
 use Rattle.item_model.specs.declared.changes.Edit.{Edit}
-use Rattle.share_history.specs.declared.revisions.TheConstants.{FIRST_REVISION}
+use Rattle.share_history.specs.Numbers.{first_revision}
 use Rattle.share_history.specs.Histories.{edits, later, revision}
 use Rattle.share_history.specs.Rows.{row_at, rows}
 use Rattle.share_history.specs.Kept.{is_kept, touches, touched}
@@ -37,7 +37,7 @@ full_made revision t look all listed tags gone h k g =
 
 -- a delta of rows and keys that the program found
 pub delta_found : (bs behind : List (List Edit)) (t : Target) (look : Look) (query : Option Query) (base revised : ℕ) (all all_read listed listed_read : List (ℕ × Bor Row)) (keys keys_read gone : List ℕ)
-    → revised ≡ revision bs → query ≡ look.query → behind ≡ drop (base - FIRST_REVISION) bs → map row_of all ≡ rows (edits bs) t query → all_read ≡ all
+    → revised ≡ revision bs → query ≡ look.query → behind ≡ drop (base - first_revision) bs → map row_of all ≡ rows (edits bs) t query → all_read ≡ all
     → map row_of listed ≡ filter (λ row. touches (edits bs) t (edits behind) row.0) (map row_of all_read) → listed_read ≡ listed → keys ≡ touched bs t base → keys_read ≡ keys
     → gone ≡ filter (λ key. is_none (row_at (edits bs) t query key)) keys_read
     → delta_of revised t look (map row_of listed_read) gone ≡ delta_listing bs t look base

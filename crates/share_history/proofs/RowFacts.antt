@@ -13,7 +13,7 @@ use Rattle.item_model.specs.declared.changes.Edit.{Edit}
 use Rattle.item_model.specs.declared.changes.Edit.TheVariants.{PutItem, DropItem, PutList, PutRule, DropList, PutMember, DropMember}
 use Rattle.item_model.specs.declared.request.Target.{Target}
 use Rattle.item_model.specs.declared.request.Target.TheVariants.{Items, Container}
-use Rattle.share_history.specs.declared.selection.TheConstants.{BASE_LIST}
+use Rattle.share_history.specs.Numbers.{base_list}
 use Rattle.share_history.specs.Keyed.{at, put_in, taken_out, IsAscending, AreAscending, ascending, pairs_at}
 use Rattle.share_history.specs.LastSaid.{Playlist, Plain, Ruled, only_if, says_item, item_at, list_at}
 use Rattle.share_history.specs.Named.{keys_in, named_keys, lists_in, named_lists}
@@ -35,7 +35,7 @@ list_row_unnamed (Some (Ruled name rule)) es c k h = ap (option_and_then (if_ask
 target_unnamed : (es : List Edit) (t : Target) (k : ℕ) → has k (named_keys es) ≡ false → in_target es t k ≡ None
 target_unnamed es Items k h = item_unnamed es k h
 target_unnamed es (Container c) k h =
-    cond_both (c == BASE_LIST) (item_at es k) (in_list (list_at es c) es c k) (λ w. w ≡ None) (λ _. item_unnamed es k h) (λ _. list_row_unnamed (list_at es c) es c k h)
+    cond_both (c == base_list) (item_at es k) (in_list (list_at es c) es c k) (λ w. w ≡ None) (λ _. item_unnamed es k h) (λ _. list_row_unnamed (list_at es c) es c k h)
 
 -- under a key that no edit names there is no row
 pub row_unnamed : (es : List Edit) (t : Target) (q : Option Query) (k : ℕ) → has k (named_keys es) ≡ false → row_at es t q k ≡ None

@@ -9,7 +9,7 @@ use Rattle.item_model.specs.declared.changes.Edit.{Edit}
 use Rattle.item_model.specs.declared.changes.Edit.TheVariants.{PutItem, DropItem, PutList, PutRule, DropList, PutMember, DropMember}
 use Rattle.item_model.specs.declared.request.Target.{Target}
 use Rattle.item_model.specs.declared.request.Target.TheVariants.{Items, Container}
-use Rattle.share_history.specs.declared.selection.TheConstants.{BASE_LIST}
+use Rattle.share_history.specs.Numbers.{base_list}
 use Rattle.share_history.specs.Keyed.{AreAscending, ascending}
 use Rattle.share_history.specs.Histories.{edits, later, up_to}
 use Rattle.share_history.specs.LastSaid.{Playlist, Plain, Ruled, item_at, list_at, member_at}
@@ -48,7 +48,7 @@ container_row_stays false es ds c k l t =
 
 target_stays : (es ds : List Edit) (t : Target) (k : ℕ) → is_left t ds ≡ true → touches (es ++ ds) t ds k ≡ false → in_target (es ++ ds) t k ≡ in_target es t k
 target_stays es ds Items k l h = item_stays es ds k h
-target_stays es ds (Container c) k l h = container_row_stays (c == BASE_LIST) es ds c k l h
+target_stays es ds (Container c) k l h = container_row_stays (c == base_list) es ds c k l h
 
 -- the row under a key that some edits don't touch is as it was before them, where they leave the list
 pub row_stays : (es ds : List Edit) (t : Target) (q : Option Query) (k : ℕ) → is_left t ds ≡ true → touches (es ++ ds) t ds k ≡ false
@@ -97,13 +97,13 @@ untouched_in (Some (Ruled name rule)) all ds c k h d = none_names (names_item k)
 pub unnamed_untouched : (all ds : List Edit) (t : Target) (k : ℕ) → has k (named_keys all) ≡ false → has k (named_keys ds) ≡ false → touches all t ds k ≡ false
 unnamed_untouched all ds Items k h d = none_names (names_item k) k (names_no_item k) ds d
 unnamed_untouched all ds (Container c) k h d =
-    cond_both (c == BASE_LIST) (list_any (names_item k) ds) (touches_in (list_at all c) all c ds k) (λ b. b ≡ false) (λ _. none_names (names_item k) k (names_no_item k) ds d)
+    cond_both (c == base_list) (list_any (names_item k) ds) (touches_in (list_at all c) all c ds k) (λ b. b ≡ false) (λ _. none_names (names_item k) k (names_no_item k) ds d)
     (λ _. untouched_in (list_at all c) all ds c k h d)
 
 -- nothing is touched by no edits
 pub untouched : (all : List Edit) (t : Target) (k : ℕ) → touches all t [] k ≡ false
 untouched all Items k = refl
-untouched all (Container c) k = cond_both (c == BASE_LIST) false (touches_in (list_at all c) all c [] k) (λ b. b ≡ false) (λ _. refl) (λ _. by_none (list_at all c))
+untouched all (Container c) k = cond_both (c == base_list) false (touches_in (list_at all c) all c [] k) (λ b. b ≡ false) (λ _. refl) (λ _. by_none (list_at all c))
   where
     by_item : (found : Option ℕ) → names_its_item found [] ≡ false
     by_item None = refl

@@ -6,7 +6,7 @@ use Rattle.dmap_tags.specs.Tree.{Tree, leaf, list, trees_of, U8, U32, Text}
 use Rattle.item_model.specs.declared.changes.Edit.{Edit}
 use Rattle.item_model.specs.declared.changes.Entry.{Entry}
 use Rattle.item_model.specs.declared.request.Target.TheVariants.{Container}
-use Rattle.share_history.specs.declared.selection.TheConstants.{BASE_LIST}
+use Rattle.share_history.specs.Numbers.{base_list}
 use Rattle.share_history.specs.Histories.{batches, edits, revision}
 use Rattle.share_history.specs.LastSaid.{Playlist, Plain, Ruled}
 use Rattle.share_history.specs.Rows.{rows, library, lists}
@@ -43,7 +43,7 @@ list_tag es (id, Ruled name rule) = container_tag id name (leaf (code "aeSP") (U
 
 -- all containers, container 1 first
 abbrev pub container_tags : List ℕ → List Edit → List Tree
-container_tags name es = container_tag BASE_LIST name (leaf (code "abpl") (U8 1) ∷ []) es ∷ map (list_tag es) (lists es)
+container_tags name es = container_tag base_list name (leaf (code "abpl") (U8 1) ∷ []) es ∷ map (list_tag es) (lists es)
 
 abbrev pub containers_body : List ℕ → List Entry → Tree
 containers_body name h = whole_body (code "aply") (code "mlcl") (revision (batches h)) (container_tags name (edits (batches h)))

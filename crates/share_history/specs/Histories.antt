@@ -4,7 +4,7 @@ use Rattle.std.specs.Prelude.{ℕ, zero, suc, ◌+◌, ◌-◌, List, [], ◌∷
 use Rattle.item_model.specs.declared.changes.Edit.{Edit}
 use Rattle.item_model.specs.declared.changes.Entry.{Entry}
 use Rattle.item_model.specs.declared.changes.Entry.TheVariants.{Edits, Login, Logout, Stop}
-use Rattle.share_history.specs.declared.revisions.TheConstants.{FIRST_REVISION}
+use Rattle.share_history.specs.Numbers.{first_revision}
 
 -- the batches of edits, in order
 abbrev pub batches : List Entry → List (List Edit)
@@ -31,15 +31,15 @@ all_edits h = edits (batches h)
 
 -- the revision that some batches make
 abbrev pub revision : List (List Edit) → ℕ
-revision bs = length bs + FIRST_REVISION
+revision bs = length bs + first_revision
 
 -- the batches up to a revision: none below the first, and all above the last
 abbrev pub up_to : List (List Edit) → ℕ → List (List Edit)
-up_to bs v = take (v - FIRST_REVISION) bs
+up_to bs v = take (v - first_revision) bs
 
 -- the edits that came after a revision
 abbrev pub later : List (List Edit) → ℕ → List Edit
-later bs v = edits (drop (v - FIRST_REVISION) bs)
+later bs v = edits (drop (v - first_revision) bs)
 
 -- the history up to its n-th entry of edits
 abbrev pub until_edits : ℕ → List Entry → List Entry
@@ -52,7 +52,7 @@ until_edits (suc n) (Stop by ∷ h) = Stop by ∷ until_edits (suc n) h
 
 -- the history that ends with the entry that made a revision
 abbrev pub at_revision : List Entry → ℕ → List Entry
-at_revision h v = until_edits (v - FIRST_REVISION) h
+at_revision h v = until_edits (v - first_revision) h
 
 -- the history of a share that is opened with a batch: one entry of pass 0 where the batch has edits
 abbrev pub opening : List Edit → List Entry

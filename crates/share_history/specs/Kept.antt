@@ -4,8 +4,7 @@ use Rattle.std.specs.List.{list_any}
 use Rattle.item_model.specs.declared.changes.Edit.{Edit}
 use Rattle.item_model.specs.declared.request.Target.{Target}
 use Rattle.item_model.specs.declared.request.Target.TheVariants.{Items, Container}
-use Rattle.share_history.specs.declared.revisions.TheConstants.{FIRST_REVISION}
-use Rattle.share_history.specs.declared.selection.TheConstants.{BASE_LIST}
+use Rattle.share_history.specs.Numbers.{first_revision, base_list}
 use Rattle.share_history.specs.Keyed.{ascending}
 use Rattle.share_history.specs.Histories.{revision, edits, later}
 use Rattle.share_history.specs.LastSaid.{Playlist, Plain, Ruled, list_at, member_at}
@@ -14,13 +13,13 @@ use Rattle.share_history.specs.Named.{names_item, names_list, names_member, name
 -- none of the edits puts or drops the target as a list
 abbrev pub is_left : Target → List Edit → Bool
 is_left Items es = true
-is_left (Container c) es = (c == BASE_LIST) || not (list_any (names_list c) es)
+is_left (Container c) es = (c == base_list) || not (list_any (names_list c) es)
 
 -- a base is kept from the first revision to the present one, as far back as the share keeps, and not across a put
 -- or a drop of its list
 abbrev pub is_kept : ℕ → List (List Edit) → Target → ℕ → Bool
 is_kept keep bs target base =
-    nat_le FIRST_REVISION base && (nat_le base (revision bs) && (nat_le (revision bs) (base + keep) && is_left target (later bs base)))
+    nat_le first_revision base && (nat_le base (revision bs) && (nat_le (revision bs) (base + keep) && is_left target (later bs base)))
 
 -- some of the edits names the item that a member has
 abbrev pub names_its_item : Option ℕ → List Edit → Bool
@@ -37,7 +36,7 @@ touches_in (Some (Ruled name rule)) all c es key = list_any (names_item key) es
 abbrev pub touches : List Edit → Target → List Edit → ℕ → Bool
 touches all Items es key = list_any (names_item key) es
 touches all (Container c) es key =
-    if c == BASE_LIST then list_any (names_item key) es else touches_in (list_at all c) all c es key
+    if c == base_list then list_any (names_item key) es else touches_in (list_at all c) all c es key
 
 -- the keys that were touched after a base, ascending
 abbrev pub touched : List (List Edit) → Target → ℕ → List ℕ

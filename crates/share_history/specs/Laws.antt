@@ -1,25 +1,28 @@
 -- What follows from the definitions. Each fact here is proved for all histories.
-use Rattle.std.specs.Prelude.{◌≡◌, ◌<◌, ◌⊎◌, ℕ, List, [], ◌∷◌, ◌++◌, Bool, true, false, ◌==◌, Option, Some, None, length, option_and_then}
+use Rattle.std.specs.Prelude.{◌≡◌, ◌<◌, ◌⊎◌, ℕ, List, [], ◌∷◌, ◌++◌, Bool, true, false, ◌==◌, Option, Some, None, length, option_and_then, if◌then◌else◌}
 use Rattle.std.specs.List.{list_any}
 use Rattle.dmap_tags.specs.Tree as tree
 use Rattle.dmap_tags.specs.Tree.{Tree, more, tree_list, leaf, U32}
 use Rattle.item_model.specs.declared.query.Query.{Query}
 use Rattle.item_model.specs.declared.changes.Edit.{Edit}
 use Rattle.item_model.specs.declared.changes.Edit.TheVariants.{PutItem, DropItem, PutList, PutRule, DropList, PutMember, DropMember}
+use Rattle.item_model.specs.declared.changes.Entry.{Entry}
+use Rattle.item_model.specs.declared.changes.Entry.TheVariants.{Login}
 use Rattle.item_model.specs.declared.request.Meta.{Meta}
 use Rattle.item_model.specs.declared.request.Look.{Look}
 use Rattle.item_model.specs.declared.request.Target.{Target}
 use Rattle.item_model.specs.declared.request.Target.TheVariants.{Container}
-use Rattle.share_history.specs.declared.revisions.TheConstants.{FIRST_REVISION}
-use Rattle.share_history.specs.declared.selection.TheConstants.{BASE_LIST}
-use Rattle.share_history.specs.Keyed.{IsAscending}
-use Rattle.share_history.specs.Histories.{batches, edits, revision, up_to, opening}
+use Rattle.share_history.specs.Numbers.{first_revision, base_list}
+use Rattle.share_history.specs.Keyed.{IsAscending, at}
+use Rattle.share_history.specs.Histories.{at_revision, batches, edits, revision, up_to, opening}
 use Rattle.share_history.specs.LastSaid.{Playlist, Plain, Ruled, item_at, list_at, member_at}
 use Rattle.share_history.specs.Named.{names_list, names_member}
-use Rattle.share_history.specs.Rows.{if_asked, row_at, rows, library}
+use Rattle.share_history.specs.Rows.{if_asked, row_at, rows, library, is_there}
 use Rattle.share_history.specs.Kept.{is_kept}
 use Rattle.share_history.specs.Listings.{Listing, delta_listing, full_listing, listing}
 use Rattle.share_history.specs.Bodies.{body_tree}
+use Rattle.share_history.specs.Sessions.{is_live, next_session}
+use Rattle.share_history.specs.Marks.{Marks, is_orderly, marks_after}
 use Rattle.share_history.specs.Mirror.{Held, mirror_after, mirrored, mirror_look}
 
 -- the library stands in ascending order, with each id once
@@ -30,6 +33,10 @@ LibraryAscends = (es : List Edit) → IsAscending (library es)
 abbrev pub OpensWithTheBatch : Type 0
 OpensWithTheBatch = (es : List Edit) → edits (batches (opening es)) ≡ es
 
+-- the batches of the history at a revision are those up to the revision
+abbrev pub BatchesMakeRevisions : Type 0
+BatchesMakeRevisions = (h : List Entry) (v : ℕ) → batches (at_revision h v) ≡ up_to (batches h) v
+
 -- no member of a list is there after the list was put or dropped
 abbrev pub ListsBeginWithoutMembers : Type 0
 ListsBeginWithoutMembers = (es : List Edit) (e : Edit) (c m : ℕ) → names_list c e ≡ true → member_at (es ++ e ∷ []) c m ≡ None
@@ -37,7 +44,7 @@ ListsBeginWithoutMembers = (es : List Edit) (e : Edit) (c m : ℕ) → names_lis
 -- a plain list has no rows right after it was put, and a list none right after it was dropped
 abbrev pub ListsBeginEmpty : Type 0
 ListsBeginEmpty =
-    (es : List Edit) (c : ℕ) (name : List ℕ) (query : Option Query) → (c == BASE_LIST) ≡ false
+    (es : List Edit) (c : ℕ) (name : List ℕ) (query : Option Query) → (c == base_list) ≡ false
     → (rows (es ++ PutList c name ∷ []) (Container c) query ≡ []) × (rows (es ++ DropList c ∷ []) (Container c) query ≡ [])
 
 abbrev pub is_plain : Option Playlist → Bool
@@ -64,7 +71,7 @@ MembersNeedAList =
 -- and comes back with it
 abbrev pub MembersFollowTheirItems : Type 0
 MembersFollowTheirItems =
-    (es ds : List Edit) (c m item : ℕ) (name : List ℕ) (query : Option Query) → (c == BASE_LIST) ≡ false
+    (es ds : List Edit) (c m item : ℕ) (name : List ℕ) (query : Option Query) → (c == base_list) ≡ false
     → list_at es c ≡ Some (Plain name) → member_at es c m ≡ Some item
     → list_any (names_list c) ds ≡ false → list_any (names_member c m) ds ≡ false
     → row_at (es ++ ds) (Container c) query m ≡ option_and_then (if_asked query) (item_at (es ++ ds) item)
@@ -72,7 +79,13 @@ MembersFollowTheirItems =
 -- no base below the first revision or above the present one is kept
 abbrev pub BasesArePast : Type 0
 BasesArePast =
-    (keep : ℕ) (bs : List (List Edit)) (target : Target) (base : ℕ) → (base < FIRST_REVISION) ⊎ (revision bs < base) → is_kept keep bs target base ≡ false
+    (keep : ℕ) (bs : List (List Edit)) (target : Target) (base : ℕ) → (base < first_revision) ⊎ (revision bs < base) → is_kept keep bs target base ≡ false
+
+-- a target that came to be there after a revision has no kept base there
+abbrev pub NewTargetsAreNotKept : Type 0
+NewTargetsAreNotKept =
+    (keep : ℕ) (bs later : List (List Edit)) (target : Target) → is_there (edits bs) target ≡ false → is_there (edits (bs ++ later)) target ≡ true
+    → is_kept keep (bs ++ later) target (revision bs) ≡ false
 
 -- a delta from the present revision lists nothing and deletes nothing
 abbrev pub NothingChangedSinceNow : Type 0
@@ -106,3 +119,14 @@ abbrev pub FullListingsSuffice : Type 0
 FullListingsSuffice =
     (held : Held) (bs : List (List Edit)) (target : Target) (query : Option Query) (meta : Meta) (base : ℕ)
     → mirror_after held (full_listing bs target (mirror_look query meta base)) ≡ mirrored bs target query meta
+
+-- a login with the next id keeps the ids in order
+abbrev pub LoginsStayOrderly : Type 0
+LoginsStayOrderly = (h : List Entry) (by : ℕ) → is_orderly 1 h ≡ true → is_orderly 1 (h ++ Login by (next_session h) ∷ []) ≡ true
+
+-- after an answer to a live session its mark is the length of the history, the other live sessions keep theirs, and no
+-- other session has one
+abbrev pub MarksFollowAnswers : Type 0
+MarksFollowAnswers =
+    (h : List Entry) (session id : ℕ) (marks : Marks)
+    → at id (marks_after h session marks) ≡ (if is_live h id then (if session == id then Some (length h) else at id marks) else None)

@@ -1,3 +1,4 @@
+pub mod Numbers
 pub mod Keyed
 pub mod Histories
 pub mod LastSaid
@@ -9,6 +10,7 @@ pub mod Listings
 pub mod Bodies
 pub mod Limits
 pub mod Sessions
+pub mod Marks
 pub mod Mirror
 pub mod Databases
 pub mod BrowseListings

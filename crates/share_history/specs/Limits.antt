@@ -3,7 +3,7 @@ use Rattle.std.specs.Prelude.{ℕ, ◌+◌, List, ◌++◌, Bool, true, false, �
 use Rattle.item_model.specs.declared.changes.Edit.{Edit}
 use Rattle.item_model.specs.declared.changes.Entry.{Entry}
 use Rattle.item_model.specs.declared.changes.Entry.TheVariants.{Edits, Login, Logout, Stop}
-use Rattle.share_history.specs.declared.limits.TheConstants.{MAX_ENTRIES, MAX_EDITS, MAX_LISTS}
+use Rattle.share_history.specs.Numbers.{most_entries, most_edits, most_lists}
 use Rattle.share_history.specs.Histories.{all_edits}
 use Rattle.share_history.specs.Rows.{lists}
 
@@ -15,15 +15,15 @@ takes_place (Stop by) = false
 
 -- one more login, or one more batch, has a place
 abbrev pub has_place : List Entry → Bool
-has_place h = nat_lt (count_by takes_place h) MAX_ENTRIES
+has_place h = nat_lt (count_by takes_place h) most_entries
 
 -- so many edits more are not too many
 abbrev pub has_room_for : List Entry → ℕ → Bool
-has_room_for h count = nat_le (length (all_edits h) + count) MAX_EDITS
+has_room_for h count = nat_le (length (all_edits h) + count) most_edits
 
 -- after some edits more there are not too many lists
 abbrev pub has_few_lists : List Entry → List Edit → Bool
-has_few_lists h es = nat_le (length (lists (all_edits h ++ es))) MAX_LISTS
+has_few_lists h es = nat_le (length (lists (all_edits h ++ es))) most_lists
 
 -- a batch is taken where no limit is met
 abbrev pub takes_batch : List Entry → List Edit → Bool

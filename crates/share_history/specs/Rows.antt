@@ -9,7 +9,7 @@ use Rattle.item_model.specs.declared.request.Target.{Target}
 use Rattle.item_model.specs.declared.request.Target.TheVariants.{Items, Container}
 use Rattle.item_model.specs.QuerySeen.{tree_of}
 use Rattle.song_query.specs.Holds.{holds}
-use Rattle.share_history.specs.declared.selection.TheConstants.{BASE_LIST}
+use Rattle.share_history.specs.Numbers.{base_list}
 use Rattle.share_history.specs.Keyed.{ascending, pairs_at}
 use Rattle.share_history.specs.LastSaid.{Playlist, Plain, Ruled, item_at, list_at, member_at, only_if}
 use Rattle.share_history.specs.Named.{named_keys, named_lists}
@@ -31,7 +31,7 @@ in_list (Some (Ruled name rule)) es c key = option_and_then (if_asked (Some rule
 
 abbrev pub in_target : List Edit → Target → ℕ → Option Row
 in_target es Items key = item_at es key
-in_target es (Container c) key = if c == BASE_LIST then item_at es key else in_list (list_at es c) es c key
+in_target es (Container c) key = if c == base_list then item_at es key else in_list (list_at es c) es c key
 
 -- the row of a listing under a key
 abbrev pub row_at : List Edit → Target → Option Query → ℕ → Option Row
@@ -52,4 +52,4 @@ lists es = pairs_at (list_at es) (ascending (named_lists es))
 -- whether a listing's target is there
 abbrev pub is_there : List Edit → Target → Bool
 is_there es Items = true
-is_there es (Container c) = if c == BASE_LIST then true else is_some (list_at es c)
+is_there es (Container c) = if c == base_list then true else is_some (list_at es c)

@@ -5,7 +5,7 @@ use Rattle.std.specs.Option.{option_map_or}
 use Rattle.std.specs.List.{list_any}
 use Rattle.item_model.specs.declared.changes.Entry.{Entry}
 use Rattle.item_model.specs.declared.changes.Entry.TheVariants.{Edits, Login, Logout, Stop}
-use Rattle.share_history.specs.declared.sessions.TheConstants.{LIVE_SESSIONS}
+use Rattle.share_history.specs.Numbers.{live_sessions}
 
 abbrev pub is_login : Entry → Bool
 is_login (Edits by batch) = false
@@ -37,7 +37,7 @@ after_login id [] = None
 after_login id (e ∷ h) = if is_login_of id e then Some h else after_login id h
 
 abbrev pub is_live : List Entry → ℕ → Bool
-is_live h id = option_map_or (λ rest. nat_lt (count_by is_login rest) LIVE_SESSIONS) (after_login id h) false && not (list_any (logs_out id) h)
+is_live h id = option_map_or (λ rest. nat_lt (count_by is_login rest) live_sessions) (after_login id h) false && not (list_any (logs_out id) h)
 
 -- the id of the next login
 abbrev pub next_session : List Entry → ℕ

@@ -3,10 +3,10 @@
 ghost use Rattle.std.specs.Prelude.{◌≡◌, ◌<◌, ◌^◌, ◌++◌, IfOk, OnOk, map, length};
 ghost use Rattle.dmap_tags.specs.Tree.{leaf, list, trees_of, U32};
 ghost use Rattle.share_history.specs.Histories.{batches, revision, all_edits};
-ghost use Rattle.share_history.specs.Bodies.{start_tags, body_code, key_code, gone_tags, body_tree, full_body, listing_body};
+ghost use Rattle.share_history.specs.Bodies.{start_tags, body_code, key_code, gone_tags, body_tree, full_body, delta_body, listing_body};
 ghost use Rattle.share_history.specs.ListingSeen.{listing_of};
 
-use crate::listings::{Listing, full_listing, listing_for};
+use crate::listings::{Listing, delta_listing, full_listing, listing_for};
 use dmap_tags::{Code, Tag, Tags, Value};
 use item_model::{Entry, Look, Target};
 use std::alloc::{AllocError, Global};
@@ -52,7 +52,8 @@ pub(crate) fn start_tags(
     Ok(tags)
 }
 
-fn body_code(target: Target) -> Code
+/// The code of a listing's body.
+pub fn body_code(target: Target) -> Code
     ensures { result ≡ body_code target }
 {
     match target {
@@ -61,7 +62,8 @@ fn body_code(target: Target) -> Code
     }
 }
 
-fn key_code(target: Target) -> Code
+/// The code of the keys under which a listing's rows stand.
+pub fn key_code(target: Target) -> Code
     ensures { result ≡ key_code target }
 {
     match target {
@@ -137,6 +139,23 @@ pub fn full_body(
     ensures { IfOk result (λ tag. tag ≡ full_body history.now target look.now) }
 {
     let listing = full_listing(alloc, history, target, look)?;
+    let tag = body(alloc, target, listing)?;
+    Ok(tag)
+}
+
+/// The body of the change since a base.
+pub fn delta_body(
+    alloc: Global,
+    history: &[Entry],
+    target: Target,
+    look: &Look,
+    base: u32,
+) -> Result<Tag, AllocError>
+    requires revision { revision (batches history.now) < 2 ^ 32 }
+    requires edits { length (all_edits history.now) < 2 ^ 32 }
+    ensures { IfOk result (λ tag. tag ≡ delta_body history.now target look.now base) }
+{
+    let listing = delta_listing(alloc, history, target, look, base)?;
     let tag = body(alloc, target, listing)?;
     Ok(tag)
 }

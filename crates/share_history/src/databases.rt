@@ -11,12 +11,12 @@ ghost use Rattle.share_history.specs.Databases.{whole_body, entry_tag, database_
 ghost use Rattle.share_history.specs.PlaylistSeen.{playlist_of, listed_of};
 
 use crate::bodies::{list_tag, number_tag, start_tags};
-use crate::keys::lists;
-use crate::lists::{PlaylistRef, list};
+use crate::keys::{lists, lists_with};
+use crate::lists::{PlaylistRef, list, list_with};
 use crate::revisions::revision;
 use crate::selection::{BASE_LIST, library, rows};
 use dmap_tags::{Code, Tag, Tags, Text, Value};
-use item_model::{Entry, Target};
+use item_model::{Edit, Entry, Target};
 use std::alloc::{AllocError, Global};
 
 /// A listing of all its entries.
@@ -78,6 +78,22 @@ pub fn playlists(
     let mut found = Vec::new(alloc);
     for id in &lists(alloc, history)? {
         push_list(&mut found, *id, list(history, *id))?;
+    }
+    Ok(found)
+}
+
+// The lists that are there after some edits more.
+#[tactic(auto, using(crate::proofs::FoldFacts::found_next))]
+pub(crate) fn playlists_with<'a>(
+    alloc: Global,
+    history: &'a [Entry],
+    edits: &'a [Edit],
+) -> Result<Vec<(u32, PlaylistRef<'a>)>, AllocError>
+    ensures { IfOk result (λ found. map listed_of found.items ≡ lists (all_edits history.now ++ edits.now)) }
+{
+    let mut found = Vec::new(alloc);
+    for id in &lists_with(alloc, history, edits)? {
+        push_list(&mut found, *id, list_with(history, edits, *id))?;
     }
     Ok(found)
 }

@@ -1,6 +1,6 @@
 //! Kept bases and touched keys.
 
-ghost use Rattle.std.specs.Prelude.{◌≡◌, ◌<◌, ◌-◌, ◌^◌, ◌∷◌, [], ◌++◌, length, drop, IfOk, OnOk, if◌then◌else◌, option_map};
+ghost use Rattle.std.specs.Prelude.{◌≡◌, ◌<◌, ◌^◌, ◌∷◌, [], ◌++◌, IfOk, OnOk, if◌then◌else◌, option_map};
 ghost use Rattle.share_history.specs.Histories.{batches, revision, all_edits};
 ghost use Rattle.share_history.specs.Kept.{is_left, is_kept, names_its_item, touches_in, touches, touched};
 ghost use Rattle.share_history.specs.PlaylistSeen.{playlist_of};
@@ -8,38 +8,10 @@ ghost use Rattle.share_history.specs.PlaylistSeen.{playlist_of};
 use crate::keys::keys;
 use crate::lists::{PlaylistRef, list, member};
 use crate::names::{Named, is_named};
-use crate::revisions::{FIRST_REVISION, revision};
+use crate::revisions::{FIRST_REVISION, after, revision};
 use crate::selection::BASE_LIST;
 use item_model::{Entry, Target};
 use std::alloc::{AllocError, Global};
-
-// How many batches there are still to pass, of at least one, behind an entry.
-fn left_behind(left: u32, entry: &Entry) -> u32
-    requires { 0 < left }
-    ensures { result ≡ left - length (batches (entry.now ∷ [])) }
-{
-    match entry {
-        Entry::Edits { .. } => left - 1,
-        _ => left,
-    }
-}
-
-/// The entries behind the one that made a revision: all of them where it is the first, none where it is not
-/// reached yet.
-#[tactic(auto, using(crate::proofs::FoldFacts::batches_left))]
-pub fn after(history: &[Entry], base: u32) -> &[Entry]
-    ensures { batches result.now ≡ drop (base - FIRST_REVISION) (batches history.now) }
-{
-    let mut left = base.saturating_sub(FIRST_REVISION);
-    for (place, entry) in history.iter().enumerate() {
-        if left == 0 {
-            let (_, rest) = history.split_at(place);
-            return rest;
-        }
-        left = left_behind(left, entry);
-    }
-    &[]
-}
 
 // Whether the entries neither put nor drop the target as a list.
 fn is_left(target: Target, entries: &[Entry]) -> bool

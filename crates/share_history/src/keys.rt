@@ -1,6 +1,6 @@
 //! The keys that edits name.
 
-ghost use Rattle.std.specs.Prelude.{◌≡◌, OnOk, IfOk, fold, option_to_list};
+ghost use Rattle.std.specs.Prelude.{◌≡◌, ◌++◌, OnOk, IfOk, fold, option_to_list};
 ghost use Rattle.std.specs.Ordering.{nat_cmp};
 ghost use Rattle.std.specs.BTreeSet.{insert_key};
 ghost use Rattle.share_history.specs.Histories.{all_edits};
@@ -84,5 +84,19 @@ pub(crate) fn lists(alloc: Global, history: &[Entry]) -> Result<BTreeSet<u32>, A
     for entry in history {
         put_lists(&mut keys, edits_of(entry))?;
     }
+    Ok(keys)
+}
+
+/// The ids of lists that the history's edits and some more put or drop.
+#[tactic(auto, using(crate::proofs::FoldFacts::keys_on))]
+pub(crate) fn lists_with(
+    alloc: Global,
+    history: &[Entry],
+    edits: &[Edit],
+) -> Result<BTreeSet<u32>, AllocError>
+    ensures { IfOk result (λ keys. keys.keys ≡ ascending (named_lists (all_edits history.now ++ edits.now))) }
+{
+    let mut keys = lists(alloc, history)?;
+    put_lists(&mut keys, edits)?;
     Ok(keys)
 }

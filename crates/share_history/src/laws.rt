@@ -1,7 +1,7 @@
 //! What holds of all histories. Each function does nothing; its contract is a fact that follows from the
 //! definitions.
 
-ghost use Rattle.share_history.specs.Laws.{LibraryAscends, OpensWithTheBatch, ListsBeginWithoutMembers, ListsBeginEmpty, MembersNeedAList, MembersFollowTheirItems, BasesArePast, NothingChangedSinceNow, BodiesTellTheirRows, MirrorsFollow, MirrorsCatchUp, FullListingsSuffice};
+ghost use Rattle.share_history.specs.Laws.{LibraryAscends, OpensWithTheBatch, BatchesMakeRevisions, ListsBeginWithoutMembers, ListsBeginEmpty, MembersNeedAList, MembersFollowTheirItems, BasesArePast, NewTargetsAreNotKept, NothingChangedSinceNow, BodiesTellTheirRows, MirrorsFollow, MirrorsCatchUp, FullListingsSuffice, LoginsStayOrderly, MarksFollowAnswers};
 
 /// The library has each id once, in ascending order.
 #[tactic(auto, using(crate::proofs::LawFacts::library_ascends))]
@@ -13,6 +13,11 @@ pub fn the_library_ascends()
 #[tactic(auto, using(crate::proofs::LawFacts::opens_with_the_batch))]
 pub fn a_share_opens_with_its_batch()
     ensures { OpensWithTheBatch }
+{}
+
+/// The history at a revision has the batches up to it.
+pub fn batches_make_revisions()
+    ensures { BatchesMakeRevisions }
 {}
 
 /// A put or a drop of a list takes all members out of it.
@@ -42,6 +47,11 @@ pub fn a_base_is_past()
     ensures { BasesArePast }
 {}
 
+/// A target that came to be there after a revision has no kept base there.
+pub fn a_new_target_is_not_kept()
+    ensures { NewTargetsAreNotKept }
+{}
+
 /// From the present revision on nothing was touched.
 pub fn nothing_changed_since_now()
     ensures { NothingChangedSinceNow }
@@ -67,4 +77,14 @@ pub fn a_mirror_follows()
 #[tactic(auto, using(crate::proofs::MirrorFacts::mirrors_catch_up))]
 pub fn a_mirror_catches_up()
     ensures { MirrorsCatchUp }
+{}
+
+/// A login with the next id keeps the ids in order.
+pub fn a_login_stays_orderly()
+    ensures { LoginsStayOrderly }
+{}
+
+/// An answer to a session sets its mark, and leaves marks to live sessions alone.
+pub fn marks_follow_answers()
+    ensures { MarksFollowAnswers }
 {}

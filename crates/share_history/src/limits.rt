@@ -1,11 +1,13 @@
 //! How much a share takes.
 
-ghost use Rattle.std.specs.Prelude.{◌≡◌, ◌<◌, ◌+◌, ◌^◌, count_by, length, if◌then◌else◌};
+ghost use Rattle.std.specs.Prelude.{◌≡◌, ◌<◌, ◌+◌, ◌^◌, IfOk, count_by, length, if◌then◌else◌};
 ghost use Rattle.share_history.specs.Histories.{all_edits};
-ghost use Rattle.share_history.specs.Limits.{takes_place, has_place, has_room_for};
+ghost use Rattle.share_history.specs.Limits.{takes_place, has_place, has_room_for, has_few_lists, takes_batch};
 
+use crate::databases::playlists_with;
 use crate::revisions::edits_of;
-use item_model::Entry;
+use item_model::{Batch, Edit, Entry};
+use std::alloc::{AllocError, Global};
 
 /// How many entries of edits and of logins a history has at most.
 pub const MAX_ENTRIES: usize = 1_048_576;
@@ -62,4 +64,24 @@ pub fn has_room_for(history: &[Entry], count: usize) -> bool
         left -= brought;
     }
     true
+}
+
+// Whether after some edits more there are not too many lists.
+#[tactic(auto, using(crate::proofs::RowFacts::counted_lists))]
+fn has_few_lists(alloc: Global, history: &[Entry], edits: &[Edit]) -> Result<bool, AllocError>
+    ensures { IfOk result (λ has. has ≡ has_few_lists history.now edits.now) }
+{
+    let lists = playlists_with(alloc, history, edits)?;
+    Ok(lists.len() <= MAX_LISTS)
+}
+
+/// Whether a batch meets no limit.
+pub fn takes_batch(alloc: Global, history: &[Entry], batch: &Batch) -> Result<bool, AllocError>
+    ensures { IfOk result (λ takes. takes ≡ takes_batch history.now batch.now) }
+{
+    let edits = batch.edits.as_slice();
+    if !has_place(history) || !has_room_for(history, edits.len()) {
+        return Ok(false);
+    }
+    has_few_lists(alloc, history, edits)
 }

@@ -9,9 +9,9 @@ ghost use Rattle.share_history.specs.Listings.{member_of, shown, shown_rows, ful
 ghost use Rattle.share_history.specs.RowSeen.{row_of};
 ghost use Rattle.share_history.specs.ListingSeen.{listing_of};
 
-use crate::kept::{after, is_kept, is_touched, push_if, touched};
+use crate::kept::{is_kept, is_touched, push_if, touched};
 use crate::ranges::in_range;
-use crate::revisions::revision;
+use crate::revisions::{after, revision};
 use crate::selection::{row, rows};
 use dmap_tags::Tag;
 use item_model::{Entry, Look, Meta, Query, Row, Target, project};

@@ -1,6 +1,6 @@
 //! Lists and their members.
 
-ghost use Rattle.std.specs.Prelude.{◌≡◌, unwrap_or, option_map};
+ghost use Rattle.std.specs.Prelude.{◌≡◌, ◌++◌, unwrap_or, option_map};
 ghost use Rattle.share_history.specs.Histories.{all_edits};
 ghost use Rattle.share_history.specs.LastSaid.{last_said, says_list, says_member, list_at, member_at};
 ghost use Rattle.share_history.specs.PlaylistSeen.{playlist_of};
@@ -71,6 +71,18 @@ pub fn list(history: &[Entry], id: u32) -> Option<PlaylistRef<'_>>
         found = list_in(found, edits_of(entry), id);
     }
     found
+}
+
+// The list of an id after some edits more.
+#[tactic(auto, using(crate::proofs::EditFacts::said_more_edits))]
+pub(crate) fn list_with<'a>(
+    history: &'a [Entry],
+    edits: &'a [Edit],
+    id: u32,
+) -> Option<PlaylistRef<'a>>
+    ensures { option_map playlist_of result ≡ list_at (all_edits history.now ++ edits.now) id }
+{
+    list_in(list(history, id), edits, id)
 }
 
 // What was found before the edit, or what the edit says in its place.

@@ -4,7 +4,7 @@ ghost use Rattle.std.specs.Prelude.{◌≡◌, ◌<◌, ◌≤◌, ◌++◌, len
 ghost use Rattle.item_model.specs.QuerySeen.{tree_of};
 ghost use Rattle.song_query.specs.Holds.{holds};
 ghost use Rattle.share_history.specs.Histories.{all_edits};
-ghost use Rattle.share_history.specs.Rows.{is_asked, if_asked, in_list, in_target, row_at, rows, library};
+ghost use Rattle.share_history.specs.Rows.{is_asked, if_asked, in_list, in_target, row_at, rows, library, is_there};
 ghost use Rattle.share_history.specs.PlaylistSeen.{playlist_of};
 ghost use Rattle.share_history.specs.RowSeen.{row_of};
 
@@ -82,6 +82,16 @@ fn in_target(history: &[Entry], target: Target, key: u32) -> Option<&Row>
     match target {
         Target::Container(id) if id != BASE_LIST => in_list(list(history, id), history, id, key),
         _ => item(history, key),
+    }
+}
+
+/// Whether the target of a listing is there.
+pub fn is_there(history: &[Entry], target: Target) -> bool
+    ensures { result ≡ is_there (all_edits history.now) target }
+{
+    match target {
+        Target::Container(id) if id != BASE_LIST => list(history, id).is_some(),
+        _ => true,
     }
 }
 

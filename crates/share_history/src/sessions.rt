@@ -2,6 +2,7 @@
 
 ghost use Rattle.std.specs.Prelude.{◌≡◌, ◌<◌, ◌+◌, ◌^◌, option_copied, option_map, count_by, if◌then◌else◌};
 ghost use Rattle.std.specs.List.{list_any};
+ghost use Rattle.share_history.specs.Marks.{until_login};
 ghost use Rattle.share_history.specs.Sessions.{is_login, is_login_of, logs_out, is_stop, after_login, is_live, next_session, is_stopped};
 
 use item_model::Entry;
@@ -69,6 +70,20 @@ fn after_login(history: &[Entry], session: u32) -> Option<&[Entry]>
         }
     }
     None
+}
+
+/// The history up to and with the login of a session, and all of it where the session never logged in.
+#[tactic(auto, using(crate::proofs::SessionFacts::until_login_left))]
+pub fn until_login(history: &[Entry], session: u32) -> &[Entry]
+    ensures { result.now ≡ until_login session history.now }
+{
+    for (place, entry) in history.iter().enumerate() {
+        if is_login_of(entry, session) {
+            let (front, _) = history.split_at(place + 1);
+            return front;
+        }
+    }
+    history
 }
 
 #[tactic(auto, using(crate::proofs::FoldFacts::any_left))]

@@ -324,7 +324,12 @@ fn an_item_that_left_the_query_is_deleted(rt: HostRuntime) -> Result<(), Fail> {
         Target::Items,
         &now,
         nothing_since_4(),
-    )
+    )?;
+    if is_small(history.as_slice()) {
+        let change = delta_body(alloc, history.as_slice(), Target::Items, &since, 3)?;
+        assert_eq!(rt; bytes_of(alloc, change)?.as_slice(), left_the_query());
+    }
+    Ok(())
 }
 
 #[test]
@@ -570,5 +575,23 @@ fn the_oldest_session_ends_with_the_65th_login(rt: HostRuntime) -> Result<(), Fa
     history.push(Entry::Logout { by: 0, id: 2 })?;
     assert!(rt; !is_live(history.as_slice(), 2));
     assert!(rt; !is_stopped(history.as_slice()));
+    Ok(())
+}
+
+/// A batch that puts so many lists.
+fn puts_lists(alloc: Global, count: u32) -> Result<Batch, AllocError> {
+    let mut edits = Edits::new(alloc);
+    for list in 2..count.saturating_add(2) {
+        let name = Text::of(alloc, "")?;
+        edits.push(Edit::PutList { list, name })?;
+    }
+    Ok(Batch { edits })
+}
+
+#[test]
+fn a_share_takes_1024_lists(rt: HostRuntime) -> Result<(), Fail> {
+    let alloc = rt.alloc();
+    assert!(rt; takes_batch(alloc, &[], &puts_lists(alloc, 1_024)?)?);
+    assert!(rt; !takes_batch(alloc, &[], &puts_lists(alloc, 1_025)?)?);
     Ok(())
 }
