@@ -4,7 +4,7 @@ ghost use Rattle.std.specs.Prelude.{◌≡◌, ◌≤◌, ◌<◌, ◌+◌, ◌^
 ghost use Rattle.share_history.specs.Histories.{batches, revision};
 
 use item_model::Entry;
-use share_history::FIRST_REVISION;
+use share_history::{FIRST_REVISION, revision_after};
 use std::alloc::{AllocError, Global};
 use std::marker::Model;
 
@@ -29,17 +29,6 @@ impl Model for EditLog {
     ghost view = { λ a. record { entries = a.entries.items; spare = vec_capacity a.entries - vec_len a.entries } };
 
     ghost invariant = { λ a. a.revision ≡ revision_of (batches a.entries.items) };
-}
-
-// The revision after an entry.
-fn revision_after(revision: u32, entry: &Entry) -> u32
-    requires { revision + length (batches (entry.now ∷ [])) < 2 ^ 32 }
-    ensures { result ≡ revision + length (batches (entry.now ∷ [])) }
-{
-    match entry {
-        Entry::Edits { .. } => revision + 1,
-        _ => revision,
-    }
 }
 
 impl EditLog {
@@ -78,7 +67,8 @@ impl EditLog {
 
     /// How many entries there are.
     pub fn len(&self) -> u64
-        ensures { result ≡ length self.now.entries }
+        ensures count { result ≡ length self.now.entries }
+        ensures small { result < 2 ^ 63 }
     {
         self.entries.len() as u64
     }
