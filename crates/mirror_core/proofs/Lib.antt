@@ -3,3 +3,4 @@ pub mod MergeFacts
 pub mod ReadFacts
 pub mod ApplyFacts
 pub mod LawFacts
+pub mod AfterFacts

@@ -2,5 +2,6 @@ pub mod Mirrored
 pub mod Bodies
 pub mod Reading
 pub mod ToldSeen
+pub mod After
 pub mod Changes
 pub mod Laws

@@ -2,7 +2,8 @@
 
 ghost use Rattle.std.specs.Prelude.{◌≡◌, ◌≤◌, ◌<◌, [], ℕ, length, Option, Err, IfOk, OnErr, option_map, slice_get};
 ghost use Rattle.share_history.specs.Listings.{Listing};
-ghost use Rattle.share_history.specs.Mirror.{mirror_after, mirror_look};
+ghost use Rattle.share_history.specs.Mirror.{mirror_look};
+ghost use Rattle.mirror_core.specs.After.{after_body};
 ghost use Rattle.mirror_core.specs.Bodies.{IsListing, IsNoListing};
 
 use crate::merging::take_in;
@@ -134,7 +135,7 @@ impl Mirror {
     pub fn apply(&mut self, body: &Tag) -> Result<Applied, MirrorError>
         ensures applied { IfOk result (λ applied. (listing : Listing) × IsListing self.old.target self.old.held.revision listing body.now
             × (self.old.held.revision ≤ listing.revision)
-            × (self.new ≡ record { target = self.old.target; query = self.old.query; meta = self.old.meta; held = mirror_after self.old.held listing })
+            × (self.new ≡ record { target = self.old.target; query = self.old.query; meta = self.old.meta; held = after_body self.old.target self.old.held body.now })
             × (applied ≡ record { revision = listing.revision; delta = listing.is_delta; put = length listing.rows; dropped = length listing.gone; rows = length self.new.held.rows })) }
         ensures no_listing { (index : Option ℕ) → (result ≡ Err (MirrorError.NotListing index)) → IsNoListing self.old.target self.old.held.revision body.now index }
         ensures backwards { (held told : ℕ) → (result ≡ Err (MirrorError.Backwards held told)) → (listing : Listing) × IsListing self.old.target self.old.held.revision listing body.now × (held ≡ self.old.held.revision) × (told ≡ listing.revision) × (told < held) }

@@ -6,10 +6,11 @@ ghost use Rattle.mirror_core.specs.ToldSeen.{told_of};
 ghost use Rattle.mirror_core.specs.declared.told.Due.TheVariants.{Status};
 
 use crate::steps::passed;
-use crate::tags::{body_code, members_in};
+use crate::tags::members_in;
 use crate::told::{Due, ToldRef};
 use dmap_tags::Tag;
 use item_model::Target;
+use share_history::body_code;
 
 // What a body tells, or the place of the member at which it is no listing; `None` for another tag altogether.
 pub(crate) fn read(target: Target, base: u32, body: &Tag) -> Result<ToldRef<'_>, Option<u64>>

@@ -3,30 +3,12 @@
 ghost use Rattle.std.specs.Prelude.{◌≡◌, option_copied};
 ghost use Rattle.std.specs.List.{list_any};
 ghost use Rattle.dmap_tags.specs.Codes.{is_code};
-ghost use Rattle.share_history.specs.Bodies.{body_code, key_code};
 ghost use Rattle.mirror_core.specs.Bodies.{is_listings};
 ghost use Rattle.mirror_core.specs.Reading.{number_in, mark_in, members_in, row_key, are_rows, are_keys, row_of, key_of};
 
 use dmap_tags::{Code, Tag, Value};
 use item_model::Target;
-
-pub(crate) fn body_code(target: Target) -> Code
-    ensures { result ≡ body_code target }
-{
-    match target {
-        Target::Items => Code(*b"adbs"),
-        Target::Container(_) => Code(*b"apso"),
-    }
-}
-
-pub(crate) fn key_code(target: Target) -> Code
-    ensures { result ≡ key_code target }
-{
-    match target {
-        Target::Items => Code(*b"miid"),
-        Target::Container(_) => Code(*b"mcti"),
-    }
-}
+use share_history::key_code;
 
 // Whether a listing's own members have the tag's code.
 pub(crate) fn is_listings(tag: &Tag) -> bool

@@ -1,6 +1,6 @@
 use Rattle.std.proofs.Common.{◌≡◌, Err, ap, ◌∙◌, arith}
+use Rattle.mirror_core.proofs.AfterFacts.{after_listing}
 use Rattle.mirror_core.proofs.LawFacts.{listings_are_one, listings_are_not_stuck}
-use Rattle.share_history.specs.Mirror.{mirror_after}
 use Rattle.rehearsal.proofs.answering.take.Goals as goal
 
 pub unreachable-requires : goal.unreachable-requires
@@ -28,4 +28,4 @@ pub returns-in-Ok-clause-held : goal.returns-in-Ok-clause-held
 returns-in-Ok-clause-held c = λ l is.
     let m = c.args.mirror.now in
     let done = c.in-Ok.ensures.applied in
-    done.3 ∙ ap (λ x. record { target = m.target; query = m.query; meta = m.meta; held = mirror_after m.held x }) (listings_are_one m.target m.held.revision done.0 l c.args.body.now done.1 is)
+    done.3 ∙ ap (λ x. record { target = m.target; query = m.query; meta = m.meta; held = x }) (after_listing m.target m.held l c.args.body.now is)

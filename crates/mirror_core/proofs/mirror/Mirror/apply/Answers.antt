@@ -3,7 +3,7 @@ use Rattle.std.proofs.Common.{◌≡◌, map, length, rules, sym, ap, ◌∙◌,
 use Rattle.std.proofs.lemmas.List.{length-map}
 use Rattle.mirror_core.specs.Reading.{row_of, key_of, listing_of}
 use Rattle.mirror_core.specs.ToldSeen.{told_of}
-use Rattle.mirror_core.proofs.ApplyFacts.{no_listing_told, listing_told, ascending-taken, mirror_told}
+use Rattle.mirror_core.proofs.ApplyFacts.{no_listing_told, listing_of_told, ascending-taken, mirror_told}
 use Rattle.mirror_core.proofs.mirror.Mirror.apply.Goals as goal
 
 pub returns-in-Err-clause-no_listing : goal.returns-in-Err-clause-no_listing
@@ -16,7 +16,7 @@ returns-then-told-self-clause-backwards c = λ held told e.
     let base : c.self.inside.revision ≡ held = cc in
     let revision : c.in-Ok.told.revision ≡ told = cc in (
       listing_of c.self.inside.target (told_of c.in-Ok.told),
-      listing_told _ c.args.self.now c.args.body.now (told_of c.in-Ok.told) c.self.view_is c.in-Ok.ensures,
+      listing_of_told _ c.args.self.now c.args.body.now (told_of c.in-Ok.told) c.self.view_is c.in-Ok.ensures,
       sym base ∙ ap (λ m. m.held.revision) c.self.view_is,
       sym revision,
       omega (arith, base, revision),
@@ -32,9 +32,9 @@ returns-clause-applied c =
     let base : c.self.inside.revision ≡ c.args.self.now.held.revision = ap (λ m. m.held.revision) c.self.view_is in
     let rows : c.len.result ≡ length c.take_in.new.held.items = search rules in (
       listing_of c.self.inside.target (told_of c.in-Ok.told),
-      listing_told _ c.args.self.now c.args.body.now (told_of c.in-Ok.told) c.self.view_is c.in-Ok.ensures,
+      listing_of_told _ c.args.self.now c.args.body.now (told_of c.in-Ok.told) c.self.view_is c.in-Ok.ensures,
       omega (arith, base),
-      mirror_told _ c.args.self.now (told_of c.in-Ok.told) c.take_in.new.held.items c.self.view_is c.self.invariant c.in-Ok-take_in.ensures.rows,
+      mirror_told _ c.args.self.now c.args.body.now (told_of c.in-Ok.told) c.take_in.new.held.items c.self.view_is c.in-Ok.ensures c.self.invariant c.in-Ok-take_in.ensures.rows,
       λ i. record {
         revision = c.in-Ok.told.revision;
         delta = c.in-Ok.told.is_delta;
