@@ -6,7 +6,7 @@ use Rattle.item_store.proofs.edits.take_in_one.Goals as goal
 pub returns-in-Ok-clause-items : goal.returns-in-Ok-clause-items
 returns-in-Ok-clause-items c =
     let row = c.in-Ok.copy in
-    let is = c.in-PutItem.is ∙ ap PutItem (sym c.in-Ok.ensures) in
+    let is = c.in-PutItem.is ∙ ap PutItem (sym (c.in-Ok.ensures ∙ c.row.ensures)) in
     rw is
     (one_set c.set.result (PutItem row) row.id (Some row) c.args.held.now.entries c.set.new.held.entries c.args.revision c.args.count (rw is at c.requires)
     (λ q. refl) (λ es. length-put_item es row) c.set.ensures.rows c.set.ensures.counted)
