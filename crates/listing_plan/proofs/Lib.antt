@@ -1,6 +1,6 @@
-pub mod Few
 pub mod Spelled
 pub mod Short
 pub mod Bodies
+pub mod Moves
 pub mod Writing
 pub mod Samples

@@ -1,9 +1,9 @@
 -- How many bytes tags have, and that few bytes can be spelled.
-use Rattle.std.proofs.Common.{◌≡◌, ◌≤◌, ◌+◌, ◌++◌, ℕ, true, List, [], ◌∷◌, length, refl, sym, ap, ◌∙◌, append_assoc, length-append, arith}
-use Rattle.std.proofs.lemmas.Bool.{and_from, le-leb}
+use Rattle.std.proofs.Common.{◌≡◌, ◌≤◌, ◌+◌, ◌++◌, ℕ, nat_le, true, List, [], ◌∷◌, length, refl, sym, ap, ◌∙◌, append_assoc, length-append, arith}
+use Rattle.std.proofs.lemmas.Bool.{and_from, and_parts, le-leb, leb-true}
 use Rattle.dmap_tags.specs.Codes.{Four}
-use Rattle.dmap_tags.specs.Tree.{Tree, leaf, list, Trees, none, more, trees_of}
-use Rattle.dmap_tags.specs.Spelling.{framed, leaf_payload, spelling, spellings, longest, is_spellable, are_spellable}
+use Rattle.dmap_tags.specs.Tree.{Tree, tree_code, leaf, list, Trees, none, more, trees_of}
+use Rattle.dmap_tags.specs.Spelling.{framed, payload, leaf_payload, spelling, spellings, longest, is_spellable, are_spellable}
 
 -- the spellings of several tags are those of the first and of the others
 pub spellings_append : (xs ys : List Tree) → spellings (trees_of (xs ++ ys)) ≡ spellings (trees_of xs) ++ spellings (trees_of ys)
@@ -32,3 +32,12 @@ mutual
   short_spellables none h = refl
   short_spellables (more t ts) h =
       and_from _ _ (short_spellable t (omega (arith, more_length t ts))) (short_spellables ts (omega (arith, more_length t ts)))
+
+-- a tag has a head of eight bytes before its payload
+pub payload_length : (t : Tree) → length (spelling t) ≡ length (payload t) + 8
+payload_length t = framed_length (tree_code t) (payload t)
+
+-- what can be spelled has no payload that is too long
+pub spellable_short : (t : Tree) → is_spellable t ≡ true → length (payload t) ≤ longest
+spellable_short (leaf c l) h = leb-true _ _ h
+spellable_short (list c ts) h = leb-true _ _ (and_parts (are_spellable ts) (nat_le (length (spellings ts)) longest) h).1

@@ -1,4 +1,7 @@
+pub mod Limits
 pub mod Planned
 pub mod Plans
+pub mod Lengths
 pub mod Held
+pub mod Pages
 pub mod Laws

@@ -10,7 +10,7 @@ use Rattle.share_history.specs.Bodies.{body_tree}
 use Rattle.listing_plan.specs.declared.plan.Plan.{Plan}
 use Rattle.listing_plan.specs.declared.plan.Plan.TheVariants.{Empty, Plain, Tagged, Rows}
 use Rattle.listing_plan.specs.declared.row.PlanRow.{PlanRow}
-use Rattle.listing_plan.specs.declared.plan.TheConstants.{MAX_ROWS}  -- 262144
+use Rattle.listing_plan.specs.Limits.{rows_limit}
 
 -- the key of a row: its member's in a container, else its item's id
 abbrev pub key_of : PlanRow → ℕ
@@ -27,11 +27,11 @@ keyed rows = map (λ row. (key_of row, row.row)) rows
 pub record AreRowsOf (target : Target) (rows : List PlanRow) : Type 0 where
   pub members : All (λ row. row.member ≡ member_of target (key_of row)) rows
   pub ascending : AreAscending (keys_of_rows rows)
-  pub few : length rows ≤ MAX_ROWS
+  pub few : length rows ≤ rows_limit
 
 pub record AreGone (keys : List ℕ) : Type 0 where
   pub ascending : AreAscending keys
-  pub few : length keys ≤ MAX_ROWS
+  pub few : length keys ≤ rows_limit
 
 -- the full listing with these rows, of so many before the range, and the delta with these rows and deleted keys
 abbrev pub full_plan : Target → (revision total : ℕ) → List PlanRow → Meta → Listing

@@ -1,10 +1,26 @@
-//! What holds of the rows of all listings. Each function does nothing; its contract is a fact that follows from the
-//! definitions.
+//! What holds of all listings. Each function does nothing; its contract is a fact that follows from the definitions.
 
-ghost use Rattle.listing_plan.specs.Laws.{RowsAreShort};
+ghost use Rattle.std.specs.Prelude.{◌≡◌};
+ghost use Rattle.listing_plan.specs.Limits.{rows_limit, page_limit};
+ghost use Rattle.listing_plan.specs.Laws.{RowsAreShort, ListingsAreShort};
+
+use crate::page::PAGE_BYTES;
+use crate::plan::MAX_ROWS;
 
 /// The tag of a row can be spelled, in few bytes.
 #[tactic(auto, using(crate::proofs::Short::rows_are_short))]
 pub fn a_row_is_short()
     ensures { RowsAreShort }
+{}
+
+/// A mirror that reads up to 1 GiB of one tag reads each listing.
+#[tactic(auto, using(crate::proofs::Bodies::listings_are_short))]
+pub fn a_listing_is_short()
+    ensures { ListingsAreShort }
+{}
+
+/// The constants of this crate are the numbers of the definitions.
+pub fn the_constants()
+    ensures rows { MAX_ROWS ≡ rows_limit }
+    ensures page { PAGE_BYTES ≡ page_limit }
 {}

@@ -4,14 +4,14 @@ ghost use Rattle.std.specs.Prelude.{◌≡◌, ◌≤◌, ◌+◌, ◌*◌, ℕ,
 ghost use Rattle.dmap_tags.specs.Spelling.{leaf_payload, spelling, spellings};
 ghost use Rattle.dmap_tags.specs.Tree.{trees_of};
 ghost use Rattle.item_model.specs.Items.{is_value_of};
-ghost use Rattle.item_model.specs.Projection.{number_leaf, property_tag, shown, keys, asked, first_mentions, mentions, new_mention};
+ghost use Rattle.item_model.specs.Projection.{number_leaf, property_tag, shown, keys, first_mentions};
 ghost use Rattle.listing_plan.specs.Held.{row_tree, rows_length};
-ghost use Rattle.listing_plan.specs.Laws.{ROW_BYTES};
+ghost use Rattle.listing_plan.specs.Lengths.{tag_most, tags_most};
+ghost use Rattle.listing_plan.specs.Limits.{rows_limit, row_limit};
 
-use crate::plan::MAX_ROWS;
 use crate::row::PlanRow;
 use dmap_tags::Kind;
-use item_model::{DEFAULT_PROJECTION, Item, Meta, PROPERTIES, PropValue, Property};
+use item_model::{Item, PropValue, Property, ShownProperties};
 
 /// How many bytes a tag has before its payload.
 pub(crate) const HEAD_LEN: u64 = 8;
@@ -20,24 +20,26 @@ pub(crate) const HEAD_LEN: u64 = 8;
 pub(crate) const NUMBER_LEN: u64 = 12;
 
 // All the tags of some rows.
-pub(crate) fn rows_len(rows: &[PlanRow], meta: &Meta) -> u64
-    requires { length rows.now ≤ MAX_ROWS }
-    ensures counted { result ≡ rows_length meta.now rows.now }
-    ensures short { result ≤ ROW_BYTES * MAX_ROWS }
+pub(crate) fn rows_len(rows: &[PlanRow], properties: &ShownProperties) -> u64
+    requires { length rows.now ≤ rows_limit }
+    ensures counted { result ≡ rows_length properties.now rows.now }
+    ensures short { result ≤ row_limit * rows_limit }
 {
+    let properties = properties.as_slice();
     let mut len = 0;
     for row in rows {
-        len += row_len(row, meta);
+        len += row_len(row, properties);
     }
     len
 }
 
-#[tactic(auto, using(crate::proofs::Short::row_length))]
-fn row_len(row: &PlanRow, meta: &Meta) -> u64
-    ensures counted { result ≡ length (spelling (row_tree meta.now row.now)) }
-    ensures short { result ≤ ROW_BYTES }
+#[tactic(auto, using(crate::proofs::Short::row_length, crate::proofs::Short::once_short))]
+pub(crate) fn row_len(row: &PlanRow, properties: &[Property]) -> u64
+    requires once { first_mentions properties.now ≡ properties.now }
+    ensures counted { result ≡ length (spelling (row_tree properties.now row.now)) }
+    ensures short { result ≤ row_limit }
 {
-    HEAD_LEN + keys_len(row.member) + asked_len(&row.row.item, meta)
+    HEAD_LEN + keys_len(row.member) + shown_len(&row.row.row().item, properties)
 }
 
 fn keys_len(member: Option<u32>) -> u64
@@ -50,57 +52,22 @@ fn keys_len(member: Option<u32>) -> u64
     }
 }
 
-// Those of the properties that are asked for that the item has.
-#[tactic(auto, using(crate::proofs::Short::default_once, crate::proofs::Short::all_once))]
-fn asked_len(item: &Item, meta: &Meta) -> u64
-    ensures counted { result ≡ length (spellings (trees_of (shown item.now (asked meta.now)))) }
-    ensures short { result ≤ 263 * 26 }
-{
-    match meta {
-        Meta::Default => shown_len(item, &DEFAULT_PROJECTION),
-        Meta::All => shown_len(item, &PROPERTIES),
-        Meta::Names(properties) => shown_len(item, properties.as_slice()),
-    }
-}
-
-// Each property counts once.
+// Those of the properties that the item has.
 fn shown_len(item: &Item, properties: &[Property]) -> u64
-    ensures counted { result ≡ length (spellings (trees_of (shown item.now (first_mentions properties.now)))) }
-    ensures short { result ≤ 263 * 26 }
+    requires once { first_mentions properties.now ≡ properties.now }
+    ensures counted { result ≡ length (spellings (trees_of (shown item.now properties.now))) }
+    ensures short { result ≤ tags_most properties.now }
 {
     let mut len = 0;
-    for (i, property) in properties.iter().enumerate() {
-        let (before, _) = properties.split_at(i);
-        len += mention_len(item, before, *property);
+    for property in properties {
+        len += property_len(item, *property);
     }
     len
 }
 
-// The property, unless it was mentioned before.
-fn mention_len(item: &Item, before: &[Property], property: Property) -> u64
-    ensures counted { result ≡ length (spellings (trees_of (shown item.now (new_mention before.now property)))) }
-    ensures short { result ≤ 263 * length (new_mention before.now property) }
-{
-    if is_mentioned(before, property) {
-        return 0;
-    }
-    property_len(item, property)
-}
-
-fn is_mentioned(properties: &[Property], property: Property) -> bool
-    ensures { result ≡ mentions properties.now property }
-{
-    for p in properties {
-        if p.rank() == property.rank() {
-            return true;
-        }
-    }
-    false
-}
-
 fn property_len(item: &Item, property: Property) -> u64
     ensures counted { result ≡ length (spellings (trees_of (shown item.now (property ∷ [])))) }
-    ensures short { result ≤ 263 }
+    ensures short { result ≤ tag_most property }
 {
     match item.get(property) {
         Some(value) => value_len(property, value),
@@ -112,7 +79,7 @@ fn property_len(item: &Item, property: Property) -> u64
 fn value_len(property: Property, value: &PropValue) -> u64
     requires { is_value_of property value.now ≡ true }
     ensures counted { result ≡ length (spelling (property_tag property value.now)) }
-    ensures short { result ≤ 263 }
+    ensures short { result ≤ tag_most property }
 {
     match value {
         PropValue::Number(_) => HEAD_LEN + number_len(property.kind()),

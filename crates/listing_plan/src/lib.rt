@@ -5,10 +5,13 @@
 mod body;
 pub mod laws;
 mod lengths;
+mod page;
 mod plan;
 mod row;
+mod rows;
+mod tags;
 #[cfg(test)]
 mod tests;
 
-pub use plan::{MAX_ROWS, Plan, PlanError, RowPlan};
+pub use plan::{MAX_ROWS, Plan, RowPlan};
 pub use row::PlanRow;

@@ -1,24 +1,26 @@
 //! Plans: how they are made and written.
 
-ghost use Rattle.std.specs.Prelude.{◌≡◌, length, true, OnOk, OnErr, IfOk, Err, if◌then◌else◌};
+ghost use Rattle.std.specs.Prelude.{◌≡◌, ◌++◌, [], length, true, OnOk, OnErr, if◌then◌else◌};
 ghost use Rattle.std.specs.Io.KnownBytes.{Appends};
 ghost use Rattle.daap_outside.specs.Counts.{Rose};
 ghost use Rattle.daap_outside.specs.Told.{AppendsPrefix};
 ghost use Rattle.dmap_tags.specs.Spelling.{spelling, is_spellable};
 ghost use Rattle.share_history.specs.Bodies.{body_tree};
 ghost use Rattle.listing_plan.specs.Plans.{AreRowsOf, AreGone, full_plan, delta_plan, plan_bytes, IsWritable};
-ghost use Rattle.listing_plan.specs.Held.{is_delta_of, total_of};
+ghost use Rattle.listing_plan.specs.Held.{is_delta_of, total_of, rest_of};
+ghost use Rattle.listing_plan.specs.Pages.{Pushes};
 ghost use Rattle.listing_plan.specs.declared.plan.Plan.TheVariants.{Rows};
 
-use crate::body::{body_code, payload_len, push_gone, push_head, push_rows, push_start, push_tag};
+use crate::body::{body_code, payload_len, push_gone, put_start};
 use crate::lengths::{HEAD_LEN, rows_len};
+use crate::page::Page;
 use crate::row::PlanRow;
-use daap_outside::{Sink, put_all};
-use dmap_tags::{Bytes, Tag, encoded_len};
-use item_model::{Meta, Target};
-use std::alloc::{AllocError, Global};
+use crate::rows::push_rows;
+use crate::tags::{push_tag, tag_len};
+use daap_outside::{Failed, Sink, put_all};
+use dmap_tags::{Bytes, Code, Tag};
+use item_model::{Meta, ShownProperties, Target};
 use std::marker::Model;
-use thiserror::Error;
 
 /// The most rows, and the most deleted keys, that a listing has.
 pub const MAX_ROWS: usize = 262_144;
@@ -48,7 +50,7 @@ pub struct RowPlan {
     revision: u32,
     scope: Scope,
     rows: Vec<PlanRow>,
-    meta: Meta,
+    shown: ShownProperties,
     // how many bytes the tags of the rows have
     rows_len: u64,
 }
@@ -67,16 +69,6 @@ impl Model for RowPlan {
     ghost view = { planned_of };
 
     ghost invariant = { Stands };
-}
-
-/// Why a plan was not written whole.
-#[derive(Debug, Drop, PartialEq, Eq, Error)]
-pub enum PlanError {
-    /// The sink failed; it may have taken some of the first bytes.
-    #[error("a write failed")]
-    Failed,
-    #[error("out of memory")]
-    Memory,
 }
 
 impl Scope {
@@ -102,22 +94,24 @@ impl Scope {
 
 impl Plan {
     /// The full listing with these rows, of so many before the range.
-    #[tactic(auto, using(crate::proofs::Writing::none_gone))]
+    #[tactic(auto, using(crate::proofs::Writing::none_gone, crate::proofs::Bodies::same_rows))]
     pub fn full(target: Target, revision: u32, total: u32, rows: Vec<PlanRow>, meta: Meta) -> Plan
         requires rows { AreRowsOf target rows.items }
         ensures { result ≡ Rows (record { target = target; listing = full_plan target revision total rows.items meta }) }
     {
+        let shown = ShownProperties::of(&meta);
         Plan::Rows(RowPlan {
-            rows_len: rows_len(rows.as_slice(), &meta),
+            rows_len: rows_len(rows.as_slice(), &shown),
             target,
             revision,
             scope: Scope::Full { total },
             rows,
-            meta,
+            shown,
         })
     }
 
     /// The delta with these rows and deleted keys.
+    #[tactic(auto, using(crate::proofs::Bodies::same_rows))]
     pub fn delta(
         target: Target,
         revision: u32,
@@ -129,13 +123,14 @@ impl Plan {
         requires gone { AreGone gone.items }
         ensures { result ≡ Rows (record { target = target; listing = delta_plan target revision rows.items gone.items meta }) }
     {
+        let shown = ShownProperties::of(&meta);
         Plan::Rows(RowPlan {
-            rows_len: rows_len(rows.as_slice(), &meta),
+            rows_len: rows_len(rows.as_slice(), &shown),
             target,
             revision,
             scope: Scope::Delta { gone },
             rows,
-            meta,
+            shown,
         })
     }
 
@@ -152,28 +147,21 @@ impl Plan {
         }
     }
 
-    /// Writes the plan. What it needs of memory it takes before the first byte is written.
+    /// Writes the plan, without memory. After `Failed` the sink may have taken some of the first bytes.
     #[tactic(auto, using(crate::proofs::Writing::nothing_appended))]
-    pub fn write<W: Sink>(&self, alloc: Global, sink: &mut W) -> Result<(), PlanError>
+    pub fn write<W: Sink>(&self, sink: &mut W) -> Result<(), Failed>
         requires { IsWritable self.now }
         ensures written { OnOk result (Appends (W.taken sink.old) (W.taken sink.new) (plan_bytes self.now)) }
         ensures part { OnErr result (AppendsPrefix (W.taken sink.old) (W.taken sink.new) (plan_bytes self.now)) }
-        ensures memory { result ≡ Err PlanError.Memory → sink.new ≡ sink.old }
         ensures count { OnOk result (W.faults sink.new ≡ W.faults sink.old) }
-        ensures failed { result ≡ Err PlanError.Failed → Rose (W.faults sink.old) (W.faults sink.new) }
+        ensures failed { OnErr result (Rose (W.faults sink.old) (W.faults sink.new)) }
         ensures beside { W.beside_taken sink.new ≡ W.beside_taken sink.old }
     {
         match self {
             Plan::Empty => Ok(()),
-            Plan::Plain(bytes) => put(sink, bytes.as_slice()),
-            Plan::Tagged(tag) => match spelled(alloc, tag) {
-                Ok(bytes) => put(sink, bytes.as_slice()),
-                Err(_) => Err(PlanError::Memory),
-            },
-            Plan::Rows(rows) => match rows.spelled(alloc) {
-                Ok(bytes) => put(sink, bytes.as_slice()),
-                Err(_) => Err(PlanError::Memory),
-            },
+            Plan::Plain(bytes) => put_all(sink, bytes.as_slice()),
+            Plan::Tagged(tag) => write_tag(sink, tag),
+            Plan::Rows(rows) => rows.write(sink),
         }
     }
 }
@@ -185,50 +173,50 @@ impl RowPlan {
         HEAD_LEN + payload_len(self.rows_len, &self.scope)
     }
 
-    // The body, made whole.
-    fn spelled(&self, alloc: Global) -> Result<Vec<u8>, AllocError>
-        ensures { IfOk result (λ bytes. bytes.items ≡ spelling (body_tree self.now.target self.now.listing)) }
+    fn write<W: Sink>(&self, sink: &mut W) -> Result<(), Failed>
+        ensures written { OnOk result (Appends (W.taken sink.old) (W.taken sink.new) (spelling (body_tree self.now.target self.now.listing))) }
+        ensures part { OnErr result (AppendsPrefix (W.taken sink.old) (W.taken sink.new) (spelling (body_tree self.now.target self.now.listing))) }
+        ensures count { OnOk result (W.faults sink.new ≡ W.faults sink.old) }
+        ensures failed { OnErr result (Rose (W.faults sink.old) (W.faults sink.new)) }
+        ensures beside { W.beside_taken sink.new ≡ W.beside_taken sink.old }
     {
-        let rows = self.rows.as_slice();
+        let mut page = Page::new();
+        self.put_front(&mut page);
+        self.push_rest(&mut page, sink)?;
+        page.flush(sink)
+    }
+
+    // What stands before the rows: the body's head, what every listing begins with, and the head of the rows.
+    fn put_front(&self, page: &mut Page)
+        requires { page.old ≡ [] }
+        ensures { page.new ++ rest_of self.now ≡ spelling (body_tree self.now.target self.now.listing) }
+    {
         let len = payload_len(self.rows_len, &self.scope);
-        let mut out = Vec::with_capacity(alloc, len as usize + 8)?;
-        push_head(&mut out, body_code(self.target), len)?;
-        push_start(&mut out, &self.scope, self.revision, rows.len() as u32)?;
-        push_rows(alloc, &mut out, rows, &self.meta, self.rows_len)?;
-        push_gone(&mut out, self.target, &self.scope)?;
-        Ok(out)
+        page.put_head(body_code(self.target), len as u32);
+        let listed = self.rows.as_slice().len() as u32;
+        put_start(page, &self.scope, self.revision, listed);
+        page.put_head(Code(*b"mlcl"), self.rows_len as u32);
+    }
+
+    // The rows, and the keys that a delta deletes.
+    fn push_rest<W: Sink>(&self, page: &mut Page, sink: &mut W) -> Result<(), Failed>
+        ensures pushes { Pushes (rest_of self.now) result (W.taken sink.old) (W.taken sink.new) page.old page.new (W.faults sink.old) (W.faults sink.new) }
+        ensures beside { W.beside_taken sink.new ≡ W.beside_taken sink.old }
+    {
+        push_rows(page, sink, self.rows.as_slice(), self.shown.as_slice())?;
+        push_gone(page, sink, self.target, &self.scope)
     }
 }
 
-fn tag_len(tag: &Tag) -> u64
+fn write_tag<W: Sink>(sink: &mut W, tag: &Tag) -> Result<(), Failed>
     requires { is_spellable tag.now ≡ true }
-    ensures { result ≡ length (spelling tag.now) }
-{
-    match encoded_len(tag) {
-        Some(len) => len,
-        None => unreachable!(),
-    }
-}
-
-fn spelled(alloc: Global, tag: &Tag) -> Result<Vec<u8>, AllocError>
-    requires { is_spellable tag.now ≡ true }
-    ensures { IfOk result (λ bytes. bytes.items ≡ spelling tag.now) }
-{
-    let mut bytes = Vec::new(alloc);
-    push_tag(tag, &mut bytes)?;
-    Ok(bytes)
-}
-
-fn put<W: Sink>(sink: &mut W, bytes: &[u8]) -> Result<(), PlanError>
-    ensures written { OnOk result (Appends (W.taken sink.old) (W.taken sink.new) bytes.now) }
-    ensures part { OnErr result (AppendsPrefix (W.taken sink.old) (W.taken sink.new) bytes.now) }
-    ensures memory { result ≡ Err PlanError.Memory → sink.new ≡ sink.old }
+    ensures written { OnOk result (Appends (W.taken sink.old) (W.taken sink.new) (spelling tag.now)) }
+    ensures part { OnErr result (AppendsPrefix (W.taken sink.old) (W.taken sink.new) (spelling tag.now)) }
     ensures count { OnOk result (W.faults sink.new ≡ W.faults sink.old) }
-    ensures failed { result ≡ Err PlanError.Failed → Rose (W.faults sink.old) (W.faults sink.new) }
+    ensures failed { OnErr result (Rose (W.faults sink.old) (W.faults sink.new)) }
     ensures beside { W.beside_taken sink.new ≡ W.beside_taken sink.old }
 {
-    match put_all(sink, bytes) {
-        Ok(()) => Ok(()),
-        Err(_) => Err(PlanError::Failed),
-    }
+    let mut page = Page::new();
+    push_tag(&mut page, sink, tag)?;
+    page.flush(sink)
 }

@@ -1,10 +1,10 @@
 //! Rows of a plan.
 
-use item_model::Row;
+use item_model::SharedRow;
 
 /// A row of a listing, with its key where it is a member of a container.
 #[derive(Debug, Drop)]
 pub struct PlanRow {
     pub member: Option<u32>,
-    pub row: Row,
+    pub row: SharedRow,
 }

@@ -4,10 +4,10 @@ ghost use Rattle.std.specs.Prelude.{IfOk};
 ghost use Rattle.item_model.specs.declared.request.Target.TheVariants.{Items};
 ghost use Rattle.listing_plan.specs.Plans.{AreRowsOf, AreGone, IsWritable};
 
-use crate::{Plan, PlanError, PlanRow};
+use crate::{Plan, PlanRow};
 use daap_outside::{MemSink, Sink};
 use dmap_tags::{Bytes, Code, Tag, Text, Value};
-use item_model::{Item, ItemError, Meta, PropValue, Property, Row, Target};
+use item_model::{Item, ItemError, Meta, PropValue, Property, Row, SharedRow, Target};
 use std::alloc::{AllocError, Global};
 use std::test::Fail;
 
@@ -33,7 +33,7 @@ fn one_row(alloc: Global) -> Result<Vec<PlanRow>, ItemError>
     let item = named_item(alloc, "A")?;
     rows.push(PlanRow {
         member: None,
-        row: Row { id: 7, item },
+        row: SharedRow::new(alloc, Row { id: 7, item })?,
     })?;
     Ok(rows)
 }
@@ -70,8 +70,9 @@ fn writes(alloc: Global, plan: &Plan, bytes: &[u8]) -> Result<bool, AllocError>
     requires { IsWritable plan.now }
 {
     let mut sink = MemSink::new(alloc, 200, 7, &[])?;
-    let written = plan.write(alloc, &mut sink);
-    Ok(written == Ok(()) && shows(&sink, bytes) && plan.body_len() == bytes.len() as u64)
+    let len = plan.body_len();
+    let is_written = plan.write(&mut sink).is_ok();
+    Ok(is_written && shows(&sink, bytes) && len == bytes.len() as u64)
 }
 
 #[test]
@@ -100,8 +101,7 @@ fn other_plans_are_written_as_they_are(rt: HostRuntime) -> Result<(), Fail> {
 fn a_cut_write_keeps_the_first_bytes(rt: HostRuntime) -> Result<(), Fail> {
     let plan = listing_of_one(rt.alloc())?;
     let mut sink = MemSink::new(rt.alloc(), 200, 40, &[2])?;
-    let written = plan.write(rt.alloc(), &mut sink);
-    assert!(rt; written == Err(PlanError::Failed));
+    assert!(rt; plan.write(&mut sink).is_err());
     assert!(rt; shows(&sink, ONE_ITEM.split_at(40).0));
     Ok(())
 }

@@ -1,21 +1,17 @@
-use Rattle.std.proofs.Common.{◌+◌, take, arith}
+use Rattle.std.proofs.Common.{arith}
 use Rattle.item_model.specs.declared.property.Property.TheVariants.{Minm}
-use Rattle.listing_plan.proofs.Few.{first_few}
-use Rattle.listing_plan.proofs.Short.{mentioned_more, shown_more}
+use Rattle.listing_plan.proofs.Short.{shown_length_at, most_at, once_short}
 use Rattle.listing_plan.proofs.lengths.shown_len.Goals as goal
 
 pub overflow_add-len : goal.overflow_add-len
 overflow_add-len c =
     let ps = c.args.properties.now in
-    omega (arith, mentioned_more ps c.loop-i.i Minm c.loop-i-test.true, first_few (take (c.loop-i.i + 1) ps), rw c.split_at.ensures.front at c.mention_len-len.ensures.short)
+    omega (arith, most_at ps c.loop-property.property-index Minm c.loop-property-test.true, once_short ps c.requires.once, c.loop-property.invariant.short, c.property_len-len.ensures.short)
 
-pub loop-i-preserved : goal.loop-i-preserved
-loop-i-preserved c =
+pub loop-property-preserved : goal.loop-property-preserved
+loop-property-preserved c =
     let ps = c.args.properties.now in
     record {
-      counted = omega (arith, shown_more c.args.item.now ps c.loop-i.i Minm c.loop-i-test.true, rw c.split_at.ensures.front at c.mention_len-len.ensures.counted);
-      short = omega (arith, mentioned_more ps c.loop-i.i Minm c.loop-i-test.true, rw c.split_at.ensures.front at c.mention_len-len.ensures.short);
+      counted = omega (arith, shown_length_at c.args.item.now ps c.loop-property.property-index Minm c.loop-property-test.true, c.loop-property.invariant.counted, c.property_len-len.ensures.counted);
+      short = omega (arith, most_at ps c.loop-property.property-index Minm c.loop-property-test.true, c.loop-property.invariant.short, c.property_len-len.ensures.short);
     }
-
-pub returns-clause-short : goal.returns-clause-short
-returns-clause-short c = omega (arith, first_few (take c.loop-i.i c.args.properties.now))

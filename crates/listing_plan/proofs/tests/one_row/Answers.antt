@@ -6,4 +6,4 @@ use Rattle.listing_plan.proofs.tests.one_row.Goals as goal
 pub returns : goal.returns
 returns c =
     rw (c.in_ok-push.ensures.items, c.new-rows.ensures.items)
-    (one_row Items (record { member = None; row = record { id = 7; item = c.in_ok-item.item } }) refl)
+    (one_row Items (record { member = None; row = c.in_ok-new.field-0 }) refl)

@@ -10,6 +10,6 @@ pub returns : goal.returns
 returns c =
     let a = c.self.inside in
     subst (λ p. 8 + c.payload_len.result ≡ length (spelling (body_tree p.target p.listing))) c.self.view_is
-    (body_length a.target a.revision a.scope a.rows.items a.meta c.payload_len.result c.self.invariant.rows.members
+    (body_length a.target a.revision a.scope a.rows.items a.shown c.payload_len.result
     (c.payload_len.ensures.counted a.target
     ∙ ap (λ n. 65 + n + length (spellings (trees_of (gone_tags a.target (is_delta_of a.scope) (gone_of a.scope))))) c.self.invariant.counted))

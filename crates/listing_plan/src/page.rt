@@ -1,0 +1,122 @@
+//! A page of bytes, which goes to a sink when it is full.
+
+ghost use Rattle.std.specs.Prelude.{◌≡◌, ◌≤◌, ◌+◌, ◌-◌, ◌++◌, [], length, OnOk};
+ghost use Rattle.std.specs.Int.{w32, to_be_bytes};
+ghost use Rattle.dmap_tags.specs.Codes.{code_bytes};
+ghost use Rattle.dmap_tags.specs.Spelling.{spelling};
+ghost use Rattle.dmap_tags.specs.Tree.{leaf, U32};
+ghost use Rattle.listing_plan.specs.Limits.{page_limit};
+ghost use Rattle.listing_plan.specs.Pages.{Pushes};
+
+use daap_outside::{Failed, Sink, put_all};
+use dmap_tags::Code;
+use std::marker::Model;
+
+/// How many bytes a page has room for.
+pub(crate) const PAGE_BYTES: usize = 8192;
+
+/// Bytes that were pushed and that no sink has yet.
+#[derive(Drop)]
+pub(crate) struct Page {
+    room: [u8; PAGE_BYTES],
+    len: usize,
+}
+
+impl Model for Page {
+    ghost use Rattle.std.specs.Prelude.{ℕ, List, take, ◌≤◌};
+    ghost use Rattle.listing_plan.specs.Limits.{page_limit};
+
+    ghost Value = { List ℕ };
+
+    ghost view = { λ a. take a.len a.room };
+
+    ghost invariant = { λ a. a.len ≤ page_limit };
+}
+
+impl Page {
+    pub(crate) fn new() -> Page
+        ensures { result ≡ [] }
+    {
+        Page {
+            room: [0; PAGE_BYTES],
+            len: 0,
+        }
+    }
+
+    fn as_slice(&self) -> &[u8]
+        ensures { result.now ≡ self.now }
+    {
+        let (bytes, _) = self.room.split_at(self.len);
+        bytes
+    }
+
+    // For how many bytes more there is room.
+    fn left(&self) -> usize
+        ensures { result + length self.now ≡ page_limit }
+    {
+        PAGE_BYTES - self.len
+    }
+
+    // Puts bytes that there is room for.
+    #[tactic(auto, using(crate::proofs::Moves::filled))]
+    pub(crate) fn put(&mut self, bytes: &[u8])
+        requires { length self.old + length bytes.now ≤ page_limit }
+        ensures put { self.new ≡ self.old ++ bytes.now }
+    {
+        let end = self.len + bytes.len();
+        self.room[self.len..end].copy_from_slice(bytes);
+        self.len = end;
+    }
+
+    // Puts a code, and the length of the payload that comes behind it.
+    pub(crate) fn put_head(&mut self, of: Code, len: u32)
+        requires { length self.old + 8 ≤ page_limit }
+        ensures put { self.new ≡ self.old ++ (code_bytes of ++ to_be_bytes w32 len) }
+        ensures longer { length self.new ≡ length self.old + 8 }
+    {
+        self.put(&head(of, len));
+    }
+
+    // Puts a tag with a number.
+    pub(crate) fn put_number(&mut self, of: Code, n: u32)
+        requires { length self.old + 12 ≤ page_limit }
+        ensures put { self.new ≡ self.old ++ spelling (leaf of (U32 n)) }
+        ensures longer { length self.new ≡ length self.old + 12 }
+    {
+        self.put_head(of, 4);
+        self.put(&n.to_be_bytes());
+    }
+
+    // Hands the page to the sink.
+    pub(crate) fn flush<W: Sink>(&mut self, sink: &mut W) -> Result<(), Failed>
+        ensures pushes { Pushes [] result (W.taken sink.old) (W.taken sink.new) self.old self.new (W.faults sink.old) (W.faults sink.new) }
+        ensures empty { OnOk result (self.new ≡ []) }
+        ensures beside { W.beside_taken sink.new ≡ W.beside_taken sink.old }
+    {
+        put_all(sink, self.as_slice())?;
+        self.len = 0;
+        Ok(())
+    }
+
+    // Hands the page on where it has no room for so many bytes more.
+    pub(crate) fn make_room<W: Sink>(&mut self, sink: &mut W, len: usize) -> Result<(), Failed>
+        requires { len ≤ page_limit }
+        ensures pushes { Pushes [] result (W.taken sink.old) (W.taken sink.new) self.old self.new (W.faults sink.old) (W.faults sink.new) }
+        ensures room { OnOk result (length self.new + len ≤ page_limit) }
+        ensures beside { W.beside_taken sink.new ≡ W.beside_taken sink.old }
+    {
+        if len <= self.left() {
+            return Ok(());
+        }
+        self.flush(sink)
+    }
+}
+
+// A code with a length behind it.
+fn head(of: Code, len: u32) -> [u8; 8]
+    ensures { result ≡ code_bytes of ++ to_be_bytes w32 len }
+{
+    let [a, b, c, d] = of.0;
+    let [e, f, g, h] = len.to_be_bytes();
+    [a, b, c, d, e, f, g, h]
+}

@@ -1,0 +1,107 @@
+//! A tag, pushed by depth.
+
+ghost use Rattle.std.specs.Prelude.{◌≡◌, ◌≤◌, ◌++◌, [], true, length, OnOk};
+ghost use Rattle.std.specs.Int.{w32, to_be_bytes};
+ghost use Rattle.dmap_tags.specs.Codes.{code_bytes};
+ghost use Rattle.dmap_tags.specs.Spelling.{payload, spelling, spellings, longest, is_spellable, are_spellable};
+ghost use Rattle.dmap_tags.specs.Tree.{trees_of};
+ghost use Rattle.listing_plan.specs.Pages.{Pushes};
+
+use crate::page::{PAGE_BYTES, Page};
+use daap_outside::{Failed, Sink, put_all};
+use dmap_tags::{Code, Tag, Value, encoded_len};
+
+/// How many bytes a tag has that isn't too long to spell.
+pub(crate) fn tag_len(tag: &Tag) -> u64
+    requires { is_spellable tag.now ≡ true }
+    ensures { result ≡ length (spelling tag.now) }
+{
+    match encoded_len(tag) {
+        Some(len) => len,
+        None => unreachable!(),
+    }
+}
+
+fn payload_len(tag: &Tag) -> u32
+    requires { is_spellable tag.now ≡ true }
+    ensures { result ≡ length (payload tag.now) }
+{
+    (tag_len(tag) - 8) as u32
+}
+
+/// Pushes a tag. Each list in it is measured anew, so this costs by the bytes and by the depth.
+#[cycle(push_tag)]
+pub(crate) fn push_tag<W: Sink>(page: &mut Page, sink: &mut W, tag: &Tag) -> Result<(), Failed>
+    requires { is_spellable tag.now ≡ true }
+    ensures pushes { Pushes (spelling tag.now) result (W.taken sink.old) (W.taken sink.new) page.old page.new (W.faults sink.old) (W.faults sink.new) }
+    ensures beside { W.beside_taken sink.new ≡ W.beside_taken sink.old }
+{
+    push_head(page, sink, tag.code, payload_len(tag))?;
+    push_payload(page, sink, tag)
+}
+
+#[cycle(push_tag)]
+fn push_payload<W: Sink>(page: &mut Page, sink: &mut W, tag: &Tag) -> Result<(), Failed>
+    requires { is_spellable tag.now ≡ true }
+    ensures pushes { Pushes (payload tag.now) result (W.taken sink.old) (W.taken sink.new) page.old page.new (W.faults sink.old) (W.faults sink.new) }
+    ensures beside { W.beside_taken sink.new ≡ W.beside_taken sink.old }
+{
+    match &tag.value {
+        Value::U8(n) => push_bytes(page, sink, &n.to_be_bytes()),
+        Value::I8(n) => push_bytes(page, sink, &n.to_be_bytes()),
+        Value::U16(n) => push_bytes(page, sink, &n.to_be_bytes()),
+        Value::I16(n) => push_bytes(page, sink, &n.to_be_bytes()),
+        Value::U32(n) => push_bytes(page, sink, &n.to_be_bytes()),
+        Value::I32(n) => push_bytes(page, sink, &n.to_be_bytes()),
+        Value::U64(n) => push_bytes(page, sink, &n.to_be_bytes()),
+        Value::I64(n) => push_bytes(page, sink, &n.to_be_bytes()),
+        Value::Text(text) => push_bytes(page, sink, text.as_str().as_bytes()),
+        Value::Date(n) => push_bytes(page, sink, &n.to_be_bytes()),
+        Value::Version(n) => push_bytes(page, sink, &n.to_be_bytes()),
+        Value::List(tags) => push_tags(page, sink, tags.as_slice()),
+        Value::Opaque(bytes) => push_bytes(page, sink, bytes.as_slice()),
+    }
+}
+
+/// Pushes the members of a list.
+#[cycle(push_tag)]
+#[tactic(auto, using(dmap_tags::proofs::Sizes::member_falls, dmap_tags::proofs::Lengths::spellable_at))]
+fn push_tags<W: Sink>(page: &mut Page, sink: &mut W, tags: &[Tag]) -> Result<(), Failed>
+    requires { are_spellable (trees_of tags.now) ≡ true }
+    ensures pushes { Pushes (spellings (trees_of tags.now)) result (W.taken sink.old) (W.taken sink.new) page.old page.new (W.faults sink.old) (W.faults sink.new) }
+    ensures beside { W.beside_taken sink.new ≡ W.beside_taken sink.old }
+{
+    for tag in tags {
+        push_tag(page, sink, tag)?;
+    }
+    Ok(())
+}
+
+/// Pushes a code, and the length of the payload that comes behind it.
+pub(crate) fn push_head<W: Sink>(
+    page: &mut Page,
+    sink: &mut W,
+    of: Code,
+    len: u32,
+) -> Result<(), Failed>
+    ensures pushes { Pushes (code_bytes of ++ to_be_bytes w32 len) result (W.taken sink.old) (W.taken sink.new) page.old page.new (W.faults sink.old) (W.faults sink.new) }
+    ensures beside { W.beside_taken sink.new ≡ W.beside_taken sink.old }
+{
+    page.make_room(sink, 8)?;
+    page.put_head(of, len);
+    Ok(())
+}
+
+/// Pushes bytes: onto the page, or past it where no page has room for them.
+fn push_bytes<W: Sink>(page: &mut Page, sink: &mut W, bytes: &[u8]) -> Result<(), Failed>
+    ensures pushes { Pushes bytes.now result (W.taken sink.old) (W.taken sink.new) page.old page.new (W.faults sink.old) (W.faults sink.new) }
+    ensures beside { W.beside_taken sink.new ≡ W.beside_taken sink.old }
+{
+    if PAGE_BYTES < bytes.len() {
+        page.flush(sink)?;
+        return put_all(sink, bytes);
+    }
+    page.make_room(sink, bytes.len())?;
+    page.put(bytes);
+    Ok(())
+}
