@@ -13,7 +13,6 @@ use crate::show::{Stop, shown};
 use daap_outside::{Files, Net, Sink, Source, put_all};
 use daapshare_words::{Command, read_words};
 use item_model::Entries;
-use listing_plan::PlanError;
 use std::alloc::Global;
 
 /// What a run leaves: the status of the program, and the history of the share, where one was opened and no fault's
@@ -147,22 +146,21 @@ fn written<W: Sink>(alloc: Global, output: &mut W, answer: Result<Answer, Fault>
         result.status result.history }
 {
     match answer {
-        Ok(answer) => done(alloc, output, answer),
+        Ok(answer) => done(output, answer),
         Err(fault) => refused(alloc, output, &fault),
     }
 }
 
-/// Writes the output of a command that was done. Where memory is wanted for it, nothing of it is written.
-fn done<W: Sink>(alloc: Global, output: &mut W, answer: Answer) -> Outcome
+/// Writes the output of a command that was done.
+fn done<W: Sink>(output: &mut W, answer: Answer) -> Outcome
     ensures { Answers (Ok answer)
         (record { taken = W.taken output.old; faults = W.faults output.old })
         (record { taken = W.taken output.new; faults = W.faults output.new })
         result.status result.history }
 {
-    let status = match answer.output.write(alloc, output) {
+    let status = match answer.output.write(output) {
         Ok(()) => 0,
-        Err(PlanError::Failed) => Fault::Write.status(),
-        Err(PlanError::Memory) => return refused(alloc, output, &Fault::Memory),
+        Err(_) => Fault::Write.status(),
     };
     Outcome {
         status,

@@ -4,9 +4,9 @@ use Rattle.item_model.specs.declared.changes.Edit.{Edit}
 use Rattle.share_history.specs.Histories.{edits}
 use Rattle.item_store.specs.Store.{Store}
 use Rattle.item_store.specs.Stands.{StandsFor}
-use Rattle.listing_plan.specs.declared.plan.TheConstants.{MAX_ROWS}
+use Rattle.listing_plan.specs.Limits.{rows_limit}
 
 pub record HasFew (store : Store) : Type 0 where
   pub bs : List (List Edit)
   pub stands : StandsFor bs store
-  pub few : length (edits bs) ≤ MAX_ROWS
+  pub few : length (edits bs) ≤ rows_limit

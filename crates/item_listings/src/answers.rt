@@ -14,7 +14,7 @@ ghost use Rattle.share_history.specs.Listings.{listing, full_listing, delta_list
 ghost use Rattle.share_history.specs.Rows.{row_at, is_asked};
 ghost use Rattle.item_listings.specs.Answers.{HasFew};
 
-use item_model::{Look, Query, Row, Target};
+use item_model::{Look, Query, Row, SharedRow, Target};
 use item_store::ItemStore;
 use listing_plan::{Plan, PlanRow};
 use share_history::is_asked;
@@ -141,10 +141,8 @@ fn push_asked(rows: &mut Vec<PlanRow>, row: &Row, query: Option<&Query>) -> Resu
     ensures members { AllOf (λ row. row.member ≡ None) rows.old.items → AllOf (λ row. row.member ≡ None) rows.new.items }
 {
     if is_asked(query, row) {
-        rows.push(PlanRow {
-            member: None,
-            row: row.copy()?,
-        })?;
+        let row = SharedRow::new(*rows.allocator(), row.copy()?)?;
+        rows.push(PlanRow { member: None, row })?;
     }
     Ok(())
 }

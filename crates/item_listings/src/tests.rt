@@ -39,7 +39,7 @@ fn written(alloc: Global, plan: &Plan) -> Result<Vec<u8>, AllocError>
     requires { IsWritable plan.now }
 {
     let mut sink = MemSink::new(alloc, 256, 256, &[])?;
-    match plan.write(alloc, &mut sink) {
+    match plan.write(&mut sink) {
         Ok(()) => Vec::from_slice(alloc, sink.taken()),
         Err(_) => Err(AllocError),
     }

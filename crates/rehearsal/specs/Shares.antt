@@ -5,7 +5,7 @@ use Rattle.item_model.specs.declared.request.Meta.TheVariants.{Default}
 use Rattle.item_model.specs.declared.request.Target.TheVariants.{Items}
 use Rattle.item_store.specs.Store.{Store}
 use Rattle.item_store.specs.Stands.{StandsFor}
-use Rattle.listing_plan.specs.declared.plan.TheConstants.{MAX_ROWS}
+use Rattle.listing_plan.specs.Limits.{rows_limit}
 use Rattle.mirror_core.specs.Mirrored.{Mirrored}
 use Rattle.share_history.specs.Histories.{edits, revision}
 use Rattle.rehearsal.specs.Made.{AreMade}
@@ -14,7 +14,7 @@ use Rattle.rehearsal.specs.Made.{AreMade}
 pub record IsShare (bs : List (List Edit)) (store : Store) : Type 0 where
   pub stands : StandsFor bs store
   pub made : AreMade (edits bs)
-  pub few : length (edits bs) ≤ MAX_ROWS
+  pub few : length (edits bs) ≤ rows_limit
   pub early : revision bs < 2 ^ 32
 
 -- the mirror is one of items, and holds no later revision

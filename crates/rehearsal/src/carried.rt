@@ -10,7 +10,7 @@ use code_table::CodeTable;
 use daap_outside::{MemSink, Sink};
 use dmap_stream::{Limits, StreamError, read_tag};
 use dmap_tags::Tag;
-use listing_plan::{Plan, PlanError};
+use listing_plan::Plan;
 use std::alloc::{AllocError, Global};
 
 /// How many bytes of payload a mirror reads of one tag at most.
@@ -33,11 +33,10 @@ fn written(alloc: Global, plan: &Plan) -> Result<MemSink, AllocError>
 {
     let room = plan.body_len() as usize;
     let mut sink = MemSink::new(alloc, room, usize::MAX, &[])?;
-    match plan.write(alloc, &mut sink) {
+    match plan.write(&mut sink) {
         Ok(()) => Ok(sink),
-        Err(PlanError::Memory) => Err(AllocError),
         // the room is that of all bytes; what a sink fails for otherwise is not told
-        Err(PlanError::Failed) => Err(AllocError),
+        Err(_) => Err(AllocError),
     }
 }
 
