@@ -7,9 +7,9 @@ use Rattle.std.proofs.Math.Nat.{min-le_right}
 use Rattle.item_model.specs.declared.changes.Edit.{Edit}
 use Rattle.item_model.specs.declared.changes.Edit.TheVariants.{PutItem, DropItem, PutList, PutRule, DropList, PutMember, DropMember}
 use Rattle.share_history.specs.Named.{names_item}
-use Rattle.item_store.specs.declared.version.Version.{Version}
 use Rattle.item_store.specs.Stands.{items_in, named_items}
-use Rattle.item_store.specs.Changes.{row_of, is_among}
+use Rattle.key_versions.specs.Held.{Held, value_at, is_among}
+use Rattle.item_model.specs.declared.item.Row.{Row}
 
 or_none : (b : Bool) → (b || false) ≡ b
 or_none true = refl
@@ -31,14 +31,14 @@ among_named q (e ∷ es) =
     list_any-append _ (items_in e) (named_items es) ∙ ap (λ b. b || is_among q (named_items es)) (among_one q e) ∙ ap (λ b. names_item q e || b) (among_named q es)
 
 -- a batch of which some edits were taken in, and which is taken back
-pub rows_left : (es : List Edit) (old mid new : List (ℕ × List Version)) (revision : ℕ) → 1 ≤ revision
-    → ((q base : ℕ) → base < revision → row_of mid q base ≡ row_of old q base)
-    → ((q base : ℕ) → list_any (names_item q) es ≡ false → row_of mid q base ≡ row_of old q base)
-    → ((q base : ℕ) → row_of new q base ≡ row_of mid q (cond (is_among q (named_items es)) (min base (revision - 1)) base))
-    → (q base : ℕ) → (row_of new q base ≡ row_of old q base) ⊎ (row_of new q base ≡ row_of old q (min base (revision - 1)))
+pub rows_left : (es : List Edit) (old mid new : Held Row) (revision : ℕ) → 1 ≤ revision
+    → ((q base : ℕ) → base < revision → value_at mid q base ≡ value_at old q base)
+    → ((q base : ℕ) → list_any (names_item q) es ≡ false → value_at mid q base ≡ value_at old q base)
+    → ((q base : ℕ) → value_at new q base ≡ value_at mid q (cond (is_among q (named_items es)) (min base (revision - 1)) base))
+    → (q base : ℕ) → (value_at new q base ≡ value_at old q base) ⊎ (value_at new q base ≡ value_at old q (min base (revision - 1)))
 rows_left es old mid new revision pos before others back q base =
     let low : ℕ = min base (revision - 1) in
     ⊎_elim
-    (λ named. inr (back q base ∙ ap (λ b. row_of mid q (cond b low base)) named ∙ before q low (omega (arith, pos, min-le_right base (revision - 1)))))
-    (λ unnamed. inl (back q base ∙ ap (λ b. row_of mid q (cond b low base)) unnamed ∙ others q base (sym (among_named q es) ∙ unnamed)))
+    (λ named. inr (back q base ∙ ap (λ b. value_at mid q (cond b low base)) named ∙ before q low (omega (arith, pos, min-le_right base (revision - 1)))))
+    (λ unnamed. inl (back q base ∙ ap (λ b. value_at mid q (cond b low base)) unnamed ∙ others q base (sym (among_named q es) ∙ unnamed)))
     (cases_Bool (is_among q (named_items es)))

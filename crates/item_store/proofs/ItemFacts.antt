@@ -1,7 +1,7 @@
 -- What one edit more makes of the items that edits leave, and of how many they are.
 use Rattle.std.proofs.Common.{◌≡◌, ◌≤◌, ◌<◌, ◌+◌, ◌^◌, ℕ, suc, Bool, true, false, cond, ◌&&◌, ◌||◌, ◌==◌, List, [], ◌∷◌, ◌++◌, length, Option, None, Some, is_some, unwrap_or, refl, sym, ap, ◌∙◌, ⊎_elim, true≢false, arith, Ok, Err, nat_cmp, is_eq, Less}
 use Rattle.std.specs.Prelude.{nat_le, nat_lt, Result, IfOk, OnOk}
-use Rattle.std.specs.Option.{option_map}
+use Rattle.std.specs.Option.{option_map, option_and_then}
 use Rattle.std.specs.List.{sum_by, AllByRecursion}
 use Rattle.std.specs.List.Sorted.{IsStrictlySortedBy}
 use Rattle.std.specs.Map.{keys_of, values_of}
@@ -23,9 +23,11 @@ use Rattle.share_history.specs.Rows.{library}
 use Rattle.share_history.proofs.KeyedFacts.{has, same_key, key_itself, has-keys_of}
 use Rattle.share_history.proofs.EditFacts.{both_false, has-append, item_more, item_unnamed}
 use Rattle.share_history.proofs.RowFacts.{with_edit, library_more, at-library, ascending-library}
-use Rattle.item_store.specs.declared.version.Version.{Version}
-use Rattle.item_store.specs.Changes.{newest, versions_at, row_of, AreItems}
-use Rattle.item_store.proofs.VersionFacts.{newest_seen}
+use Rattle.key_versions.specs.declared.version.Version.{Version}
+use Rattle.key_versions.specs.Found.{value_in, newest_value}
+use Rattle.key_versions.specs.Held.{Held, versions_at, value_at}
+use Rattle.item_store.specs.Changes.{AreItems}
+use Rattle.key_versions.proofs.FoundFacts.{found_first}
 
 -- ---- how many pairs there are after a put or a removal
 
@@ -135,8 +137,13 @@ few_items es v =
 
 -- ---- one edit more
 
+-- where there is a value for the newest version, there is one at each revision from some on
+newest_seen : (vs : List (Version Row)) → (from : ℕ) × ((base : ℕ) → from ≤ base → value_in vs base ≡ newest_value vs)
+newest_seen [] = (0, λ base h. refl)
+newest_seen (v ∷ vs) = (v.revision, λ base h. ap (option_and_then (λ w. w.value)) (found_first v vs base h))
+
 -- the newest row of an id is its item
-pub newest_item : (revision : ℕ) (es : List Edit) (held : List (ℕ × List Version)) (count : ℕ) → AreItems revision es held count → (id : ℕ) → newest (versions_at id held) ≡ item_at es id
+pub newest_item : (revision : ℕ) (es : List Edit) (held : Held Row) (count : ℕ) → AreItems revision es held count → (id : ℕ) → newest_value (versions_at id held) ≡ item_at es id
 newest_item revision es held count a id =
     let s = newest_seen (versions_at id held) in
     sym (s.1 (s.0 + revision) (omega arith)) ∙ a.rows id (s.0 + revision) (omega arith)
@@ -145,12 +152,12 @@ said : (b : Bool) (row old : Option Row) → cond (b && true) row old ≡ unwrap
 said true row old = refl
 said false row old = refl
 
-one_more : (e : Edit) (id : ℕ) (row : Option Row) (es : List Edit) (old new : List (ℕ × List Version)) (revision count now : ℕ)
+one_more : (e : Edit) (id : ℕ) (row : Option Row) (es : List Edit) (old new : Held Row) (revision count now : ℕ)
     → IsValid e
     → ((q : ℕ) → says_item q e ≡ only_if (id == q) row)
     → length (library (es ++ e ∷ [])) + cond (is_some (item_at es id)) 1 0 ≡ length (library es) + cond (is_some row) 1 0
-    → ((q base : ℕ) → row_of new q base ≡ cond ((id == q) && nat_le revision base) row (row_of old q base))
-    → ((n : ℕ) → n < 2 ^ 32 → n + cond (is_some (newest (versions_at id old))) 1 0 ≡ count + cond (is_some row) 1 0 → now ≡ n)
+    → ((q base : ℕ) → value_at new q base ≡ cond ((id == q) && nat_le revision base) row (value_at old q base))
+    → ((n : ℕ) → n < 2 ^ 32 → n + cond (is_some (newest_value (versions_at id old))) 1 0 ≡ count + cond (is_some row) 1 0 → now ≡ n)
     → AreItems revision es old count → AreItems revision (es ++ e ∷ []) new now
 one_more e id row es old new revision count now v says lengths rows counts a =
     let valid : AreValid (es ++ e ∷ []) = All-push IsValid es e a.valid v in
@@ -158,7 +165,7 @@ one_more e id row es old new revision count now v says lengths rows counts a =
       valid = valid;
       rows = λ q base h.
           rows q base
-          ∙ ap (λ b. cond ((id == q) && b) row (row_of old q base)) (le-leb revision base h)
+          ∙ ap (λ b. cond ((id == q) && b) row (value_at old q base)) (le-leb revision base h)
           ∙ ap (λ was. cond ((id == q) && true) row was) (a.rows q base h)
           ∙ said (id == q) row (item_at es q)
           ∙ sym (item_more es e q ∙ ap (λ o. unwrap_or o (item_at es q)) (says q));
@@ -168,7 +175,7 @@ one_more e id row es old new revision count now v says lengths rows counts a =
     }
 
 -- an edit that leaves the items
-none_more : (e : Edit) (es : List Edit) (held : List (ℕ × List Version)) (revision count : ℕ) → IsValid e
+none_more : (e : Edit) (es : List Edit) (held : Held Row) (revision count : ℕ) → IsValid e
     → ((q : ℕ) → says_item q e ≡ None) → with_edit (library es) e ≡ library es
     → AreItems revision es held count → AreItems revision (es ++ e ∷ []) held count
 none_more e es held revision count v says left a = record {
@@ -178,17 +185,17 @@ none_more e es held revision count v says left a = record {
 }
 
 -- the same for a call that may fail
-pub one_set : {E : Type 0} (r : Result ℕ E) (e : Edit) (id : ℕ) (row : Option Row) (old new : List (ℕ × List Version)) (revision count : ℕ)
+pub one_set : {E : Type 0} (r : Result ℕ E) (e : Edit) (id : ℕ) (row : Option Row) (old new : Held Row) (revision count : ℕ)
     → IsValid e
     → ((q : ℕ) → says_item q e ≡ only_if (id == q) row)
     → ((es : List Edit) → length (library (es ++ e ∷ [])) + cond (is_some (item_at es id)) 1 0 ≡ length (library es) + cond (is_some row) 1 0)
-    → OnOk r ((q base : ℕ) → row_of new q base ≡ cond ((id == q) && nat_le revision base) row (row_of old q base))
-    → IfOk r (λ now. (n : ℕ) → n < 2 ^ 32 → n + cond (is_some (newest (versions_at id old))) 1 0 ≡ count + cond (is_some row) 1 0 → now ≡ n)
+    → OnOk r ((q base : ℕ) → value_at new q base ≡ cond ((id == q) && nat_le revision base) row (value_at old q base))
+    → IfOk r (λ now. (n : ℕ) → n < 2 ^ 32 → n + cond (is_some (newest_value (versions_at id old))) 1 0 ≡ count + cond (is_some row) 1 0 → now ≡ n)
     → IfOk r (λ now. (es : List Edit) → AreItems revision es old count → AreItems revision (es ++ e ∷ []) new now)
 one_set (Ok now) e id row old new revision count v says lengths rows counts = λ es a. one_more e id row es old new revision count now v says (lengths es) rows counts a
 one_set (Err x) e id row old new revision count v says lengths rows counts = tt
 
-pub one_left : (e : Edit) (held : List (ℕ × List Version)) (revision count : ℕ) → IsValid e → ((row : Row) → e ≡ PutItem row → ⊥) → ((id : ℕ) → e ≡ DropItem id → ⊥)
+pub one_left : (e : Edit) (held : Held Row) (revision count : ℕ) → IsValid e → ((row : Row) → e ≡ PutItem row → ⊥) → ((id : ℕ) → e ≡ DropItem id → ⊥)
     → (es : List Edit) → AreItems revision es held count → AreItems revision (es ++ e ∷ []) held count
 one_left (PutItem row) held revision count v put drop es a = absurd (put row refl)
 one_left (DropItem id) held revision count v put drop es a = absurd (drop id refl)

@@ -1,4 +1,3 @@
-pub mod VersionFacts
 pub mod ItemFacts
 pub mod BatchFacts
 pub mod StandFacts

@@ -28,10 +28,12 @@ use Rattle.share_history.proofs.KeyedFacts.{has, is_eq-cmp, sorted-ascending, ha
 use Rattle.share_history.proofs.EditFacts.{edits_more, revision_more, up_to-revision, item_stays}
 use Rattle.share_history.proofs.RowFacts.{ids_are}
 use Rattle.share_history.proofs.TouchFacts.{touched_are}
-use Rattle.item_store.specs.declared.version.Version.{Version}
 use Rattle.item_store.specs.Store.{Store}
 use Rattle.item_store.specs.Stands.{floor_of, items_in, named_items, StandsFor, IsUnchanged}
-use Rattle.item_store.specs.Changes.{newest, versions_at, row_of, is_among, AreItems}
+use Rattle.key_versions.specs.Found.{newest_value}
+use Rattle.key_versions.specs.Held.{Held, versions_at, value_at, is_among, AreKeys}
+use Rattle.item_model.specs.declared.item.Row.{Row}
+use Rattle.item_store.specs.Changes.{AreItems}
 use Rattle.item_store.proofs.ItemFacts.{newest_item}
 use Rattle.item_store.proofs.BatchFacts.{among_named}
 
@@ -48,7 +50,7 @@ module _ {bs : List (List Edit)} {s : Store} (h : StandsFor bs s) where
   low_reached = omega (arith, h.reach, h.revision)
 
   -- from the last revision on the rows are the items
-  row_last : (id base : ℕ) → s.revision ≤ base → row_of s.versions id base ≡ item_at (edits bs) id
+  row_last : (id base : ℕ) → s.revision ≤ base → value_at s.versions id base ≡ item_at (edits bs) id
   row_last id base le =
       h.rows id base (omega (arith, le, low_reached)) ∙ ap (λ cs. item_at (edits cs) id) (up_to_all bs base (omega (arith, le, h.revision)))
 
@@ -59,37 +61,23 @@ module _ {bs : List (List Edit)} {s : Store} (h : StandsFor bs s) where
     counted = h.count;
   }
 
-  pub newest_now : (id : ℕ) → newest (versions_at id s.versions) ≡ item_at (edits bs) id
+  pub newest_now : (id : ℕ) → newest_value (versions_at id s.versions) ≡ item_at (edits bs) id
   newest_now id = newest_item (s.revision + 1) (edits bs) s.versions s.count (items_now (s.revision + 1) refl) id
 
 -- ---- ids
 
-has-there : (q : ℕ) (es : List (ℕ × List Version)) → IsAscending es → has q (keys_of (filter (λ e. is_some (newest e.1)) es)) ≡ is_some (newest (versions_at q es))
-has-there q [] s = refl
-has-there q (e ∷ es) s = by_row (has-there q es (sorted_tail nat_cmp e.0 (keys_of es) s)) (is_some (newest e.1)) (is_eq (nat_cmp q e.0)) refl refl
-  where
-    by_row : has q (keys_of (filter (λ e. is_some (newest e.1)) es)) ≡ is_some (newest (versions_at q es))
-        → (there here : Bool) → is_some (newest e.1) ≡ there → is_eq (nat_cmp q e.0) ≡ here
-        → has q (keys_of (cond there (e ∷ filter (λ e. is_some (newest e.1)) es) (filter (λ e. is_some (newest e.1)) es)))
-        ≡ is_some (newest (unwrap_or (cond here (Some e.1) (at q es)) []))
-    by_row rest true true p t = ap (λ b. b || has q (keys_of (filter (λ e. is_some (newest e.1)) es))) t ∙ sym p
-    by_row rest true false p t = ap (λ b. b || has q (keys_of (filter (λ e. is_some (newest e.1)) es))) t ∙ rest
-    by_row rest false true p t =
-        rest
-        ∙ ap (λ o. is_some (newest (unwrap_or o [])))
-        (lookup-none (is_at (nat_cmp q)) es (none_past_head (eq_by_cmp_equiv nat_cmp_total) q e es (IsDistinct-from_sorted nat_cmp _ s) t))
-        ∙ sym p
-    by_row rest false false p t = rest
-
 pub ids_told : {X E : Type 0} (items : X → List ℕ) (r : Result X E) {s now : Store} → s ≡ now
-    → IfOk r (λ v. items v ≡ keys_of (filter (λ e. is_some (newest e.1)) s.versions))
-    → IfOk r (λ _. IsAscending s.versions)
+    → IfOk r (λ v. AreKeys s.versions (items v))
     → IfOk r (λ v. (bs : List (List Edit)) → StandsFor bs now → items v ≡ keys_of (library (edits bs)))
-ids_told items (Ok v) {s} same is sorted = λ bs h.
-    is
-    ∙ ids_are (edits bs) (keys_of (filter (λ e. is_some (newest e.1)) s.versions)) (ascending-filter (λ e. is_some (newest e.1)) s.versions sorted)
-    (λ q. has-there q s.versions sorted ∙ ap is_some (newest_now (subst (StandsFor bs) (sym same) h) q))
-ids_told items (Err e) same is sorted = tt
+ids_told items (Ok v) same keys = λ bs h.
+    ids_are (edits bs) (items v) keys.ascending (λ q. keys.each q ∙ ap is_some (newest_now (subst (StandsFor bs) (sym same) h) q))
+ids_told items (Err e) same keys = tt
+
+-- ---- what an id had at a revision
+
+pub item_then : {bs : List (List Edit)} {s : Store} → StandsFor bs s → (id base : ℕ) → floor_of s.keep s.revision ≤ base
+    → value_at s.versions id base ≡ item_at (edits (up_to bs base)) id
+item_then h id base from = h.rows id base (omega (arith, from, h.reach))
 
 -- ---- changed ids
 
@@ -131,12 +119,12 @@ changed_told items lists listed (Ok v) base passed keys {s} {now} same named fro
 
 -- ---- apply
 
-pub applied : (bs : List (List Edit)) (batch : List Edit) (s : Store) (n low count : ℕ) (named : List (List ℕ)) (mid new : List (ℕ × List Version))
+pub applied : (bs : List (List Edit)) (batch : List Edit) (s : Store) (n low count : ℕ) (named : List (List ℕ)) (mid new : Held Row)
     → StandsFor bs s → AreValid batch → n ≡ s.revision + 1 → low ≡ floor_of s.keep s.revision
     → named ≡ drop (low - s.low) (s.named ++ named_items batch ∷ [])
     → ((es : List Edit) → AreItems n es s.versions s.count → AreItems n (es ++ batch) mid count)
-    → ((q base : ℕ) → base < n → row_of mid q base ≡ row_of s.versions q base)
-    → ((q base : ℕ) → low ≤ base → row_of new q base ≡ row_of mid q base)
+    → ((q base : ℕ) → base < n → value_at mid q base ≡ value_at s.versions q base)
+    → ((q base : ℕ) → low ≤ base → value_at new q base ≡ value_at mid q base)
     → StandsFor (bs ++ batch ∷ []) (record { keep = s.keep; revision = n; low = low; can_undo = true; count = count; count_before = s.count; named = named; versions = new })
 applied bs batch s n low count named mid new h valid next floor lists items before pruned =
     let all : List (List Edit) = bs ++ batch ∷ [] in
@@ -179,8 +167,8 @@ up_to_least bs base v is =
     (λ above. up_to_all bs (min base v) (omega (arith, is, le-min {k = v} {a = base} {b = v} above (omega arith))) ∙ sym (up_to_all bs base (omega (arith, is, above))))
     (cases_lt base v)
 
-left_same : (s : Store) (n : ℕ) (named : List (List ℕ)) (new : List (ℕ × List Version)) → n ≡ s.revision + 1 → named ≡ s.named
-    → (1 ≤ n → (q base : ℕ) → (row_of new q base ≡ row_of s.versions q base) ⊎ (row_of new q base ≡ row_of s.versions q (min base (n - 1))))
+left_same : (s : Store) (n : ℕ) (named : List (List ℕ)) (new : Held Row) → n ≡ s.revision + 1 → named ≡ s.named
+    → (1 ≤ n → (q base : ℕ) → (value_at new q base ≡ value_at s.versions q base) ⊎ (value_at new q base ≡ value_at s.versions q (min base (n - 1))))
     → IsUnchanged s (record { keep = s.keep; revision = s.revision; low = s.low; can_undo = s.can_undo; count = s.count; count_before = s.count_before; named = named; versions = new })
 left_same s n named new next lists rows = record {
   keep = refl;
@@ -205,8 +193,8 @@ left_same s n named new next lists rows = record {
   };
 }
 
-pub not_applied : {s now : Store} → s ≡ now → (n : ℕ) (named : List (List ℕ)) (new : List (ℕ × List Version)) → n ≡ now.revision + 1 → named ≡ s.named
-    → (1 ≤ n → (q base : ℕ) → (row_of new q base ≡ row_of s.versions q base) ⊎ (row_of new q base ≡ row_of s.versions q (min base (n - 1))))
+pub not_applied : {s now : Store} → s ≡ now → (n : ℕ) (named : List (List ℕ)) (new : Held Row) → n ≡ now.revision + 1 → named ≡ s.named
+    → (1 ≤ n → (q base : ℕ) → (value_at new q base ≡ value_at s.versions q base) ⊎ (value_at new q base ≡ value_at s.versions q (min base (n - 1))))
     → IsUnchanged now (record { keep = s.keep; revision = s.revision; low = s.low; can_undo = s.can_undo; count = s.count; count_before = s.count_before; named = named; versions = new })
 not_applied {s} same n named new next lists rows =
     subst (λ old. IsUnchanged old (record { keep = s.keep; revision = s.revision; low = s.low; can_undo = s.can_undo; count = s.count; count_before = s.count_before; named = named; versions = new }))
@@ -231,11 +219,11 @@ row_before bs batch q base unnamed =
     ∙ ap (λ cs. item_at (edits cs) q) (sym (up_to_all bs base (omega (arith, above)))))
     (cases_lt base (revision bs + 1))
 
-pub undone : (bs : List (List Edit)) (batch : List Edit) (s : Store) (n : ℕ) (named : List (List ℕ)) (new : List (ℕ × List Version))
+pub undone : (bs : List (List Edit)) (batch : List Edit) (s : Store) (n : ℕ) (named : List (List ℕ)) (new : Held Row)
     → StandsFor (bs ++ batch ∷ []) s → s.can_undo ≡ true → n ≡ s.revision - 1
     → ((front : List (List ℕ)) (ids : List ℕ) → s.named ≡ front ++ ids ∷ [] → named ≡ front)
     → (1 ≤ s.revision → (front : List (List ℕ)) (ids : List ℕ) → s.named ≡ front ++ ids ∷ []
-    → (q base : ℕ) → row_of new q base ≡ row_of s.versions q (cond (is_among q ids) (min base (s.revision - 1)) base))
+    → (q base : ℕ) → value_at new q base ≡ value_at s.versions q (cond (is_among q ids) (min base (s.revision - 1)) base))
     → StandsFor bs (record { keep = s.keep; revision = n; low = s.low; can_undo = false; count = s.count_before; count_before = s.count_before; named = named; versions = new })
 undone bs batch s n named new h can last lists rows =
     let was : s.revision - 1 ≡ revision bs = omega (arith, h.revision, revision_more bs batch) in
@@ -251,12 +239,12 @@ undone bs batch s n named new h can last lists rows =
       rows = λ q base le.
           back q base
           ∙ ⊎_elim
-          (λ among. ap (λ b. row_of s.versions q (cond b (min base (s.revision - 1)) base)) among
+          (λ among. ap (λ b. value_at s.versions q (cond b (min base (s.revision - 1)) base)) among
           ∙ h.rows q (min base (s.revision - 1)) (le-min le (omega (arith, low, was)))
           ∙ ap (λ cs. item_at (edits cs) q)
           (up_to_same bs (batch ∷ []) (min base (s.revision - 1)) (omega (arith, was, min-le_right base (s.revision - 1)))
           ∙ up_to_least bs base (s.revision - 1) was))
-          (λ unnamed. ap (λ b. row_of s.versions q (cond b (min base (s.revision - 1)) base)) unnamed
+          (λ unnamed. ap (λ b. value_at s.versions q (cond b (min base (s.revision - 1)) base)) unnamed
           ∙ h.rows q base le ∙ row_before bs batch q base (sym (among_named q batch) ∙ unnamed))
           (cases_Bool (is_among q (named_items batch)));
       count = h.count_before can ∙ ap (λ cs. length (library (edits cs))) (ap (up_to (bs ++ batch ∷ [])) was ∙ up_to-revision bs (batch ∷ []));

@@ -7,7 +7,7 @@ use Rattle.share_history.specs.declared.revisions.TheConstants.{FIRST_REVISION}
 use Rattle.share_history.specs.Histories.{revision, edits, up_to}
 use Rattle.share_history.specs.LastSaid.{item_at}
 use Rattle.share_history.specs.Rows.{library}
-use Rattle.item_store.specs.Changes.{row_of}
+use Rattle.key_versions.specs.Held.{value_at}
 use Rattle.item_store.specs.Store.{Store}
 
 -- the least base that `keep` allows, and no base below the first revision
@@ -32,7 +32,7 @@ pub record StandsFor (bs : List (List Edit)) (store : Store) : Type 0 where
   pub revision : store.revision ≡ revision bs
   pub valid : AreValid (edits bs)
   -- at the present revision and above the rows are the present ones
-  pub rows : (id base : ℕ) → store.low ≤ base → row_of store.versions id base ≡ item_at (edits (up_to bs base)) id
+  pub rows : (id base : ℕ) → store.low ≤ base → value_at store.versions id base ≡ item_at (edits (up_to bs base)) id
   pub count : store.count ≡ length (library (edits bs))
   pub named : store.named ≡ map named_items (drop (store.low - FIRST_REVISION) bs)
   pub least : FIRST_REVISION ≤ store.low

@@ -6,20 +6,20 @@ ghost use Rattle.std.specs.BTreeSet.{insert_key};
 ghost use Rattle.item_model.specs.Valid.{AreValid};
 ghost use Rattle.share_history.specs.Keyed.{ascending};
 ghost use Rattle.item_store.specs.Stands.{named_items};
-ghost use Rattle.item_store.specs.Changes.{row_of, is_among, AreItems};
+ghost use Rattle.key_versions.specs.Held.{value_at, is_among};
+ghost use Rattle.item_store.specs.Changes.{AreItems};
 
 use crate::edits::{ids_of, take_in};
-use crate::held::Held;
-use crate::versions::{prune, take_back};
-use item_model::Edit;
+use item_model::{Edit, SharedRow};
+use key_versions::Versions;
 use std::alloc::{AllocError, Global};
-use std::collections::{BTreeMap, BTreeSet, VecDeque};
+use std::collections::{BTreeSet, VecDeque};
 
 // Takes in a batch that makes a revision, and tells how many items there are then, of the count before. After an
 // `Err` the batch is taken back.
 pub(crate) fn take_in_batch(
     alloc: Global,
-    held: &mut BTreeMap<u32, Held>,
+    held: &mut Versions<SharedRow>,
     named: &mut VecDeque<Vec<u32>>,
     count: u32,
     edits: &[Edit],
@@ -27,10 +27,10 @@ pub(crate) fn take_in_batch(
 ) -> Result<u32, AllocError>
     requires { AreValid edits.now }
     ensures named { OnOk result (map (λ v. v.items) named.new.items ≡ map (λ v. v.items) named.old.items ++ named_items edits.now ∷ []) }
-    ensures items { IfOk result (λ now. (es : List Edit) → AreItems revision es held.old.entries count → AreItems revision (es ++ edits.now) held.new.entries now) }
-    ensures before { OnOk result ((q base : ℕ) → base < revision → row_of held.new.entries q base ≡ row_of held.old.entries q base) }
+    ensures items { IfOk result (λ now. (es : List Edit) → AreItems revision es held.old count → AreItems revision (es ++ edits.now) held.new now) }
+    ensures before { OnOk result ((q base : ℕ) → base < revision → value_at held.new q base ≡ value_at held.old q base) }
     ensures named_left { OnErr result (map (λ v. v.items) named.new.items ≡ map (λ v. v.items) named.old.items) }
-    ensures rows_left { OnErr result (1 ≤ revision → (q base : ℕ) → (row_of held.new.entries q base ≡ row_of held.old.entries q base) ⊎ (row_of held.new.entries q base ≡ row_of held.old.entries q (min base (revision - 1)))) }
+    ensures rows_left { OnErr result (1 ≤ revision → (q base : ℕ) → (value_at held.new q base ≡ value_at held.old q base) ⊎ (value_at held.new q base ≡ value_at held.old q (min base (revision - 1)))) }
 {
     let ids = match ids_of(alloc, edits) {
         Ok(ids) => ids,
@@ -40,7 +40,7 @@ pub(crate) fn take_in_batch(
         Ok(()) => {}
         Err(_) => return Err(AllocError),
     }
-    match take_in(alloc, held, count, edits, revision) {
+    match take_in(held, count, edits, revision) {
         Ok(now) => Ok(now),
         Err(error) => {
             take_back_batch(held, named, revision);
@@ -51,15 +51,15 @@ pub(crate) fn take_in_batch(
 
 // Takes back the last batch, which made a revision.
 pub(crate) fn take_back_batch(
-    held: &mut BTreeMap<u32, Held>,
+    held: &mut Versions<SharedRow>,
     named: &mut VecDeque<Vec<u32>>,
     revision: u32,
 )
     ensures named { (front : List (List ℕ)) (ids : List ℕ) → map (λ v. v.items) named.old.items ≡ front ++ ids ∷ [] → map (λ v. v.items) named.new.items ≡ front }
-    ensures rows { 1 ≤ revision → (front : List (List ℕ)) (ids : List ℕ) → map (λ v. v.items) named.old.items ≡ front ++ ids ∷ [] → (q base : ℕ) → row_of held.new.entries q base ≡ row_of held.old.entries q (if is_among q ids then min base (revision - 1) else base) }
+    ensures rows { 1 ≤ revision → (front : List (List ℕ)) (ids : List ℕ) → map (λ v. v.items) named.old.items ≡ front ++ ids ∷ [] → (q base : ℕ) → value_at held.new q base ≡ value_at held.old q (if is_among q ids then min base (revision - 1) else base) }
 {
     match named.pop_back() {
-        Some(ids) => take_back(held, ids.as_slice(), revision),
+        Some(ids) => held.take_back_all(ids.as_slice(), revision),
         None => {}
     }
 }
@@ -67,25 +67,25 @@ pub(crate) fn take_back_batch(
 // Takes out what no revision from a floor on asks for, and the lists of the batches that made the floor and those
 // between a low revision and it.
 pub(crate) fn prune_to(
-    held: &mut BTreeMap<u32, Held>,
+    held: &mut Versions<SharedRow>,
     named: &mut VecDeque<Vec<u32>>,
     low: u32,
     floor: u32,
 )
     ensures named { named.new.items ≡ drop (floor - low) named.old.items }
-    ensures rows { (q base : ℕ) → floor ≤ base → row_of held.new.entries q base ≡ row_of held.old.entries q base }
+    ensures rows { (q base : ℕ) → floor ≤ base → value_at held.new q base ≡ value_at held.old q base }
 {
     for passed in 0..floor.saturating_sub(low) {
         prune_batch(held, named, floor);
     }
 }
 
-fn prune_batch(held: &mut BTreeMap<u32, Held>, named: &mut VecDeque<Vec<u32>>, floor: u32)
+fn prune_batch(held: &mut Versions<SharedRow>, named: &mut VecDeque<Vec<u32>>, floor: u32)
     ensures named { named.new.items ≡ drop 1 named.old.items }
-    ensures rows { (q base : ℕ) → floor ≤ base → row_of held.new.entries q base ≡ row_of held.old.entries q base }
+    ensures rows { (q base : ℕ) → floor ≤ base → value_at held.new q base ≡ value_at held.old q base }
 {
     match named.pop_front() {
-        Some(ids) => prune(held, ids.as_slice(), floor),
+        Some(ids) => held.prune_all(ids.as_slice(), floor),
         None => {}
     }
 }

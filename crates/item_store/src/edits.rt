@@ -5,14 +5,13 @@ ghost use Rattle.std.specs.List.{list_any};
 ghost use Rattle.item_model.specs.Valid.{IsValid, AreValid};
 ghost use Rattle.share_history.specs.Named.{names_item};
 ghost use Rattle.item_store.specs.Stands.{items_in, named_items};
-ghost use Rattle.item_store.specs.Changes.{newest, versions_at, row_of, AreItems};
+ghost use Rattle.key_versions.specs.Found.{newest_value};
+ghost use Rattle.key_versions.specs.Held.{versions_at, value_at};
+ghost use Rattle.item_store.specs.Changes.{AreItems};
 
-use crate::held::Held;
-use crate::version::Version;
-use crate::versions::put;
-use item_model::{Edit, Row};
+use item_model::{Edit, SharedRow};
+use key_versions::Versions;
 use std::alloc::{AllocError, Global};
-use std::collections::BTreeMap;
 
 // The ids that edits put or drop as items, in order.
 pub(crate) fn ids_of(alloc: Global, edits: &[Edit]) -> Result<Vec<u32>, AllocError>
@@ -40,19 +39,18 @@ fn id_of(edit: &Edit) -> Option<u32>
 // Takes in edits that make a revision, and tells how many items there are then, of the count before. After an
 // `Err` some of them are in.
 pub(crate) fn take_in(
-    alloc: Global,
-    held: &mut BTreeMap<u32, Held>,
+    held: &mut Versions<SharedRow>,
     mut count: u32,
     edits: &[Edit],
     revision: u32,
 ) -> Result<u32, AllocError>
     requires { AreValid edits.now }
-    ensures items { IfOk result (λ now. (es : List Edit) → AreItems revision es held.old.entries count → AreItems revision (es ++ edits.now) held.new.entries now) }
-    ensures before { (q base : ℕ) → base < revision → row_of held.new.entries q base ≡ row_of held.old.entries q base }
-    ensures others { (q base : ℕ) → list_any (names_item q) edits.now ≡ false → row_of held.new.entries q base ≡ row_of held.old.entries q base }
+    ensures items { IfOk result (λ now. (es : List Edit) → AreItems revision es held.old count → AreItems revision (es ++ edits.now) held.new now) }
+    ensures before { (q base : ℕ) → base < revision → value_at held.new q base ≡ value_at held.old q base }
+    ensures others { (q base : ℕ) → list_any (names_item q) edits.now ≡ false → value_at held.new q base ≡ value_at held.old q base }
 {
     for edit in edits {
-        match take_in_one(alloc, held, count, edit, revision) {
+        match take_in_one(held, count, edit, revision) {
             Ok(now) => count = now,
             Err(error) => return Err(error),
         }
@@ -61,42 +59,55 @@ pub(crate) fn take_in(
 }
 
 fn take_in_one(
-    alloc: Global,
-    held: &mut BTreeMap<u32, Held>,
+    held: &mut Versions<SharedRow>,
     count: u32,
     edit: &Edit,
     revision: u32,
 ) -> Result<u32, AllocError>
     requires { IsValid edit.now }
-    ensures items { IfOk result (λ now. (es : List Edit) → AreItems revision es held.old.entries count → AreItems revision (es ++ edit.now ∷ []) held.new.entries now) }
-    ensures before { (q base : ℕ) → base < revision → row_of held.new.entries q base ≡ row_of held.old.entries q base }
-    ensures others { (q base : ℕ) → names_item q edit.now ≡ false → row_of held.new.entries q base ≡ row_of held.old.entries q base }
+    ensures items { IfOk result (λ now. (es : List Edit) → AreItems revision es held.old count → AreItems revision (es ++ edit.now ∷ []) held.new now) }
+    ensures before { (q base : ℕ) → base < revision → value_at held.new q base ≡ value_at held.old q base }
+    ensures others { (q base : ℕ) → names_item q edit.now ≡ false → value_at held.new q base ≡ value_at held.old q base }
 {
     match edit {
-        Edit::PutItem { row } => match row.row().copy() {
-            Ok(copy) => set(alloc, held, count, copy.id, Some(copy), revision),
-            Err(error) => Err(error),
-        },
-        Edit::DropItem { id } => set(alloc, held, count, *id, None, revision),
+        Edit::PutItem { row } => put(held, count, row, revision),
+        Edit::DropItem { id } => set(held, count, *id, None, revision),
         _ => Ok(count),
+    }
+}
+
+// Gives the id of a row this row from a revision on, and tells how many rows there are then.
+fn put(
+    held: &mut Versions<SharedRow>,
+    count: u32,
+    row: &SharedRow,
+    revision: u32,
+) -> Result<u32, AllocError>
+    ensures rows { OnOk result ((q base : ℕ) → value_at held.new q base ≡ (if (row.now.id == q) && nat_le revision base then Some row.now else value_at held.old q base)) }
+    ensures unchanged { OnErr result ((q base : ℕ) → value_at held.new q base ≡ value_at held.old q base) }
+    ensures counted { IfOk result (λ now. (n : ℕ) → n < 2 ^ 32 → n + (if is_some (newest_value (versions_at row.now.id held.old)) then 1 else 0) ≡ count + 1 → now ≡ n) }
+{
+    let id = row.row().id;
+    match row.share() {
+        Ok(shared) => set(held, count, id, Some(shared), revision),
+        Err(error) => Err(error),
     }
 }
 
 // Gives an id a row, or none, from a revision on, and tells how many rows there are then.
 fn set(
-    alloc: Global,
-    held: &mut BTreeMap<u32, Held>,
+    held: &mut Versions<SharedRow>,
     count: u32,
     id: u32,
-    row: Option<Row>,
+    row: Option<SharedRow>,
     revision: u32,
 ) -> Result<u32, AllocError>
-    ensures rows { OnOk result ((q base : ℕ) → row_of held.new.entries q base ≡ (if (id == q) && nat_le revision base then row else row_of held.old.entries q base)) }
-    ensures unchanged { OnErr result ((q base : ℕ) → row_of held.new.entries q base ≡ row_of held.old.entries q base) }
-    ensures counted { IfOk result (λ now. (n : ℕ) → n < 2 ^ 32 → n + (if is_some (newest (versions_at id held.old.entries)) then 1 else 0) ≡ count + (if is_some row then 1 else 0) → now ≡ n) }
+    ensures rows { OnOk result ((q base : ℕ) → value_at held.new q base ≡ (if (id == q) && nat_le revision base then row else value_at held.old q base)) }
+    ensures unchanged { OnErr result ((q base : ℕ) → value_at held.new q base ≡ value_at held.old q base) }
+    ensures counted { IfOk result (λ now. (n : ℕ) → n < 2 ^ 32 → n + (if is_some (newest_value (versions_at id held.old)) then 1 else 0) ≡ count + (if is_some row then 1 else 0) → now ≡ n) }
 {
     let is = row.is_some();
-    match put(alloc, held, id, Version { revision, row }) {
+    match held.put_value(id, revision, row) {
         Ok(was) => Ok(counted(count, was, is)),
         Err(error) => Err(error),
     }

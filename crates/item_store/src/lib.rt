@@ -4,11 +4,8 @@
 
 mod batches;
 mod edits;
-mod held;
 mod store;
 #[cfg(test)]
 mod tests;
-mod version;
-mod versions;
 
 pub use store::ItemStore;

@@ -4,19 +4,18 @@ ghost use Rattle.std.specs.Prelude.{◌≡◌, ◌≤◌, ◌+◌, ◌-◌, ◌+
 ghost use Rattle.std.specs.Map.{keys_of};
 ghost use Rattle.item_model.specs.Valid.{AreValid};
 ghost use Rattle.item_model.specs.declared.request.Target.TheVariants.{Items};
-ghost use Rattle.share_history.specs.Histories.{edits};
+ghost use Rattle.share_history.specs.Histories.{edits, up_to};
 ghost use Rattle.share_history.specs.Kept.{touched};
 ghost use Rattle.share_history.specs.LastSaid.{item_at};
 ghost use Rattle.share_history.specs.Rows.{library};
 ghost use Rattle.item_store.specs.Stands.{floor_of, StandsFor, IsUnchanged};
 
 use crate::batches::{ids_after, listed, prune_to, take_back_batch, take_in_batch};
-use crate::held::Held;
-use crate::versions;
-use item_model::{Edit, Row};
+use item_model::{Edit, Row, SharedRow};
+use key_versions::Versions;
 use share_history::FIRST_REVISION;
 use std::alloc::{AllocError, Global};
-use std::collections::{BTreeMap, VecDeque};
+use std::collections::VecDeque;
 use std::marker::Model;
 
 /// The items that batches of edits leave, with what they were as far back as is kept.
@@ -32,7 +31,7 @@ pub struct ItemStore {
     count_before: u32,
     // the ids that each batch after `low` put or dropped, in order
     named: VecDeque<Vec<u32>>,
-    held: BTreeMap<u32, Held>,
+    held: Versions<SharedRow>,
 }
 
 impl Model for ItemStore {
@@ -42,7 +41,7 @@ impl Model for ItemStore {
 
     ghost use Rattle.std.specs.Prelude.{map};
 
-    ghost view = { λ a. record { keep = a.keep; revision = a.revision; low = a.low; can_undo = a.can_undo; count = a.count; count_before = a.count_before; named = map (λ v. v.items) a.named.items; versions = a.held.entries } };
+    ghost view = { λ a. record { keep = a.keep; revision = a.revision; low = a.low; can_undo = a.can_undo; count = a.count; count_before = a.count_before; named = map (λ v. v.items) a.named.items; versions = a.held } };
 }
 
 impl ItemStore {
@@ -63,7 +62,7 @@ impl ItemStore {
             count: 0,
             count_before: 0,
             named: VecDeque::new(alloc),
-            held: BTreeMap::new(alloc),
+            held: Versions::new(alloc),
         }
     }
 
@@ -116,7 +115,32 @@ impl ItemStore {
     pub fn get(&self, id: u32) -> Option<&Row>
         ensures { (bs : List (List Edit)) → StandsFor bs self.now → option_copied result ≡ item_at (edits bs) id }
     {
-        versions::row(&self.held, id)
+        match self.held.newest(id) {
+            Some(shared) => Some(shared.row()),
+            None => None,
+        }
+    }
+
+    /// The same as an owner of it.
+    pub fn shared(&self, id: u32) -> Result<Option<SharedRow>, AllocError>
+        ensures { IfOk result (λ row. (bs : List (List Edit)) → StandsFor bs self.now → row ≡ item_at (edits bs) id) }
+    {
+        match self.held.newest(id) {
+            Some(shared) => Ok(Some(shared.share()?)),
+            None => Ok(None),
+        }
+    }
+
+    /// The item that an id had at a revision from which changes are told.
+    pub fn version_at(&self, id: u32, base: u32) -> Option<&Row>
+        requires from { floor_of self.now.keep self.now.revision ≤ base }
+        requires to { base ≤ self.now.revision }
+        ensures { (bs : List (List Edit)) → StandsFor bs self.now → option_copied result ≡ item_at (edits (up_to bs base)) id }
+    {
+        match self.held.value_at(id, base) {
+            Some(shared) => Some(shared.row()),
+            None => None,
+        }
     }
 
     /// How many items there are.
@@ -143,7 +167,7 @@ impl ItemStore {
     pub fn ids(&self) -> Result<Vec<u32>, AllocError>
         ensures { IfOk result (λ ids. (bs : List (List Edit)) → StandsFor bs self.now → ids.items ≡ keys_of (library (edits bs))) }
     {
-        versions::ids(self.alloc, &self.held)
+        self.held.keys()
     }
 
     /// The ids that batches after a base put or drop as items, ascending, each once.

@@ -59,8 +59,8 @@ fn has_changed(rt: &impl Abort, store: &ItemStore, base: u32, ids: &[u32]) -> Re
     Ok(())
 }
 
-fn is_named(store: &ItemStore, id: u32, name: &str) -> bool {
-    match store.get(id) {
+fn is_named(found: Option<&Row>, id: u32, name: &str) -> bool {
+    match found {
         Some(row) => match row.item.get(Property::Minm) {
             Some(PropValue::Text(text)) => row.id == id && text.as_str() == name,
             _ => false,
@@ -76,7 +76,7 @@ fn has(rt: &impl Abort, store: &ItemStore, items: &[(u32, &str)]) -> Result<(), 
     assert_eq!(rt; ids.len(), items.len());
     for (found, (id, name)) in ids.iter().zip(items) {
         assert_eq!(rt; *found, *id);
-        assert!(rt; is_named(store, *id, name));
+        assert!(rt; is_named(store.get(*id), *id, name));
     }
     Ok(())
 }
@@ -88,12 +88,15 @@ fn batches_are_taken_in_and_the_last_one_back(rt: HostRuntime) -> Result<(), Fai
     has(&rt, &store, &[])?;
     next(alloc, &mut store, &[(7, "b"), (2, "a")])?;
     has(&rt, &store, &[(2, "a"), (7, "b")])?;
+    let owned = store.shared(7)?;
     next(
         alloc,
         &mut store,
         &[(9, ""), (2, ""), (7, "c"), (4, "d"), (7, "e")],
     )?;
     has(&rt, &store, &[(4, "d"), (7, "e")])?;
+    assert!(rt; is_named(owned.as_ref().map(|shared| shared.row()), 7, "b"));
+    assert!(rt; store.shared(2)?.is_none());
     assert_eq!(rt; store.revision(), 4);
     assert_eq!(rt; store.floor(), 2);
     has_changed(&rt, &store, 2, &[2, 4, 7, 9])?;
@@ -117,6 +120,7 @@ fn one_revision_back_is_kept(rt: HostRuntime) -> Result<(), Fail> {
     assert_eq!(rt; store.revision(), 5);
     assert_eq!(rt; store.floor(), 4);
     has_changed(&rt, &store, 4, &[2, 3])?;
+    assert!(rt; is_named(store.version_at(2, 4), 2, "c") && store.version_at(3, 4).is_none());
     store.undo();
     has(&rt, &store, &[(2, "c")])?;
     assert_eq!(rt; store.floor(), 3);

@@ -1,9 +1,9 @@
 -- What is found at a revision, as the versions of a key change.
 use Rattle.std.proofs.Common.{◌≡◌, ◌≤◌, ◌<◌, ◌-◌, ℕ, zero, suc, cond, List, [], ◌∷◌, length, take, get_or, Option, Some, None, refl, sym, ap, ◌∙◌, arith}
-use Rattle.std.specs.Prelude.{nat_le, nat_lt, Bool, true, false}
-use Rattle.std.proofs.lemmas.Bool.{le-leb, lt-leb, le-ltb}
+use Rattle.std.specs.Prelude.{nat_le, Bool, true, false}
+use Rattle.std.proofs.lemmas.Bool.{le-leb, lt-leb}
 use Rattle.key_versions.specs.declared.version.Version.{Version}
-use Rattle.key_versions.specs.Found.{found, value_in, since_in}
+use Rattle.key_versions.specs.Found.{found, value_in}
 
 module _ {T : Type 0} where
   -- a version is found from its revision on, and before it what is older
@@ -35,8 +35,3 @@ module _ {T : Type 0} where
       → value_in mid base ≡ old → value_in new base ≡ old
   gone_value true new mid base old is gone same = ap (λ vs. value_in vs base) is ∙ sym (gone refl) ∙ same
   gone_value false new mid base old is gone same = ap (λ vs. value_in vs base) is ∙ same
-
-  pub gone_since : (b : Bool) (new mid : List (Version T)) (base now : ℕ) (old : Bool) → new ≡ cond b [] mid → (b ≡ true → nat_lt base (since_in mid now) ≡ false)
-      → nat_lt base (since_in mid now) ≡ old → nat_lt base (since_in new now) ≡ old
-  gone_since true new mid base now old is gone same = ap (λ vs. nat_lt base (since_in vs now)) is ∙ le-ltb base 0 (omega arith) ∙ sym (gone refl) ∙ same
-  gone_since false new mid base now old is gone same = ap (λ vs. nat_lt base (since_in vs now)) is ∙ same

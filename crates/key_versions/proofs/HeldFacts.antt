@@ -1,17 +1,16 @@
 -- What stands under each key, as the newest versions and the older ones lie apart.
-use Rattle.std.proofs.Common.{◌≡◌, ℕ, Bool, true, false, cond, ◌||◌, List, [], ◌∷◌, length, filter, Option, Some, None, is_some, unwrap_or, refl, sym, ap, subst, ◌∙◌, true≢false, nat_cmp, is_eq, ◌+◌, ◌≤◌, ◌<◌, arith, Less, Equal, Greater}
-use Rattle.std.specs.Prelude.{Result, Ok, Err, IfOk, IfSome, IfNone}
-use Rattle.std.specs.List.{list_any, count_by, AllByRecursion}
+use Rattle.std.proofs.Common.{◌≡◌, ℕ, Bool, true, false, cond, ◌||◌, List, [], ◌∷◌, filter, Option, Some, None, is_some, unwrap_or, refl, sym, ap, subst, ◌∙◌, true≢false, nat_cmp, is_eq, Less, Equal, Greater}
+use Rattle.std.specs.Prelude.{Result, Ok, Err, IfOk}
+use Rattle.std.specs.List.{list_any, AllByRecursion}
 use Rattle.std.specs.List.Sorted.{IsStrictlySortedBy}
-use Rattle.std.specs.Map.{keys_of, values_of}
+use Rattle.std.specs.Map.{keys_of}
 use Rattle.std.specs.BTreeMap.{is_at}
 use Rattle.std.specs.Cmp.{nat_cmp_total}
 use Rattle.std.specs.declared.collections.VecDeque.{VecDeque}
 use Rattle.std.proofs.lemmas.Cmp.{eq_by_cmp_equiv}
-use Rattle.std.proofs.lemmas.List.Sums.{sum_by-cons}
 use Rattle.std.proofs.lemmas.Map.Keys.{IsDistinct-from_sorted}
 use Rattle.std.proofs.lemmas.Map.Entries.{option_filter, lookup-filter-values}
-use Rattle.std.proofs.lemmas.Map.Lookups.{exact_unsigned, btree_set_from_contains}
+use Rattle.std.proofs.lemmas.Map.Lookups.{exact_unsigned}
 use Rattle.key_versions.specs.declared.version.Version.{Version}
 use Rattle.key_versions.specs.Found.{newest_value}
 use Rattle.key_versions.specs.Held.{Held, at, versions_at, AreKeys}
@@ -58,20 +57,6 @@ module _ {T : Type 0} where
       filled true is = sym is
       filled false is = sym is
 
-  -- ascending keys that are those of the values are one list
-  same_keys : (held : Held T) (ks js : List ℕ) → AreKeys held ks → AreKeys held js → ks ≡ js
-  same_keys held ks js a b =
-      btree_set_from_contains nat_cmp_total (record { keys = ks }) (record { keys = js }) a.ascending b.ascending (λ q. a.each q ∙ sym (b.each q)) exact_unsigned
-
-  length-filled : (es : List (ℕ × Version T)) → count_by (λ v. is_some v.value) (values_of es) ≡ length (keys_of (filter (λ e. is_some e.1.value) es))
-  length-filled [] = refl
-  length-filled (e ∷ es) = sum_by-cons (λ v. cond (is_some v.value) 1 0) e.1 (values_of es) ∙ one_more (is_some e.1.value) (length-filled es)
-    where
-      one_more : (b : Bool) → count_by (λ v. is_some v.value) (values_of es) ≡ length (keys_of (filter (λ e. is_some e.1.value) es))
-          → cond b 1 0 + count_by (λ v. is_some v.value) (values_of es) ≡ length (keys_of (cond b (e ∷ filter (λ e. is_some e.1.value) es) (filter (λ e. is_some e.1.value) es)))
-      one_more true rest = omega (arith, rest)
-      one_more false rest = omega (arith, rest)
-
 -- ---- the parts and the whole
 
 module _ {T A : Type 0} where
@@ -113,22 +98,3 @@ module _ {T A : Type 0} where
       → IfOk r (λ v. items v ≡ keys_of (filter (λ e. is_some e.1.value) newest)) → IfOk r (λ v. AreKeys held (items v))
   keys_told items (Ok v) newest older held is sorted listed = keys_joined newest older held (items v) is sorted listed
   keys_told items (Err e) newest older held is sorted listed = tt
-
-  pub count_joined : (newest : List (ℕ × Version T)) (older : List (ℕ × VecDeque (Version T) A)) (held : Held T) (count : ℕ) → joined newest older ≡ held
-      → IsStrictlySortedBy nat_cmp (keys_of newest) → count ≡ count_by (λ v. is_some v.value) (values_of newest) → (keys : List ℕ) → AreKeys held keys → count ≡ length keys
-  count_joined newest older held count is sorted counted keys are =
-      counted ∙ length-filled newest ∙ ap length (same_keys held _ keys (keys_joined newest older held _ is sorted refl) are)
-
-  -- ---- keys that have no versions
-
-  pub none_between : (r : Option ℕ) (from : ℕ) (newest : List (ℕ × Version T)) (older : List (ℕ × VecDeque (Version T) A)) (held : Held T) → joined newest older ≡ held
-      → IfSome r (λ key. (q : ℕ) → from ≤ q → q < key → at q newest ≡ None) → IfSome r (λ key. (q : ℕ) → from ≤ q → q < key → versions_at q held ≡ [])
-  none_between None from newest older held is h = tt
-  none_between (Some key) from newest older held is h =
-      told newest older held is (λ f. (q : ℕ) → from ≤ q → q < key → f q ≡ []) (λ q le lt. ap (λ o. versions_of o (older_at q older)) (h q le lt))
-
-  pub none_behind : (r : Option ℕ) (from : ℕ) (newest : List (ℕ × Version T)) (older : List (ℕ × VecDeque (Version T) A)) (held : Held T) → joined newest older ≡ held
-      → IfNone r ((q : ℕ) → from ≤ q → at q newest ≡ None) → IfNone r ((q : ℕ) → from ≤ q → versions_at q held ≡ [])
-  none_behind None from newest older held is h =
-      told newest older held is (λ f. (q : ℕ) → from ≤ q → f q ≡ []) (λ q le. ap (λ o. versions_of o (older_at q older)) (h q le))
-  none_behind (Some key) from newest older held is h = tt

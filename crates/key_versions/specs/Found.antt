@@ -1,7 +1,6 @@
 -- The versions of one value, the newest first, each with the revision that it came with. At a revision the newest version
 -- is found that did not come after it.
 use Rattle.std.specs.Prelude.{ℕ, List, [], ◌∷◌, Option, None, option_and_then, nat_le}
-use Rattle.std.specs.Option.{option_map_or}
 use Rattle.std.specs.List.{find}
 use Rattle.key_versions.specs.declared.version.Version.{Version}
 
@@ -12,16 +11,7 @@ found versions base = find (λ v. nat_le v.revision base) versions
 abbrev pub value_in : {T : Type 0} → List (Version T) → ℕ → Option T
 value_in versions base = option_and_then (λ v. v.value) (found versions base)
 
--- the revision since when it does, and 0 where nothing is found
-abbrev pub since_in : {T : Type 0} → List (Version T) → ℕ → ℕ
-since_in versions base = option_map_or (λ v. v.revision) (found versions base) 0
-
 -- the value of the newest version
 abbrev pub newest_value : {T : Type 0} → List (Version T) → Option T
 newest_value [] = None
 newest_value (v ∷ vs) = v.value
-
--- the versions with another value in the newest
-abbrev pub with_newest : {T : Type 0} → Option T → List (Version T) → List (Version T)
-with_newest value [] = []
-with_newest value (v ∷ vs) = record { revision = v.revision; value = value } ∷ vs

@@ -6,7 +6,7 @@ use Rattle.std.specs.List.Sorted.{IsStrictlySortedBy}
 use Rattle.std.specs.Map.{lookup}
 use Rattle.std.specs.BTreeMap.{is_at}
 use Rattle.key_versions.specs.declared.version.Version.{Version}
-use Rattle.key_versions.specs.Found.{found, value_in, since_in, newest_value}
+use Rattle.key_versions.specs.Found.{value_in, newest_value}
 
 -- all that is held, ascending by key
 abbrev pub Held : Type 0 → Type 0
@@ -18,15 +18,9 @@ at key pairs = lookup (is_at (nat_cmp key)) pairs
 abbrev pub versions_at : {T : Type 0} → ℕ → Held T → List (Version T)
 versions_at key held = unwrap_or (at key held) []
 
--- what is found under a key at a revision, its value, and since when it stands
-abbrev pub found_at : {T : Type 0} → Held T → ℕ → ℕ → Option (Version T)
-found_at held key base = found (versions_at key held) base
-
+-- the value that stands under a key at a revision
 abbrev pub value_at : {T : Type 0} → Held T → ℕ → ℕ → Option T
 value_at held key base = value_in (versions_at key held) base
-
-abbrev pub since_at : {T : Type 0} → Held T → ℕ → ℕ → ℕ
-since_at held key base = since_in (versions_at key held) base
 
 abbrev pub is_among : ℕ → List ℕ → Bool
 is_among key keys = list_any (λ other. other == key) keys
@@ -36,7 +30,7 @@ pub record AreKeys {T : Type 0} (held : Held T) (keys : List ℕ) : Type 0 where
   pub ascending : IsStrictlySortedBy nat_cmp keys
   pub each : (q : ℕ) → list_any (is_at (nat_cmp q)) keys ≡ is_some (newest_value (versions_at q held))
 
--- the least key behind one, or of all
+-- the least key that is not below one, or of all
 abbrev pub behind : Option ℕ → ℕ
 behind None = 0
 behind (Some key) = key + 1

@@ -1,12 +1,12 @@
 //! One key of the two maps: that of the newest versions, and that of the older ones.
 
-ghost use Rattle.std.specs.Prelude.{◌≡◌, ◌≤◌, ◌<◌, ◌-◌, [], ◌∷◌, ℕ, None, Some, min, nat_le, nat_lt, ◌==◌, ◌&&◌, true, false, is_some, option_copied, IfOk, OnOk, OnErr, if◌then◌else◌};
-ghost use Rattle.key_versions.specs.Found.{found, value_in, since_in, newest_value, with_newest};
+ghost use Rattle.std.specs.Prelude.{◌≡◌, ◌≤◌, ◌<◌, ◌-◌, [], ◌∷◌, ℕ, None, Some, min, nat_le, length, ◌==◌, ◌&&◌, true, false, is_some, option_copied, IfOk, OnOk, OnErr, OnSome, if◌then◌else◌};
+ghost use Rattle.key_versions.specs.Found.{found, value_in, newest_value};
 ghost use Rattle.key_versions.specs.Held.{at};
 ghost use Rattle.key_versions.specs.Joined.{older_at, versions_of, apart_at};
 
 use crate::older::{Older, clear, tidy};
-use crate::steps::{pop_past, put_over, step_back};
+use crate::steps::{pop_oldest, put_over, step_back};
 use crate::version::Version;
 use std::alloc::{AllocError, Global};
 use std::collections::{BTreeMap, VecDeque};
@@ -67,38 +67,12 @@ pub(crate) fn value_at<'a, T>(
     }
 }
 
-pub(crate) fn since_at<T>(newest: &Newest<T>, older: &Older<T>, key: u32, base: u32) -> u32
-    ensures { result ≡ since_in (apart_at newest.now.entries older.now.entries key) base }
-{
-    match find(newest, older, key, base) {
-        Some(version) => version.revision,
-        None => 0,
-    }
-}
-
 pub(crate) fn newest<T>(newest: &Newest<T>, key: u32) -> Option<&T>
     ensures { (older : _) → option_copied result ≡ newest_value (versions_of (at key newest.now.entries) older) }
 {
     match newest.get(&key) {
         Some(last) => last.value.as_ref(),
         None => None,
-    }
-}
-
-// Makes a version the newest of its key, in the place of one of its revision.
-pub(crate) fn put<T: Drop>(
-    alloc: Global,
-    newest: &mut Newest<T>,
-    older: &mut Older<T>,
-    key: u32,
-    version: Version<T>,
-) -> Result<(), AllocError>
-    ensures found { OnOk result ((q base : ℕ) → found (apart_at newest.new.entries older.new.entries q) base ≡ (if (key == q) && nat_le version.revision base then Some version else found (apart_at newest.old.entries older.old.entries q) base)) }
-    ensures unchanged { OnErr result ((q : ℕ) → apart_at newest.new.entries older.new.entries q ≡ apart_at newest.old.entries older.old.entries q) }
-{
-    match newest.get_mut(&key) {
-        Some(last) => put_over(alloc, last, older, key, version),
-        None => put_first(newest, older, key, version),
     }
 }
 
@@ -110,7 +84,7 @@ fn put_first<T: Drop>(
 ) -> Result<(), AllocError>
     requires { at key newest.old.entries ≡ None }
     ensures found { OnOk result ((q base : ℕ) → found (apart_at newest.new.entries older.new.entries q) base ≡ (if (key == q) && nat_le version.revision base then Some version else found (apart_at newest.old.entries older.old.entries q) base)) }
-    ensures unchanged { OnErr result ((q : ℕ) → apart_at newest.new.entries older.new.entries q ≡ apart_at newest.old.entries older.old.entries q) }
+    ensures unchanged { OnErr result ((q base : ℕ) → value_in (apart_at newest.new.entries older.new.entries q) base ≡ value_in (apart_at newest.old.entries older.old.entries q) base) }
 {
     clear(older, key);
     match newest.insert(key, version) {
@@ -119,7 +93,8 @@ fn put_first<T: Drop>(
     }
 }
 
-// The same, and tells whether the key had a value. Where it has no versions, one without a value is none.
+// Makes a version the newest of its key, in the place of one of its revision, and tells whether the key had a value.
+// Where it has no versions, one without a value is none.
 pub(crate) fn put_value<T: Drop>(
     alloc: Global,
     newest: &mut Newest<T>,
@@ -129,7 +104,7 @@ pub(crate) fn put_value<T: Drop>(
 ) -> Result<bool, AllocError>
     ensures was { IfOk result (λ was. was ≡ is_some (newest_value (apart_at newest.old.entries older.old.entries key))) }
     ensures values { OnOk result ((q base : ℕ) → value_in (apart_at newest.new.entries older.new.entries q) base ≡ (if (key == q) && nat_le version.revision base then version.value else value_in (apart_at newest.old.entries older.old.entries q) base)) }
-    ensures unchanged { OnErr result ((q : ℕ) → apart_at newest.new.entries older.new.entries q ≡ apart_at newest.old.entries older.old.entries q) }
+    ensures unchanged { OnErr result ((q base : ℕ) → value_in (apart_at newest.new.entries older.new.entries q) base ≡ value_in (apart_at newest.old.entries older.old.entries q) base) }
 {
     match newest.get_mut(&key) {
         Some(last) => {
@@ -152,7 +127,7 @@ fn put_first_value<T: Drop>(
     requires { at key newest.old.entries ≡ None }
     ensures was { IfOk result (λ was. was ≡ false) }
     ensures values { OnOk result ((q base : ℕ) → value_in (apart_at newest.new.entries older.new.entries q) base ≡ (if (key == q) && nat_le version.revision base then version.value else value_in (apart_at newest.old.entries older.old.entries q) base)) }
-    ensures unchanged { OnErr result ((q : ℕ) → apart_at newest.new.entries older.new.entries q ≡ apart_at newest.old.entries older.old.entries q) }
+    ensures unchanged { OnErr result ((q base : ℕ) → value_in (apart_at newest.new.entries older.new.entries q) base ≡ value_in (apart_at newest.old.entries older.old.entries q) base) }
 {
     if version.value.is_none() {
         return Ok(false);
@@ -170,7 +145,7 @@ pub(crate) fn take_back<T: Drop>(
     key: u32,
     revision: u32,
 )
-    ensures { 1 ≤ revision → (q base : ℕ) → found (apart_at newest.new.entries older.new.entries q) base ≡ found (apart_at newest.old.entries older.old.entries q) (if key == q then min base (revision - 1) else base) }
+    ensures { 1 ≤ revision → (q base : ℕ) → value_in (apart_at newest.new.entries older.new.entries q) base ≡ value_in (apart_at newest.old.entries older.old.entries q) (if key == q then min base (revision - 1) else base) }
 {
     if step_back_at(newest, older, key, revision) {
         tidy(older, key);
@@ -216,38 +191,58 @@ fn remove<T: Drop>(newest: &mut Newest<T>, key: u32)
     newest.remove(&key);
 }
 
-// Takes out what no revision from a low one on finds under a key.
-pub(crate) fn trim<T: Drop>(newest: &Newest<T>, older: &mut Older<T>, key: u32, low: u32)
-    ensures { (q base : ℕ) → low ≤ base → found (apart_at newest.now.entries older.new.entries q) base ≡ found (apart_at newest.now.entries older.old.entries q) base }
+// Takes out the oldest version of a key, if no revision from a low one on finds it.
+pub(crate) fn pop_past<T: Drop>(
+    newest: &Newest<T>,
+    older: &mut Older<T>,
+    key: u32,
+    low: u32,
+) -> Option<Version<T>>
+    ensures values { (q base : ℕ) → low ≤ base → value_in (apart_at newest.now.entries older.new.entries q) base ≡ value_in (apart_at newest.now.entries older.old.entries q) base }
+    ensures fewer { OnSome result (length (apart_at newest.now.entries older.new.entries key) < length (apart_at newest.now.entries older.old.entries key)) }
 {
     match newest.get(&key) {
-        Some(last) => trim_behind(last.revision, older, key, low),
-        None => {}
+        Some(last) => pop_behind(last.revision, older, key, low),
+        None => None,
     }
 }
 
-fn trim_behind<T: Drop>(revision: u32, older: &mut Older<T>, key: u32, low: u32)
+fn pop_behind<T: Drop>(
+    revision: u32,
+    older: &mut Older<T>,
+    key: u32,
+    low: u32,
+) -> Option<Version<T>>
     ensures here { (now : Version T) (base : ℕ) → now.revision ≡ revision → low ≤ base → found (now ∷ older_at key older.new.entries) base ≡ found (now ∷ older_at key older.old.entries) base }
     ensures others { (q : ℕ) → (key == q) ≡ false → older_at q older.new.entries ≡ older_at q older.old.entries }
+    ensures fewer { OnSome result (length (older_at key older.new.entries) < length (older_at key older.old.entries)) }
 {
-    pop_past_at(revision, older, key, low);
+    let popped = pop_at(revision, older, key, low);
     tidy(older, key);
+    popped
 }
 
-fn pop_past_at<T: Drop>(revision: u32, older: &mut Older<T>, key: u32, low: u32)
+fn pop_at<T: Drop>(revision: u32, older: &mut Older<T>, key: u32, low: u32) -> Option<Version<T>>
     ensures here { (now : Version T) (base : ℕ) → now.revision ≡ revision → low ≤ base → found (now ∷ older_at key older.new.entries) base ≡ found (now ∷ older_at key older.old.entries) base }
     ensures others { (q : ℕ) → (key == q) ≡ false → older_at q older.new.entries ≡ older_at q older.old.entries }
+    ensures fewer { OnSome result (length (older_at key older.new.entries) < length (older_at key older.old.entries)) }
 {
     match older.get_mut(&key) {
-        Some(versions) => pop_past(revision, versions, low),
-        None => {}
+        Some(versions) => pop_oldest(revision, versions, low),
+        None => None,
     }
 }
 
-// The same, and takes out the key too where it has had no value from a low revision on.
+fn trim<T: Drop>(newest: &Newest<T>, older: &mut Older<T>, key: u32, low: u32)
+    ensures { (q base : ℕ) → low ≤ base → value_in (apart_at newest.now.entries older.new.entries q) base ≡ value_in (apart_at newest.now.entries older.old.entries q) base }
+{
+    while let Some(_) = pop_past(newest, older, key, low) {}
+}
+
+// Takes out all versions of a key that no revision from a low one on finds, and the key too where it has no value from
+// then on.
 pub(crate) fn prune<T: Drop>(newest: &mut Newest<T>, older: &mut Older<T>, key: u32, low: u32)
-    ensures values { (q base : ℕ) → low ≤ base → value_in (apart_at newest.new.entries older.new.entries q) base ≡ value_in (apart_at newest.old.entries older.old.entries q) base }
-    ensures since { (q base now : ℕ) → low ≤ base → low ≤ now → nat_lt base (since_in (apart_at newest.new.entries older.new.entries q) now) ≡ nat_lt base (since_in (apart_at newest.old.entries older.old.entries q) now) }
+    ensures { (q base : ℕ) → low ≤ base → value_in (apart_at newest.new.entries older.new.entries q) base ≡ value_in (apart_at newest.old.entries older.old.entries q) base }
 {
     trim(newest, older, key, low);
     if is_gone(newest, key, low) {
@@ -263,31 +258,10 @@ fn remove_all<T: Drop>(newest: &mut Newest<T>, older: &mut Older<T>, key: u32)
 }
 
 fn is_gone<T>(newest: &Newest<T>, key: u32, low: u32) -> bool
-    ensures { result ≡ true → (older : _) (base now : ℕ) → low ≤ base → low ≤ now → (value_in (versions_of (at key newest.now.entries) older) base ≡ None) × (nat_lt base (since_in (versions_of (at key newest.now.entries) older) now) ≡ false) }
+    ensures { result ≡ true → (older : _) (base : ℕ) → low ≤ base → value_in (versions_of (at key newest.now.entries) older) base ≡ None }
 {
     match newest.get(&key) {
         Some(last) => last.value.is_none() && last.revision <= low,
         None => false,
-    }
-}
-
-// Takes the newest value out, for as long as it is changed.
-pub(crate) fn take_newest<T: Drop>(newest: &mut Newest<T>, key: u32) -> Option<T>
-    ensures value { (older : _) → result ≡ newest_value (versions_of (at key newest.old.entries) older) }
-    ensures left { (q : ℕ) (older : _) → versions_of (at q newest.new.entries) older ≡ (if key == q then with_newest None (versions_of (at q newest.old.entries) older) else versions_of (at q newest.old.entries) older) }
-{
-    match newest.get_mut(&key) {
-        Some(last) => last.value.take(),
-        None => None,
-    }
-}
-
-// Puts a value into the newest version of a key.
-pub(crate) fn set_newest<T: Drop>(newest: &mut Newest<T>, key: u32, value: T)
-    ensures { (q : ℕ) (older : _) → versions_of (at q newest.new.entries) older ≡ (if key == q then with_newest (Some value) (versions_of (at q newest.old.entries) older) else versions_of (at q newest.old.entries) older) }
-{
-    match newest.get_mut(&key) {
-        Some(last) => last.value = Some(value),
-        None => {}
     }
 }

@@ -3,6 +3,7 @@
 #![tactic(auto)]
 
 mod by_key;
+mod numbers;
 mod older;
 mod steps;
 #[cfg(test)]
@@ -13,3 +14,4 @@ mod walks;
 
 pub use version::Version;
 pub use versions::Versions;
+pub use walks::next_key;

@@ -1,6 +1,6 @@
 //! What is done to the newest version of a key and to those before it.
 
-ghost use Rattle.std.specs.Prelude.{◌≡◌, ◌≤◌, ◌<◌, ◌-◌, ◌∷◌, [], ℕ, ◌==◌, true, false, length, take, min, nat_le, Some, OnOk, OnErr, if◌then◌else◌};
+ghost use Rattle.std.specs.Prelude.{◌≡◌, ◌≤◌, ◌<◌, ◌-◌, ◌∷◌, [], ℕ, ◌==◌, true, false, length, take, min, nat_le, Some, OnOk, OnErr, OnSome, if◌then◌else◌};
 ghost use Rattle.key_versions.specs.declared.version.Version.{Version};
 ghost use Rattle.key_versions.specs.Found.{found};
 ghost use Rattle.key_versions.specs.Joined.{older_at};
@@ -54,13 +54,19 @@ pub(crate) fn step_back<T: Drop>(
     true
 }
 
-// Takes out what no revision from a low one on asks for.
-pub(crate) fn pop_past<T: Drop>(newest: u32, older: &mut VecDeque<Version<T>>, low: u32)
-    ensures { (now : Version T) (base : ℕ) → now.revision ≡ newest → low ≤ base → found (now ∷ older.new.items) base ≡ found (now ∷ older.old.items) base }
+// Takes out the oldest version, if no revision from a low one on finds it.
+pub(crate) fn pop_oldest<T: Drop>(
+    newest: u32,
+    older: &mut VecDeque<Version<T>>,
+    low: u32,
+) -> Option<Version<T>>
+    ensures past { (now : Version T) (base : ℕ) → now.revision ≡ newest → low ≤ base → found (now ∷ older.new.items) base ≡ found (now ∷ older.old.items) base }
+    ensures fewer { OnSome result (length older.new.items < length older.old.items) }
 {
-    while is_past(newest, older, low) {
-        older.pop_back();
+    if is_past(newest, older, low) {
+        return older.pop_back();
     }
+    None
 }
 
 // Whether the version behind the oldest is there at a low revision already.

@@ -1,7 +1,8 @@
 //! Versions of texts, and one call of each function that allocates.
 
-use crate::{Version, Versions};
+use crate::{Versions, next_key};
 use std::alloc::{AllocError, Global};
+use std::collections::BTreeMap;
 use std::process::Abort;
 use std::test::Fail;
 
@@ -18,14 +19,8 @@ fn put(
     key: u32,
     revision: u32,
     word: &str,
-) -> Result<(), AllocError> {
-    held.put(
-        key,
-        Version {
-            revision,
-            value: text(alloc, word)?,
-        },
-    )
+) -> Result<bool, AllocError> {
+    held.put_value(key, revision, text(alloc, word)?)
 }
 
 fn reads(held: &Versions<String>, key: u32, base: u32) -> &str {
@@ -48,27 +43,21 @@ fn has(rt: &impl Abort, held: &Versions<String>, key: u32, first: u32, words: &[
 fn a_look_up_reads_what_stood_then(rt: HostRuntime) -> Result<(), Fail> {
     let alloc = rt.alloc();
     let mut held = Versions::new(alloc);
-    put(alloc, &mut held, 7, 3, "a")?;
-    put(alloc, &mut held, 7, 5, "b")?;
-    put(alloc, &mut held, 7, 5, "c")?;
-    put(alloc, &mut held, 7, 6, "")?;
-    put(alloc, &mut held, 2, 4, "d")?;
+    assert!(rt; !put(alloc, &mut held, 9, 3, "")?);
+    assert!(rt; !put(alloc, &mut held, 7, 3, "a")?);
+    assert!(rt; put(alloc, &mut held, 7, 5, "b")?);
+    assert!(rt; put(alloc, &mut held, 7, 5, "c")?);
+    assert!(rt; put(alloc, &mut held, 7, 6, "")?);
+    assert!(rt; !put(alloc, &mut held, 2, 4, "d")?);
     has(&rt, &held, 7, 2, &["", "a", "a", "c", ""]);
     has(&rt, &held, 2, 3, &["", "d", "d"]);
-    assert_eq!(rt; held.since_at(7, 4), 3);
-    assert_eq!(rt; held.since_at(7, 6), 6);
-    assert_eq!(rt; held.since_at(9, 6), 0);
     assert!(rt; held.newest(7).is_none());
     assert_eq!(rt; held.keys()?.as_slice(), [2].as_slice());
-    assert_eq!(rt; held.count(), 1);
-    assert_eq!(rt; held.next_key(None), Some(2));
-    assert_eq!(rt; held.next_key(Some(2)), Some(7));
-    assert_eq!(rt; held.next_key(Some(7)), None);
-    held.take_back_all(&[7, 2], 5);
+    held.take_back_all(&[7, 2, 9], 5);
     has(&rt, &held, 7, 2, &["", "a", "a", "a", "a"]);
     has(&rt, &held, 2, 3, &["", "d", "d"]);
     held.take_back(2, 4);
-    assert_eq!(rt; held.next_key(None), Some(7));
+    assert_eq!(rt; held.keys()?.as_slice(), [7].as_slice());
     Ok(())
 }
 
@@ -79,34 +68,38 @@ fn what_is_past_goes(rt: HostRuntime) -> Result<(), Fail> {
     put(alloc, &mut held, 1, 3, "a")?;
     put(alloc, &mut held, 1, 5, "b")?;
     put(alloc, &mut held, 1, 8, "")?;
-    held.trim_all(&[1], 6);
+    held.prune_all(&[1], 6);
     has(&rt, &held, 1, 4, &["", "b", "b", "b", ""]);
-    held.prune_all(&[1], 7);
-    assert_eq!(rt; held.next_key(None), Some(1));
-    held.trim(1, 8);
+    assert!(rt; held.pop_past(1, 7).is_none());
+    assert!(rt; held.pop_past(1, 8).is_some());
+    has(&rt, &held, 1, 6, &["", "", ""]);
     held.prune(1, 8);
-    assert_eq!(rt; held.next_key(None), None);
+    assert_eq!(rt; held.keys()?.len(), 0);
     Ok(())
 }
 
 #[test]
-fn a_value_is_changed_in_place(rt: HostRuntime) -> Result<(), Fail> {
-    let alloc = rt.alloc();
-    let mut held = Versions::new(alloc);
-    assert!(rt; !held.put_value(4, 3, None)?);
-    assert_eq!(rt; held.next_key(None), None);
-    assert!(rt; !held.put_value(4, 3, text(alloc, "a")?)?);
-    assert!(rt; held.put_value(4, 4, text(alloc, "b")?)?);
-    match held.take_newest(4) {
-        Some(mut word) => {
-            word.push_str("c")?;
-            held.set_newest(4, word);
-        }
-        None => assert!(rt; false),
-    }
-    has(&rt, &held, 4, 2, &["", "a", "bc"]);
-    assert!(rt; held.put_value(4, 5, None)?);
-    assert!(rt; !held.put_value(4, 6, text(alloc, "d")?)?);
-    has(&rt, &held, 4, 4, &["bc", "", "d"]);
+fn a_number_is_put_where_it_is_another(rt: HostRuntime) -> Result<(), Fail> {
+    let mut held = Versions::new(rt.alloc());
+    held.put_number(4, 3, Some(6))?;
+    held.put_number(4, 5, Some(6))?;
+    held.put_number(4, 7, Some(8))?;
+    held.put_number(5, 7, None)?;
+    assert_eq!(rt; held.value_at(4, 6).copied(), Some(6));
+    assert!(rt; held.has_number(4, 6) && held.has_number(4, 8) && !held.has_number(4, 7));
+    assert!(rt; !held.has_number(5, 6));
+    held.prune(4, 7);
+    assert!(rt; !held.has_number(4, 6));
+    Ok(())
+}
+
+#[test]
+fn keys_follow_each_other(rt: HostRuntime) -> Result<(), Fail> {
+    let mut map = BTreeMap::new(rt.alloc());
+    map.insert(7, ())?;
+    map.insert(2, ())?;
+    assert_eq!(rt; next_key(&map, None), Some(2));
+    assert_eq!(rt; next_key(&map, Some(2)), Some(7));
+    assert_eq!(rt; next_key(&map, Some(7)), None);
     Ok(())
 }

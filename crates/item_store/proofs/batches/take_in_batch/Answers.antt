@@ -17,7 +17,7 @@ returns-in-Err-take_in-clause-named_left c =
 
 pub returns-in-Err-take_in-clause-rows_left : goal.returns-in-Err-take_in-clause-rows_left
 returns-in-Err-take_in-clause-rows_left c = λ pos.
-    rows_left c.args.edits.now c.args.held.now.entries c.take_in.new.held.entries c.take_back_batch.new.held.entries c.args.revision pos
+    rows_left c.args.edits.now c.args.held.now c.take_in.new.held c.take_back_batch.new.held c.args.revision pos
     c.take_in.ensures.before c.take_in.ensures.others
     (c.take_back_batch.ensures.rows pos (map (λ v. v.items) c.args.named.now.items) (named_items c.args.edits.now)
     (ap (map (λ v. v.items)) c.in-Ok-push_back.ensures.items ∙ map-append _ _ _ ∙ ap (λ ids. map (λ v. v.items) c.args.named.now.items ++ ids ∷ []) c.in-Ok.ensures))

@@ -10,11 +10,11 @@ ids_in ids = ids.items
 pub returns-in-Ok-clause-stands : goal.returns-in-Ok-clause-stands
 returns-in-Ok-clause-stands c = λ bs h.
     let passed : ℕ = c.floor-low.result - c.self.inside.low in
-    applied bs c.args.edits.now _ c.args.revision c.floor-low.result c.in-Ok.count _ c.take_in_batch-taken.new.held.entries c.prune_to.new.held.entries
+    applied bs c.args.edits.now _ c.args.revision c.floor-low.result c.in-Ok.count _ c.take_in_batch-taken.new.held c.prune_to.new.held
     (subst (StandsFor bs) (sym c.self.view_is) h) c.requires.valid (c.requires.next ∙ ap (λ s. s.revision + 1) (sym c.self.view_is)) c.floor-low.ensures
     (ap (map ids_in) c.prune_to.ensures.named ∙ sym (drop-map ids_in passed c.take_in_batch-taken.new.named.items) ∙ ap (drop passed) c.in-Ok.ensures.named)
     c.in-Ok.ensures.items c.in-Ok.ensures.before c.prune_to.ensures.rows
 
 pub returns-in-Err-clause-unchanged : goal.returns-in-Err-clause-unchanged
 returns-in-Err-clause-unchanged c =
-    not_applied c.self.view_is c.args.revision _ c.take_in_batch-taken.new.held.entries c.requires.next c.in-Err.ensures.named_left c.in-Err.ensures.rows_left
+    not_applied c.self.view_is c.args.revision _ c.take_in_batch-taken.new.held c.requires.next c.in-Err.ensures.named_left c.in-Err.ensures.rows_left

@@ -18,4 +18,4 @@ returns-clause-values g c =
 pub returns-clause-unchanged : goal.returns-clause-unchanged
 returns-clause-unchanged g c =
     changed c.self.inside.newest.entries c.put_value.new.newest.entries c.self.inside.older.entries c.put_value.new.older.entries c.args.self.now c.self.view_is
-    (λ old new. OnErr c.put_value.result ((q : ℕ) → new q ≡ old q)) c.put_value.ensures.unchanged
+    (λ old new. OnErr c.put_value.result ((q base : ℕ) → value_in (new q) base ≡ value_in (old q) base)) c.put_value.ensures.unchanged
