@@ -1,30 +1,24 @@
 -- What a store stands for before and after each of its calls.
-use Rattle.std.proofs.Common.{◌≡◌, ◌≤◌, ◌<◌, ◌+◌, ◌-◌, ◌⊎◌, ℕ, zero, suc, Bool, true, false, cond, ◌||◌, ◌==◌, List, [], ◌∷◌, ◌++◌, length, drop, map, filter, flat_map, min, Some, is_some, unwrap_or, refl, sym, ap, subst, ◌∙◌, ⊎_elim, true≢false, arith, Ok, Err, get_or, nat_cmp, is_eq}
+use Rattle.std.proofs.Common.{◌≡◌, ◌≤◌, ◌<◌, ◌+◌, ◌-◌, ◌⊎◌, ℕ, zero, suc, true, false, cond, ◌||◌, ◌==◌, List, [], ◌∷◌, ◌++◌, length, drop, map, flat_map, min, is_some, refl, sym, ap, subst, ◌∙◌, ⊎_elim, true≢false, arith, Ok, Err, get_or}
 use Rattle.std.specs.Prelude.{Result, IfOk}
 use Rattle.std.specs.List.{list_any}
 use Rattle.std.specs.Map.{keys_of}
-use Rattle.std.specs.BTreeMap.{is_at}
-use Rattle.std.specs.Cmp.{nat_cmp_total}
 use Rattle.std.proofs.lemmas.Bool.{cases_Bool, cases_lt}
-use Rattle.std.proofs.lemmas.Cmp.{eq_by_cmp_equiv}
 use Rattle.std.proofs.lemmas.List.{take_all, take-append-le, drop-append-le, drop-drop, drop-map, map-append}
 use Rattle.std.proofs.lemmas.List.Folds.{flat_map-map}
 use Rattle.std.proofs.lemmas.Grind.{flat_map-append}
-use Rattle.std.proofs.lemmas.Map.{lookup-none}
-use Rattle.std.proofs.lemmas.Map.Keys.{sorted_tail, IsDistinct-from_sorted}
-use Rattle.std.proofs.lemmas.Map.Entries.{none_past_head}
 use Rattle.std.proofs.Math.Nat.{min-le_right, min-eq_left, le-min}
 use Rattle.item_model.specs.declared.changes.Edit.{Edit}
 use Rattle.item_model.specs.declared.request.Target.TheVariants.{Items}
 use Rattle.item_model.specs.Valid.{IsValid, AreValid}
-use Rattle.share_history.specs.declared.revisions.TheConstants.{FIRST_REVISION}
-use Rattle.share_history.specs.Keyed.{at, IsAscending, ascending}
+use Rattle.share_history.specs.Numbers.{first_revision}
+use Rattle.share_history.specs.Keyed.{ascending}
 use Rattle.share_history.specs.Histories.{edits, revision, up_to, later}
 use Rattle.share_history.specs.Named.{names_item}
 use Rattle.share_history.specs.LastSaid.{item_at}
 use Rattle.share_history.specs.Rows.{library}
 use Rattle.share_history.specs.Kept.{touched}
-use Rattle.share_history.proofs.KeyedFacts.{has, is_eq-cmp, sorted-ascending, has-ascending, ascending-filter}
+use Rattle.share_history.proofs.KeyedFacts.{has, is_eq-cmp, sorted-ascending, has-ascending}
 use Rattle.share_history.proofs.EditFacts.{edits_more, revision_more, up_to-revision, item_stays}
 use Rattle.share_history.proofs.RowFacts.{ids_are}
 use Rattle.share_history.proofs.TouchFacts.{touched_are}
@@ -40,10 +34,10 @@ use Rattle.item_store.proofs.BatchFacts.{among_named}
 -- ---- batches up to a revision
 
 up_to_all : (bs : List (List Edit)) (v : ℕ) → revision bs ≤ v → up_to bs v ≡ bs
-up_to_all bs v h = take_all (v - FIRST_REVISION) bs (omega (arith, h))
+up_to_all bs v h = take_all (v - first_revision) bs (omega (arith, h))
 
 up_to_same : (bs cs : List (List Edit)) (v : ℕ) → v ≤ revision bs → up_to (bs ++ cs) v ≡ up_to bs v
-up_to_same bs cs v h = take-append-le (v - FIRST_REVISION) bs cs (omega (arith, h))
+up_to_same bs cs v h = take-append-le (v - first_revision) bs cs (omega (arith, h))
 
 module _ {bs : List (List Edit)} {s : Store} (h : StandsFor bs s) where
   low_reached : s.low ≤ s.revision
@@ -89,16 +83,16 @@ named_edits : (bs : List (List Edit)) → flat_map named_items bs ≡ named_item
 named_edits [] = refl
 named_edits (b ∷ bs) = ap (λ ids. named_items b ++ ids) (named_edits bs) ∙ sym (flat_map-append items_in b (edits bs))
 
-named_after : {X : Type 0} (items : X → List ℕ) (lists : List X) (bs : List (List Edit)) (low base : ℕ) → map items lists ≡ map named_items (drop (low - FIRST_REVISION) bs)
-    → FIRST_REVISION ≤ low → low ≤ base → flat_map items (drop (base - low) lists) ≡ named_items (later bs base)
+named_after : {X : Type 0} (items : X → List ℕ) (lists : List X) (bs : List (List Edit)) (low base : ℕ) → map items lists ≡ map named_items (drop (low - first_revision) bs)
+    → first_revision ≤ low → low ≤ base → flat_map items (drop (base - low) lists) ≡ named_items (later bs base)
 named_after items lists bs low base named least le =
     sym (flat_map-map (λ ids. ids) items (drop (base - low) lists))
-    ∙ ap (flat_map (λ ids. ids)) (sym (drop-map items (base - low) lists) ∙ ap (drop (base - low)) named ∙ drop-map named_items (base - low) (drop (low - FIRST_REVISION) bs))
-    ∙ flat_map-map (λ ids. ids) named_items (drop (base - low) (drop (low - FIRST_REVISION) bs))
+    ∙ ap (flat_map (λ ids. ids)) (sym (drop-map items (base - low) lists) ∙ ap (drop (base - low)) named ∙ drop-map named_items (base - low) (drop (low - first_revision) bs))
+    ∙ flat_map-map (λ ids. ids) named_items (drop (base - low) (drop (low - first_revision) bs))
     ∙ ap (flat_map named_items)
-    (drop-drop (base - low) (low - FIRST_REVISION) bs
-    ∙ ap (λ n. drop n bs) (let all : low - FIRST_REVISION + (base - low) ≡ base - FIRST_REVISION = omega (arith, least, le) in all))
-    ∙ named_edits (drop (base - FIRST_REVISION) bs)
+    (drop-drop (base - low) (low - first_revision) bs
+    ∙ ap (λ n. drop n bs) (let all : low - first_revision + (base - low) ≡ base - first_revision = omega (arith, least, le) in all))
+    ∙ named_edits (drop (base - first_revision) bs)
 
 pub changed_told : {X L E : Type 0} (items : X → List ℕ) (lists : List X) (listed : L → List ℕ) (r : Result L E) (base passed : ℕ) (keys : List ℕ) {s now : Store} → s ≡ now
     → s.named ≡ map items lists
@@ -145,12 +139,12 @@ applied bs batch s n low count named mid new h valid next floor lists items befo
       named =
           lists
           ∙ ap (λ ls. drop (low - s.low) (ls ++ named_items batch ∷ [])) h.named
-          ∙ ap (drop (low - s.low)) (sym (map-append named_items (drop (s.low - FIRST_REVISION) bs) (batch ∷ [])))
-          ∙ drop-map named_items (low - s.low) (drop (s.low - FIRST_REVISION) bs ++ batch ∷ [])
-          ∙ ap (λ cs. map named_items (drop (low - s.low) cs)) (sym (drop-append-le (s.low - FIRST_REVISION) bs (batch ∷ []) (omega (arith, low_reached h, h.revision))))
-          ∙ ap (map named_items) (drop-drop (low - s.low) (s.low - FIRST_REVISION) all)
+          ∙ ap (drop (low - s.low)) (sym (map-append named_items (drop (s.low - first_revision) bs) (batch ∷ [])))
+          ∙ drop-map named_items (low - s.low) (drop (s.low - first_revision) bs ++ batch ∷ [])
+          ∙ ap (λ cs. map named_items (drop (low - s.low) cs)) (sym (drop-append-le (s.low - first_revision) bs (batch ∷ []) (omega (arith, low_reached h, h.revision))))
+          ∙ ap (map named_items) (drop-drop (low - s.low) (s.low - first_revision) all)
           ∙ ap (λ k. map named_items (drop k all))
-          (let same : s.low - FIRST_REVISION + (low - s.low) ≡ low - FIRST_REVISION = omega (arith, h.least, floor, h.reach) in same);
+          (let same : s.low - first_revision + (low - s.low) ≡ low - first_revision = omega (arith, h.least, floor, h.reach) in same);
       least = omega (arith, floor);
       reach = omega (arith, floor, next);
       undo = λ _. omega (arith, floor, next);
@@ -228,10 +222,10 @@ pub undone : (bs : List (List Edit)) (batch : List Edit) (s : Store) (n : ℕ) (
 undone bs batch s n named new h can last lists rows =
     let was : s.revision - 1 ≡ revision bs = omega (arith, h.revision, revision_more bs batch) in
     let low : s.low ≤ revision bs = omega (arith, h.undo can, was) in
-    let front : List (List ℕ) = map named_items (drop (s.low - FIRST_REVISION) bs) in
+    let front : List (List ℕ) = map named_items (drop (s.low - first_revision) bs) in
     let parts : s.named ≡ front ++ named_items batch ∷ [] =
-    h.named ∙ ap (map named_items) (drop-append-le (s.low - FIRST_REVISION) bs (batch ∷ []) (omega (arith, low)))
-    ∙ map-append named_items (drop (s.low - FIRST_REVISION) bs) (batch ∷ []) in
+    h.named ∙ ap (map named_items) (drop-append-le (s.low - first_revision) bs (batch ∷ []) (omega (arith, low)))
+    ∙ map-append named_items (drop (s.low - first_revision) bs) (batch ∷ []) in
     let back = rows (omega (arith, h.revision)) front (named_items batch) parts in
     record {
       revision = last ∙ was;

@@ -3,7 +3,7 @@ use Rattle.std.specs.Prelude.{◌≡◌, ◌≤◌, ℕ, ◌-◌, List, [], ◌�
 use Rattle.item_model.specs.declared.changes.Edit.{Edit}
 use Rattle.item_model.specs.declared.changes.Edit.TheVariants.{PutItem, DropItem, PutList, PutRule, DropList, PutMember, DropMember}
 use Rattle.item_model.specs.Valid.{AreValid}
-use Rattle.share_history.specs.declared.revisions.TheConstants.{FIRST_REVISION}
+use Rattle.share_history.specs.Numbers.{first_revision}
 use Rattle.share_history.specs.Histories.{revision, edits, up_to}
 use Rattle.share_history.specs.LastSaid.{item_at}
 use Rattle.share_history.specs.Rows.{library}
@@ -12,7 +12,7 @@ use Rattle.item_store.specs.Store.{Store}
 
 -- the least base that `keep` allows, and no base below the first revision
 abbrev pub floor_of : (keep revision : ℕ) → ℕ
-floor_of keep revision = max FIRST_REVISION (revision - keep)
+floor_of keep revision = max first_revision (revision - keep)
 
 -- the item that an edit puts or drops
 abbrev pub items_in : Edit → List ℕ
@@ -34,8 +34,8 @@ pub record StandsFor (bs : List (List Edit)) (store : Store) : Type 0 where
   -- at the present revision and above the rows are the present ones
   pub rows : (id base : ℕ) → store.low ≤ base → value_at store.versions id base ≡ item_at (edits (up_to bs base)) id
   pub count : store.count ≡ length (library (edits bs))
-  pub named : store.named ≡ map named_items (drop (store.low - FIRST_REVISION) bs)
-  pub least : FIRST_REVISION ≤ store.low
+  pub named : store.named ≡ map named_items (drop (store.low - first_revision) bs)
+  pub least : first_revision ≤ store.low
   pub reach : store.low ≤ floor_of store.keep store.revision
   -- what takes the last batch back is there too
   pub undo : store.can_undo ≡ true → store.low ≤ floor_of store.keep (store.revision - 1)

@@ -1,4 +1,4 @@
-use Rattle.std.proofs.Common.{Some, None, sym, ap, refl, ◌∙◌}
+use Rattle.std.proofs.Common.{Some, None, refl}
 use Rattle.item_model.specs.declared.changes.Edit.TheVariants.{PutItem, DropItem}
 use Rattle.item_store.proofs.ItemFacts.{one_set, one_left, length-put_item, length-drop_item}
 use Rattle.item_store.proofs.edits.take_in_one.Goals as goal
