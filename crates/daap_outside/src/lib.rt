@@ -12,6 +12,7 @@ mod net;
 mod reading;
 mod sink;
 mod source;
+mod tcp;
 #[cfg(test)]
 mod tests;
 
@@ -30,3 +31,4 @@ pub use net::{Door, Net, NetError};
 pub use reading::{ReadError, read_within};
 pub use sink::{Sink, put_all};
 pub use source::Source;
+pub use tcp::{READ_SECONDS, TcpDoor, TcpLink, TcpNet, WRITE_SECONDS};
