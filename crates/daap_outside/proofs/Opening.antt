@@ -1,5 +1,5 @@
 -- Doors that leave the list of those to be opened.
-use Rattle.std.proofs.Common.{◌≡◌, ℕ, List, [], ◌∷◌, zero, suc, map, take, drop, ap, refl}
+use Rattle.std.proofs.Common.{ℕ, List, [], ◌∷◌, zero, suc, map, take, drop, ap, refl}
 use Rattle.std.specs.Prelude.{Some}
 use Rattle.daap_outside.specs.Places.{OpensDoors}
 

@@ -1,5 +1,5 @@
 -- What a link in memory is made of: a source and a sink, with one count of its own.
-use Rattle.std.specs.Prelude.{◌≡◌, ℕ, Bool, nat_lt, []}
+use Rattle.std.specs.Prelude.{◌≡◌, ℕ, nat_lt, []}
 use Rattle.daap_outside.specs.declared.memory.link.MemLink.{MemLink}
 use Rattle.daap_outside.specs.declared.memory.source.MemSource.{MemSource}
 use Rattle.daap_outside.specs.declared.memory.sink.MemSink.{MemSink}

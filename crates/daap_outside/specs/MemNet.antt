@@ -1,5 +1,5 @@
 -- What a net in memory tells beside its meaning as a net: how it was set, and which call comes next.
-use Rattle.std.specs.Prelude.{◌≡◌, ℕ, ◌+◌, ◌-◌, ◌^◌, ◌<◌, ◌≤◌, nat_le, ◌&&◌, Bool, min, if◌then◌else◌, List, ◌∷◌, [], ◌++◌, map, slice_get, length, Some, None, Option, option_map}
+use Rattle.std.specs.Prelude.{◌≡◌, ℕ, ◌+◌, ◌-◌, ◌^◌, nat_le, min, if◌then◌else◌, List, ◌∷◌, [], map, slice_get, length, None, Option, option_map}
 use Rattle.daap_outside.specs.declared.memory.net.MemNet.{MemNet}
 use Rattle.daap_outside.specs.declared.memory.door.MemDoor.{MemDoor}
 use Rattle.daap_outside.specs.declared.memory.link.MemLink.{MemLink}

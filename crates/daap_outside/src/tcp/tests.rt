@@ -78,10 +78,10 @@ fn a_link_gives_what_was_written_and_waits_no_longer_than_it_may(
 }
 
 #[test]
-fn a_megabyte_is_written_and_a_closed_link_ends(rt: HostRuntime) -> Result<(), Fail> {
+fn a_megabyte_is_written(rt: HostRuntime) -> Result<(), Fail> {
     let alloc = rt.alloc();
     let mut net = TcpNet::new(&rt, alloc);
-    let mut doors = net.listen("127.0.0.1:0", 2)?;
+    let mut doors = net.listen("127.0.0.1:0", 1)?;
     let mut far = net.connect(place_of(alloc, &doors[0])?.as_str())?;
     let mut near = next_link(&mut doors[0])?;
     let bytes = vec![in alloc; 7u8; 1_048_576]?;
@@ -92,11 +92,37 @@ fn a_megabyte_is_written_and_a_closed_link_ends(rt: HostRuntime) -> Result<(), F
     );
     assert!(rt; written);
     assert_eq!(rt; read, Some(1_048_576));
-    // The near end was let go with its thread.
-    let failed = (0..100).any(|_| far.write(b"x").is_err());
-    assert!(rt; failed);
+    Ok(())
+}
+
+// Writes until a write fails, as it does once the peer's answer to an earlier one has come.
+fn fails_to_write<W: Sink>(sink: &mut W) -> bool {
+    for _ in 0..100 {
+        if sink.write(b"x").is_err() {
+            return true;
+        }
+    }
+    false
+}
+
+#[test]
+fn a_link_that_the_peer_closed_fails(rt: HostRuntime) -> Result<(), Fail> {
+    let alloc = rt.alloc();
+    let mut net = TcpNet::new(&rt, alloc);
+    let mut doors = net.listen("127.0.0.1:0", 1)?;
+    let mut far = net.connect(place_of(alloc, &doors[0])?.as_str())?;
+    let near = next_link(&mut doors[0])?;
+    doors[0].done(near);
+    assert!(rt; fails_to_write(&mut far));
     net.hang_up(far);
     assert_eq!(rt; net.faults, 1);
+    Ok(())
+}
+
+#[test]
+fn a_nudge_wakes_a_door_of_the_place(rt: HostRuntime) -> Result<(), Fail> {
+    let mut net = TcpNet::new(&rt, rt.alloc());
+    let mut doors = net.listen("127.0.0.1:0", 2)?;
     doors[1].nudge();
     let mut woken = next_link(&mut doors[0])?;
     assert_eq!(rt; read_same(&mut woken, 0), Some(0));
