@@ -79,6 +79,10 @@ module _ {E : Type 0} (by : E → ℕ) where
       continues numbers xs zs (a.more ++ b.more) (b.begins ∙ (ap (λ l. l ++ b.more) a.begins ∙ append_assoc xs a.more b.more))
       (All-append (λ e. ¬ (Contains numbers (by e))) a.more b.more a.later b.later)
 
+  -- of fewer numbers it is as true
+  pub continues_less : (ns ms : List ℕ) (xs ys : List E) → ((n : ℕ) → Contains ms n → Contains ns n) → Continues by ns xs ys → Continues by ms xs ys
+  continues_less ns ms xs ys fewer a = continues ms xs ys a.more a.begins (λ k d less has. a.later k d less (fewer (by (get_or a.more k d)) has))
+
   pub continues_front : (numbers : List ℕ) (xs ys : List E) → Continues by numbers xs ys → IsPrefix xs ys
   continues_front numbers xs ys a = (a.more, sym a.begins)
 

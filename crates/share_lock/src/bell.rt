@@ -2,6 +2,7 @@
 use std::sync::{Condvar, Mutex, Wait};
 
 /// The greatest length of the history that was rung.
+#[derive(Drop)]
 pub struct Bell {
     rung: Mutex<u64>,
     changed: Condvar,

@@ -1,0 +1,26 @@
+-- What is known of passes that were joined to one.
+use Rattle.std.specs.Prelude.{ℕ, List, All, AllPairs, Contains}
+use Rattle.share_lock.specs.declared.pass.Pass.{Pass}
+use Rattle.share_lock.specs.Histories.{Continues}
+use Rattle.share_lock.specs.Known.{numbers_of}
+use Rattle.share_lock.specs.Passes.{known}
+use Rattle.share_turns.specs.declared.numbers.Number.{Number}
+use Rattle.share_turns.specs.declared.numbers.Numbers.{Numbers}
+use Rattle.share_turns.specs.contracts.numbers.NumbersRecorded.TheImpl.{ghosts}
+use Rattle.share_turns.specs.Made.{by_of}
+use Rattle.share_turns.specs.Work.{Apart}
+
+abbrev pub NumbersPass : Type 0
+NumbersPass = Pass Numbers Number (Unit {0}) ghosts
+
+-- a pass has the numbers of another, and its history goes on from the other's
+pub record IsCovered (by other : NumbersPass) : Type 0 where
+  pub numbers : (n : ℕ) → Contains (numbers_of (known other)) n → Contains (numbers_of (known by)) n
+  pub history : Continues by_of (numbers_of (known other)) (known other).seen (known by).seen
+
+abbrev pub AreCovered : NumbersPass → List NumbersPass → Type 0
+AreCovered pass passes = All (λ p. IsCovered pass p) passes
+
+-- no two passes have a number in common
+abbrev pub AreApart : List NumbersPass → Type 0
+AreApart passes = AllPairs (λ p q. Apart (known p) (known q)) passes

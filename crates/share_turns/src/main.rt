@@ -1,0 +1,29 @@
+//! Threads that take turns at one list of numbers: what the lock's clauses tell its callers, and how many turns it
+//! gives a second beside a `std` Mutex.
+#![tactic(auto)]
+
+mod crew;
+mod gather;
+mod numbers;
+mod rates;
+#[cfg(test)]
+mod tests;
+mod threads;
+mod work;
+
+use crate::crew::crew;
+use crate::rates::print_rates;
+use std::{env, io};
+
+const WORKERS: u32 = 8;
+
+const TURNS: u64 = 1000;
+
+/// Without words, the length of the list that eight workers leave. With one, the turns a second.
+fn main(rt: HostRuntime) -> io::Result<()> {
+    if env::args(&rt)?.count() > 1 {
+        return print_rates(&rt, rt.alloc());
+    }
+    let list = crew(&rt, rt.alloc(), WORKERS, TURNS)?;
+    println!(rt; "{WORKERS} workers, {} numbers", list.items.len())
+}
