@@ -22,7 +22,7 @@ use Rattle.share_history.specs.Rows.{rows, row_at, is_asked, if_asked}
 use Rattle.share_history.proofs.EditFacts.{batches-append}
 use Rattle.share_history.proofs.MirrorFacts.{mirrors_catch_up, full_listings_suffice}
 use Rattle.mirror_core.specs.Bodies.{IsRow}
-use Rattle.item_listings.proofs.AnswerFacts.{item_id}
+use Rattle.share_listings.proofs.AnswerFacts.{item_id}
 use Rattle.rehearsal.proofs.ListingFacts.{body_is_listing}
 use Rattle.daapshare.specs.MirrorLaw.{MirrorsStayWhole, MirrorsBeginWhole, AnswersAreListings}
 

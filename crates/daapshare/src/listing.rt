@@ -9,11 +9,11 @@ ghost use Rattle.share_history.specs.Histories.{opening, batches};
 ghost use Rattle.daapshare.specs.Listing.{listing_bytes};
 
 use edit_log::EditLog;
-use item_listings::full_items;
 use item_model::{Batch, Edit, Entries, Entry, Look};
 use item_store::ItemStore;
 use listing_plan::Plan;
 use share_history::FIRST_REVISION;
+use share_listings::full_items;
 use std::alloc::{AllocError, Global};
 
 /// For how many revisions the store of a share that is listed once keeps what changed. It takes one at least.

@@ -34,7 +34,7 @@ use Rattle.listing_plan.proofs.Bodies.{parts_length, gone_length}
 use Rattle.rehearsal.specs.Edits.{row_by}
 use Rattle.rehearsal.specs.Made.{IsMade, AreMade}
 use Rattle.rehearsal.proofs.RowFacts.{rows_made, made_filter, AreGood, rows_good}
-use Rattle.item_listings.proofs.AnswerFacts.{few_filtered, few_touched}
+use Rattle.share_listings.proofs.AnswerFacts.{few_filtered, few_touched}
 
 -- ---- the rows of a body
 

@@ -16,10 +16,10 @@ ghost use Rattle.rehearsal.specs.Shares.{IsShare, MayAsk};
 use crate::carried::carried;
 use code_table::CodeTable;
 use dmap_tags::Tag;
-use item_listings::items_listing;
 use item_model::Look;
 use item_store::ItemStore;
 use mirror_core::{Mirror, MirrorError};
+use share_listings::items_listing;
 use std::alloc::{AllocError, Global};
 
 // Lets a mirror ask the store, and tells whether it was answered with a delta.
