@@ -85,26 +85,26 @@ fn push_item<L: Ledger>(
     ensures members { AllOf (λ row. row.member ≡ None) rows.old.items → AllOf (λ row. row.member ≡ None) rows.new.items }
     ensures cost { steps.new ≤ steps.old + 1 }
 {
-    match store.get(id) {
-        Some(row) => push_asked(rows, row, query, steps),
-        None => Ok(()),
+    match store.shared(id) {
+        Ok(Some(row)) => push_asked(rows, row, query, steps),
+        Ok(None) => Ok(()),
+        Err(error) => Err(error),
     }
 }
 
 /// Adds a row, if it is asked for.
 fn push_asked<L: Ledger>(
     rows: &mut Vec<PlanRow>,
-    row: &Row,
+    row: SharedRow,
     query: Option<&Query>,
     steps: &mut Steps<L>,
 ) -> Result<(), AllocError>
     ensures rows { OnOk result (keyed rows.new.items ≡ keyed rows.old.items
-        ++ (if is_asked (option_copied query.entry) row.now then (row.now.id, row.now) ∷ [] else [])) }
+        ++ (if is_asked (option_copied query.entry) row then (row.id, row) ∷ [] else [])) }
     ensures members { AllOf (λ row. row.member ≡ None) rows.old.items → AllOf (λ row. row.member ≡ None) rows.new.items }
     ensures cost { steps.new ≤ steps.old + 1 }
 {
-    if is_asked(query, row, steps) {
-        let row = SharedRow::new(*rows.allocator(), row.copy()?)?;
+    if is_asked(query, row.row(), steps) {
         rows.push(PlanRow { member: None, row })?;
     }
     Ok(())

@@ -9,9 +9,10 @@ on_ok : {T E : Type 0} {P Q : Type 0} (r : Result T E) → (P → Q) → OnOk r 
 on_ok (Ok x) f h = f h
 on_ok (Err e) f h = h
 
-pub returns-in-Some-clause-rows : goal.returns-in-Some-clause-rows
-returns-in-Some-clause-rows g c =
+pub returns-in-Ok-Some-clause-rows : goal.returns-in-Ok-Some-clause-rows
+returns-in-Ok-Some-clause-rows g c =
+    let found = rw c.in-Ok-Some.field-0-is at c.in-Ok-Some.ensures in
     on_ok c.push_asked.result
     (λ pushed bs stands.
-    asked_more (edits bs) (option_copied c.args.query) c.args.id c.in-Some.row.now (keyed c.args.rows.now.items) (keyed c.push_asked.new.rows.items) (sym (c.in-Some.ensures bs stands)) pushed)
+    asked_more (edits bs) (option_copied c.args.query) c.args.id c.in-Ok-Some.row (keyed c.args.rows.now.items) (keyed c.push_asked.new.rows.items) (sym (found bs stands)) pushed)
     c.push_asked.ensures.rows
