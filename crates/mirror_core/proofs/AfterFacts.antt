@@ -1,13 +1,12 @@
 -- What a mirror holds after a body that is a listing, and after the body of an answer.
-use Rattle.std.proofs.Common.{◌≡◌, ℕ, ◌+◌, ◌<◌, ◌≤◌, List, [], ◌∷◌, ◌++◌, Bool, true, false, cond, ◌&&◌, nat_le, length, map, filter, get_or, Option, Some, None, Result, Ok, Err, refl, sym, ap, subst, ◌∙◌, arith, true≢false, leb-true}
-use Rattle.std.specs.List.{All, cons_option}
-use Rattle.std.specs.Option.{option_map, option_map_or, option_and_then}
-use Rattle.std.proofs.lemmas.List.Elements.{All-map, All-filter, All-cons}
+use Rattle.std.proofs.Common.{◌≡◌, ℕ, ◌+◌, ◌<◌, ◌≤◌, List, [], ◌∷◌, ◌++◌, Bool, true, false, cond, ◌&&◌, nat_le, length, map, filter, get_or, Option, Some, Result, Ok, Err, refl, sym, ap, subst, ◌∙◌, arith, true≢false, leb-true}
+use Rattle.std.specs.List.{All}
+use Rattle.std.specs.Option.{option_map_or}
+use Rattle.std.proofs.lemmas.List.Elements.{All-map, All-filter}
 use Rattle.dmap_tags.specs.Codes.{code}
 use Rattle.dmap_tags.specs.Tree.{Tree, list, leaf, more, trees_of, U32}
 use Rattle.item_model.specs.Projection.{asked, shown as properties_shown}
 use Rattle.item_model.specs.declared.changes.Edit.{Edit}
-use Rattle.item_model.specs.declared.changes.Entry.{Entry}
 use Rattle.item_model.specs.declared.item.Row.{Row}
 use Rattle.item_model.specs.declared.query.Query.{Query}
 use Rattle.item_model.specs.declared.request.Meta.{Meta}

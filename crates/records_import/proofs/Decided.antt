@@ -11,7 +11,7 @@ use Rattle.item_model.specs.declared.refusal.QueryError.{QueryError}
 use Rattle.item_model.specs.declared.refusal.RecordWhy.{RecordWhy}
 use Rattle.item_model.specs.declared.refusal.RecordWhy.TheVariants as reason
 use Rattle.song_query.specs.Answers.{Answers}
-use Rattle.song_query.proofs.Decided.{HasAnswer as TextHasAnswer, answer_for}
+use Rattle.song_query.proofs.Decided.{answer_for}
 use Rattle.records_import.specs.Actions.{drop_action, least_id, put_action, uses}
 use Rattle.records_import.specs.Columns.{column_named, columns_of, header_of, is_named, unless_known}
 use Rattle.records_import.specs.Limits.{most_records}
@@ -19,7 +19,7 @@ use Rattle.records_import.specs.Number.{cell_number}
 use Rattle.records_import.specs.Records.{BatchReads, FurtherAnswer, IsLeftmost, OfLength, RecordAnswers, RecordsAnswer, UnderHeader, WithAction, WithId, WithinBatch, action_of, or_fault, with_cell}
 use Rattle.records_import.specs.Rules.{RuleReads}
 use Rattle.records_import.specs.Table.{Cells}
-use Rattle.records_import.specs.Values.{CellFlaw, FlawBy, ReadFlaw, RuleFlaw, TextFlaw, UsedFlaw, id_in, needed_id, property_flaw}
+use Rattle.records_import.specs.Values.{FlawBy, RuleFlaw, UsedFlaw, id_in, needed_id, property_flaw}
 use Rattle.records_import.specs.Walk.{Added, AddedBy, Walked, edit_from, no_values}
 use Rattle.records_import.specs.declared.action.Action.{Action}
 use Rattle.records_import.specs.declared.header.Column.{Column}

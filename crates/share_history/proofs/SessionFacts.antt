@@ -1,6 +1,6 @@
 -- The login of a session among the entries that are left.
-use Rattle.std.proofs.Common.{◌≡◌, ◌≤◌, true, nat_lt, nat_le, ltb-true, leb-true, arith, ℕ, suc, Bool, false, inl, inr, None, ◌+◌, ◌<◌, ◌++◌, ◌&&◌, ◌==◌, append_assoc, eq-eqb, eqb-true, filter, refl, take, [], ◌∷◌, sym, ◌∙◌, length, get_or, drop, cond, count_by, List, ap, Some}
-use Rattle.std.proofs.lemmas.Bool.{and_from, and_parts, cases_Bool, false≢true}
+use Rattle.std.proofs.Common.{◌≡◌, ◌≤◌, true, nat_lt, nat_le, ltb-true, leb-true, arith, ℕ, suc, Bool, false, inl, inr, None, ◌+◌, ◌<◌, ◌++◌, ◌==◌, append_assoc, eq-eqb, eqb-true, refl, take, [], ◌∷◌, sym, ◌∙◌, length, get_or, drop, cond, count_by, List, ap, Some}
+use Rattle.std.proofs.lemmas.Bool.{and_from, and_parts, cases_Bool}
 use Rattle.std.proofs.lemmas.List.Sums.{sum_by-cons}
 use Rattle.item_model.specs.declared.changes.Entry.{Entry}
 use Rattle.item_model.specs.declared.changes.Entry.TheVariants.{Edits, Login, Logout, Stop}
@@ -9,7 +9,7 @@ use Rattle.share_history.specs.Limits.{takes_place, has_place, has_room_for}
 use Rattle.share_history.specs.Numbers.{most_entries, most_edits}
 use Rattle.share_history.specs.Keyed.{at, put_in}
 use Rattle.share_history.specs.Laws.{LoginsStayOrderly, MarksFollowAnswers}
-use Rattle.share_history.specs.Marks.{Marks, is_orderly, marks_after, until_login}
+use Rattle.share_history.specs.Marks.{Marks, is_orderly, until_login}
 use Rattle.share_history.specs.Sessions.{is_login, is_login_of, is_live, after_login}
 use Rattle.std.proofs.lemmas.List.{take_more}
 use Rattle.share_history.proofs.EditFacts.{drop_more}

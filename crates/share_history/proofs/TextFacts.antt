@@ -1,5 +1,5 @@
 -- Texts that a loop puts into a set one after the other.
-use Rattle.std.proofs.Common.{◌≡◌, ℕ, ◌+◌, ◌<◌, ◌≤◌, ◌==◌, true≢false, Option, Bool, true, false, cond, List, [], ◌∷◌, length, get_or, drop, map, fold, filter, refl, sym, ap, ◌∙◌, Less, Equal, Greater, nat_cmp, Bor, arith}
+use Rattle.std.proofs.Common.{◌≡◌, ℕ, ◌+◌, ◌<◌, ◌≤◌, Option, Bool, true, false, cond, List, [], ◌∷◌, length, get_or, drop, map, fold, filter, refl, sym, ap, ◌∙◌, Less, Equal, Greater, nat_cmp, Bor, arith}
 use Rattle.std.specs.Ordering.{match_ordering}
 use Rattle.std.specs.Cmp.Lexicographic.{slice_cmp}
 use Rattle.std.specs.BTreeSet.{insert_key}

@@ -1,13 +1,13 @@
 -- The machine reads each text that is spelled from a form, and ends with what the form means.
 use Rattle.std.proofs.Common.{◌≡◌, ◌++◌, ◌&&◌, ◌||◌, ◌==◌, ℕ, Bool, not, true, false, cond, List, [], ◌∷◌, map, Option, Some, None, refl, ap, sym, ◌∙◌, subst, append_assoc, append-nil}
 use Rattle.std.proofs.lemmas.Bool.{and_parts, cond-true, cond-false, false≢true}
-use Rattle.item_model.specs.Proper.{is_name_byte, are_name_bytes}
-use Rattle.item_model.specs.QueryTree.{QueryTree, condition, and_of, or_of}
+use Rattle.item_model.specs.Proper.{are_name_bytes}
+use Rattle.item_model.specs.QueryTree.{QueryTree, condition, or_of}
 use Rattle.item_model.specs.declared.condition.Op.{Op}
 use Rattle.item_model.specs.declared.condition.Op.TheVariants.{Is, IsNot}
 use Rattle.song_query.specs.Grammar.{Blank, space, plus, blank, blanks, Mark, quote, backslash, star, mark, is_mark, Atom, plain, escaped, lone, print_atoms, piece_of, are_atoms, print_starred, are_pieces, Value, print_value, value_pieces, print_op, CondForm, print_cond, cond_meaning, is_cond, UnitForm, cond as condition_form, group, AndForm, one, more, OrForm, only, either, print_unit, print_and, print_or, joined, unit_meaning, units, members, is_unit, is_and, is_or, QueryForm, print_query}
 use Rattle.song_query.specs.declared.levels.Level.{Level}
-use Rattle.song_query.specs.Machine.{Place, due, close, apart, opened, named, bang, valued, slashed, State, start, with_unit, with_member, level_query, here, cond_of, step, go, bind, run}
+use Rattle.song_query.specs.Machine.{Place, due, close, apart, opened, named, valued, slashed, State, start, with_unit, with_member, level_query, here, cond_of, go, bind, run}
 
 -- what is read leads from one state to another
 pub record Runs (s : State) (bytes : List ℕ) (t : State) : Type 0 where

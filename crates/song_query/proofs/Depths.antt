@@ -1,5 +1,5 @@
 -- How deep forms and queries are: the parentheses that are open at once in their texts.
-use Rattle.std.proofs.Common.{ℕ, zero, suc, max}
+use Rattle.std.proofs.Common.{ℕ, suc, max}
 use Rattle.item_model.specs.QueryTree.{QueryTree, condition, and_of, or_of, QueryTrees, no_queries, more_queries}
 use Rattle.song_query.specs.Grammar.{UnitForm, cond, group, AndForm, one, more, OrForm, only, either}
 

@@ -1,11 +1,11 @@
 -- The form of the printed text: each proper query has one that is spelled as the query is printed.
-use Rattle.std.proofs.Common.{◌≡◌, ◌⊎◌, ◌++◌, ◌&&◌, ◌||◌, ◌==◌, ℕ, zero, suc, max, Bool, true, false, not, List, [], ◌∷◌, map, refl, ap, sym, ◌∙◌, subst, inl, inr, eqb, append_assoc, append-nil, arith}
+use Rattle.std.proofs.Common.{◌≡◌, ◌++◌, ◌&&◌, ◌||◌, ◌==◌, ℕ, suc, max, Bool, true, false, not, List, [], ◌∷◌, refl, ap, sym, ◌∙◌, subst, inl, inr, eqb, append_assoc, append-nil, arith}
 use Rattle.std.proofs.lemmas.Bool.{and_parts, and_from, or_from, cond-true, cond-false, eqb-true, false≢true, cases_Bool}
 use Rattle.item_model.specs.Proper.{is_name_byte, are_name_bytes, has_one, have_two, is_proper, are_proper}
 use Rattle.item_model.specs.QueryTree.{QueryTree, condition, and_of, or_of, QueryTrees, no_queries, more_queries, queries_of, query_list}
 use Rattle.item_model.specs.declared.condition.Cond.{Cond}
-use Rattle.song_query.specs.Grammar.{Blank, space, Mark, quote, backslash, star, is_mark, Atom, plain, escaped, lone, print_atoms, piece_of, are_atoms, print_starred, are_pieces, Value, print_value, value_pieces, is_value, print_op, CondForm, print_cond, cond_meaning, is_cond, UnitForm, cond, group, AndForm, one, more, OrForm, only, either, print_unit, print_and, print_or, joined, unit_meaning, units, members, is_unit, is_and, is_or, QueryForm, print_query}
-use Rattle.song_query.specs.Printing.{is_before_mark, is_escaped, printed_byte, printed_piece, printed_pieces, printed_more, printed_cond, printed, printed_unit, printed_member, printed_and, printed_and_more, printed_or, printed_or_more}
+use Rattle.song_query.specs.Grammar.{space, quote, backslash, star, is_mark, Atom, plain, escaped, lone, print_atoms, piece_of, are_atoms, print_starred, are_pieces, Value, print_value, value_pieces, is_value, print_op, CondForm, print_cond, cond_meaning, is_cond, UnitForm, cond, group, AndForm, one, more, OrForm, only, either, print_unit, print_and, print_or, joined, unit_meaning, units, members, is_unit, is_and, is_or}
+use Rattle.song_query.specs.Printing.{is_before_mark, printed_byte, printed_piece, printed_pieces, printed_cond, printed, printed_unit, printed_member, printed_and, printed_and_more, printed_or, printed_or_more}
 use Rattle.song_query.specs.Reading.{QueryReads}
 use Rattle.song_query.proofs.Depths.{unit_depth, and_depth, or_depth, depth, depth_in_and, depth_in_or, units_depth, members_depth}
 

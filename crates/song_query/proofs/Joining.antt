@@ -1,5 +1,5 @@
 -- How pieces that are joined by runs stand in a text, piece by piece.
-use Rattle.std.proofs.Common.{◌==◌, ◌≡◌, ◌≢◌, map, ◌≤◌, ◌<◌, ◌++◌, ◌+◌, ◌-◌, ◌&&◌, ◌||◌, ℕ, zero, suc, Bool, true, false, List, [], ◌∷◌, length, take, drop, refl, ap, sym, ◌∙◌, subst, Decides, ⊎_elim, arith, length-take}
+use Rattle.std.proofs.Common.{◌==◌, ◌≡◌, ◌≢◌, map, ◌≤◌, ◌<◌, ◌++◌, ◌-◌, ◌&&◌, ◌||◌, ℕ, zero, suc, Bool, true, false, List, [], ◌∷◌, length, take, drop, refl, ap, sym, ◌∙◌, subst, Decides, ⊎_elim, arith}
 use Rattle.std.proofs.Math.Seq.{take-append_seam, drop-append_seam}
 use Rattle.std.proofs.lemmas.List.{take-append-drop}
 use Rattle.std.proofs.lemmas.Bool.{and_right, and_left, and_parts, and_from, or_parts, or_from, or_left, or_right, false_from_ne_true, false≢true, cases_Bool, cases_lt}

@@ -1,10 +1,10 @@
 -- No text that reads as a query is shorter than the printed one.
-use Rattle.std.proofs.Common.{◌≢◌, if◌then◌else◌, ◌≡◌, ◌≤◌, ◌+◌, ◌++◌, ◌&&◌, ℕ, zero, suc, Bool, true, false, not, List, [], ◌∷◌, map, length, refl, ap, sym, ◌∙◌, subst, append_assoc, append-nil, arith, length-append}
-use Rattle.std.proofs.lemmas.Bool.{and_parts, cond-false, false≢true}
+use Rattle.std.proofs.Common.{◌≢◌, if◌then◌else◌, ◌≡◌, ◌≤◌, ◌+◌, ◌++◌, ℕ, suc, Bool, true, false, not, List, [], ◌∷◌, map, length, refl, ap, arith, length-append}
+use Rattle.std.proofs.lemmas.Bool.{and_parts, cond-false}
 use Rattle.item_model.specs.Proper.{is_name_byte, are_name_bytes}
-use Rattle.item_model.specs.QueryTree.{QueryTree, condition, and_of, or_of, QueryTrees, no_queries, more_queries, queries_of}
-use Rattle.song_query.specs.Grammar.{Blank, blank, blanks, Mark, quote, backslash, star, mark, is_mark, Atom, plain, escaped, lone, print_atoms, piece_of, are_atoms, print_starred, are_pieces, Value, print_value, value_pieces, is_value, print_op, CondForm, print_cond, cond_meaning, is_cond, UnitForm, cond, group, AndForm, one, more, OrForm, only, either, print_unit, print_and, print_or, joined, unit_meaning, units, members, is_unit, is_and, is_or, QueryForm, print_query}
-use Rattle.song_query.specs.Printing.{is_before_mark, is_escaped, printed_byte, printed_piece, printed_pieces, printed_more, printed_cond, printed, printed_unit, printed_member, printed_and, printed_and_more, printed_or, printed_or_more}
+use Rattle.item_model.specs.QueryTree.{QueryTree, condition, and_of, or_of, queries_of}
+use Rattle.song_query.specs.Grammar.{blank, blanks, mark, is_mark, Atom, plain, escaped, lone, print_atoms, piece_of, are_atoms, print_starred, are_pieces, print_value, value_pieces, is_value, print_op, CondForm, print_cond, cond_meaning, is_cond, UnitForm, cond, group, AndForm, one, more, OrForm, only, either, print_unit, print_and, print_or, joined, unit_meaning, units, members, is_unit, is_and, is_or, print_query}
+use Rattle.song_query.specs.Printing.{is_escaped, printed_byte, printed_piece, printed_pieces, printed_more, printed_cond, printed, printed_unit, printed_member, printed_and, printed_and_more, printed_or, printed_or_more}
 use Rattle.song_query.specs.Reading.{QueryReads}
 use Rattle.song_query.proofs.Complete.{not_true}
 use Rattle.song_query.proofs.Forms.{plain_printed}

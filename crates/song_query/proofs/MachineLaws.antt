@@ -1,17 +1,16 @@
 -- What the machine says of a text: where it reads as a query, and where it is stuck.
-use Rattle.std.proofs.Common.{◌⊎◌, inl, inr, ◌≡◌, ◌≢◌, ◌≤◌, ◌<◌, ◌+◌, ◌++◌, ◌&&◌, ℕ, suc, zero, Bool, true, false, List, [], ◌∷◌, map, length, take, drop, Option, Some, None, refl, ap, sym, ◌∙◌, subst, append_assoc, append-nil, arith}
+use Rattle.std.proofs.Common.{◌⊎◌, inl, inr, ◌≡◌, ◌≤◌, ◌<◌, ◌+◌, ◌++◌, ℕ, true, false, List, [], ◌∷◌, map, length, take, drop, Some, None, refl, ap, sym, ◌∙◌, subst, arith}
 use Rattle.std.proofs.Math.Seq.{take-length}
 use Rattle.std.proofs.lemmas.List.{take-append-drop, take-append-le, length-take-le}
 use Rattle.std.proofs.lemmas.Bool.{and_parts, and_from, cases_lt, false≢true}
 use Rattle.item_model.specs.QueryTree.{QueryTree, or_of}
-use Rattle.item_model.specs.declared.condition.Op.{Op}
 use Rattle.song_query.specs.declared.levels.Level.{Level}
-use Rattle.song_query.specs.Grammar.{Blank, blanks, AndForm, OrForm, print_and, print_or, joined, units, members, is_and, is_or, QueryForm, print_query}
-use Rattle.song_query.specs.Machine.{Place, due, close, apart, opened, named, bang, valued, slashed, State, start, with_unit, level_query, here, go, bind, run, is_behind_unit, is_outside, is_end}
+use Rattle.song_query.specs.Grammar.{Blank, blanks, print_and, print_or, joined}
+use Rattle.song_query.specs.Machine.{Place, due, close, apart, opened, named, bang, valued, slashed, State, start, with_unit, level_query, here, bind, run, is_behind_unit, is_outside, is_end}
 use Rattle.song_query.specs.Reading.{QueryReads, HasNoReading, Begins, IsStuck}
-use Rattle.song_query.proofs.Complete.{lv, behind, Runs, both, next, stay, run_append, after_or, after_query, query_runs}
-use Rattle.song_query.proofs.Draft.{Front, front_members, is_front, front_gap, front_or, Stub, quoted, naming, banged, valuing, slashing, stub_place, Draft, starts, after, within, print_front, draft_place, draft_level, is_draft, Out, out_level, are_outs, print_outs, Whole, print_whole, is_whole, state_of, front_printed, front_read, front_valid}
-use Rattle.song_query.proofs.Sound.{some_is, Drafted, drafted, regrouped}
+use Rattle.song_query.proofs.Complete.{behind, run_append, after_or, after_query, query_runs}
+use Rattle.song_query.proofs.Draft.{front_gap, front_or, quoted, naming, banged, valuing, slashing, Draft, starts, after, within, print_front, draft_place, draft_level, is_draft, Out, out_level, are_outs, print_whole, front_printed, front_read, front_valid}
+use Rattle.song_query.proofs.Sound.{some_is, drafted, regrouped}
 
 -- a draft behind a unit outside of parentheses is a form
 whole_reads : (x : Draft) (outs : List Out) → is_draft x ≡ true → is_behind_unit (draft_place x) ≡ true → is_outside (map out_level outs) ≡ true

@@ -1,9 +1,7 @@
 -- The machine has a level for each parenthesis that is open.
-use Rattle.std.proofs.Common.{◌≡◌, ◌≢◌, ◌⊎◌, ◌≤◌, ◌<◌, ◌+◌, ◌-◌, ◌++◌, ◌==◌, ℕ, zero, suc, Bool, true, false, cond, List, [], ◌∷◌, length, take, drop, get_or, Option, Some, None, refl, ap, sym, ◌∙◌, subst, inl, inr, eqb, arith, append_assoc, append-nil}
-use Rattle.std.proofs.lemmas.Bool.{and_parts, cond-true, cond-false, eqb-true, ne_eqb, false_from_ne_true, false≢true, cases_lt}
-use Rattle.std.proofs.lemmas.List.{take-append-drop, take-append-le}
+use Rattle.std.proofs.Common.{◌≡◌, ◌++◌, ℕ, suc, true, false, List, [], ◌∷◌, length, Option, Some, None, refl, ap, sym, ◌∙◌, subst, inl, inr, eqb, arith}
+use Rattle.std.proofs.lemmas.Bool.{cond-true, cond-false, eqb-true, ne_eqb, false_from_ne_true, false≢true}
 use Rattle.item_model.specs.Proper.{is_name_byte}
-use Rattle.item_model.specs.declared.condition.Op.{Op}
 use Rattle.song_query.specs.declared.levels.Level.{Level}
 use Rattle.song_query.specs.Grammar.{Blank, space, plus, blank, is_mark}
 use Rattle.song_query.specs.Machine.{Place, due, close, apart, opened, named, bang, valued, slashed, State, start, here, is_blank, begin, follow, shut, step, go, bind, run}

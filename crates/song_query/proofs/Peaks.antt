@@ -1,12 +1,12 @@
 -- The parentheses that are open at once in a text are those of its form.
-use Rattle.std.proofs.Common.{◌≡◌, ◌≤◌, ◌<◌, ◌+◌, ◌-◌, ◌++◌, ◌&&◌, ◌||◌, ◌==◌, ℕ, zero, suc, max, Bool, true, false, not, cond, List, [], ◌∷◌, length, refl, ap, sym, ◌∙◌, subst, eqb, append_assoc, append-nil, arith}
-use Rattle.std.proofs.lemmas.Bool.{and_parts, cond-true, cond-false, eqb-true, ne_eqb, false_from_ne_true, false≢true, or_parts}
+use Rattle.std.proofs.Common.{◌≡◌, ◌≤◌, ◌+◌, ◌-◌, ◌++◌, ◌&&◌, ◌||◌, ◌==◌, ℕ, suc, max, true, false, List, [], ◌∷◌, refl, ap, sym, ◌∙◌, append_assoc, append-nil, arith}
+use Rattle.std.proofs.lemmas.Bool.{and_parts, cond-false, or_parts}
 use Rattle.item_model.specs.Proper.{is_name_byte, are_name_bytes}
 use Rattle.item_model.specs.QueryTree.{QueryTree, or_of}
 use Rattle.item_model.specs.Proper.{is_proper}
 use Rattle.item_model.specs.declared.condition.Op.{Op}
 use Rattle.item_model.specs.declared.condition.Op.TheVariants.{Is, IsNot}
-use Rattle.song_query.specs.Grammar.{Blank, space, plus, blank, blanks, Mark, quote, backslash, star, mark, is_mark, Atom, plain, escaped, lone, print_atoms, are_atoms, print_starred, are_pieces, Value, print_value, is_value, print_op, CondForm, print_cond, is_cond, UnitForm, cond as condition_form, group, AndForm, one, more, OrForm, only, either, print_unit, print_and, print_or, is_unit, is_and, is_or, QueryForm, print_query, joined, members}
+use Rattle.song_query.specs.Grammar.{Blank, space, plus, blank, blanks, mark, is_mark, Atom, plain, escaped, lone, print_atoms, are_atoms, print_starred, are_pieces, Value, print_value, is_value, print_op, CondForm, print_cond, is_cond, UnitForm, cond as condition_form, group, AndForm, one, more, OrForm, only, either, print_unit, print_and, print_or, is_unit, is_and, is_or, QueryForm, print_query, joined, members}
 use Rattle.song_query.specs.Reading.{QueryReads}
 use Rattle.song_query.specs.Nesting.{Where, outside, inside, behind, where_next, open_next, most_open, deepest}
 use Rattle.song_query.specs.Printing.{printed}

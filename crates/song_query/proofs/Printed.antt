@@ -1,10 +1,9 @@
 -- A printed piece, character by character.
-use Rattle.std.proofs.Common.{if◌then◌else◌, ◌≡◌, ◌⊎◌, ◌≤◌, ◌<◌, ◌++◌, ◌&&◌, ◌||◌, ◌==◌, ℕ, zero, suc, Bool, true, false, List, [], ◌∷◌, length, refl, ap, sym, ◌∙◌, subst, inl, inr, arith, append_assoc}
+use Rattle.std.proofs.Common.{if◌then◌else◌, ◌≡◌, ◌⊎◌, ◌≤◌, ◌<◌, ◌++◌, ℕ, suc, false, List, [], ◌∷◌, refl, ap, sym, ◌∙◌, inl, inr, arith, append_assoc}
 use Rattle.std.proofs.lemmas.Bool.{or_from, and_left, cond-false, ne_eqb, cases_lt}
 use Rattle.std.proofs.lemmas.Str.{encode_ascii}
 use Rattle.std.specs.Char.{encode_utf8}
-use Rattle.song_query.specs.Grammar.{is_mark}
-use Rattle.song_query.specs.Printing.{is_before_mark, is_escaped, printed_byte, printed_char, printed_piece}
+use Rattle.song_query.specs.Printing.{is_escaped, printed_char, printed_piece}
 use Rattle.song_query.proofs.Forms.{plain_printed}
 use Rattle.song_query.proofs.Wide.{AreWide, wide_bytes, no_mark}
 

@@ -1,11 +1,10 @@
 -- A text that is read up to a place, and what it answers there.
-use Rattle.std.proofs.Common.{⊎_elim, ◌≡◌, ◌≢◌, ◌⊎◌, ◌≤◌, ◌<◌, ◌+◌, ◌-◌, ◌++◌, ℕ, zero, suc, min, Bool, true, false, List, [], ◌∷◌, length, take, drop, get_or, Option, Some, None, Ok, Err, refl, ap, sym, ◌∙◌, subst, inl, inr, arith, append_assoc, append-nil, length-append}
-use Rattle.std.proofs.Math.Seq.{take-add, take-append_seam, take-length}
+use Rattle.std.proofs.Common.{⊎_elim, ◌≡◌, ◌≢◌, ◌≤◌, ◌<◌, ◌+◌, ◌-◌, ◌++◌, ℕ, zero, suc, true, false, List, [], ◌∷◌, length, take, drop, get_or, Option, Some, None, Ok, Err, refl, ap, sym, ◌∙◌, subst, inl, inr, arith, length-append}
+use Rattle.std.proofs.Math.Seq.{take-add, take-append_seam}
 use Rattle.std.proofs.lemmas.Bool.{cases_lt}
-use Rattle.std.proofs.lemmas.List.{take_all, length-take, length-drop, take-append-le}
-use Rattle.std.proofs.lemmas.Str.{encode_ascii, length-encode}
-use Rattle.std.specs.Char.{encode_utf8, len_utf8}
-use Rattle.item_model.specs.QueryTree.{QueryTree}
+use Rattle.std.proofs.lemmas.List.{take_all, length-drop, take-append-le}
+use Rattle.std.proofs.lemmas.Str.{encode_ascii}
+use Rattle.std.specs.Char.{encode_utf8}
 use Rattle.item_model.specs.QuerySeen.{tree_of}
 use Rattle.item_model.specs.declared.query.Query.{Query}
 use Rattle.item_model.specs.declared.refusal.QueryError.TheVariants.{TooDeep, At}
@@ -15,7 +14,7 @@ use Rattle.song_query.specs.declared.parts.Refusal.{Refusal}
 use Rattle.song_query.specs.declared.parts.Refusal.TheVariants.{Byte as ByteRefused, Deep, Memory}
 use Rattle.song_query.specs.Limits.{open_parentheses, query_bytes}
 use Rattle.song_query.specs.Machine.{State, start, go, bind, run, is_end, level_query}
-use Rattle.song_query.specs.Reading.{QueryReads, Begins, IsStuck}
+use Rattle.song_query.specs.Reading.{QueryReads, IsStuck}
 use Rattle.song_query.specs.Nesting.{open_at_end}
 use Rattle.song_query.specs.Answers.{IsShallow, Answers}
 use Rattle.song_query.proofs.Complete.{run_append}

@@ -1,18 +1,16 @@
 -- A text has one answer: the query that it reads as within the limits, which is proper.
-use Rattle.std.proofs.Common.{◌≡◌, ◌≢◌, ◌≤◌, ◌<◌, ◌+◌, ◌++◌, ◌&&◌, ℕ, Bool, true, false, List, [], ◌∷◌, map, length, take, Result, Ok, Err, refl, ap, sym, ◌∙◌, subst, arith, append-nil, IfOk}
-use Rattle.std.proofs.Math.Seq.{take-length}
-use Rattle.std.proofs.lemmas.Bool.{and_parts, and_from, false≢true}
-use Rattle.item_model.specs.Proper.{is_name_byte, are_name_bytes, has_one, have_two, is_proper, are_proper}
-use Rattle.item_model.specs.QueryTree.{QueryTree, condition, and_of, or_of, QueryTrees, queries_of}
+use Rattle.std.proofs.Common.{◌≡◌, ◌≢◌, ◌+◌, ◌++◌, ◌&&◌, ℕ, true, List, [], ◌∷◌, map, length, Result, Ok, Err, refl, sym, subst, arith, IfOk}
+use Rattle.std.proofs.lemmas.Bool.{and_parts, and_from}
+use Rattle.item_model.specs.Proper.{is_name_byte, are_name_bytes, has_one, is_proper, are_proper}
+use Rattle.item_model.specs.QueryTree.{QueryTree, condition, and_of, or_of, queries_of}
 use Rattle.item_model.specs.QuerySeen.{tree_of}
 use Rattle.item_model.specs.declared.query.Query.{Query}
 use Rattle.item_model.specs.declared.refusal.QueryError.{QueryError}
 use Rattle.item_model.specs.declared.refusal.QueryError.TheVariants.{TooLong, TooDeep, At, Memory}
-use Rattle.item_model.specs.declared.refusal.QueryWhy.{QueryWhy}
 use Rattle.item_model.specs.declared.refusal.QueryWhy.TheVariants.{End, Byte}
 use Rattle.song_query.specs.Grammar.{Atom, piece_of, is_value, CondForm, cond_meaning, is_cond, UnitForm, cond, group, AndForm, one, more, OrForm, only, either, joined, unit_meaning, units, members, is_unit, is_and, is_or}
-use Rattle.song_query.specs.Reading.{QueryReads, Begins}
-use Rattle.song_query.specs.Answers.{IsShallow, Answers, Gives, IsComplete}
+use Rattle.song_query.specs.Reading.{QueryReads}
+use Rattle.song_query.specs.Answers.{Answers, IsComplete}
 use Rattle.song_query.proofs.MachineLaws.{one_reading}
 use Rattle.song_query.proofs.Least.{some_units, some_members}
 use Rattle.song_query.proofs.Once.{whole_begins}

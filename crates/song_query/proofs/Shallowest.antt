@@ -1,5 +1,5 @@
 -- No text that reads as a query has more parentheses open at once than the printed one needs.
-use Rattle.std.proofs.Common.{◌≡◌, ◌≢◌, ◌≤◌, ◌+◌, ◌++◌, ℕ, zero, suc, max, List, [], ◌∷◌, length, refl, ap, arith, length-append}
+use Rattle.std.proofs.Common.{◌≡◌, ◌≤◌, ◌++◌, ℕ, suc, max, List, [], ◌∷◌, arith}
 use Rattle.item_model.specs.QueryTree.{QueryTree, condition, and_of, or_of, queries_of}
 use Rattle.song_query.specs.Grammar.{UnitForm, cond, group, AndForm, one, more, OrForm, only, either, joined, unit_meaning, units, members}
 use Rattle.song_query.proofs.Depths.{unit_depth, and_depth, or_depth, depth, depth_in_and, depth_in_or, units_depth, members_depth}

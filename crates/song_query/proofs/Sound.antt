@@ -1,14 +1,13 @@
 -- Each step of the machine is a step of a draft: what was read is the beginning of a text that reads.
-use Rattle.std.proofs.Common.{◌≡◌, ◌⊎◌, ◌++◌, ◌&&◌, ◌||◌, ◌==◌, ℕ, Bool, not, true, false, cond, List, [], ◌∷◌, map, Option, Some, None, refl, ap, sym, ◌∙◌, subst, inl, inr, eqb, append_assoc, append-nil}
+use Rattle.std.proofs.Common.{◌≡◌, ◌⊎◌, ◌++◌, ◌&&◌, ◌||◌, ℕ, Bool, not, true, false, cond, List, [], ◌∷◌, map, Option, Some, None, refl, ap, sym, ◌∙◌, subst, inl, inr, eqb, append_assoc, append-nil}
 use Rattle.std.proofs.lemmas.Bool.{and_parts, and_from, or_from, eqb-true, false≢true}
 use Rattle.item_model.specs.Proper.{is_name_byte, are_name_bytes}
-use Rattle.item_model.specs.QueryTree.{QueryTree, condition, and_of, or_of}
+use Rattle.item_model.specs.QueryTree.{or_of}
 use Rattle.item_model.specs.declared.condition.Op.{Op}
 use Rattle.item_model.specs.declared.condition.Op.TheVariants.{Is, IsNot}
-use Rattle.song_query.specs.Grammar.{Blank, space, plus, blank, blanks, Mark, quote, backslash, star, mark, is_mark, Atom, plain, escaped, lone, print_atoms, piece_of, are_atoms, print_starred, are_pieces, print_op, CondForm, print_cond, cond_meaning, is_and, UnitForm, cond as condition_form, group, AndForm, OrForm, print_unit, print_and, print_or, joined, unit_meaning, units, members}
-use Rattle.song_query.specs.declared.levels.Level.{Level}
-use Rattle.song_query.specs.Machine.{Place, due, close, apart, opened, named, bang, valued, slashed, State, start, with_unit, with_member, level_query, here, cond_of, is_blank, begin, follow, shut, step, go, bind, run, empty_level}
-use Rattle.song_query.proofs.Complete.{lv, behind}
+use Rattle.song_query.specs.Grammar.{Blank, space, plus, blank, blanks, Mark, quote, backslash, star, mark, is_mark, Atom, plain, escaped, lone, print_atoms, piece_of, are_atoms, print_starred, are_pieces, print_op, CondForm, is_and, UnitForm, cond as condition_form, group, AndForm, print_and, print_or, joined, units}
+use Rattle.song_query.specs.Machine.{due, close, valued, slashed, State, start, with_unit, here, cond_of, is_blank, begin, follow, shut, step, go, bind, run}
+use Rattle.song_query.proofs.Complete.{lv}
 use Rattle.song_query.proofs.Draft.{Front, fresh, after_comma, print_front, front_members, is_front, front_gap, front_or, front_blank, Lead, first, next_to, print_lead, lead_units, is_lead, lead_and, Stub, quoted, naming, banged, valuing, slashing, print_stub, stub_place, is_stub, Draft, starts, after, within, print_draft, draft_place, draft_level, is_draft, Out, out_level, print_outs, are_outs, Whole, print_whole, is_whole, state_of, blanks_append, atoms_append, piece_append, are_atoms_append, starred_append, are_pieces_append, names_append, pieces_map_append, front_printed, front_read, front_valid, front_blank_printed, front_blank_read, front_blank_valid, lead_printed, lead_read, lead_valid}
 
 -- the choice that a test makes

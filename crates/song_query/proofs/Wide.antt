@@ -1,6 +1,6 @@
 -- The bytes of a character beyond ASCII: a value has them as they are, and nothing else goes on with them.
-use Rattle.std.proofs.Common.{◌⊎◌, inl, inr, ◌≡◌, ◌≢◌, ◌≤◌, ◌<◌, ◌+◌, ◌++◌, ◌||◌, ◌==◌, ℕ, zero, suc, Bool, true, false, List, [], ◌∷◌, length, get_or, Option, Some, None, refl, ap, sym, ◌∙◌, subst, append_assoc, append-nil, arith, eqb, string_bytes}
-use Rattle.std.proofs.lemmas.Bool.{or_from, cond-false, ne_eqb, cases_lt, false_from_ne_true}
+use Rattle.std.proofs.Common.{◌⊎◌, inl, inr, ◌≡◌, ◌≢◌, ◌≤◌, ◌<◌, ◌++◌, ℕ, suc, false, List, [], ◌∷◌, length, get_or, Some, None, refl, ap, sym, ◌∙◌, subst, append_assoc, append-nil, arith, string_bytes}
+use Rattle.std.proofs.lemmas.Bool.{or_from, cond-false, ne_eqb, cases_lt}
 use Rattle.std.proofs.lemmas.Bool.Decides.{nat_tests}
 use Rattle.std.proofs.lemmas.Str.{encode_ascii, inside_one, length-encode, len_utf8_bounds}
 use Rattle.std.specs.Char.{encode_utf8}
@@ -11,7 +11,7 @@ use Rattle.song_query.specs.declared.parts.Partial.{Partial}
 use Rattle.song_query.specs.declared.parts.Place.{Place as PlaceName}
 use Rattle.song_query.specs.declared.parts.Place.TheVariants.{Due, Close, Apart, Opened, Named, Bang, Valued, Slashed}
 use Rattle.song_query.specs.Grammar.{is_mark}
-use Rattle.song_query.specs.Machine.{due, close, apart, opened, named, bang, valued, slashed, State, here, step, go, run}
+use Rattle.song_query.specs.Machine.{valued, slashed, here, go, run}
 use Rattle.song_query.specs.Seen.{place_at}
 use Rattle.song_query.proofs.Complete.{Runs, next, stay, plain_read}
 

@@ -2,7 +2,6 @@
 use Rattle.std.specs.Prelude.{ℕ, List, [], ◌∷◌, ◌++◌, Option, Some, None, Bool, true, false, ◌||◌, ◌&&◌, ◌==◌, if◌then◌else◌}
 use Rattle.item_model.specs.Proper.{is_name_byte}
 use Rattle.item_model.specs.QueryTree.{QueryTree, condition, and_of, or_of}
-use Rattle.item_model.specs.declared.condition.Cond.{Cond}
 use Rattle.item_model.specs.declared.condition.Op.{Op}
 use Rattle.item_model.specs.declared.condition.Op.TheVariants.{Is, IsNot}
 use Rattle.song_query.specs.Grammar.{joined, is_mark}

@@ -1,5 +1,5 @@
 -- What the reader of a text stands for, and what one character does to it. It serves proofs alone.
-use Rattle.std.specs.Prelude.{◌≡◌, ◌<◌, ⊤, ℕ, List, [], length, get_or, Option, Some, None, Result, Ok, Err, string_bytes}
+use Rattle.std.specs.Prelude.{◌≡◌, ◌<◌, ⊤, ℕ, length, get_or, Option, Some, None, Result, Ok, Err, string_bytes}
 use Rattle.std.specs.Char.{encode_utf8}
 use Rattle.item_model.specs.declared.refusal.QueryError.{QueryError}
 use Rattle.item_model.specs.declared.refusal.QueryError.TheVariants.{TooDeep, At, Memory as QueryMemory}

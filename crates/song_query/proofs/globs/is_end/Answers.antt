@@ -1,4 +1,4 @@
-use Rattle.std.proofs.Common.{sym, arith}
+use Rattle.std.proofs.Common.{sym}
 use Rattle.song_query.proofs.Joining.{not_the_end, the_end}
 use Rattle.song_query.proofs.globs.is_end.Goals as goal
 

@@ -1,4 +1,4 @@
-use Rattle.std.proofs.Common.{◌≡◌, ◌+◌, ◌*◌, drop, map}
+use Rattle.std.proofs.Common.{◌≡◌, drop, map}
 use Rattle.item_model.specs.QueryTree.{query_size, query_sizes, queries_of}
 use Rattle.item_model.specs.QuerySeen.{tree_of}
 use Rattle.song_query.specs.Holds.{all_hold, some_hold}

@@ -1,8 +1,6 @@
-use Rattle.std.proofs.Common.{◌≡◌, ◌≤◌, ◌+◌, ◌++◌, ℕ, length, drop, sym, ap, ◌∙◌, subst, Err, arith}
+use Rattle.std.proofs.Common.{◌≡◌, ◌+◌, ℕ, length, drop, sym, ap, ◌∙◌, subst, Err, arith}
 use Rattle.std.proofs.lemmas.List.{length-drop}
 use Rattle.std.proofs.lemmas.Str.{drop_past_char}
-use Rattle.std.specs.Char.{encode_utf8, len_utf8}
-use Rattle.std.specs.Str.Iter.{chars_rest}
 use Rattle.song_query.specs.Seen.{state_of}
 use Rattle.song_query.specs.Answers.{Answers}
 use Rattle.song_query.proofs.Reached.{Reached, char_reached, refusal_answer, end_answer, ok_answer}

@@ -1,4 +1,4 @@
-use Rattle.std.proofs.Common.{refl, sym, ap, ◌∙◌, ◌++◌}
+use Rattle.std.proofs.Common.{refl, ap, ◌∙◌, ◌++◌}
 use Rattle.std.specs.Char.{encode_utf8}
 use Rattle.song_query.proofs.Wide.{valued_taken, slashed_taken, wide_refused}
 use Rattle.song_query.proofs.parts.Reader.take_wide.Goals as goal
