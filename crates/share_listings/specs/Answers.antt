@@ -14,11 +14,15 @@ use Rattle.item_store.specs.Store.{Store}
 use Rattle.item_store.specs.Stands.{StandsFor}
 use Rattle.listing_plan.specs.Limits.{rows_limit}
 
--- the store stands for batches that have no more edits than a listing may have rows
-pub record HasFew (store : Store) : Type 0 where
+-- the store stands for batches of at most so many edits
+pub record HasEdits (most : ℕ) (store : Store) : Type 0 where
   pub bs : List (List Edit)
   pub stands : StandsFor bs store
-  pub few : length (edits bs) ≤ rows_limit
+  pub few : length (edits bs) ≤ most
+
+-- no more of them than a listing may have rows
+abbrev pub HasFew : Store → Type 0
+HasFew store = HasEdits rows_limit store
 
 -- a full listing of items may start from these ids: they ascend, and no other id has a row that is asked for
 pub record AreCandidates (es : List Edit) (query : Option Query) (ids : List ℕ) : Type 0 where
