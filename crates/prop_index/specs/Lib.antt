@@ -1,0 +1,11 @@
+pub mod IdSets
+pub mod Ids
+pub mod Forms
+pub mod Keys
+pub mod FormIds
+pub mod Index
+pub mod Library
+pub mod Turns
+pub mod Candidates
+pub mod Values
+pub mod Laws
