@@ -1,6 +1,6 @@
 //! A store of items.
 
-ghost use Rattle.std.specs.Prelude.{◌≡◌, ◌≤◌, ◌+◌, ◌-◌, ◌++◌, ◌∷◌, [], List, true, length, IfOk, OnOk, OnErr, option_copied};
+ghost use Rattle.std.specs.Prelude.{◌≡◌, ◌≤◌, ◌+◌, ◌-◌, ◌++◌, ◌∷◌, [], List, true, false, length, IfOk, OnOk, OnErr, option_copied};
 ghost use Rattle.std.specs.Map.{keys_of};
 ghost use Rattle.item_model.specs.Valid.{AreValid};
 ghost use Rattle.item_model.specs.declared.request.Target.TheVariants.{Items};
@@ -104,6 +104,7 @@ impl ItemStore {
         requires { self.old.can_undo ≡ true }
         ensures stands { (bs : List (List Edit)) (batch : List Edit) → StandsFor (bs ++ batch ∷ []) self.old → StandsFor bs self.new }
         ensures keep { self.new.keep ≡ self.old.keep }
+        ensures once { self.new.can_undo ≡ false }
     {
         take_back_batch(&mut self.held, &mut self.named, self.revision);
         self.count = self.count_before;

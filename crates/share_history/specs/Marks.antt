@@ -19,7 +19,7 @@ Marks = List (ℕ × ℕ)
 abbrev pub marks_after : List Entry → ℕ → Marks → Marks
 marks_after h session marks = filter (λ m. is_live h m.0) (if is_live h session then put_in marks (session, length h) else marks)
 
--- the logins give the next ids, one after the other, and only an id that was given logs out
+-- the logins give the next ids, one after the other, and no id that is yet to come logs out
 abbrev pub is_orderly : ℕ → List Entry → Bool
 is_orderly next [] = true
 is_orderly next (Login by id ∷ h) = (id == next) && is_orderly (suc next) h

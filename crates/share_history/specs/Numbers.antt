@@ -9,7 +9,7 @@ first_revision = 2
 abbrev pub base_list : ℕ
 base_list = 1
 
--- how many logins end a session, its own among them
+-- how many logins after its own end a session
 abbrev pub live_sessions : ℕ
 live_sessions = 64
 

@@ -7,7 +7,7 @@ ghost use Rattle.share_history.specs.Sessions.{is_login, is_login_of, logs_out, 
 
 use item_model::Entry;
 
-/// How many logins end a session, its own among them.
+/// How many logins after its own end a session.
 pub const LIVE_SESSIONS: u32 = 64;
 
 fn is_login(entry: &Entry) -> bool

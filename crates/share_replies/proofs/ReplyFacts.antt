@@ -8,9 +8,9 @@ use Rattle.share_asks.specs.declared.ask.AskError.TheVariants.{Path, Method, Par
 use Rattle.share_asks.specs.declared.ask.Want.{Want}
 use Rattle.share_asks.specs.declared.ask.Want.TheVariants.{ServerInfo, Codes, Login, Logout, Update, Databases, Rows, Lists, Values, Edit, Stop, Bad}
 use Rattle.share_replies.specs.Settings.{Settings}
-use Rattle.share_replies.specs.Replies.{Body, Nothing, Answer, Replies, Holds, needed, is_faulty, lacks_session, lacks_container, has_bad_records, meets_limit, first_of, refusal, success, is_held, session_of, reply_with}
+use Rattle.share_replies.specs.Replies.{Body, Nothing, Answer, Replies, Holds, needed, request_fault, lacks_session, lacks_container, records_fault, meets_limit, first_of, refusal, success, is_held, session_of, reply_with}
 use Rattle.share_replies.specs.Added.{made_by}
-use Rattle.share_replies.specs.Laws.{NoReplyIsAFailure, StoppedSharesRefuse, OthersAreForbidden, EntriesAreTheAskers, ReadersChangeNothing, HeldWantsAddNothing, BodiesAreAsWorked, maker, is_edit, is_change}
+use Rattle.share_replies.specs.Laws.{NoReplyIsAFailure, StoppedSharesRefuse, OthersAreForbidden, EntriesAreTheAskers, ReadersChangeNothing, HeldWantsAddNothing, SmallBodiesByTheByte, maker, is_edit, is_change}
 
 -- ---- no status is 500
 
@@ -29,7 +29,7 @@ only_other : (b : Bool) (told : ℕ × Body) → all_other (Some told) ≡ true 
 only_other true told h = h
 only_other false told h = refl
 
-faulty_other : (want : Want) → all_other (is_faulty want) ≡ true
+faulty_other : (want : Want) → all_other (request_fault want) ≡ true
 faulty_other (Bad Path) = refl
 faulty_other (Bad (Method allow)) = refl
 faulty_other (Bad (Parameter name)) = refl
@@ -46,7 +46,7 @@ faulty_other (Values session browse query) = refl
 faulty_other (Edit body) = refl
 faulty_other Stop = refl
 
-records_other : (want : Want) → all_other (has_bad_records want) ≡ true
+records_other : (want : Want) → all_other (records_fault want) ≡ true
 records_other (Edit (Err error)) = refl
 records_other (Edit (Ok batch)) = refl
 records_other ServerInfo = refl
@@ -64,10 +64,10 @@ records_other (Bad fault) = refl
 refusal_other : (h : List Entry) (want : Want) → all_other (refusal h want) ≡ true
 refusal_other h want =
     or_other (only_if (is_stopped h) (503, Nothing)) _ (only_other (is_stopped h) (503, Nothing) refl)
-    (or_other (is_faulty want) _ (faulty_other want)
+    (or_other (request_fault want) _ (faulty_other want)
     (or_other (only_if (lacks_session h want) (403, Nothing)) _ (only_other (lacks_session h want) (403, Nothing) refl)
     (or_other (only_if (lacks_container h want) (404, Nothing)) _ (only_other (lacks_container h want) (404, Nothing) refl)
-    (or_other (has_bad_records want) _ (records_other want)
+    (or_other (records_fault want) _ (records_other want)
     (or_other (only_if (meets_limit h want) (507, Nothing)) None (only_other (meets_limit h want) (507, Nothing) refl) refl)))))
 
 success_other : (s : Settings) (h : List Entry) (want : Want) → all_other (Some (success s h want)) ≡ true
@@ -136,7 +136,7 @@ stopped_refusal : (h : List Entry) (want : Want) → is_stopped h ≡ true → r
 stopped_refusal h want is =
     ap (λ b. option_or (only_if {A = ℕ × Body} b (503, Nothing))
     (first_of
-    (is_faulty want ∷ only_if (lacks_session h want) (403, Nothing) ∷ only_if (lacks_container h want) (404, Nothing) ∷ has_bad_records want
+    (request_fault want ∷ only_if (lacks_session h want) (403, Nothing) ∷ only_if (lacks_container h want) (404, Nothing) ∷ records_fault want
     ∷ only_if (meets_limit h want) (507, Nothing) ∷ []))) is
 
 pub stopped_shares_refuse : StoppedSharesRefuse
@@ -162,13 +162,13 @@ no_session h want session is dead =
     both_false true n = refl
     both_false false n = refl
 
-forbidden_refusal : (h : List Entry) (want : Want) → is_stopped h ≡ false → is_faulty want ≡ None → lacks_session h want ≡ true
+forbidden_refusal : (h : List Entry) (want : Want) → is_stopped h ≡ false → request_fault want ≡ None → lacks_session h want ≡ true
     → refusal h want ≡ Some (403, Nothing)
 forbidden_refusal h want goes_on fine lacks = rw (goes_on, fine, lacks) refl
 
 -- what needs a session is no faulty request, and its answer is of that session or of none
 needs_one : (h : List Entry) (want : Want) (session : ℕ) → needed want ≡ Some session
-    → (is_faulty want ≡ None) × (session_of h want ≡ option_map_or (λ id. cond (not (is_stopped h) && is_live h id) id 0) (needed want) 0)
+    → (request_fault want ≡ None) × (session_of h want ≡ option_map_or (λ id. cond (not (is_stopped h) && is_live h id) id 0) (needed want) 0)
 needs_one h ServerInfo session is = absurd (true≢false (sym (ap is_some is)))
 needs_one h Codes session is = absurd (true≢false (sym (ap is_some is)))
 needs_one h Login session is = absurd (true≢false (sym (ap is_some is)))
@@ -184,7 +184,7 @@ needs_one h (Bad fault) session is = absurd (true≢false (sym (ap is_some is)))
 
 pub others_are_forbidden : OthersAreForbidden
 others_are_forbidden s h want session goes_on is dead =
-    let one : (is_faulty want ≡ None) × (session_of h want ≡ option_map_or (λ id. cond (not (is_stopped h) && is_live h id) id 0) (needed want) 0) =
+    let one : (request_fault want ≡ None) × (session_of h want ≡ option_map_or (λ id. cond (not (is_stopped h) && is_live h id) id 0) (needed want) 0) =
     needs_one h want session is in
     ap (λ found. option_map_or (reply_with h want) found (cond (is_held h want) Holds (reply_with h want (success s h want))))
     (forbidden_refusal h want goes_on one.0 (forbidden h want session goes_on is dead))
@@ -271,7 +271,7 @@ held_adds None s by h want is = held_made s by h want is
 pub held_wants_add_nothing : HeldWantsAddNothing
 held_wants_add_nothing s h by want is = held_adds (refusal h want) s by h want is
 
--- ---- worked bodies
+-- ---- small bodies
 
-pub bodies_are_as_worked : BodiesAreAsWorked
-bodies_are_as_worked = (refl, refl, refl)
+pub small_bodies_by_the_byte : SmallBodiesByTheByte
+small_bodies_by_the_byte = (refl, refl, refl)

@@ -70,8 +70,8 @@ HeldWantsAddNothing = (s : Settings) (h : List Entry) (by : ℕ) (want : Want) �
 
 -- the body of the first login, byte by byte, that of the revision behind the first edit, and how long a share with a name of
 -- one byte tells of itself
-abbrev pub BodiesAreAsWorked : Type 0
-BodiesAreAsWorked =
+abbrev pub SmallBodiesByTheByte : Type 0
+SmallBodiesByTheByte =
     (spelling (login_body 1)
     ≡ codes "mlog" ++ 0 ∷ 0 ∷ 0 ∷ 24 ∷ codes "mstt" ++ 0 ∷ 0 ∷ 0 ∷ 4 ∷ 0 ∷ 0 ∷ 0 ∷ 200 ∷ codes "mlid" ++ 0 ∷ 0 ∷ 0 ∷ 4 ∷ 0 ∷ 0 ∷ 0 ∷ 1 ∷ [])
     × (spelling (revision_body 3)

@@ -65,9 +65,9 @@ fault_reply (Parameter name) = (400, Line (parameter_line name))
 fault_reply (Query error) = (400, Line (query_line error))
 
 -- what is wrong with the request itself
-abbrev pub is_faulty : Want → Option (ℕ × Body)
-is_faulty (Bad fault) = Some (fault_reply fault)
-is_faulty want = None
+abbrev pub request_fault : Want → Option (ℕ × Body)
+request_fault (Bad fault) = Some (fault_reply fault)
+request_fault want = None
 
 abbrev pub lacks_session : List Entry → Want → Bool
 lacks_session h want = option_map_or (λ session. not (is_live h session)) (needed want) false
@@ -76,9 +76,9 @@ abbrev pub lacks_container : List Entry → Want → Bool
 lacks_container h (Rows session target look) = not (is_there (all_edits h) target)
 lacks_container h want = false
 
-abbrev pub has_bad_records : Want → Option (ℕ × Body)
-has_bad_records (Edit (Err error)) = Some (400, Line (records_line error))
-has_bad_records want = None
+abbrev pub records_fault : Want → Option (ℕ × Body)
+records_fault (Edit (Err error)) = Some (400, Line (records_line error))
+records_fault want = None
 
 abbrev pub meets_limit : List Entry → Want → Bool
 meets_limit h Login = not (has_place h)
@@ -92,8 +92,8 @@ first_of (found ∷ rest) = option_or found (first_of rest)
 abbrev pub refusal : List Entry → Want → Option (ℕ × Body)
 refusal h want =
     first_of
-    (only_if (is_stopped h) (503, Nothing) ∷ is_faulty want ∷ only_if (lacks_session h want) (403, Nothing)
-    ∷ only_if (lacks_container h want) (404, Nothing) ∷ has_bad_records want ∷ only_if (meets_limit h want) (507, Nothing) ∷ [])
+    (only_if (is_stopped h) (503, Nothing) ∷ request_fault want ∷ only_if (lacks_session h want) (403, Nothing)
+    ∷ only_if (lacks_container h want) (404, Nothing) ∷ records_fault want ∷ only_if (meets_limit h want) (507, Nothing) ∷ [])
 
 abbrev pub success : Settings → List Entry → Want → ℕ × Body
 success s h ServerInfo = (200, Tagged (server_info_body s.name))

@@ -1,6 +1,6 @@
 //! What holds of all replies. Each function does nothing; its contract is a fact that follows from the definitions.
 
-ghost use Rattle.share_replies.specs.Laws.{NoReplyIsAFailure, StoppedSharesRefuse, OthersAreForbidden, EntriesAreTheAskers, ReadersChangeNothing, HeldWantsAddNothing, BodiesAreAsWorked};
+ghost use Rattle.share_replies.specs.Laws.{NoReplyIsAFailure, StoppedSharesRefuse, OthersAreForbidden, EntriesAreTheAskers, ReadersChangeNothing, HeldWantsAddNothing, SmallBodiesByTheByte};
 
 /// No reply has the status 500, which tells want of memory alone.
 pub fn no_reply_is_a_failure()
@@ -33,6 +33,6 @@ pub fn a_held_want_adds_nothing()
 {}
 
 /// The small bodies have the bytes and the length that players know.
-pub fn bodies_are_as_worked()
-    ensures { BodiesAreAsWorked }
+pub fn small_bodies_by_the_byte()
+    ensures { SmallBodiesByTheByte }
 {}
