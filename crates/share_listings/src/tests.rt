@@ -1,13 +1,13 @@
 //! Answers of stores: one that no batch has changed, and ones over a few batches, byte for byte.
 
-ghost use Rattle.std.specs.Prelude.{◌≡◌, ◌≤◌, ◌+◌, ◌++◌, ◌∷◌, [], List, length, IfOk, OnOk};
+ghost use Rattle.std.specs.Prelude.{◌≡◌, ◌<◌, ◌≤◌, ◌+◌, ◌++◌, ◌∷◌, [], List, length, IfOk, OnOk};
 ghost use Rattle.item_model.specs.Valid.{IsValid, AreValid};
 ghost use Rattle.item_model.specs.declared.changes.Edit.{Edit};
 ghost use Rattle.item_store.specs.Stands.{StandsFor};
 ghost use Rattle.listing_plan.specs.Plans.{IsWritable};
 ghost use Rattle.share_listings.specs.Answers.{HasEdits, HasFew};
 
-use crate::{full_items, items_listing};
+use crate::{full_items, items_listing, listing};
 use daap_outside::MemSink;
 use dmap_tags::Text;
 use item_model::{
@@ -16,8 +16,11 @@ use item_model::{
 };
 use item_store::ItemStore;
 use listing_plan::Plan;
+use song_query::Steps;
 use std::alloc::{AllocError, Global};
+use std::marker::Brand;
 use std::process::Abort;
+use std::sync::ledger::{Blank, Ledger};
 use std::test::Fail;
 
 fn look(query: Option<Query>, base: u32, range: Range) -> Look {
@@ -52,6 +55,32 @@ fn answer(alloc: Global, store: &ItemStore, look: Look) -> Result<Vec<u8>, Alloc
     requires { HasFew store.now }
 {
     written(alloc, &planned(alloc, store, look)?)
+}
+
+/// The same, where the listing starts from all ids.
+fn from_ids<L: Ledger>(
+    blank: Blank,
+    alloc: Global,
+    store: &ItemStore,
+    look: Look,
+) -> Result<Plan, AllocError>
+    requires name { blank.name ≡ L.name }
+    requires parts { blank.parts ≡ L.parts }
+    requires any { 0 < blank.parts }
+    requires few { HasFew store.now }
+    ensures { IfOk result (λ plan. IsWritable plan) }
+{
+    let ids = store.ids()?;
+    let mut steps = Steps::<L>::open(blank);
+    let plan = listing(alloc, store, look, Some(ids.as_slice()), &mut steps)?;
+    Ok(plan)
+}
+
+fn answer_from_ids(alloc: Global, store: &ItemStore, look: Look) -> Result<Vec<u8>, AllocError>
+    requires { HasFew store.now }
+{
+    let plan = from_ids::<Brand>(Blank::new(1), alloc, store, look)?;
+    written(alloc, &plan)
 }
 
 fn whole(alloc: Global, store: &ItemStore, look: Look) -> Result<Vec<u8>, AllocError>
@@ -212,6 +241,24 @@ const NINE_GONE: [u8; 93] =
 /// The fifth of the six songs at revision 3.
 const FIFTH_SONG: [u8; 127] =
     *b"adbs\0\0\0\x77mstt\0\0\0\x04\0\0\0\xc8muty\0\0\0\x01\0musr\0\0\0\x04\0\0\0\x03mtco\0\0\0\x04\0\0\0\x06mrco\0\0\0\x04\0\0\0\x01mlcl\0\0\0\x36mlit\0\0\0\x2emiid\0\0\0\x04\0\0\0\x05minm\0\0\0\x05Quietasar\0\0\0\x02Edasal\0\0\0\x03Two";
+
+/// The last two of the three songs and films of an album, at revision 3.
+const TWO_SONGS: [u8; 181] =
+    *b"adbs\0\0\0\xadmstt\0\0\0\x04\0\0\0\xc8muty\0\0\0\x01\0musr\0\0\0\x04\0\0\0\x03mtco\0\0\0\x04\0\0\0\x03mrco\0\0\0\x04\0\0\0\x02mlcl\0\0\0\x6cmlit\0\0\0\x2emiid\0\0\0\x04\0\0\0\x04minm\0\0\0\x04Moveasar\0\0\0\x02Diasal\0\0\0\x04Filmmlit\0\0\0\x2emiid\0\0\0\x04\0\0\0\x06minm\0\0\0\x04Lateasar\0\0\0\x03annasal\0\0\0\x03two";
+
+#[test]
+#[tactic(auto, using(crate::proofs::Samples::still_few))]
+fn a_listing_may_start_from_ids(rt: HostRuntime) -> Result<(), Fail> {
+    let store = six_songs(rt.alloc())?;
+    let two = look(
+        Some(media_kinds(rt.alloc())?),
+        0,
+        Range::Span { from: 1, to: 2 },
+    );
+    let listed = answer_from_ids(rt.alloc(), &store, two)?;
+    assert!(rt; listed.as_slice() == TWO_SONGS.as_slice());
+    Ok(())
+}
 
 #[test]
 #[tactic(auto, using(crate::proofs::Samples::still_few))]
