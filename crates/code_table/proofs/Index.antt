@@ -1,11 +1,12 @@
 -- The kinds by code, beside the rows that they are of.
-use Rattle.std.proofs.Common.{◌≡◌, List, [], ◌∷◌, ◌++◌, Bool, true, false, cond, ◌&&◌, ◌||◌, ◌==◌, if◌then◌else◌, Option, Some, None, unwrap_or, refl, sym, ap, ◌∙◌, true≢false, is_some, is_eq, eqb-true}
-use Rattle.std.proofs.lemmas.Bool.{and_parts, or_parts}
+use Rattle.std.proofs.Common.{◌≡◌, ℕ, List, [], ◌∷◌, ◌++◌, Bool, true, false, cond, ◌&&◌, ◌||◌, ◌==◌, if◌then◌else◌, Option, Some, None, unwrap_or, inl, inr, refl, sym, ap, ◌∙◌, true≢false, is_some, is_eq, eqb-true}
+use Rattle.std.proofs.lemmas.Bool.{and_parts, and_from, or_parts, cases_Bool, eq-eqb, eqb-false}
 use Rattle.std.proofs.lemmas.Map.Text.{is_eq-slice_cmp}
 use Rattle.dmap_tags.specs.Codes.{Four, code_bytes, is_code}
 use Rattle.dmap_tags.specs.declared.kinds.Kind.TheVariants.{Opaque}
 use Rattle.code_table.specs.declared.row.CodeRow.{CodeRow}
 use Rattle.code_table.specs.Rows.{is_coded, row_kind, code_cmp, kind_at}
+use Rattle.code_table.specs.Reply.{number_of, numbered}
 
 -- whether a choice gives a value, and its value or another
 some_or : {X : Type 0} (b : Bool) (x : X) (found : Option X) → is_some (if b then Some x else found) ≡ (b || is_some found)
@@ -38,7 +39,7 @@ same_compared a b =
     ∙ sym (is_eq-slice_cmp (code_bytes a) (code_bytes b))
 
 -- codes that are the same are one
-same_path : (a b : Four) → is_code a b ≡ true → a ≡ b
+pub same_path : (a b : Four) → is_code a b ≡ true → a ≡ b
 same_path a b h =
     let first = and_parts (a.0 == b.0) ((a.1 == b.1) && ((a.2 == b.2) && (a.3 == b.3))) h in
     let second = and_parts (a.1 == b.1) ((a.2 == b.2) && (a.3 == b.3)) first.1 in
@@ -59,3 +60,20 @@ kind_more (r ∷ rows) row c new =
     sym (tests_swapped (is_code r.code c) (is_eq (code_cmp row.code c)) (Some r.kind) (Some row.kind) (kind_at rows c)
     (λ is. ap (is_code r.code) (sym (same_path row.code c (same_compared row.code c ∙ is))) ∙ parts.0))
     ∙ ap (λ k. cond (is_code r.code c) (Some r.kind) k) (kind_more rows row c parts.1)
+
+-- a code is itself
+same_self : (a : Four) → is_code a a ≡ true
+same_self a =
+    and_from (a.0 == a.0) ((a.1 == a.1) && ((a.2 == a.2) && (a.3 == a.3))) (eq-eqb a.0 a.0 refl)
+    (and_from (a.1 == a.1) ((a.2 == a.2) && (a.3 == a.3)) (eq-eqb a.1 a.1 refl)
+    (and_from (a.2 == a.2) (a.3 == a.3) (eq-eqb a.2 a.2 refl) (eq-eqb a.3 a.3 refl)))
+
+-- codes are the same where the numbers that they spell are
+pub same_numbers : (a b : Four) (n m : ℕ) → n ≡ number_of a → m ≡ number_of b → numbered n ≡ a → numbered m ≡ b → (n == m) ≡ is_code a b
+same_numbers a b n m told other back again = elim (cases_Bool (n == m)) [
+  | inl e ↦ e ∙ sym (ap (is_code a) (sym again ∙ ap numbered (sym (eqb-true n m e)) ∙ back) ∙ same_self a)
+  | inr e ↦ elim (cases_Bool (is_code a b)) [
+    | inl f ↦ absurd (eqb-false n m e (told ∙ ap number_of (same_path a b f) ∙ sym other))
+    | inr f ↦ e ∙ sym f
+  ]
+]

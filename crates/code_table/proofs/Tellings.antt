@@ -1,14 +1,15 @@
 -- What an entry adds to the rows before it.
-use Rattle.std.proofs.Common.{◌≡◌, ◌≢◌, MatchResult, ◌<◌, ℕ, zero, suc, List, length, slice_index_or, take, map, arith, [], ◌∷◌, ◌++◌, Bool, true, false, not, ◌&&◌, ◌==◌, if◌then◌else◌, Option, Some, None, Result, Ok, Err, refl, sym, ap, ◌∙◌}
-use Rattle.std.proofs.lemmas.Bool.{and_parts, and_from, or_parts, or_from, not_from_false, not-true, eqb-true, eqb-false, eq-eqb, ne_eqb, cond-true}
+use Rattle.std.proofs.Common.{◌≡◌, ◌≢◌, MatchResult, ◌<◌, ℕ, zero, suc, List, length, slice_index_or, take, map, arith, [], ◌∷◌, ◌++◌, Bool, true, false, not, ◌&&◌, ◌==◌, if◌then◌else◌, Option, Some, None, IfSome, is_some, nat_lt, Bor, Result, Ok, Err, refl, sym, ap, ◌∙◌}
+use Rattle.std.proofs.lemmas.Bool.{and_parts, and_from, or_parts, or_from, not_from_false, not-true, eqb-true, eqb-false, eq-eqb, ne_eqb, ltb-true, cond-true, cond-false}
 use Rattle.std.proofs.lemmas.List.{take-map, get_or-map, length-map}
 use Rattle.dmap_tags.specs.Codes.{Four, code, is_code}
 use Rattle.dmap_tags.specs.Tree.{Tree, Trees, more, tree_code}
 use Rattle.code_table.specs.declared.reply.CodeError.{CodeError}
 use Rattle.code_table.specs.declared.reply.CodeError.TheVariants.{Repeated, Memory}
 use Rattle.code_table.specs.declared.row.CodeRow.{CodeRow}
-use Rattle.code_table.specs.Rows.{is_coded, codes_differ}
+use Rattle.code_table.specs.Rows.{is_coded, codes_differ, row_kind}
 use Rattle.code_table.specs.Reply.{row_more, entry_row, rows_from}
+use Rattle.code_table.proofs.Index.{same_path}
 
 eq_sym : (a b : ℕ) → (a == b) ≡ false → (b == a) ≡ false
 eq_sym a b h = ne_eqb b a (λ e. eqb-false a b h (sym e))
@@ -47,6 +48,25 @@ other_at : (c : Four) (rows : List CodeRow) (i : ℕ) (d : CodeRow) → is_coded
 other_at c [] i d h here = absurd (omega arith)
 other_at c (row ∷ rows) zero d h here = (or_parts (is_code row.code c) (is_coded c rows) h).0
 other_at c (row ∷ rows) (suc i) d h here = other_at c rows i d (or_parts (is_code row.code c) (is_coded c rows) h).1 (omega arith)
+
+-- each row tells the kind of its code
+pub row_tells : (rows : List CodeRow) (i : ℕ) (d : CodeRow) (c : Four) → codes_differ rows ≡ true → i < length rows → is_code (slice_index_or rows i d).code c ≡ true → row_kind rows c ≡ (slice_index_or rows i d).kind
+row_tells [] i d c differ here is = absurd (omega arith)
+row_tells (row ∷ rows) zero d c differ here is = cond-true (is_code row.code c) row.kind (row_kind rows c) is
+row_tells (row ∷ rows) (suc i) d c differ here is =
+    let parts = and_parts (not (is_coded row.code rows)) (codes_differ rows) differ in
+    let other : is_code (slice_index_or rows i d).code row.code ≡ false = other_at row.code rows i d (not-true (is_coded row.code rows) parts.0) (omega arith) in
+    let apart : is_code row.code c ≡ false = same_swap row.code c ∙ ap (λ x. is_code x row.code) (sym (same_path (slice_index_or rows i d).code c is)) ∙ other in
+    cond-false (is_code row.code c) row.kind (row_kind rows c) apart ∙ row_tells rows i d c parts.1 (omega arith) is
+
+-- and so does the row at a place, where there is one
+pub hint_tells : (rows : List CodeRow) (i : ℕ) (found : Option (Bor CodeRow)) → codes_differ rows ≡ true →
+    is_some found ≡ nat_lt i (length rows) → IfSome found (λ row. row.now ≡ slice_index_or rows i row.now) →
+    IfSome found (λ row. (c : Four) → is_code row.now.code c ≡ true → row_kind rows c ≡ row.now.kind)
+hint_tells rows i None differ there is = tt
+hint_tells rows i (Some row) differ there is =
+    λ c same.
+    row_tells rows i row.now c differ (ltb-true i (length rows) (sym there)) (ap (λ r. is_code r.code c) (sym is) ∙ same) ∙ ap (λ r. r.kind) (sym is)
 
 -- where all codes differ, no row has the code of one behind it
 pub new_at : (rows : List CodeRow) (i : ℕ) (d : CodeRow) → codes_differ rows ≡ true → i < length rows → is_coded (slice_index_or rows i d).code (take i rows) ≡ false

@@ -2,6 +2,7 @@
 //! Contracts see a table as the list of its rows. The kind of a code is the kind in its row (`specs/Rows.antt`).
 #![tactic(auto)]
 
+mod code_number;
 mod fitting;
 mod reply;
 mod row;

@@ -3,8 +3,9 @@
 ghost use Rattle.std.specs.Prelude.{◌≡◌, ◌≢◌, suc, ◌∷◌, [], ◌++◌, true, false, Option, IfOk, OnOk, MatchResult, MatchOption, Some, None, Ok, Err, option_map, option_copied};
 ghost use Rattle.dmap_tags.specs.Tree.{Trees, more, trees_of};
 ghost use Rattle.code_table.specs.Rows.{is_coded, codes_differ};
-ghost use Rattle.code_table.specs.Reply.{table_reply, entry_of, number_of, numbered, type_of, first_in, number_in, type_in, name_in, entry_row, row_more, rows_from, table_of};
+ghost use Rattle.code_table.specs.Reply.{table_reply, entry_of, type_of, first_in, number_in, type_in, name_in, entry_row, row_more, rows_from, table_of};
 
+use crate::code_number::{code_by, number_of};
 use crate::row::CodeRow;
 use crate::table::CodeTable;
 use dmap_tags::{Code, Kind, Tag, Tags, Text, Value};
@@ -111,15 +112,6 @@ fn entry(alloc: Global, row: &CodeRow) -> Result<Tag, AllocError>
     })
 }
 
-/// The number that the four bytes of a code spell.
-fn number_of(code: Code) -> u32
-    ensures told { result ≡ number_of code }
-    ensures reads_back { numbered result ≡ code }
-{
-    let b = code.0;
-    u32::from_be_bytes([b[0], b[1], b[2], b[3]])
-}
-
 /// The table of the rows that the entries among the members tell.
 fn told_table(alloc: Global, members: &[Tag]) -> Result<CodeTable, CodeError>
     ensures { MatchResult result (λ table. rows_from 0 [] (trees_of members.now) ≡ Ok table)
@@ -182,14 +174,6 @@ fn entry_row(entry: &Tag) -> Result<Option<CodeRow>, AllocError>
         name: name.copy()?,
         kind: Kind::of_number(kind),
     }))
-}
-
-/// The code whose four bytes spell the number.
-fn code_by(number: u32) -> Code
-    ensures { result ≡ numbered number }
-{
-    let b = number.to_be_bytes();
-    Code([b[0], b[1], b[2], b[3]])
 }
 
 /// The first tag with the code.

@@ -1,9 +1,11 @@
 //! The table and the questions that it answers.
 
-ghost use Rattle.std.specs.Prelude.{◌≡◌, ◌∷◌, [], ◌++◌, true, false, IfOk, OnOk, OnErr};
-ghost use Rattle.code_table.specs.Rows.{kind_in, first_named, is_browse_item, is_browse_list, is_coded, codes_differ};
+ghost use Rattle.std.specs.Prelude.{◌≡◌, ◌∷◌, [], ◌++◌, true, false, IfOk, IfSome, OnOk, OnErr};
+ghost use Rattle.dmap_tags.specs.Codes.{Four, is_code};
+ghost use Rattle.code_table.specs.Rows.{kind_in, row_kind, first_named, is_browse_item, is_browse_list, is_coded, codes_differ};
 ghost use Rattle.code_table.specs.Standard.{standard_rows};
 
+use crate::code_number::{is_code, number_of};
 use crate::row::CodeRow;
 use crate::standard;
 use dmap_tags::{Code, Kind};
@@ -15,8 +17,10 @@ use std::marker::Model;
 #[derive(Debug, Drop)]
 pub struct CodeTable {
     rows: Vec<CodeRow>,
-    /// The kinds by code: a reader asks for one at each tag.
+    /// The kinds by code.
     kinds: BTreeMap<Code, Kind>,
+    /// Where the row of a code may stand, by its slot: a reader asks for a kind at each tag, and looks there first.
+    hints: Vec<usize>,
 }
 
 impl Model for CodeTable {
@@ -46,6 +50,7 @@ impl CodeTable {
         CodeTable {
             rows: Vec::new(alloc),
             kinds: BTreeMap::new(alloc),
+            hints: Vec::new(alloc),
         }
     }
 
@@ -63,6 +68,7 @@ impl CodeTable {
         ensures err { OnErr result (self.new ≡ self.old) }
     {
         self.rows.reserve(1)?;
+        note(&mut self.hints, row.code, self.rows.len())?;
         self.kinds.insert(row.code, row.kind)?;
         self.rows.push_reserved(row);
         Ok(())
@@ -81,12 +87,42 @@ impl CodeTable {
     }
 
     /// The kind of a tag's value, by its code and the code of the list that it stands in (`None` at the top).
+    #[inline(always)]
     pub fn kind_of(&self, parent: Option<Code>, code: Code) -> Kind
         ensures { result ≡ kind_in self.now parent code }
     {
         if is_browse_item(parent, code) {
-            return Kind::Text;
+            Kind::Text
+        } else {
+            self.row_kind(code)
         }
+    }
+
+    /// The kind in the row of the code, opaque where it has none.
+    #[inline(always)]
+    fn row_kind(&self, code: Code) -> Kind
+        ensures { result ≡ row_kind self.now code }
+    {
+        match self.hinted(code) {
+            Some(row) if is_code(row.code, code) => row.kind,
+            _ => self.searched(code),
+        }
+    }
+
+    /// The row that is looked at first for a code. It may be another code's.
+    #[inline(always)]
+    fn hinted(&self, code: Code) -> Option<&CodeRow>
+        ensures { IfSome result
+            (λ row. (c : Four) → is_code row.now.code c ≡ true → row_kind self.now c ≡ row.now.kind) }
+    {
+        self.rows.get(*self.hints.get(slot(code))?)
+    }
+
+    #[cold]
+    #[inline(never)]
+    fn searched(&self, code: Code) -> Kind
+        ensures { result ≡ row_kind self.now code }
+    {
         self.kinds.get(&code).copied().unwrap_or(Kind::Opaque)
     }
 
@@ -115,12 +151,31 @@ impl CodeTable {
     }
 }
 
+/// How many slots there are for hints.
+const SLOTS: usize = 256;
+
+/// The slot of a code. The 73 standard codes have a slot each.
+#[inline(always)]
+fn slot(code: Code) -> usize {
+    (number_of(code).wrapping_mul(0xcbc5_21df) >> 24) as usize
+}
+
+/// Notes where the row of a code stands, in place of what was noted in its slot.
+fn note(hints: &mut Vec<usize>, code: Code, place: usize) -> Result<(), AllocError> {
+    hints.resize(SLOTS, 0)?;
+    if let Some(hint) = hints.get_mut(slot(code)) {
+        *hint = place;
+    }
+    Ok(())
+}
+
 /// An `mlit` of a browse listing carries the text itself.
+#[inline(always)]
 fn is_browse_item(parent: Option<Code>, code: Code) -> bool
     ensures { result ≡ is_browse_item parent code }
 {
     match parent {
-        Some(list) => code == Code(*b"mlit") && is_browse_list(list),
+        Some(list) => is_code(code, Code(*b"mlit")) && is_browse_list(list),
         None => false,
     }
 }
