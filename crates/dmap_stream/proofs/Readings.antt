@@ -1,18 +1,20 @@
 -- What a reader has read, before and after a call.
-use Rattle.std.proofs.Common.{◌≡◌, ◌≢◌, ◌⊎◌, inl, inr, ℕ, ◌+◌, ◌≤◌, List, [], ◌∷◌, ◌++◌, length, take, Bool, true, false, not, ◌&&◌, nat_lt, if◌then◌else◌, Option, Some, None, Ok, Err, IfNone, IfSome, refl, sym, ap, subst, ◌∙◌, arith, length-append, append_assoc}
+use Rattle.std.proofs.Common.{◌≡◌, ◌≢◌, ◌⊎◌, inl, inr, ℕ, ◌+◌, ◌<◌, ◌≤◌, List, [], ◌∷◌, ◌++◌, length, take, drop, Bool, true, false, not, ◌&&◌, nat_lt, if◌then◌else◌, Option, Some, None, Ok, Err, IfNone, IfSome, refl, sym, ap, subst, ◌∙◌, arith, length-append, append_assoc}
 use Rattle.std.specs.Prelude.{option_to_list}
 use Rattle.std.proofs.lemmas.List.{append-nil, length-take}
-use Rattle.std.proofs.lemmas.Bool.{cond-true, and_parts}
+use Rattle.std.proofs.lemmas.Bool.{cond-true, cond-false, and_parts, le-ltb, ltb-true}
+use Rattle.dmap_tags.specs.Typed.{leaf_at, value_of}
 use Rattle.code_table.specs.declared.row.CodeRow.{CodeRow}
 use Rattle.dmap_stream.specs.declared.event.Event.{Event}
+use Rattle.dmap_stream.specs.declared.event.Event.TheVariants.{Leaf}
 use Rattle.dmap_stream.specs.declared.position.Position.{Position}
 use Rattle.dmap_stream.specs.declared.position.Phase.{Phase}
 use Rattle.dmap_stream.specs.declared.position.Phase.TheVariants.{Head, Payload}
 use Rattle.dmap_stream.specs.declared.refusal.StreamError.{StreamError}
 use Rattle.dmap_stream.specs.declared.refusal.StreamError.TheVariants.{TooLarge, TooDeep, Overrun, ShortHead, Truncated, Memory}
 use Rattle.dmap_stream.specs.Walk.{Walk, between, inside, broken, ends, behind, is_empty, open_after, at_head, at_place, walk_from, walk_of}
-use Rattle.dmap_stream.specs.Reading.{ready_at, resumed, is_due, is_between, bytes_taken, Takes}
-use Rattle.dmap_stream.specs.Reader.{Reader, ready, ending_at, ReadAs, HasRead, TellsAs, Tells}
+use Rattle.dmap_stream.specs.Reading.{ready_at, resumed, is_due, is_between, bytes_kept, bytes_taken, Takes}
+use Rattle.dmap_stream.specs.Reader.{Reader, ready, kept, ending_at, ReadAs, HasRead, TellsAs, Tells, EndInLeaf}
 use Rattle.dmap_stream.proofs.Onward.{walk_on}
 
 memory_or : (e : StreamError) → (e ≡ Memory) ⊎ (e ≢ Memory)
@@ -136,7 +138,7 @@ told_as fed handed r None h =
     ∙ ap (behind (handed ++ ready r)) (quiet_as r.rows r.limit r.position r.position.phase refl h.0)
     ∙ ap (λ l. record { events = l; ending = ending_at r.position }) (append-nil (handed ++ ready r))
 told_as fed handed r (Some e) h = (
-  ((h.0 []).0.events, ap (λ w. w.events) (ap (walk_of r.rows r.limit) (sym (append-nil fed)) ∙ (h.0 []).1)),
+  ((h.0 []).0.events, ap (λ (w : Walk). w.events) (ap (walk_of r.rows r.limit) (sym (append-nil fed)) ∙ (h.0 []).1)),
   λ known.
       ap (walk_of r.rows r.limit) (sym (append-nil fed)) ∙ h.1 known []
       ∙ ap (λ l. record { events = l; ending = broken e }) (append-nil (handed ++ ready r)),
@@ -179,3 +181,53 @@ stopped rows limit fed piece handed old p q error e e' goes is quiet takes copie
     subst (HasRead fed handed) (sym is ∙ ap (λ o. record { rows = rows; limit = limit; position = p; error = o }) goes) h in
     subst (λ o. HasRead (fed ++ piece) handed (record { rows = rows; limit = limit; position = q; error = Some o })) (sym copied)
     (fed_broken rows limit fed piece handed p q e (none_ready (ready_at p) quiet) takes before)
+
+-- while nothing is ready the events of the bytes are those that were handed out
+quiet_front : (rows : List CodeRow) (limit : ℕ) (fed piece : List ℕ) (handed : List Event) (p q : Position) (n : ℕ) →
+    ready_at p ≡ [] → Takes rows limit (resumed rows limit p) piece q (Ok n) →
+    HasRead fed handed (record { rows = rows; limit = limit; position = p; error = None }) →
+    (m : ℕ) → m < n → (walk_of rows limit (fed ++ take m piece)).events ≡ handed
+quiet_front rows limit fed piece handed p q n quiet takes h m few =
+    ap (λ (w : Walk). w.events) (h.2 (take m piece))
+    ∙ ap (λ l. (handed ++ ready_at p) ++ l) (takes.4 m few)
+    ∙ append-nil (handed ++ ready_at p) ∙ no_more handed (ready_at p) quiet
+
+pub went_no_further : (rows : List CodeRow) (limit : ℕ) (fed piece : List ℕ) (handed : List Event) (old : Reader) (p q : Position) (error : Option StreamError) (n : ℕ) →
+    error ≡ None → record { rows = rows; limit = limit; position = p; error = error } ≡ old → not (is_empty (ready_at p)) ≡ false →
+    Takes rows limit (resumed rows limit p) piece q (Ok n) →
+    HasRead fed handed old → (m : ℕ) → m < n → (walk_of old.rows old.limit (fed ++ take m piece)).events ≡ handed
+went_no_further rows limit fed piece handed old p q error n goes is quiet takes h m few =
+    let before : HasRead fed handed (record { rows = rows; limit = limit; position = p; error = None }) =
+    subst (HasRead fed handed) (sym is ∙ ap (λ o. record { rows = rows; limit = limit; position = p; error = o }) goes) h in
+    ap (λ (r : Reader). (walk_of r.rows r.limit (fed ++ take m piece)).events) (sym is)
+    ∙ quiet_front rows limit fed piece handed p q n (none_ready (ready_at p) quiet) takes before m few
+
+-- bytes of a payload are kept inside a leaf alone
+ends_in_leaf : (rows : List CodeRow) (limit : ℕ) (fed : List ℕ) (handed : List Event) (p : Position) (phase : Phase) → p.phase ≡ phase →
+    ReadAs fed handed (record { rows = rows; limit = limit; position = p; error = None }) None → 0 < bytes_kept p →
+    EndInLeaf rows limit fed (handed ++ ready_at p) (bytes_kept p)
+ends_in_leaf rows limit fed handed p Head h read some = absurd (let none : 0 < 0 = (rw h at some) in omega arith)
+ends_in_leaf rows limit fed handed p (Payload c kind len) h read some =
+    let due = and_parts _ _ (rw h at read.0) in
+    let count : p.start + 8 + length p.part ≡ length fed = (rw h at read.1) in
+    rw h (record {
+      at = p.start;
+      code = c;
+      len = len;
+      since_head = count;
+      unfinished = ltb-true (length p.part) len due.1;
+      awaited = λ rest all. (value_of (leaf_at kind (take len (p.part ++ rest))), (later rest, ap (λ (w : Walk). w.events) (read.2 rest ∙ ap (behind (handed ++ ready_at p)) (whole rest all))));
+    })
+  where
+    onward : List ℕ → Walk
+    onward rest = walk_from rows limit (p.start + 8 + len) (open_after p.start p.around) (drop len (p.part ++ rest))
+
+    later : List ℕ → List Event
+    later rest = (onward rest).events
+
+    whole : (rest : List ℕ) → length p.part + length rest ≡ len →
+        resumed rows limit p rest ≡ behind (Leaf c (value_of (leaf_at kind (take len (p.part ++ rest)))) p.start ∷ []) (onward rest)
+    whole rest all = rw h (cond-false _ _ _ (le-ltb (length (p.part ++ rest)) len (omega (arith, length-append p.part rest))))
+
+pub held_in_leaf : (fed : List ℕ) (handed : List Event) (r : Reader) → HasRead fed handed r → r.error ≡ None → 0 < kept r → EndInLeaf r.rows r.limit fed (handed ++ ready r) (kept r)
+held_in_leaf fed handed r h goes some = ends_in_leaf r.rows r.limit fed handed r.position r.position.phase refl (subst (ReadAs fed handed r) goes h) some

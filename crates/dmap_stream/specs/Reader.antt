@@ -1,12 +1,15 @@
 -- A reader of tags, and what it tells of the bytes that it was fed.
-use Rattle.std.specs.Prelude.{◌≡◌, ◌≢◌, ℕ, ◌<◌, ◌^◌, List, ◌++◌, length, take, true, if◌then◌else◌, Option, Some, None, Result, Ok, Err}
+use Rattle.std.specs.Prelude.{◌≡◌, ◌≢◌, ℕ, ◌+◌, ◌<◌, ◌^◌, List, ◌∷◌, ◌++◌, length, take, true, if◌then◌else◌, Option, Some, None, Result, Ok, Err}
+use Rattle.dmap_tags.specs.Codes.{Four}
+use Rattle.dmap_tags.specs.declared.tree.Value.{Value}
 use Rattle.code_table.specs.declared.row.CodeRow.{CodeRow}
 use Rattle.dmap_stream.specs.declared.event.Event.{Event}
+use Rattle.dmap_stream.specs.declared.event.Event.TheVariants.{Leaf}
 use Rattle.dmap_stream.specs.declared.position.Position.{Position}
 use Rattle.dmap_stream.specs.declared.refusal.StreamError.{StreamError}
 use Rattle.dmap_stream.specs.declared.refusal.StreamError.TheVariants.{Truncated, Memory}
 use Rattle.dmap_stream.specs.Walk.{Walk, Ending, between, inside, broken, ends, behind, walk_of}
-use Rattle.dmap_stream.specs.Reading.{ready_at, resumed, is_due, is_between, bytes_taken}
+use Rattle.dmap_stream.specs.Reading.{ready_at, resumed, is_due, is_between, bytes_kept, bytes_taken}
 
 -- its table and limit, where it stands, and the error that stopped it
 pub record Reader : Type 0 where
@@ -59,6 +62,20 @@ TellsAs fed handed r (Some e) =
 
 abbrev pub Tells : List ℕ → List Event → Reader → Type 0
 Tells fed handed r = TellsAs fed handed r r.error
+
+-- how many bytes of a leaf's payload it keeps until the leaf is whole
+abbrev pub kept : Reader → ℕ
+kept r = bytes_kept r.position
+
+-- the bytes end inside a leaf, behind so many bytes of its payload: with the others it is the next event
+pub record EndInLeaf (rows : List CodeRow) (limit : ℕ) (fed : List ℕ) (events : List Event) (kept : ℕ) : Type 0 where
+  pub at : ℕ
+  pub code : Four
+  pub len : ℕ
+  pub since_head : at + 8 + kept ≡ length fed
+  pub unfinished : kept < len
+  pub awaited : (rest : List ℕ) → kept + length rest ≡ len
+      → (value : Value) × ((later : List Event) × ((walk_of rows limit (fed ++ rest)).events ≡ events ++ Leaf code value at ∷ later))
 
 -- what the end of the bytes gives
 abbrev pub ended : Reader → Result (Unit {0}) StreamError

@@ -30,6 +30,10 @@ is_due p =
 abbrev pub bytes_taken : Position → ℕ
 bytes_taken p = elim p.phase [ Head ↦ p.start + length p.part | Payload c kind len ↦ p.start + 8 + length p.part ]
 
+-- how many bytes of a leaf's payload are kept until it is whole
+abbrev pub bytes_kept : Position → ℕ
+bytes_kept p = elim p.phase [ Head ↦ 0 | Payload c kind len ↦ length p.part ]
+
 -- no tag has begun that is not whole
 abbrev pub is_between : Position → Bool
 is_between p =
@@ -42,10 +46,15 @@ Moves rows limit before new (Ok _) =
 Moves rows limit before new (Err e) =
     (e ≡ Memory → ready_at new ≡ []) × (e ≢ Memory → (rest : List ℕ) → before rest ≡ behind (ready_at new) (ends (broken e)))
 
--- the same, for a call that takes bytes from the front of a piece until an event is ready
+-- the first of these bytes, fewer than n, make no event ready
+abbrev pub AreQuiet : (List ℕ → Walk) → List ℕ → ℕ → Type 0
+AreQuiet before piece n = (m : ℕ) → m < n → (before (take m piece)).events ≡ []
+
+-- the same, for a call that takes bytes from the front of a piece until an event is ready, and none behind it
 abbrev pub Takes : List CodeRow → ℕ → (List ℕ → Walk) → List ℕ → Position → Result ℕ StreamError → Type 0
 Takes rows limit before piece new (Ok n) =
     (n ≤ length piece) × (n < length piece → ready_at new ≢ []) × (is_due new ≡ true)
     × ((rest : List ℕ) → before (take n piece ++ rest) ≡ behind (ready_at new) (resumed rows limit new rest))
+    × AreQuiet before piece n
 Takes rows limit before piece new (Err e) =
     (e ≡ Memory → ready_at new ≡ []) × (e ≢ Memory → (rest : List ℕ) → before (piece ++ rest) ≡ behind (ready_at new) (ends (broken e)))

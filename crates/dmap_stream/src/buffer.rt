@@ -2,7 +2,7 @@
 
 ghost use Rattle.std.specs.Prelude.{◌≡◌, ◌≤◌, ◌-◌, [], ◌++◌, length, take, drop, min, IfOk, OnErr};
 ghost use Rattle.dmap_tags.specs.Codes.{code_of};
-ghost use Rattle.dmap_stream.specs.Walk.{told_length};
+ghost use Rattle.dmap_stream.specs.Walk.{is_empty, told_length};
 
 use crate::head::head_of;
 use dmap_tags::Code;
@@ -36,6 +36,13 @@ impl Buffer {
         ensures { result ≡ length self.now }
     {
         self.bytes.len()
+    }
+
+    #[inline(always)]
+    pub fn is_empty(&self) -> bool
+        ensures { result ≡ is_empty self.now }
+    {
+        self.bytes.is_empty()
     }
 
     pub fn as_slice(&self) -> &[u8]

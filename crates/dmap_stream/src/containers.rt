@@ -58,6 +58,7 @@ impl Containers {
     }
 
     /// The code of the innermost list.
+    #[inline(always)]
     pub fn parent(&self) -> Option<Code>
         ensures { result ≡ parent_of self.now }
     {
@@ -68,6 +69,7 @@ impl Containers {
     }
 
     /// The innermost list ends there.
+    #[inline(always)]
     pub fn ends_at(&self, at: u64) -> bool
         ensures { result ≡ not (is_empty (closes at self.now)) }
     {
@@ -78,6 +80,7 @@ impl Containers {
     }
 
     /// Takes the innermost list out if it ends there.
+    #[inline(always)]
     pub fn pop_ended(&mut self, at: u64) -> Option<Container>
         ensures none { IfNone result ((closes at self.old ≡ []) × (self.new ≡ self.old)) }
         ensures some { IfSome result (λ c. (c.end ≡ at) × (self.old ≡ c ∷ self.new)) }
@@ -100,7 +103,18 @@ impl Containers {
     }
 
     /// Once the lists that end there are closed, 1 to 7 bytes are left in the innermost.
+    #[inline(always)]
     pub fn is_short(&self, at: u64) -> bool
+        ensures { result ≡ is_short at (open_after at self.now) }
+    {
+        match self.outermost_first.last() {
+            Some(innermost) if at as u128 + 8 <= innermost.end => false,
+            _ => self.is_short_near_end(at),
+        }
+    }
+
+    #[inline(never)]
+    fn is_short_near_end(&self, at: u64) -> bool
         ensures { result ≡ is_short at (open_after at self.now) }
     {
         match self.open_at(at) {
@@ -125,6 +139,7 @@ impl Containers {
     }
 
     /// The fault of a head that tells that code and length, among lists none of which ends at it.
+    #[inline(always)]
     pub fn fault(&self, top: u32, at: u64, code: Code, len: u32) -> Option<StreamError>
         ensures { result ≡ fault_at top at self.now code len }
     {

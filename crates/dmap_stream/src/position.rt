@@ -2,19 +2,18 @@
 
 ghost use Rattle.std.specs.Prelude.{◌≡◌, ◌+◌, ◌^◌, ◌<◌, ◌≤◌, ◌∷◌, [], ◌++◌, length, true, false, not, List, ℕ, None, IfOk, IfSome, IfNone, MatchResult};
 ghost use Rattle.code_table.specs.declared.row.CodeRow.{CodeRow};
-ghost use Rattle.dmap_tags.specs.Typed.{leaf_at, value_of};
 ghost use Rattle.dmap_tags.specs.Kinds.{is_list};
-ghost use Rattle.dmap_stream.specs.Walk.{is_empty, closes, open_after, is_short, at_head, at_payload, at_body, walk_from};
-ghost use Rattle.dmap_stream.specs.Reading.{ready_at, resumed, is_due, bytes_taken, Moves, Takes, is_between};
+ghost use Rattle.dmap_stream.specs.Walk.{behind, is_empty, closes, open_after, is_short, at_head, behind_head, at_payload, at_body, walk_from};
+ghost use Rattle.dmap_stream.specs.Reading.{ready_at, resumed, is_due, bytes_kept, bytes_taken, Moves, Takes, is_between};
 
 use crate::buffer::Buffer;
 use crate::containers::{Container, Containers};
 use crate::event::Event;
-use crate::head::is_list;
+use crate::head::{head_of, is_list};
 use crate::refusal::StreamError;
 use code_table::CodeTable;
 use dmap_tags::{Code, Kind, Value, leaf};
-use std::alloc::{AllocError, Global};
+use std::alloc::Global;
 
 /// What the reader takes next.
 #[derive(Clone, Copy, Debug)]
@@ -55,6 +54,7 @@ impl Position {
     }
 
     /// An event waits to be handed out.
+    #[inline(always)]
     pub fn is_ready(&self) -> bool
         ensures { result ≡ not (is_empty (ready_at self.now)) }
     {
@@ -62,6 +62,7 @@ impl Position {
     }
 
     /// Takes bytes up to the one that makes an event ready, or all, and answers how many.
+    #[inline(always)]
     pub fn take(
         &mut self,
         alloc: Global,
@@ -79,12 +80,63 @@ impl Position {
         match phase {
             Phase::Head => self.take_head(alloc, table, top, piece),
             Phase::Payload { code, kind, len } => {
-                self.take_payload(alloc, code, kind, len, piece)
+                self.gather_payload(alloc, code, kind, len, piece)
             }
         }
     }
 
+    /// Takes bytes of the head that is due: at once where all of it lies in the piece.
+    #[inline(always)]
     fn take_head(
+        &mut self,
+        alloc: Global,
+        table: &CodeTable,
+        top: u32,
+        piece: &[u8],
+    ) -> Result<usize, StreamError>
+        requires quiet { ready_at self.old ≡ [] }
+        requires head { self.old.phase ≡ Phase.Head }
+        requires due { length self.old.part < 8 }
+        requires counted { self.old.start + length self.old.part + length piece.now < 2 ^ 64 }
+        ensures takes { Takes table.now top
+            (λ rest. at_head (walk_from table.now top) table.now top self.old.start self.old.around (self.old.part ++ rest))
+            piece.now self.new result }
+        ensures count { IfOk result (λ n. bytes_taken self.new ≡ self.old.start + length self.old.part + n) }
+    {
+        if self.part.is_empty() && piece.len() >= 8 {
+            self.read_head(alloc, table, top, piece)
+        } else {
+            self.gather_head(alloc, table, top, piece)
+        }
+    }
+
+    /// Reads a head where it lies in the piece.
+    #[inline(always)]
+    fn read_head(
+        &mut self,
+        alloc: Global,
+        table: &CodeTable,
+        top: u32,
+        piece: &[u8],
+    ) -> Result<usize, StreamError>
+        requires quiet { ready_at self.old ≡ [] }
+        requires head { self.old.phase ≡ Phase.Head }
+        requires empty { self.old.part ≡ [] }
+        requires there { 8 ≤ length piece.now }
+        requires counted { self.old.start + length piece.now < 2 ^ 64 }
+        ensures takes { Takes table.now top (at_head (walk_from table.now top) table.now top self.old.start self.old.around) piece.now self.new result }
+        ensures count { IfOk result (λ n. bytes_taken self.new ≡ self.old.start + n) }
+    {
+        let (head, rest) = piece.split_at(8);
+        let (code, len) = head_of(head);
+        let more = self.enter(alloc, table, top, code, len, rest)?;
+        Ok(8 + more)
+    }
+
+    /// Takes bytes of a head that lies in several pieces.
+    #[cold]
+    #[inline(never)]
+    fn gather_head(
         &mut self,
         alloc: Global,
         table: &CodeTable,
@@ -104,28 +156,31 @@ impl Position {
         if self.part.len() < 8 {
             return Ok(taken);
         }
+        let (code, len) = self.part.head();
+        self.part.clear();
         let (_, rest) = piece.split_at(taken);
-        let more = self.enter(alloc, table, top, rest)?;
+        let more = self.enter(alloc, table, top, code, len, rest)?;
         Ok(taken + more)
     }
 
     /// Goes on behind a whole head.
+    #[inline(always)]
     fn enter(
         &mut self,
         alloc: Global,
         table: &CodeTable,
         top: u32,
+        code: Code,
+        len: u32,
         piece: &[u8],
     ) -> Result<usize, StreamError>
         requires quiet { ready_at self.old ≡ [] }
-        requires whole { length self.old.part ≡ 8 }
+        requires head { self.old.phase ≡ Phase.Head }
+        requires empty { self.old.part ≡ [] }
         requires counted { self.old.start + 8 + length piece.now < 2 ^ 64 }
-        ensures takes { Takes table.now top
-            (λ rest. at_head (walk_from table.now top) table.now top self.old.start self.old.around (self.old.part ++ rest))
-            piece.now self.new result }
+        ensures takes { Takes table.now top (behind_head (walk_from table.now top) table.now top self.old.start self.old.around code len) piece.now self.new result }
         ensures count { IfOk result (λ n. bytes_taken self.new ≡ self.old.start + 8 + n) }
     {
-        let (code, len) = self.part.head();
         if let Some(error) = self.around.fault(top, self.start, code, len) {
             return Err(error);
         }
@@ -134,13 +189,13 @@ impl Position {
             self.open_list(code, len)?;
             return Ok(0);
         }
-        self.phase = Phase::Payload { code, kind, len };
-        self.part.clear();
         self.take_payload(alloc, code, kind, len, piece)
     }
 
     fn open_list(&mut self, code: Code, len: u32) -> Result<(), StreamError>
         requires quiet { ready_at self.old ≡ [] }
+        requires head { self.old.phase ≡ Phase.Head }
+        requires empty { self.old.part ≡ [] }
         requires counted { self.old.start + 8 < 2 ^ 64 }
         ensures moves { (rows : List CodeRow) (limit : ℕ)
             → Moves rows limit (at_body (walk_from rows limit) self.old.start self.old.around code Kind.List len) self.new result }
@@ -161,8 +216,63 @@ impl Position {
         self.arrive(inside)
     }
 
-    /// Takes bytes of the payload that is due.
+    /// Takes bytes of the payload behind a head: at once where all of it lies in the piece.
+    #[inline(always)]
     fn take_payload(
+        &mut self,
+        alloc: Global,
+        code: Code,
+        kind: Kind,
+        len: u32,
+        piece: &[u8],
+    ) -> Result<usize, StreamError>
+        requires quiet { ready_at self.old ≡ [] }
+        requires value { is_list kind ≡ false }
+        requires head { self.old.phase ≡ Phase.Head }
+        requires empty { self.old.part ≡ [] }
+        requires counted { self.old.start + 8 + length piece.now < 2 ^ 64 }
+        ensures takes { (rows : List CodeRow) (limit : ℕ)
+            → Takes rows limit (at_payload (walk_from rows limit) self.old.start self.old.around code kind len) piece.now self.new result }
+        ensures count { IfOk result (λ n. bytes_taken self.new ≡ self.old.start + 8 + n) }
+    {
+        if piece.len() >= len as usize {
+            self.read_payload(alloc, code, kind, len, piece)
+        } else {
+            self.phase = Phase::Payload { code, kind, len };
+            self.gather_payload(alloc, code, kind, len, piece)
+        }
+    }
+
+    /// Reads a payload where it lies in the piece.
+    #[inline(always)]
+    fn read_payload(
+        &mut self,
+        alloc: Global,
+        code: Code,
+        kind: Kind,
+        len: u32,
+        piece: &[u8],
+    ) -> Result<usize, StreamError>
+        requires quiet { ready_at self.old ≡ [] }
+        requires value { is_list kind ≡ false }
+        requires head { self.old.phase ≡ Phase.Head }
+        requires empty { self.old.part ≡ [] }
+        requires there { len ≤ length piece.now }
+        requires counted { self.old.start + 8 + length piece.now < 2 ^ 64 }
+        ensures takes { (rows : List CodeRow) (limit : ℕ)
+            → Takes rows limit (at_payload (walk_from rows limit) self.old.start self.old.around code kind len) piece.now self.new result }
+        ensures count { IfOk result (λ n. bytes_taken self.new ≡ self.old.start + 8 + n) }
+    {
+        let (payload, _) = piece.split_at(len as usize);
+        let value = leaf(alloc, kind, payload)?;
+        self.end_leaf(code, value, len)?;
+        Ok(len as usize)
+    }
+
+    /// Takes bytes of a payload that lies in several pieces.
+    #[cold]
+    #[inline(never)]
+    fn gather_payload(
         &mut self,
         alloc: Global,
         code: Code,
@@ -185,40 +295,39 @@ impl Position {
         if self.part.len() < len as usize {
             return Ok(taken);
         }
-        self.end_leaf(alloc, code, kind)?;
+        let value = leaf(alloc, kind, self.part.as_slice())?;
+        self.phase = Phase::Head;
+        self.part.clear();
+        self.end_leaf(code, value, len)?;
         Ok(taken)
     }
 
-    fn end_leaf(&mut self, alloc: Global, code: Code, kind: Kind) -> Result<(), StreamError>
-        requires value { is_list kind ≡ false }
-        requires quiet { ready_at self.old ≡ [] }
-        requires counted { self.old.start + 8 + length self.old.part < 2 ^ 64 }
+    /// Stands behind a leaf.
+    #[inline(always)]
+    fn end_leaf(&mut self, code: Code, value: Value, len: u32) -> Result<(), StreamError>
+        requires head { self.old.phase ≡ Phase.Head }
+        requires empty { self.old.part ≡ [] }
+        requires counted { self.old.start + 8 + len < 2 ^ 64 }
         ensures moves { (rows : List CodeRow) (limit : ℕ)
             → Moves rows limit
-            (λ rest. at_payload (walk_from rows limit) self.old.start self.old.around code kind (length self.old.part) (self.old.part ++ rest))
+            (λ rest. behind (Event.Leaf code value self.old.start ∷ []) (walk_from rows limit (self.old.start + 8 + len) self.old.around rest))
             self.new result }
-        ensures count { IfOk result (λ _. bytes_taken self.new ≡ self.old.start + 8 + length self.old.part) }
+        ensures count { IfOk result (λ _. bytes_taken self.new ≡ self.old.start + 8 + len) }
     {
-        let value = self.value(alloc, kind)?;
         self.ready = Some(Event::Leaf {
             code,
             value,
             at: self.start,
         });
-        let end = self.start + 8 + self.part.len() as u64;
+        let end = self.start + 8 + len as u64;
         self.arrive(end)
     }
 
-    /// The payload as a value of the kind.
-    fn value(&self, alloc: Global, kind: Kind) -> Result<Value, AllocError>
-        requires { is_list kind ≡ false }
-        ensures { IfOk result (λ v. v ≡ value_of (leaf_at kind self.now.part)) }
-    {
-        leaf(alloc, kind, self.part.as_slice())
-    }
-
     /// Stands at the next place.
+    #[inline(always)]
     fn arrive(&mut self, at: u64) -> Result<(), StreamError>
+        requires head { self.old.phase ≡ Phase.Head }
+        requires empty { self.old.part ≡ [] }
         ensures after { self.new
             ≡ record {
               start = at;
@@ -233,8 +342,6 @@ impl Position {
             × (e ≡ StreamError.ShortHead at)) }
     {
         self.start = at;
-        self.phase = Phase::Head;
-        self.part.clear();
         if self.around.is_short(at) {
             Err(StreamError::ShortHead { at })
         } else {
@@ -243,6 +350,7 @@ impl Position {
     }
 
     /// The next event that is ready.
+    #[inline(always)]
     pub fn next(&mut self) -> Option<Event>
         ensures none { IfNone result ((ready_at self.old ≡ []) × (self.new ≡ self.old)) }
         ensures some { IfSome result (λ event. ready_at self.old ≡ event ∷ ready_at self.new) }
@@ -251,10 +359,10 @@ impl Position {
         ensures due { is_due self.new ≡ is_due self.old }
         ensures taken { bytes_taken self.new ≡ bytes_taken self.old }
     {
-        match self.ready.take() {
-            Some(event) => Some(event),
-            None => self.close(),
+        if self.ready.is_none() {
+            return self.close();
         }
+        self.ready.take()
     }
 
     fn close(&mut self) -> Option<Event>
@@ -281,8 +389,19 @@ impl Position {
     {
         let phase = self.phase;
         match phase {
-            Phase::Head => self.around.all_end_at(self.start) && self.part.len() == 0,
+            Phase::Head => self.around.all_end_at(self.start) && self.part.is_empty(),
             Phase::Payload { .. } => false,
+        }
+    }
+
+    /// How many bytes of a leaf's payload are kept until it is whole.
+    pub fn kept(&self) -> u64
+        ensures { result ≡ bytes_kept self.now }
+    {
+        let phase = self.phase;
+        match phase {
+            Phase::Head => 0,
+            Phase::Payload { .. } => self.part.len() as u64,
         }
     }
 

@@ -3,7 +3,7 @@
 ghost use Rattle.std.specs.Prelude.{◌≡◌, ◌≢◌, ◌+◌, ◌<◌, ◌≤◌, ◌^◌, ℕ, List, [], ◌∷◌, ◌++◌, length, take, None, Some, IfOk, IfErr, IfSome, IfNone, MatchResult, option_to_list};
 ghost use Rattle.dmap_stream.specs.declared.event.Event.{Event};
 ghost use Rattle.dmap_stream.specs.Walk.{walk_of, between, inside};
-ghost use Rattle.dmap_stream.specs.Reader.{ready, taken, HasRead, Tells, fed_with, ended};
+ghost use Rattle.dmap_stream.specs.Reader.{ready, taken, kept, HasRead, Tells, EndInLeaf, fed_with, ended};
 
 use crate::event::Event;
 use crate::position::Position;
@@ -61,6 +61,7 @@ impl DmapReader {
 
     /// Takes bytes up to the one that makes an event ready, or all, and answers how many. While an event is
     /// ready it takes none. After an error it answers that error again.
+    #[inline]
     pub fn feed(&mut self, piece: &[u8]) -> Result<usize, StreamError>
         requires { self.old.error ≡ None → taken self.old + length piece.now < 2 ^ 64 }
         ensures same { (self.new.rows ≡ self.old.rows) × (self.new.limit ≡ self.old.limit) }
@@ -75,6 +76,9 @@ impl DmapReader {
             → HasRead (fed_with fed piece.now result) handed self.new }
         ensures tells { (fed : List ℕ) (handed : List Event) → HasRead fed handed self.old
             → Tells (fed_with fed piece.now result) handed self.new }
+        ensures no_further { (fed : List ℕ) (handed : List Event) → HasRead fed handed self.old
+            → IfOk result
+            (λ n. (m : ℕ) → m < n → (walk_of self.old.rows self.old.limit (fed ++ take m piece.now)).events ≡ handed) }
     {
         if let Some(error) = &self.error {
             return Err(error.copy());
@@ -95,6 +99,7 @@ impl DmapReader {
     }
 
     /// The next event that is ready.
+    #[inline]
     pub fn next(&mut self) -> Option<Event>
         ensures none { IfNone result ((ready self.old ≡ []) × (self.new ≡ self.old)) }
         ensures some { IfSome result (λ event. ready self.old ≡ event ∷ ready self.new) }
@@ -105,6 +110,16 @@ impl DmapReader {
             → HasRead fed (handed ++ option_to_list result) self.new }
     {
         self.position.next()
+    }
+
+    /// How many bytes of a leaf's payload the reader keeps until the leaf is whole: those that came since its head,
+    /// whatever length the head tells. It keeps none where no leaf is unfinished.
+    pub fn held(&self) -> u64
+        ensures value { result ≡ kept self.now }
+        ensures came { (fed : List ℕ) (handed : List Event) → HasRead fed handed self.now → self.now.error ≡ None
+            → 0 < result → EndInLeaf self.now.rows self.now.limit fed (handed ++ ready self.now) result }
+    {
+        self.position.kept()
     }
 
     /// The end of the bytes: refused where they end inside a top tag.

@@ -1,6 +1,6 @@
 //! Bytes with the events and the ends that they are known to have.
 
-ghost use Rattle.std.specs.Prelude.{◌≡◌, Some};
+ghost use Rattle.std.specs.Prelude.{◌≡◌, ◌≤◌, Some};
 ghost use Rattle.dmap_stream.specs.Reader.{taken};
 
 use crate::{DmapReader, Event, Limits, StreamError, WriteError, read_tag, write_tag};
@@ -11,10 +11,11 @@ use std::alloc::{AllocError, Global};
 use std::process::Abort;
 use std::test::Fail;
 
-/// What a reader handed out, and the error that stopped it or that the end gave.
+/// What a reader handed out, what it held at last, and the error that stopped it or that the end gave.
 #[derive(Debug, Drop)]
 struct Reading {
     events: Vec<Event>,
+    held: u64,
     error: Option<StreamError>,
 }
 
@@ -45,13 +46,19 @@ fn stays_stopped(rt: &impl Abort, mut reader: DmapReader, error: &StreamError)
     assert!(rt; reader.finish() == Err(error.copy()));
 }
 
-/// Reads bytes in pieces of that size at most.
-fn read(rt: &impl Abort, alloc: Global, bytes: &[u8], size: usize) -> Result<Reading, Fail> {
+/// Reads bytes in pieces of that size at most, none of which goes over the cut.
+fn read(
+    rt: &impl Abort,
+    alloc: Global,
+    bytes: &[u8],
+    cut: usize,
+    size: usize,
+) -> Result<Reading, Fail> {
     let mut reader = DmapReader::new(alloc, &CodeTable::standard(alloc)?, limits())?;
     let mut events = Vec::new(alloc);
     let mut rest = bytes;
     for _ in 0..300 {
-        let (piece, _) = rest.split_at(size.min(rest.len()));
+        let (piece, _) = rest.split_at(piece_len(bytes.len(), rest.len(), cut, size));
         match reader.feed(piece) {
             Ok(taken) => {
                 let (_, later) = rest.split_at(taken);
@@ -59,16 +66,35 @@ fn read(rt: &impl Abort, alloc: Global, bytes: &[u8], size: usize) -> Result<Rea
             }
             Err(error) => {
                 hand_out(&mut reader, &mut events)?;
+                let held = reader.held();
                 stays_stopped(rt, reader, &error);
                 let error = Some(error);
-                return Ok(Reading { events, error });
+                return Ok(Reading {
+                    events,
+                    held,
+                    error,
+                });
             }
         }
         hand_out(&mut reader, &mut events)?;
     }
     assert!(rt; rest.is_empty());
+    let held = reader.held();
     let error = reader.finish().err();
-    Ok(Reading { events, error })
+    Ok(Reading {
+        events,
+        held,
+        error,
+    })
+}
+
+/// How long the next piece is, where so many of all bytes are left.
+fn piece_len(all: usize, left: usize, cut: usize, size: usize) -> usize
+    ensures { result ≤ left }
+{
+    let before_cut = cut.saturating_sub(all.saturating_sub(left));
+    let most = if before_cut > 0 { before_cut } else { size };
+    most.min(size).min(left)
 }
 
 #[derive(Clone, Copy, Debug, PartialEq, Eq)]
@@ -133,7 +159,7 @@ fn events_come_in_order_however_the_bytes_are_cut(rt: HostRuntime) -> Result<(),
     for case in 0..5 {
         let (bytes, steps) = whole(case);
         for size in [1, 3, 100] {
-            let reading = read(&rt, rt.alloc(), bytes, size)?;
+            let reading = read(&rt, rt.alloc(), bytes, 0, size)?;
             assert!(rt; reading.error.is_none(), "case {case}");
             assert_eq!(rt; reading.events.len(), steps.len(), "case {case}");
             for (event, step) in reading.events.iter().zip(steps) {
@@ -183,8 +209,88 @@ fn the_first_fault_is_refused_behind_the_events_before_it(rt: HostRuntime) -> Re
     for case in 0..9 {
         let (bytes, events, error) = broken(case);
         for size in [1, 3, 100] {
-            let reading = read(&rt, rt.alloc(), bytes, size)?;
+            let reading = read(&rt, rt.alloc(), bytes, 0, size)?;
             assert_eq!(rt; reading.events.len(), events, "case {case}");
+            assert_eq!(rt; reading.error, Some(error.copy()), "case {case}");
+        }
+    }
+    Ok(())
+}
+
+/// A list with a value of each kind, and values that are none of theirs.
+const EACH_KIND: &[u8] =
+    b"mlit\0\0\0\x80mikd\0\0\0\x01\x02asyr\0\0\0\x02\x07\xcfmiid\0\0\0\x04\0\0\0\x07mper\0\0\0\x08\0\0\0\0\0\0\0\x09minm\0\0\0\x03Ann\
+asda\0\0\0\x04\x38\x6d\x43\x80mpro\0\0\0\x04\0\x02\0\0mlcl\0\0\0\0zzzz\0\0\0\x02\x01\x02miid\0\0\0\x03\0\0\x01minm\0\0\0\x01\xffminm\0\0\0\0";
+
+/// The events as bytes: codes, offsets, lengths and the spellings of values.
+fn transcript(alloc: Global, events: Vec<Event>) -> Result<Vec<u8>, Fail> {
+    let mut written = Vec::new(alloc);
+    for event in events {
+        match event {
+            Event::Open { code, len, at } => {
+                written.extend_from_slice(&code.0)?;
+                written.extend_from_slice(&len.to_be_bytes())?;
+                written.extend_from_slice(&at.to_be_bytes())?;
+            }
+            Event::Leaf { code, value, at } => {
+                encode_into(&Tag { code, value }, &mut written)?;
+                written.extend_from_slice(&at.to_be_bytes())?;
+            }
+            Event::Close { code, at } => {
+                written.extend_from_slice(&code.0)?;
+                written.extend_from_slice(&at.to_be_bytes())?;
+            }
+        }
+    }
+    Ok(written)
+}
+
+#[test]
+fn a_tag_that_is_cut_reads_as_the_whole_one(rt: HostRuntime) -> Result<(), Fail> {
+    let whole = read(&rt, rt.alloc(), EACH_KIND, 0, 200)?;
+    assert!(rt; whole.error.is_none());
+    assert_eq!(rt; whole.events.len(), 15);
+    let whole = transcript(rt.alloc(), whole.events)?;
+    for cut in 1..EACH_KIND.len() {
+        let parted = read(&rt, rt.alloc(), EACH_KIND, cut, 200)?;
+        assert!(rt; parted.error.is_none(), "cut at {cut}");
+        let parted = transcript(rt.alloc(), parted.events)?;
+        assert!(rt; parted.as_slice() == whole.as_slice(), "cut at {cut}");
+    }
+    Ok(())
+}
+
+/// Bytes that end too early or are refused, with what is held of them, and the error.
+fn unfinished(case: u32) -> (&'static [u8], u64, StreamError) {
+    match case {
+        0 => (b"mlcl\x40\0\0\0", 0, StreamError::Truncated { at: 8 }),
+        1 => (b"mlcl\x40\0\0\x01", 0, StreamError::TooLarge { at: 0 }),
+        2 => (
+            b"minm\x3f\xff\xff\xffabc",
+            3,
+            StreamError::Truncated { at: 11 },
+        ),
+        3 => (b"minm\x3f\xff\xff", 0, StreamError::Truncated { at: 7 }),
+        4 => (
+            b"mlit\0\0\0\x20minm\0\0\0\x08abcd",
+            4,
+            StreamError::Truncated { at: 20 },
+        ),
+        _ => (
+            b"mlit\0\0\0\x20minm\0\0\0\x02abmi",
+            0,
+            StreamError::Truncated { at: 20 },
+        ),
+    }
+}
+
+#[test]
+fn what_is_held_came_since_the_head_of_a_leaf(rt: HostRuntime) -> Result<(), Fail> {
+    for case in 0..6 {
+        let (bytes, held, error) = unfinished(case);
+        for size in [1, 100] {
+            let reading = read(&rt, rt.alloc(), bytes, 0, size)?;
+            assert_eq!(rt; reading.held, held, "case {case}");
             assert_eq!(rt; reading.error, Some(error.copy()), "case {case}");
         }
     }
@@ -258,10 +364,10 @@ fn opaque(case: u32) -> (&'static [u8], &'static [u8]) {
 fn a_payload_that_spells_no_value_is_opaque(rt: HostRuntime) -> Result<(), Fail> {
     for case in 0..4 {
         let (bytes, payload) = opaque(case);
-        let reading = read(&rt, rt.alloc(), bytes, 100)?;
+        let reading = read(&rt, rt.alloc(), bytes, 0, 100)?;
         assert!(rt; begins_opaque(&reading, payload), "case {case}");
     }
-    let reading = read(&rt, rt.alloc(), b"minm\0\0\0\0", 100)?;
+    let reading = read(&rt, rt.alloc(), b"minm\0\0\0\0", 0, 100)?;
     assert!(rt; begins_with_text(&reading, ""));
     Ok(())
 }
@@ -279,11 +385,12 @@ fn nested(alloc: Global, levels: u8) -> Result<Vec<u8>, AllocError> {
 #[test]
 fn tags_nest_to_32_levels(rt: HostRuntime) -> Result<(), Fail> {
     let accepted = nested(rt.alloc(), 32)?;
-    let reading = read(&rt, rt.alloc(), accepted.as_slice(), 100)?;
+    let reading = read(&rt, rt.alloc(), accepted.as_slice(), 0, 100)?;
     assert_eq!(rt; reading.events.len(), 64);
     assert!(rt; reading.error.is_none());
-    let refused = nested(rt.alloc(), 33)?;
-    let reading = read(&rt, rt.alloc(), refused.as_slice(), 100)?;
+    let mut refused = nested(rt.alloc(), 33)?;
+    refused.push(0)?;
+    let reading = read(&rt, rt.alloc(), refused.as_slice(), 0, 100)?;
     assert_eq!(rt; reading.events.len(), 32);
     assert_eq!(rt; reading.error, Some(StreamError::TooDeep { at: 256 }));
     Ok(())

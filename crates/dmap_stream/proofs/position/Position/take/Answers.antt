@@ -9,5 +9,5 @@ returns-in-Head-clause-takes c =
 
 pub returns-in-Payload-clause-takes : goal.returns-in-Payload-clause-takes
 returns-in-Payload-clause-takes c =
-    takes_same c.args.table.now c.args.top _ _ c.args.piece.now c.take_payload.new.self c.take_payload.result
-    (λ rest. resumed_payload c.args.table.now c.args.top c.args.self.now c.in-Payload.code c.in-Payload.kind c.in-Payload.len rest c.in-Payload.is c.requires.quiet) (c.take_payload.ensures.takes c.args.table.now c.args.top)
+    takes_same c.args.table.now c.args.top _ _ c.args.piece.now c.gather_payload.new.self c.gather_payload.result
+    (λ rest. resumed_payload c.args.table.now c.args.top c.args.self.now c.in-Payload.code c.in-Payload.kind c.in-Payload.len rest c.in-Payload.is c.requires.quiet) (c.gather_payload.ensures.takes c.args.table.now c.args.top)

@@ -1,6 +1,6 @@
 use Rattle.std.proofs.Common.{Some, ◌++◌, take, sym, ap, ◌∙◌}
 use Rattle.dmap_stream.specs.Reader.{Reader}
-use Rattle.dmap_stream.proofs.Readings.{fed_none, fed_after, went_on, stopped, told}
+use Rattle.dmap_stream.proofs.Readings.{fed_none, fed_after, went_on, went_no_further, stopped, told}
 use Rattle.dmap_stream.proofs.reader.DmapReader.feed.Goals as goal
 
 pub returns-in-Some-clause-read : goal.returns-in-Some-clause-read
@@ -26,6 +26,12 @@ pub returns-in-Ok-clause-tells : goal.returns-in-Ok-clause-tells
 returns-in-Ok-clause-tells c =
     let new : Reader = record { rows = c.self.inside.table; limit = c.self.inside.limits.top; position = c.take.new.self; error = c.self.inside.error } in
     λ fed handed h. told (fed ++ take c.in-Ok.taken c.args.piece.now) handed new (returns-in-Ok-clause-read c fed handed h)
+
+pub returns-in-Ok-clause-no_further : goal.returns-in-Ok-clause-no_further
+returns-in-Ok-clause-no_further c =
+    λ fed handed h.
+    went_no_further c.self.inside.table c.self.inside.limits.top fed c.args.piece.now handed c.args.self.now c.self.inside.position c.take.new.self c.self.inside.error c.in-Ok.taken
+    c.in_default.is c.self.view_is (sym c.is_ready.ensures ∙ c.if-is_ready.false) c.in-Ok.ensures.takes h
 
 pub returns-in-Err-clause-read : goal.returns-in-Err-clause-read
 returns-in-Err-clause-read c =
