@@ -1,5 +1,6 @@
 -- Lines of tags and of their events.
-use Rattle.std.proofs.Common.{◌≡◌, ℕ, zero, suc, ◌+◌, List, [], ◌∷◌, ◌++◌, length, refl, sym, ap, ap₂, ◌∙◌, append_assoc, add-one}
+use Rattle.std.proofs.Common.{◌≡◌, ℕ, zero, suc, ◌+◌, ◌*◌, ◌≤◌, take, IsAscii, arith, List, [], ◌∷◌, ◌++◌, length, refl, sym, ap, ap₂, ◌∙◌, append_assoc}
+use Rattle.std.proofs.lemmas.Str.Ascii.{IsAscii-nil, IsAscii-cons}
 use Rattle.dmap_tags.specs.Codes.{Four}
 use Rattle.dmap_tags.specs.declared.tree.Value.{Value}
 use Rattle.dmap_tags.specs.declared.tree.Value.TheVariants as value
@@ -13,13 +14,21 @@ use Rattle.dmap_stream.specs.Events.{events_of, events_of_all}
 use Rattle.dmap_show.specs.Shown.{indent, shown_code, word_of, space_of, text_of, shown_line, shown_tag, shown_tags}
 use Rattle.dmap_show.specs.Events.{shown_events}
 
--- one level more is two spaces more
-indent_suc : (n : ℕ) → indent (suc n) ≡ indent n ++ 32 ∷ 32 ∷ []
-indent_suc zero = refl
-indent_suc (suc n) = ap (λ s. 32 ∷ 32 ∷ s) (indent_suc n)
+-- the spaces of more levels, and of fewer
+pub indent_sum : (n m : ℕ) → indent (n + m) ≡ indent n ++ indent m
+indent_sum zero m = let none : 0 + m ≡ m = omega arith in ap indent none
+indent_sum (suc n) m = let next : suc n + m ≡ suc (n + m) = omega arith in ap indent next ∙ ap (λ s. 32 ∷ 32 ∷ s) (indent_sum n m)
 
-pub indent_more : (n : ℕ) → indent (n + 1) ≡ indent n ++ 32 ∷ 32 ∷ []
-indent_more n = ap indent (add-one n) ∙ indent_suc n
+pub indent_front : (n m : ℕ) → n ≤ m → take (2 * n) (indent m) ≡ indent n
+indent_front zero m within = refl
+indent_front (suc n) zero within = absurd (omega arith)
+indent_front (suc n) (suc m) within =
+    let twice : 2 * suc n ≡ suc (suc (2 * n)) = omega arith in
+    rw twice (ap (λ s. 32 ∷ 32 ∷ s) (indent_front n m (omega arith)))
+
+pub indent_ascii : (n : ℕ) → IsAscii (indent n)
+indent_ascii zero = IsAscii-nil
+indent_ascii (suc n) = IsAscii-cons 32 (32 ∷ indent n) (omega arith) (IsAscii-cons 32 (indent n) (omega arith) (indent_ascii n))
 
 -- a value as the program has it stands for its leaf
 pub leaf_with : (c : Four) (l : Leaf) → tree_with c (value_of l) ≡ leaf c l
@@ -51,18 +60,18 @@ code_with c (value.Version n) = refl
 code_with c (value.List ts) = refl
 code_with c (value.Opaque bytes) = refl
 
-regrouped : (old h s t e : List ℕ) → old ++ h ++ (s ++ t ++ e) ≡ old ++ (h ++ s ++ t ++ e)
-regrouped old h s t e = simp append_assoc refl
+regrouped : (old i k w s t e : List ℕ) → (old ++ (i ++ k ++ (32 ∷ w ++ s))) ++ (t ++ e) ≡ old ++ (i ++ k ++ 32 ∷ w ++ s ++ t ++ e)
+regrouped old i k w s t e = simp append_assoc refl
 
--- a line is its head and its rest
-pub line_by_parts : (level : ℕ) (c : Four) (v : Value) (old head new : List ℕ)
-    → head ≡ old ++ (indent level ++ shown_code c ++ 32 ∷ word_of (tree_with c v))
-    → new ≡ head ++ (space_of (tree_with c v) ++ text_of (tree_with c v) ++ 10 ∷ [])
+-- a line is its front and its rest
+pub line_by_parts : (level : ℕ) (c : Four) (v : Value) (old front new : List ℕ)
+    → front ≡ old ++ (indent level ++ shown_code c ++ (32 ∷ word_of (tree_with c v) ++ space_of (tree_with c v)))
+    → new ≡ front ++ (text_of (tree_with c v) ++ 10 ∷ [])
     → new ≡ old ++ shown_line level (tree_with c v)
-line_by_parts level c v old head new e f =
+line_by_parts level c v old front new e f =
     let t = tree_with c v in
-    f ∙ ap (λ s. s ++ (space_of t ++ text_of t ++ 10 ∷ [])) e
-    ∙ regrouped old (indent level ++ shown_code c ++ 32 ∷ word_of t) (space_of t) (text_of t) (10 ∷ [])
+    f ∙ ap (λ s. s ++ (text_of t ++ 10 ∷ [])) e
+    ∙ regrouped old (indent level) (shown_code c) (word_of t) (space_of t) (text_of t) (10 ∷ [])
     ∙ ap (λ d. old ++ (indent level ++ shown_code d ++ 32 ∷ word_of t ++ space_of t ++ text_of t ++ 10 ∷ [])) (sym (code_with c v))
 
 -- the events of a tag show it, whatever comes behind them

@@ -7,3 +7,4 @@ mod Remaining
 mod Stands
 mod Zipper
 mod Following
+pub mod OneText

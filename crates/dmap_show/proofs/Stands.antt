@@ -8,7 +8,7 @@ use Rattle.dmap_tags.specs.Kinds.{is_list}
 use Rattle.code_table.specs.declared.row.CodeRow.{CodeRow}
 use Rattle.code_table.specs.Rows.{kind_in}
 use Rattle.code_table.specs.Fits.{fits, all_fit}
-use Rattle.dmap_show.specs.Readable.{IsTag, AreTags, IsReadable}
+use Rattle.dmap_show.specs.Readable.{IsTag, AreTags, AreShallow, IsReadable}
 use Rattle.dmap_show.specs.Standing.{Stands, AllStand, HeadStands}
 
 mutual
@@ -60,3 +60,8 @@ all_stand_append rows level parent (x ∷ xs) ys h k = (h.0, all_stand_append ro
 pub head_stands : (rows : List CodeRow) (level : ℕ) (parent : Option Four) (t : Tree) → Stands rows level parent t → HeadStands rows level parent t
 head_stands rows level parent (leaf c l) h = record { low = h.0; head = h.1.0; fit = h.1.1 }
 head_stands rows level parent (list c ts) h = record { low = h.0; head = h.1.0; fit = and_from _ _ h.1.1.0 refl }
+
+-- tags as a program has them are readable where they fit and are not too deep
+pub shallow_readable : (rows : List CodeRow) (ts : List Tree) → AreTags (trees_of ts) → AreShallow rows ts → AllByRecursion (λ t. IsReadable rows t) ts
+shallow_readable rows [] tags fit = tt
+shallow_readable rows (t ∷ ts) tags fit = (record { tag = tags.0; fits = fit.0.0; shallow = fit.0.1 }, shallow_readable rows ts tags.1 fit.1)

@@ -145,6 +145,19 @@ pairs_indent : (n b : ℕ) (rest : List ℕ) → (b == 32) ≡ false → (pairs_
 pairs_indent zero b rest h = pairs_none b rest h
 pairs_indent (suc n) b rest h = let p = pairs_indent n b rest h in (ap suc p.0, p.1)
 
+line_before : (i c w s t x : List ℕ) → (i ++ c ++ 32 ∷ w ++ s ++ t) ++ x ≡ i ++ (c ++ 32 ∷ (w ++ (s ++ (t ++ x))))
+line_before i c w s t x = simp append_assoc refl
+
+pairs_before : (level : ℕ) (t : Tree) (x : List ℕ) → StartsWithoutSpace (shown_code (tree_code t)) → pairs_in_front (bare_line level t ++ x) ≡ level
+pairs_before level t x (b, (others, (starts, no_space))) =
+    let rest = 32 ∷ (word_of t ++ (space_of t ++ (text_of t ++ x))) in
+    ap pairs_in_front (line_before (indent level) (shown_code (tree_code t)) (word_of t) (space_of t) (text_of t) x ∙ ap (λ c. indent level ++ (c ++ rest)) starts)
+    ∙ (pairs_indent level b (others ++ rest) no_space).0
+
+-- whatever follows a line
+pub pairs_line : (level : ℕ) (t : Tree) (x : List ℕ) → pairs_in_front (bare_line level t ++ x) ≡ level
+pairs_line level t x = pairs_before level t x (code_starts (tree_code t))
+
 pub record LineParts (level : ℕ) (t : Tree) (bare : List ℕ) : Type 0 where
   pub pairs : pairs_in_front bare ≡ level
   pub code : before 32 (behind_pairs bare) ≡ shown_code (tree_code t)

@@ -40,6 +40,10 @@ pub record IsReadable (rows : List CodeRow) (t : Tree) : Type 0 where
   pub fits : fits rows None t ≡ true
   pub shallow : levels t ≤ 32
 
+-- tags that each fit the table at the top and are not too deep
+abbrev pub AreShallow : List CodeRow → List Tree → Type 0
+AreShallow rows ts = AllByRecursion (λ t. (fits rows None t ≡ true) × (levels t ≤ 32)) ts
+
 -- the text shows these tags
 pub record Shows (rows : List CodeRow) (text : List ℕ) (ts : List Tree) : Type 0 where
   pub lines : text ≡ shown_tags 0 (trees_of ts)

@@ -1,7 +1,7 @@
 //! Pieces of text added at the end of a buffer. Want of memory leaves what stood there, and maybe a part of the
 //! piece behind it.
 
-ghost use Rattle.std.specs.Prelude.{◌≡◌, ◌<◌, ◌++◌, OnOk, OnErr, IsAscii, flat_map, true};
+ghost use Rattle.std.specs.Prelude.{◌≡◌, ◌<◌, ◌≤◌, ◌∷◌, [], ◌++◌, OnOk, OnErr, IsAscii, flat_map, true};
 ghost use Rattle.std.specs.Str.{is_utf8};
 ghost use Rattle.std.specs.Fmt.{signed_decimal, decimal};
 ghost use Rattle.std.specs.Char.{digit_char, is_ascii_graphic};
@@ -14,7 +14,14 @@ use dmap_tags::{Code, Text};
 use itoa::Buffer;
 use std::alloc::AllocError;
 
+/// The spaces before a line with 32 lists around it, more than a reader opens.
+const SPACES: [u8; 64] = [b' '; 64];
+
+/// How many levels those spaces are for.
+const SPACED: u64 = 32;
+
 /// Adds a text as it is.
+#[inline(always)]
 pub(crate) fn push_str(text: &str, out: &mut Vec<u8>) -> Result<(), AllocError>
     ensures shown { OnOk result (out.new.items ≡ out.old.items ++ text.now) }
     ensures text { is_utf8 out.old.items ≡ true → OnOk result (is_utf8 out.new.items ≡ true) }
@@ -25,6 +32,7 @@ pub(crate) fn push_str(text: &str, out: &mut Vec<u8>) -> Result<(), AllocError>
 }
 
 /// Adds ASCII characters as they are.
+#[inline(always)]
 fn push_ascii(bytes: &[u8], out: &mut Vec<u8>) -> Result<(), AllocError>
     requires { IsAscii bytes.now }
     ensures shown { OnOk result (out.new.items ≡ out.old.items ++ bytes.now) }
@@ -41,10 +49,23 @@ pub(crate) fn push_indent(level: u64, out: &mut Vec<u8>) -> Result<(), AllocErro
     ensures text { is_utf8 out.old.items ≡ true → OnOk result (is_utf8 out.new.items ≡ true) }
     ensures front { OnErr result (Begins out.old.items out.new.items) }
 {
-    for _ in 0..level {
-        push_str("  ", out)?;
+    let mut left = level;
+    while left > SPACED {
+        push_ascii(spaces(SPACED), out)?;
+        left -= SPACED;
     }
-    Ok(())
+    push_ascii(spaces(left), out)
+}
+
+/// The spaces before a line of a level that is not too deep.
+#[inline(always)]
+fn spaces(level: u64) -> &'static [u8]
+    requires { level ≤ 32 }
+    ensures shown { result.now ≡ indent level }
+    ensures ascii { IsAscii result.now }
+{
+    let (front, _) = SPACES.split_at(2 * level as usize);
+    front
 }
 
 /// Adds a number in decimal.
@@ -134,6 +155,41 @@ fn push_escaped(byte: u8, out: &mut Vec<u8>) -> Result<(), AllocError>
     }
 }
 
+/// No byte is escaped within quotes.
+#[inline(always)]
+fn are_plain(bytes: &[u8]) -> bool
+    ensures { result ≡ true → flat_map escaped bytes.now ≡ bytes.now }
+{
+    for byte in bytes {
+        if !is_plain(*byte) {
+            return false;
+        }
+    }
+    true
+}
+
+#[inline(always)]
+fn is_plain(byte: u8) -> bool
+    ensures { result ≡ true → escaped byte ≡ byte ∷ [] }
+{
+    byte >= 32 && byte != b'"' && byte != b'\\' && byte != 127
+}
+
+/// Adds the bytes of a text as they stand within quotes, at once where none is escaped.
+#[inline(always)]
+fn push_escaped_bytes(bytes: &[u8], out: &mut Vec<u8>) -> Result<(), AllocError>
+    ensures shown { OnOk result (out.new.items ≡ out.old.items ++ flat_map escaped bytes.now) }
+    ensures front { OnErr result (Begins out.old.items out.new.items) }
+{
+    if are_plain(bytes) {
+        out.extend_from_slice(bytes)
+    } else {
+        push_all_escaped(bytes, out)
+    }
+}
+
+#[cold]
+#[inline(never)]
 fn push_all_escaped(bytes: &[u8], out: &mut Vec<u8>) -> Result<(), AllocError>
     ensures shown { OnOk result (out.new.items ≡ out.old.items ++ flat_map escaped bytes.now) }
     ensures front { OnErr result (Begins out.old.items out.new.items) }
@@ -150,7 +206,7 @@ fn push_escaped_text(text: &str, out: &mut Vec<u8>) -> Result<(), AllocError>
     ensures text { is_utf8 out.old.items ≡ true → OnOk result (is_utf8 out.new.items ≡ true) }
     ensures front { OnErr result (Begins out.old.items out.new.items) }
 {
-    push_all_escaped(text.as_bytes(), out)?;
+    push_escaped_bytes(text.as_bytes(), out)?;
     Ok(())
 }
 

@@ -15,6 +15,11 @@ pub fn events_show_their_tags()
     ensures { (at : ℕ) (ts : List Tree) → shown_events 0 (events_of_all at (trees_of ts) []) ≡ shown_tags 0 (trees_of ts) }
 {}
 
+/// A text shows at most one list of tags.
+pub fn a_text_shows_one_list_of_tags()
+    ensures { (rows : List CodeRow) (text : List ℕ) (ts us : List Tree) → Shows rows text ts → Shows rows text us → ts ≡ us }
+{}
+
 /// A text that shows tags is refused at no line.
 pub fn shown_texts_are_not_refused()
     ensures { (rows : List CodeRow) (text : List ℕ) (n : ℕ) (ts : List Tree) → StopsBehind rows text n → Shows rows text ts → ⊥ }

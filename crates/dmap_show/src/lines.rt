@@ -1,25 +1,28 @@
 //! The lines of tags and of events, and the codes in them.
 
-ghost use Rattle.std.specs.Prelude.{◌≡◌, ◌++◌, IfOk, OnOk, OnErr, true};
+ghost use Rattle.std.specs.Prelude.{◌≡◌, ◌++◌, List, IfOk, OnOk, OnErr, true};
+ghost use Rattle.code_table.specs.declared.row.CodeRow.{CodeRow};
 ghost use Rattle.std.specs.Str.{is_utf8};
 ghost use Rattle.dmap_tags.specs.Begins.{Begins};
 ghost use Rattle.dmap_tags.specs.Seen.{tree_with};
 ghost use Rattle.dmap_tags.specs.Tree.{trees_of};
-ghost use Rattle.dmap_show.specs.Readable.{IsTag, AreTags};
+ghost use Rattle.dmap_show.specs.Readable.{IsTag, AreTags, AreShallow, Shows};
 ghost use Rattle.dmap_show.specs.Shown.{shown_code, shown_tag, shown_tags};
 ghost use Rattle.dmap_show.specs.Events.{shown_event};
 
-use crate::adding::{push_code, push_str};
-use crate::values::{push_head, push_line};
+use crate::adding::push_code;
+use crate::values::{push_front, push_line};
 use dmap_stream::Event;
 use dmap_tags::{Code, Tag, Text, Value};
 use std::alloc::{AllocError, Global};
 
-/// The lines of tags, the first of them at the top.
+/// The lines of tags, the first of them at the top. `read_show` reads the tags back under a table that they fit.
 #[tactic(auto, using(crate::proofs::Utf8::nothing_is_utf8))]
 pub fn show(alloc: Global, tags: &[Tag]) -> Result<Text, AllocError>
     ensures shown { IfOk result (λ text. text ≡ shown_tags 0 (trees_of tags.now)) }
     ensures tags { OnOk result (AreTags (trees_of tags.now)) }
+    ensures reads_back { (rows : List CodeRow) → AreShallow rows tags.now
+        → IfOk result (λ text. Shows rows text tags.now) }
 {
     let mut lines = Vec::new(alloc);
     push_tags(0, tags, &mut lines)?;
@@ -61,10 +64,7 @@ fn push_event(level: u64, event: &Event, out: &mut Vec<u8>) -> Result<(), AllocE
     ensures front { OnErr result (Begins out.old.items out.new.items) }
 {
     match event {
-        Event::Open { code, .. } => {
-            push_head(level, *code, "list", out)?;
-            push_str("\n", out)
-        }
+        Event::Open { code, .. } => push_front(level, *code, " list\n", out),
         Event::Leaf { code, value, .. } => push_tag(level, *code, value, out),
         Event::Close { .. } => Ok(()),
     }

@@ -5,6 +5,7 @@ use code_table::{CodeError, CodeTable};
 use dmap_stream::{Event, Limits, read_tag};
 use dmap_tags::{Code, Tag, Tags, Text, Value, encode_into};
 use std::alloc::{AllocError, Global};
+use std::process::Abort;
 use std::test::Fail;
 
 fn tag(code: Code, value: Value) -> Tag {
@@ -105,19 +106,6 @@ fn of_each_kind(place: u32) -> (&'static str, &'static [u8]) {
     }
 }
 
-#[test]
-fn a_tag_of_each_kind_is_shown_and_read_back(rt: HostRuntime) -> Result<(), Fail> {
-    let table = learned(rt.alloc())?;
-    for place in 0..18 {
-        let (text, bytes) = of_each_kind(place);
-        let shown = text_of(rt.alloc(), bytes, &table)?;
-        assert_eq!(rt; shown.as_str(), text, "at {place}");
-        let read = bytes_of(rt.alloc(), text, &table)?;
-        assert_eq!(rt; read.as_slice(), bytes, "at {place}");
-    }
-    Ok(())
-}
-
 /// The text of a tag whose payload has no meaning in the standard table, with the bytes of the tag.
 fn without_a_meaning(place: u32) -> (&'static str, &'static [u8]) {
     match place {
@@ -130,17 +118,34 @@ fn without_a_meaning(place: u32) -> (&'static str, &'static [u8]) {
     }
 }
 
+/// Bytes are shown as that text, and the text is read back as the bytes.
+fn shows_and_reads_back(
+    rt: &impl Abort,
+    alloc: Global,
+    table: &CodeTable,
+    text: &str,
+    bytes: &[u8],
+) -> Result<(), Fail> {
+    let shown = text_of(alloc, bytes, table)?;
+    assert_eq!(rt; shown.as_str(), text);
+    let read = bytes_of(alloc, text, table)?;
+    assert_eq!(rt; read.as_slice(), bytes);
+    Ok(())
+}
+
 #[test]
-fn bytes_without_a_meaning_are_shown_in_hex_and_read_back(rt: HostRuntime) -> Result<(), Fail> {
+fn tags_are_shown_and_read_back(rt: HostRuntime) -> Result<(), Fail> {
+    let table = learned(rt.alloc())?;
+    for place in 0..18 {
+        let (text, bytes) = of_each_kind(place);
+        shows_and_reads_back(&rt, rt.alloc(), &table, text, bytes)?;
+    }
     let table = CodeTable::standard(rt.alloc())?;
     for place in 0..6 {
         let (text, bytes) = without_a_meaning(place);
-        let shown = text_of(rt.alloc(), bytes, &table)?;
-        assert_eq!(rt; shown.as_str(), text, "at {place}");
-        let read = bytes_of(rt.alloc(), text, &table)?;
-        assert_eq!(rt; read.as_slice(), bytes, "at {place}");
+        shows_and_reads_back(&rt, rt.alloc(), &table, text, bytes)?;
     }
-    Ok(())
+    shows_and_reads_back(&rt, rt.alloc(), &table, one_item_shown(), one_item_bytes())
 }
 
 /// A code as lines have it, behind a word.
@@ -165,37 +170,9 @@ fn a_code_with_other_bytes_is_shown_in_hex(rt: HostRuntime) -> Result<(), Fail> 
     Ok(())
 }
 
-fn item(alloc: Global) -> Result<Tag, AllocError> {
-    let mut item = Tags::new(alloc);
-    item.push(tag(Code(*b"miid"), Value::U32(7)))?;
-    item.push(tag(Code(*b"minm"), Value::Text(Text::of(alloc, "A")?)))?;
-    Ok(tag(Code(*b"mlit"), Value::List(item)))
-}
-
-/// The listing of one item with id 7 and name `A`, at revision 3.
-fn one_item(alloc: Global) -> Result<Tag, AllocError> {
-    let mut rows = Tags::new(alloc);
-    rows.push(item(alloc)?)?;
-    let mut body = Tags::new(alloc);
-    body.push(tag(Code(*b"mstt"), Value::U32(200)))?;
-    body.push(tag(Code(*b"muty"), Value::U8(0)))?;
-    body.push(tag(Code(*b"musr"), Value::U32(3)))?;
-    body.push(tag(Code(*b"mtco"), Value::U32(1)))?;
-    body.push(tag(Code(*b"mrco"), Value::U32(1)))?;
-    body.push(tag(Code(*b"mlcl"), Value::List(rows)))?;
-    Ok(tag(Code(*b"adbs"), Value::List(body)))
-}
-
-/// The lines of that listing.
+/// The lines of the listing of one item with id 7 and name `A`, at revision 3.
 fn one_item_shown() -> &'static str {
     "adbs list\n  mstt u32 200\n  muty u8 0\n  musr u32 3\n  mtco u32 1\n  mrco u32 1\n  mlcl list\n    mlit list\n      miid u32 7\n      minm text \"A\"\n"
-}
-
-#[test]
-fn members_stand_one_level_deeper(rt: HostRuntime) -> Result<(), Fail> {
-    let listing = [one_item(rt.alloc())?];
-    assert_eq!(rt; show(rt.alloc(), &listing)?.as_str(), one_item_shown());
-    Ok(())
 }
 
 #[test]
@@ -225,17 +202,9 @@ fn an_event_s_line_is_added_at_its_level(rt: HostRuntime) -> Result<(), Fail> {
     Ok(())
 }
 
-/// The bytes of the listing of one item.
+/// The bytes of that listing.
 fn one_item_bytes() -> &'static [u8] {
     b"adbs\0\0\0\x5emstt\0\0\0\x04\0\0\0\xc8muty\0\0\0\x01\0musr\0\0\0\x04\0\0\0\x03mtco\0\0\0\x04\0\0\0\x01mrco\0\0\0\x04\0\0\0\x01mlcl\0\0\0\x1dmlit\0\0\0\x15miid\0\0\0\x04\0\0\0\x07minm\0\0\0\x01A"
-}
-
-#[test]
-fn a_shown_listing_is_read_back(rt: HostRuntime) -> Result<(), Fail> {
-    let table = CodeTable::standard(rt.alloc())?;
-    let read = bytes_of(rt.alloc(), one_item_shown(), &table)?;
-    assert_eq!(rt; read.as_slice(), one_item_bytes());
-    Ok(())
 }
 
 /// A text that is the text of tags.
@@ -298,17 +267,6 @@ fn unreadable(place: u32) -> (&'static str, u64) {
     }
 }
 
-#[test]
-fn a_text_is_refused_at_its_first_bad_line(rt: HostRuntime) -> Result<(), Fail> {
-    let table = CodeTable::standard(rt.alloc())?;
-    for place in 0..24 {
-        let (text, line) = unreadable(place);
-        let want = Some(ShowError::Line { line });
-        assert_eq!(rt; refusal(rt.alloc(), text, &table), want, "at {place}");
-    }
-    Ok(())
-}
-
 /// A text that is refused under the learned table, with the line.
 fn unreadable_as_learned(place: u32) -> (&'static str, u64) {
     match place {
@@ -327,7 +285,13 @@ fn unreadable_as_learned(place: u32) -> (&'static str, u64) {
 }
 
 #[test]
-fn a_text_is_refused_by_the_learned_kinds(rt: HostRuntime) -> Result<(), Fail> {
+fn a_text_is_refused_at_its_first_bad_line(rt: HostRuntime) -> Result<(), Fail> {
+    let table = CodeTable::standard(rt.alloc())?;
+    for place in 0..24 {
+        let (text, line) = unreadable(place);
+        let want = Some(ShowError::Line { line });
+        assert_eq!(rt; refusal(rt.alloc(), text, &table), want, "at {place}");
+    }
     let table = learned(rt.alloc())?;
     for place in 0..11 {
         let (text, line) = unreadable_as_learned(place);

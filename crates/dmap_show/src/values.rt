@@ -14,36 +14,25 @@ use crate::adding::{
 use dmap_tags::{Code, Value};
 use std::alloc::AllocError;
 
-/// The word of a value's kind.
+/// The word of a value's kind with the spaces around it: none stands behind that of a list.
+#[inline(always)]
 fn word(value: &Value) -> &'static str
-    ensures { (c : Four) → result.now ≡ word_of (tree_with c value.now) }
+    ensures { (c : Four) → result.now ≡ 32 ∷ word_of (tree_with c value.now) ++ space_of (tree_with c value.now) }
 {
     match value {
-        Value::U8(_) => "u8",
-        Value::I8(_) => "i8",
-        Value::U16(_) => "u16",
-        Value::I16(_) => "i16",
-        Value::U32(_) => "u32",
-        Value::I32(_) => "i32",
-        Value::U64(_) => "u64",
-        Value::I64(_) => "i64",
-        Value::Text(_) => "text",
-        Value::Date(_) => "date",
-        Value::Version(_) => "version",
-        Value::List(_) => "list",
-        Value::Opaque(_) => "opaque",
-    }
-}
-
-/// What stands between that word and the value.
-fn space(value: &Value) -> &'static str
-    ensures { (c : Four) → result.now ≡ space_of (tree_with c value.now) }
-{
-    match value {
-        Value::U8(_) | Value::I8(_) | Value::U16(_) | Value::I16(_) => " ",
-        Value::U32(_) | Value::I32(_) | Value::U64(_) | Value::I64(_) => " ",
-        Value::Text(_) | Value::Date(_) | Value::Version(_) | Value::Opaque(_) => " ",
-        Value::List(_) => "",
+        Value::U8(_) => " u8 ",
+        Value::I8(_) => " i8 ",
+        Value::U16(_) => " u16 ",
+        Value::I16(_) => " i16 ",
+        Value::U32(_) => " u32 ",
+        Value::I32(_) => " i32 ",
+        Value::U64(_) => " u64 ",
+        Value::I64(_) => " i64 ",
+        Value::Text(_) => " text ",
+        Value::Date(_) => " date ",
+        Value::Version(_) => " version ",
+        Value::List(_) => " list",
+        Value::Opaque(_) => " opaque ",
     }
 }
 
@@ -73,6 +62,7 @@ fn push_version(n: u32, out: &mut Vec<u8>) -> Result<(), AllocError>
 }
 
 /// Adds what a tag's line says of its value: nothing for a list.
+#[inline(always)]
 fn push_value(value: &Value, out: &mut Vec<u8>) -> Result<(), AllocError>
     ensures shown { (c : Four) → OnOk result (out.new.items ≡ out.old.items ++ text_of (tree_with c value.now)) }
     ensures held { (c : Four) → HasValue (tree_with c value.now) }
@@ -97,32 +87,32 @@ fn push_value(value: &Value, out: &mut Vec<u8>) -> Result<(), AllocError>
 }
 
 /// Adds what stands behind the word of a value's kind.
+#[inline(always)]
 fn push_rest(value: &Value, out: &mut Vec<u8>) -> Result<(), AllocError>
-    ensures shown { (c : Four) → OnOk result (out.new.items ≡ out.old.items ++ (space_of (tree_with c value.now) ++ text_of (tree_with c value.now) ++ 10 ∷ [])) }
+    ensures shown { (c : Four) → OnOk result (out.new.items ≡ out.old.items ++ (text_of (tree_with c value.now) ++ 10 ∷ [])) }
     ensures held { (c : Four) → OnOk result (HasValue (tree_with c value.now)) }
     ensures text { is_utf8 out.old.items ≡ true → OnOk result (is_utf8 out.new.items ≡ true) }
     ensures front { OnErr result (Begins out.old.items out.new.items) }
 {
-    push_str(space(value), out)?;
     push_value(value, out)?;
     push_str("\n", out)
 }
 
-/// Adds a line up to the word of its kind.
-pub(crate) fn push_head(
+/// Adds the front of a line: the spaces of its level, the code, and a word with the spaces around it.
+#[inline(always)]
+pub(crate) fn push_front(
     level: u64,
     code: Code,
     word: &str,
     out: &mut Vec<u8>,
 ) -> Result<(), AllocError>
-    ensures shown { OnOk result (out.new.items ≡ out.old.items ++ (indent level ++ shown_code code ++ 32 ∷ word.now)) }
+    ensures shown { OnOk result (out.new.items ≡ out.old.items ++ (indent level ++ shown_code code ++ word.now)) }
     ensures held { OnOk result (IsCode code) }
     ensures text { is_utf8 out.old.items ≡ true → OnOk result (is_utf8 out.new.items ≡ true) }
     ensures front { OnErr result (Begins out.old.items out.new.items) }
 {
     push_indent(level, out)?;
     push_code(code, out)?;
-    push_str(" ", out)?;
     push_str(word, out)
 }
 
@@ -138,6 +128,6 @@ pub(crate) fn push_line(
     ensures text { is_utf8 out.old.items ≡ true → OnOk result (is_utf8 out.new.items ≡ true) }
     ensures front { OnErr result (Begins out.old.items out.new.items) }
 {
-    push_head(level, code, word(value), out)?;
+    push_front(level, code, word(value), out)?;
     push_rest(value, out)
 }

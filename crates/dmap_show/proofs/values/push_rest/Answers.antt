@@ -7,6 +7,5 @@ use Rattle.dmap_show.proofs.values.push_rest.Goals as goal
 
 pub returns-clause-front : goal.returns-clause-front
 returns-clause-front c =
-    let space = subst (Begins _) (sym c.in_ok-push_str.ensures.shown) (begins_append _ _) in
     let value = subst (Begins _) (sym (c.in_ok-push_value.ensures.shown (0, 0, 0, 0))) (begins_append _ _) in
-    on_err_weaker c.push_str-2.result (begins_more _ _ _ (begins_more _ _ _ space value)) c.push_str-2.ensures.front
+    on_err_weaker c.push_str.result (begins_more _ _ _ value) c.push_str.ensures.front
