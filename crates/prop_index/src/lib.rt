@@ -8,6 +8,8 @@ mod forms;
 mod index;
 mod keys;
 pub mod laws;
+#[cfg(test)]
+mod tests;
 mod texts;
 
 pub use changes::Change;
