@@ -3,3 +3,5 @@ pub mod Frames
 pub mod Digits
 pub mod Takings
 pub mod Messages
+pub mod HeadsDecided
+pub mod FrontsDecided

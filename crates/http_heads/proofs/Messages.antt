@@ -259,3 +259,10 @@ splits_once kind bytes ms ns rest tail x y =
       sym (append-nil ms) ∙ ap (λ (others : List Message). ms ++ others) (sym none) ∙ sym further.1,
       further.2 ∙ ap (λ (others : List Message). flat_map print_message others ++ tail) none,
     )
+
+-- ---- lengths
+
+-- refused bytes are no more than a head may have
+pub refused_short : (kind : Kind) (bytes : List ℕ) (e : HeadError) → IsRefused kind bytes e → length bytes ≤ head_limit
+refused_short kind bytes e (inl (lines, framed, short, tells)) = short
+refused_short kind bytes e (inr (is, len, none)) = omega arith

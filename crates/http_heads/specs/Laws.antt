@@ -1,5 +1,5 @@
 -- What follows from the definitions. Each fact here is proved for all bytes and both kinds of messages.
-use Rattle.std.specs.Prelude.{◌≡◌, ℕ, List, ◌++◌}
+use Rattle.std.specs.Prelude.{◌≡◌, ◌⊎◌, ℕ, List, ◌++◌}
 use Rattle.http_heads.specs.declared.kind.Kind.{Kind}
 use Rattle.http_heads.specs.declared.refusal.HeadError.{HeadError}
 use Rattle.http_heads.specs.Frames.{IsFramed}
@@ -29,3 +29,9 @@ RefusalsStay = (kind : Kind) (bytes more : List ℕ) (e : HeadError) → Refuses
 -- bytes that are refused do not begin with a message
 abbrev pub RefusedIsNoMessage : Type 0
 RefusedIsNoMessage = (kind : Kind) (bytes : List ℕ) (e : HeadError) → Refuses kind bytes e → HasNoMessage kind bytes
+
+-- all bytes split into messages and a rest, of which it is known whether it is refused
+abbrev pub AllBytesSplit : Type 0
+AllBytesSplit =
+    (kind : Kind) (bytes : List ℕ) → (ms : List Message) × (rest : List ℕ) × SplitsAs kind bytes ms rest
+    × (((e : HeadError) × Refuses kind rest e) ⊎ ((e : HeadError) → Refuses kind rest e → ⊥))

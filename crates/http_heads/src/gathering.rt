@@ -94,6 +94,14 @@ impl Gatherer {
         self.head.len() + self.body.len()
     }
 
+    /// How many bytes are kept when an error came: those up to the byte that shows it.
+    pub fn refused_len(&self) -> usize
+        requires { length (kept self.now) ≤ head_limit }
+        ensures { result ≡ length (kept self.now) }
+    {
+        self.head.len() + self.body.len()
+    }
+
     /// Forgets what is kept.
     pub fn clear(&mut self)
         ensures kind { self.new.kind ≡ self.old.kind }

@@ -1,6 +1,6 @@
 //! Facts about messages. The functions do nothing: each has a fact as its contract, which holds of all bytes.
 
-ghost use Rattle.http_heads.specs.Laws.{FramesArePrefixFree, SplitsAreOne, RefusedFrontsAreOne, RefusalsStay, RefusedIsNoMessage};
+ghost use Rattle.http_heads.specs.Laws.{FramesArePrefixFree, SplitsAreOne, RefusedFrontsAreOne, RefusalsStay, RefusedIsNoMessage, AllBytesSplit};
 
 /// No framed head is a front of another, so bytes end their head in one way at most.
 pub fn frames_are_prefix_free()
@@ -25,4 +25,9 @@ pub fn refusals_stay()
 /// What is refused is no message.
 pub fn refused_is_no_message()
     ensures { RefusedIsNoMessage }
+{}
+
+/// All bytes are messages and a rest, refused or not.
+pub fn all_bytes_split()
+    ensures { AllBytesSplit }
 {}

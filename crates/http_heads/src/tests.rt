@@ -183,4 +183,5 @@ fn laws_can_be_cited() {
     laws::refused_fronts_are_one();
     laws::refusals_stay();
     laws::refused_is_no_message();
+    laws::all_bytes_split();
 }

@@ -4,7 +4,7 @@ pub mod ReadBack
 mod Rows
 mod Walks
 mod Answering
-mod ValidEdits
+pub mod ValidEdits
 mod Written
 mod Texts
 mod CellsBack

@@ -1,0 +1,6 @@
+pub mod FirstPlace
+pub mod OneAsk
+pub mod ReadingLaws
+pub mod Fed
+pub mod ValidWants
+pub mod Decided

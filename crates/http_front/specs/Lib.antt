@@ -1,0 +1,11 @@
+pub mod Targets
+pub mod Numbers
+pub mod Routes
+pub mod Parameters
+pub mod ParametersRead
+pub mod Wants
+pub mod Asks
+pub mod Readings
+pub mod Readers
+pub mod ReplyHeads
+pub mod Laws

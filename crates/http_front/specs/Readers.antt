@@ -1,0 +1,59 @@
+-- A reader of requests, and what it has read.
+use Rattle.std.specs.Prelude.{◌≡◌, ◌≢◌, ◌≤◌, ◌<◌, ℕ, List, [], ◌++◌, length, take, option_to_list, IfSome, false, Option, Some, None, Result, Ok, Err}
+use Rattle.http_heads.specs.declared.kind.Kind.TheVariants.{Request}
+use Rattle.http_heads.specs.declared.refusal.HeadError.{HeadError}
+use Rattle.http_heads.specs.declared.refusal.HeadError.TheVariants.{Memory}
+use Rattle.http_heads.specs.Gathering.{Gathered, IsAt, IsIdle, is_whole, kept}
+use Rattle.http_heads.specs.Messages.{Message, Refuses, print_message}
+use Rattle.share_asks.specs.declared.ask.Ask.{Ask}
+use Rattle.share_asks.specs.declared.ask.Role.{Role}
+use Rattle.share_asks.specs.Valid.{IsValidWant}
+use Rattle.http_front.specs.Asks.{Spells}
+use Rattle.http_front.specs.Readings.{Joins, IsReading, reading}
+use Rattle.http_front.specs.Routes.{Rows, all_routes}
+
+-- its role, the bytes that it keeps of the next request, the ask that waits, and the error that stopped it
+pub record Reader : Type 0 where
+  pub role : Role
+  pub kept : List ℕ
+  pub ready : Option Ask
+  pub error : Option HeadError
+
+-- what a reader keeps is no whole request, and nothing where an ask waits or an error stopped it
+pub record Holds (rows : Rows) (g : Gathered) (ready : Option Ask) (error : Option HeadError) : Type 0 where
+  pub routes : rows ≡ all_routes
+  pub kind : g.kind ≡ Request
+  pub at : IsAt g
+  pub partial : is_whole g.phase ≡ false
+  pub waits : ready ≢ None → kept g ≡ []
+  pub stopped : error ≢ None → kept g ≡ []
+  pub valid : IfSome ready (λ ask. IsValidWant ask.want)
+
+abbrev pub waiting : Reader → List Ask
+waiting r = option_to_list r.ready
+
+-- what was fed reads as the asks that were handed out, the one that waits, and what is kept; or as the asks that
+-- were handed out and a rest that is refused, or for which there was no memory
+abbrev pub ReadAs : List ℕ → List Ask → Reader → Option HeadError → Type 0
+ReadAs fed handed r None = IsReading r.role fed (reading (handed ++ waiting r) r.kept None)
+ReadAs fed handed r (Some e) =
+    (rest : List ℕ) × Joins r.role fed handed rest × (r.ready ≡ None) × (e ≢ Memory → IsReading r.role fed (reading handed rest (Some e)))
+
+-- the reader was fed these bytes and has handed out these asks
+abbrev pub HasRead : List ℕ → List Ask → Reader → Type 0
+HasRead fed handed r = ReadAs fed handed r r.error
+
+-- what a call of `feed` adds to the bytes that were fed
+abbrev pub fed_with : List ℕ → List ℕ → Result ℕ HeadError → List ℕ
+fed_with fed piece (Ok n) = fed ++ take n piece
+fed_with fed piece (Err e) = fed ++ piece
+
+-- what a piece makes of a request that has not come whole: it goes on, and all of the piece was taken; or it is an
+-- ask, and nothing is kept; or it is refused
+abbrev pub Gathers : Role → Gathered → List ℕ → Gathered → Result (ℕ × Option Ask) HeadError → Type 0
+Gathers role old piece new (Ok (n, None)) =
+    (n ≡ length piece) × (kept new ≡ kept old ++ piece) × IsAt new × (is_whole new.phase ≡ false) × (piece ≢ [] → 0 < n)
+Gathers role old piece new (Ok (n, Some ask)) =
+    (n ≤ length piece) × IsIdle new × (piece ≢ [] → 0 < n)
+    × ((m : Message) × (kept old ++ take n piece ≡ print_message m) × Spells role m ask)
+Gathers role old piece new (Err e) = e ≢ Memory → Refuses Request (kept old ++ piece) e

@@ -1,0 +1,192 @@
+//! The paths that name requests.
+
+ghost use Rattle.std.specs.Prelude.{◌≡◌, map, true, false, IfOk, MatchOption};
+ghost use Rattle.std.specs.Str.{is_utf8};
+ghost use Rattle.http_front.specs.Routes.{rows_of, all_routes, route_at, list_in, place_on, place_at, for_role, place_of, verb_of, verb_text};
+
+use crate::cuts::cut;
+use crate::numbers::small_number;
+use item_model::{Browse, Target};
+use matchit::Router;
+use share_asks::{Role, Verb};
+use std::alloc::{AllocError, Global};
+
+/// What a path leads to.
+#[derive(Clone, Copy, Debug, PartialEq, Eq)]
+pub enum Route {
+    ServerInfo,
+    Codes,
+    Login,
+    Logout,
+    Update,
+    Databases,
+    Lists,
+    Items,
+    /// The items of the container whose number stands in the path.
+    Members,
+    Values(Browse),
+    Edit,
+    Stop,
+}
+
+/// What a path names.
+#[derive(Clone, Copy, Debug, PartialEq, Eq)]
+pub enum Place {
+    ServerInfo,
+    Codes,
+    Login,
+    Logout,
+    Update,
+    Databases,
+    Lists,
+    Rows(Target),
+    Values(Browse),
+    Edit,
+    Stop,
+}
+
+static ROUTES: [(&str, Route); 15] = [
+    ("/server-info", Route::ServerInfo),
+    ("/content-codes", Route::Codes),
+    ("/login", Route::Login),
+    ("/logout", Route::Logout),
+    ("/update", Route::Update),
+    ("/databases", Route::Databases),
+    ("/databases/1/containers", Route::Lists),
+    ("/databases/1/items", Route::Items),
+    ("/databases/1/containers/{list}/items", Route::Members),
+    (
+        "/databases/1/browse/artists",
+        Route::Values(Browse::Artists),
+    ),
+    ("/databases/1/browse/albums", Route::Values(Browse::Albums)),
+    ("/databases/1/browse/genres", Route::Values(Browse::Genres)),
+    (
+        "/databases/1/browse/composers",
+        Route::Values(Browse::Composers),
+    ),
+    ("/edit", Route::Edit),
+    ("/stop", Route::Stop),
+];
+
+/// The bytes of a path before a container's number.
+const LIST_AT: usize = 24;
+
+/// A router of all paths.
+#[tactic(auto, unfolding(crate::specs::Routes::all_routes))]
+pub fn router(alloc: Global) -> Result<Router<Route>, AllocError>
+    ensures { IfOk result (λ router. router ≡ all_routes) }
+{
+    router_of(alloc, &ROUTES)
+}
+
+fn router_of(alloc: Global, table: &[(&str, Route)]) -> Result<Router<Route>, AllocError>
+    ensures { IfOk result (λ router. router ≡ rows_of (map (λ entry. (entry.0.now, entry.1)) table.now)) }
+{
+    let mut router = Router::new(alloc);
+    for (path, route) in table {
+        // No two of the paths are in each other's way, so what can fail is memory.
+        if router.insert(path, *route).is_err() {
+            return Err(AllocError);
+        }
+    }
+    Ok(router)
+}
+
+/// What a path names in a role.
+pub fn place_of(router: &Router<Route>, role: Role, path: &[u8]) -> Option<Place>
+    requires { router.now ≡ all_routes }
+    ensures { result ≡ place_of role path.now }
+{
+    let text = text_of(path)?;
+    for_role(role, place_at(router, text)?)
+}
+
+fn text_of(path: &[u8]) -> Option<&str>
+    ensures { MatchOption result (is_utf8 path.now ≡ false) (λ text. (text.now ≡ path.now) × (is_utf8 path.now ≡ true)) }
+{
+    match str::from_utf8(path) {
+        Ok(text) => Some(text),
+        Err(_) => None,
+    }
+}
+
+fn place_at(router: &Router<Route>, path: &str) -> Option<Place>
+    requires { router.now ≡ all_routes }
+    ensures { result ≡ place_at path.now }
+{
+    place_on(route_at(router, path)?, path.as_bytes())
+}
+
+#[tactic(auto, unfolding(crate::specs::Routes::route_at))]
+fn route_at(router: &Router<Route>, path: &str) -> Option<Route>
+    requires { router.now ≡ all_routes }
+    ensures { result ≡ route_at path.now }
+{
+    match router.at(path) {
+        Ok(found) => Some(*found.value),
+        Err(_) => None,
+    }
+}
+
+fn place_on(route: Route, path: &[u8]) -> Option<Place>
+    ensures { result ≡ place_on route path.now }
+{
+    Some(match route {
+        Route::ServerInfo => Place::ServerInfo,
+        Route::Codes => Place::Codes,
+        Route::Login => Place::Login,
+        Route::Logout => Place::Logout,
+        Route::Update => Place::Update,
+        Route::Databases => Place::Databases,
+        Route::Lists => Place::Lists,
+        Route::Items => Place::Rows(Target::Items),
+        Route::Members => return members_on(path),
+        Route::Values(browse) => Place::Values(browse),
+        Route::Edit => Place::Edit,
+        Route::Stop => Place::Stop,
+    })
+}
+
+fn members_on(path: &[u8]) -> Option<Place>
+    ensures { result ≡ place_on Route.Members path.now }
+{
+    Some(Place::Rows(Target::Container(list_in(path)?)))
+}
+
+#[tactic(auto, using(std::proofs::lemmas::List::drop_min))]
+fn list_in(path: &[u8]) -> Option<u32>
+    ensures { result ≡ list_in path.now }
+{
+    let (_, rest) = path.split_at(LIST_AT.min(path.len()));
+    let (list, _) = cut(rest, b'/');
+    small_number(list)
+}
+
+fn for_role(role: Role, place: Place) -> Option<Place>
+    ensures { result ≡ for_role role place }
+{
+    match (role, place) {
+        (Role::Listen, Place::Edit | Place::Stop) => None,
+        _ => Some(place),
+    }
+}
+
+/// The method of the requests at a place.
+pub fn verb_of(place: Place) -> Verb
+    ensures { result ≡ verb_of place }
+{
+    match place {
+        Place::Edit | Place::Stop => Verb::Post,
+        _ => Verb::Get,
+    }
+}
+
+pub fn verb_text(verb: Verb) -> &'static str
+    ensures { result.now ≡ verb_text verb }
+{
+    match verb {
+        Verb::Get => "GET",
+        Verb::Post => "POST",
+    }
+}

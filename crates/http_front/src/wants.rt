@@ -1,0 +1,217 @@
+//! What a request asks for.
+
+ghost use Rattle.std.specs.Prelude.{◌≡◌, [], codes, Some, IfOk, option_map, string_bytes};
+ghost use Rattle.http_front.specs.Parameters.{told};
+ghost use Rattle.http_front.specs.ParametersRead.{Gives, ReadsQuery};
+ghost use Rattle.http_front.specs.Routes.{all_routes};
+ghost use Rattle.http_front.specs.Wants.{LogoutWant, UpdateWant, DatabasesWant, ListsWant, RowsWant, ValuesWant, filter_or, AskedRows, RowsInRange, PlaceWant, Wants};
+
+use crate::parameters::{Flaw, meta, number, query_in, range, told};
+use crate::routes::{Place, Route, place_of, verb_of, verb_text};
+use item_model::{Browse, Look, Query, Range, Target};
+use matchit::Router;
+use records_import::{RecordError, read_batch};
+use share_asks::{AskError, Role, Want};
+use std::alloc::{AllocError, Global};
+
+/// A request that came whole.
+#[derive(Clone, Copy, Debug)]
+pub struct Request<'b> {
+    pub method: &'b [u8],
+    pub path: &'b [u8],
+    pub query: &'b [u8],
+    pub body: &'b [u8],
+}
+
+/// What a request wants of a reader in the role.
+pub fn read_want(
+    alloc: Global,
+    router: &Router<Route>,
+    role: Role,
+    request: &Request<'_>,
+) -> Result<Want, AllocError>
+    requires { router.now ≡ all_routes }
+    ensures { IfOk result (λ want. Wants role request.now.method.now request.now.path.now request.now.query.now request.now.body.now want) }
+{
+    let Some(place) = place_of(router, role, request.path) else {
+        return Ok(Want::Bad(AskError::Path));
+    };
+    let verb = verb_of(place);
+    if request.method != verb_text(verb).as_bytes() {
+        return Ok(Want::Bad(AskError::Method { allow: verb }));
+    }
+    match place_want(alloc, place, request.query, request.body) {
+        Ok(want) => Ok(want),
+        Err(Flaw::Bad(error)) => Ok(Want::Bad(error)),
+        Err(Flaw::Memory) => Err(AllocError),
+    }
+}
+
+fn place_want(alloc: Global, place: Place, query: &[u8], body: &[u8]) -> Result<Want, Flaw>
+    ensures { Gives (PlaceWant place query.now body.now) result }
+{
+    match place {
+        Place::ServerInfo => Ok(Want::ServerInfo),
+        Place::Codes => Ok(Want::Codes),
+        Place::Login => Ok(Want::Login),
+        Place::Logout => logout(alloc, query),
+        Place::Update => update(alloc, query),
+        Place::Databases => databases(alloc, query),
+        Place::Lists => lists(alloc, query),
+        Place::Rows(target) => rows(alloc, target, query),
+        Place::Values(browse) => values(alloc, browse, query),
+        Place::Edit => edit(alloc, body),
+        Place::Stop => Ok(Want::Stop),
+    }
+}
+
+fn logout(alloc: Global, query: &[u8]) -> Result<Want, Flaw>
+    ensures { Gives (LogoutWant query.now) result }
+{
+    match number(alloc, query, "session-id") {
+        Ok(session) => Ok(Want::Logout { session }),
+        Err(flaw) => Err(flaw),
+    }
+}
+
+fn update(alloc: Global, query: &[u8]) -> Result<Want, Flaw>
+    ensures { Gives (UpdateWant query.now) result }
+{
+    let session = match number(alloc, query, "session-id") {
+        Ok(session) => session,
+        Err(flaw) => return Err(flaw),
+    };
+    match number(alloc, query, "revision-number") {
+        Ok(revision) => Ok(Want::Update { session, revision }),
+        Err(flaw) => Err(flaw),
+    }
+}
+
+fn databases(alloc: Global, query: &[u8]) -> Result<Want, Flaw>
+    ensures { Gives (DatabasesWant query.now) result }
+{
+    match number(alloc, query, "session-id") {
+        Ok(session) => Ok(Want::Databases { session }),
+        Err(flaw) => Err(flaw),
+    }
+}
+
+fn lists(alloc: Global, query: &[u8]) -> Result<Want, Flaw>
+    ensures { Gives (ListsWant query.now) result }
+{
+    match number(alloc, query, "session-id") {
+        Ok(session) => Ok(Want::Lists { session }),
+        Err(flaw) => Err(flaw),
+    }
+}
+
+fn rows(alloc: Global, target: Target, query: &[u8]) -> Result<Want, Flaw>
+    ensures { Gives (RowsWant target query.now) result }
+{
+    let session = match number(alloc, query, "session-id") {
+        Ok(session) => session,
+        Err(flaw) => return Err(flaw),
+    };
+    let base = match number(alloc, query, "delta") {
+        Ok(base) => base,
+        Err(flaw) => return Err(flaw),
+    };
+    let meta = match meta(alloc, query) {
+        Ok(meta) => meta,
+        Err(flaw) => return Err(flaw),
+    };
+    let look = Look {
+        query: None,
+        meta,
+        base,
+        range: Range::All,
+    };
+    asked_rows(alloc, query, session, target, look)
+}
+
+// The rows of a look of which the query that is asked holds.
+fn asked_rows(
+    alloc: Global,
+    query: &[u8],
+    session: u32,
+    target: Target,
+    look: Look,
+) -> Result<Want, Flaw>
+    ensures { Gives (AskedRows query.now session target look) result }
+{
+    match asked(alloc, query) {
+        Ok(asked) => {
+            let look = Look {
+                query: asked,
+                ..look
+            };
+            rows_in_range(alloc, query, session, target, look)
+        }
+        Err(flaw) => Err(flaw),
+    }
+}
+
+fn asked(alloc: Global, query: &[u8]) -> Result<Option<Query>, Flaw>
+    ensures { ReadsQuery (told (codes "query") query.now) result }
+{
+    let text = told(alloc, query, "query")?;
+    query_in(alloc, text.as_deref())
+}
+
+// The rows of a look that are in the range.
+fn rows_in_range(
+    alloc: Global,
+    query: &[u8],
+    session: u32,
+    target: Target,
+    look: Look,
+) -> Result<Want, Flaw>
+    ensures { Gives (RowsInRange query.now session target look) result }
+{
+    match range(alloc, query) {
+        Ok(range) => Ok(Want::Rows {
+            session,
+            target,
+            look: Look { range, ..look },
+        }),
+        Err(flaw) => Err(flaw),
+    }
+}
+
+fn values(alloc: Global, browse: Browse, query: &[u8]) -> Result<Want, Flaw>
+    ensures { Gives (ValuesWant browse query.now) result }
+{
+    let session = match number(alloc, query, "session-id") {
+        Ok(session) => session,
+        Err(flaw) => return Err(flaw),
+    };
+    let text = filter_or_query(alloc, query)?;
+    match query_in(alloc, text.as_deref()) {
+        Ok(query) => Ok(Want::Values {
+            session,
+            browse,
+            query,
+        }),
+        Err(flaw) => Err(flaw),
+    }
+}
+
+// The filter where there is one, and else the query.
+fn filter_or_query(alloc: Global, query: &[u8]) -> Result<Option<String>, AllocError>
+    ensures { IfOk result (λ text. option_map string_bytes text ≡ filter_or (told (codes "filter") query.now) (told (codes "query") query.now)) }
+{
+    match told(alloc, query, "filter")? {
+        Some(filter) => Ok(Some(filter)),
+        None => told(alloc, query, "query"),
+    }
+}
+
+fn edit(alloc: Global, body: &[u8]) -> Result<Want, Flaw>
+    ensures { Gives (PlaceWant Place.Edit [] body.now) result }
+{
+    match read_batch(alloc, body) {
+        Ok(batch) => Ok(Want::Edit { body: Ok(batch) }),
+        Err(RecordError::Memory) => Err(Flaw::Memory),
+        Err(error) => Ok(Want::Edit { body: Err(error) }),
+    }
+}
