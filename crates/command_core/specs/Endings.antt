@@ -1,0 +1,78 @@
+-- How a run of a command ends, by what is told before it and after it.
+use Rattle.std.specs.Prelude.{◌≡◌, ◌⊎◌, ◌++◌, ℕ, List, IfSome}
+use Rattle.std.specs.Io.KnownBytes.{Appends}
+use Rattle.daap_outside.specs.Counts.{Rose}
+use Rattle.daap_outside.specs.Told.{AppendsPrefix}
+use Rattle.command_core.specs.declared.fault.Fault.{Fault}
+use Rattle.command_core.specs.declared.outcome.Outcome.{Outcome}
+use Rattle.command_core.specs.Seen.{OutputSeen, ShareSeen, Told}
+use Rattle.command_core.specs.Faults.{fault_line, fault_status}
+use Rattle.command_core.specs.Causes.{Says}
+use Rattle.command_core.specs.Meanings.{Meaning, IsCause}
+
+pub data Ending (F : Type 0) : Type 0 where
+  -- the command was done, and its output was written
+  Done : (output : List ℕ) → Ending F
+  -- the output failed within it
+  OutputCut : (output : List ℕ) → Ending F
+  -- behind what was written before, the line of this fault was
+  Refused : (front : List ℕ) (fault : Fault F) → Ending F
+  -- the output failed within these
+  LineCut : (front : List ℕ) (fault : Fault F) → Ending F
+
+abbrev pub ending_status : (m : Meaning) → Ending m.fault → ℕ
+ending_status m (Done output) = 0
+ending_status m (OutputCut output) = 5
+ending_status m (Refused front fault) = fault_status m.status fault
+ending_status m (LineCut front fault) = 5
+
+-- the bytes were written whole
+pub record IsWritten (before after : OutputSeen) (bytes : List ℕ) : Type 0 where
+  pub taken : Appends before.taken after.taken bytes
+  pub faultless : after.faults ≡ before.faults
+
+-- the output failed within the bytes, of which a front was taken
+pub record IsCut (before after : OutputSeen) (bytes : List ℕ) : Type 0 where
+  pub taken : AppendsPrefix before.taken after.taken bytes
+  pub rose : Rose before.faults after.faults
+
+-- a fault ends the command behind this front, and leaves this of a share
+pub record IsRefused (m : Meaning) (told : Told) (share : ShareSeen) (front : List ℕ) (fault : Fault m.fault) : Type 0 where
+  pub cause : IsCause m told.before told.after fault
+  pub left : m.leaves told.before told.after fault share
+  pub written : m.is_front told.before told.after fault front
+
+-- a run may end so
+abbrev pub Happens : (m : Meaning) → Told → ShareSeen → Ending m.fault → Type 0
+Happens m told share (Done output) =
+    m.is_done told.before told.after share output × IsWritten told.output_before told.output_after output
+Happens m told share (OutputCut output) =
+    m.is_begun told.before told.after share output × IsCut told.output_before told.output_after output
+Happens m told share (Refused front fault) =
+    IsRefused m told share front fault × IsWritten told.output_before told.output_after (front ++ fault_line m.line fault)
+Happens m told share (LineCut front fault) =
+    IsRefused m told share front fault × IsCut told.output_before told.output_after (front ++ fault_line m.line fault)
+
+-- the run ended in one of these ways, with its status
+abbrev pub Ends : (m : Meaning) → Told → ℕ → ShareSeen → Type 0
+Ends m told status share = (ending : Ending m.fault) × (status ≡ ending_status m ending) × Happens m told share ending
+
+-- Where no read and no write failed and the input is told, the words and the input decide how a run ends, but for want
+-- of memory.
+pub record Decides (m : Meaning) (input : List ℕ) (status : ℕ) : Type 0 where
+  pub done : m.gives input → (status ≡ 0) ⊎ (status ≡ 9)
+  pub refused : (own : m.fault) → Says (m.cause own) input → (status ≡ m.status own) ⊎ (status ≡ 9)
+
+abbrev pub IsDecided : Meaning → Told → ℕ → Type 0
+IsDecided m told status =
+    ¬ (Rose told.before.input.faults told.after.input.faults) → ¬ (Rose told.output_before.faults told.output_after.faults)
+    → IfSome told.before.input.left (λ input. Decides m input status)
+
+-- what an outcome tells of a share
+abbrev pub share_of : Outcome → ShareSeen
+share_of outcome = record { history = outcome.history }
+
+-- the outcome of a run is one that the command means
+pub record IsAnswered (m : Meaning) (told : Told) (outcome : Outcome) : Type 0 where
+  pub ends : Ends m told outcome.status (share_of outcome)
+  pub decided : IsDecided m told outcome.status

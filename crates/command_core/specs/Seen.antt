@@ -1,0 +1,74 @@
+-- What is told at a moment of all that a run of the program stands among, and of the share that it opened.
+use Rattle.std.specs.Prelude.{◌≡◌, ℕ, Bool, List, Option, Some, None}
+use Rattle.daap_outside.specs.Places.{Contents}
+use Rattle.item_model.specs.declared.changes.Entry.{Entry}
+
+-- of the input: the bytes that are left to read, and the count of faults
+pub record InputSeen : Type 0 where
+  pub left : Option (List ℕ)
+  pub faults : ℕ
+
+-- of the output: the bytes that were taken, and the count of faults
+pub record OutputSeen : Type 0 where
+  pub taken : Option (List ℕ)
+  pub faults : ℕ
+
+-- of the files: the names asked for, the bytes under each name, and the count of faults
+pub record FilesSeen : Type 0 where
+  pub asked : Option (List (List ℕ))
+  pub contents : Option Contents
+  pub faults : ℕ
+
+-- of the net: the places asked for, the links given back, the inputs of links to come, and the count of faults
+pub record NetSeen : Type 0 where
+  pub asked : Option (List (List ℕ × ℕ))
+  pub written : Option (List (List ℕ × Bool))
+  pub door_links : Option (List (List (List ℕ)))
+  pub next_input : Option (List ℕ)
+  pub faults : ℕ
+
+pub record Around : Type 0 where
+  pub files : FilesSeen
+  pub net : NetSeen
+
+-- all of these but the output
+pub record Seen : Type 0 where
+  pub input : InputSeen
+  pub around : Around
+
+-- of the share that a command opened: its history, where it opened one
+pub record ShareSeen : Type 0 where
+  pub history : Option (List Entry)
+
+abbrev pub no_share : ShareSeen
+no_share = record { history = None }
+
+abbrev pub share_with : List Entry → ShareSeen
+share_with history = record { history = Some history }
+
+-- no byte of the input was read, and no fault of it counted
+pub record IsUnread (before after : InputSeen) : Type 0 where
+  pub left : after.left ≡ before.left
+  pub faults : after.faults ≡ before.faults
+
+-- a run: what is told before it and after it
+pub record Told : Type 0 where
+  pub before : Seen
+  pub after : Seen
+  pub output_before : OutputSeen
+  pub output_after : OutputSeen
+
+abbrev pub input_seen : Option (List ℕ) → ℕ → InputSeen
+input_seen left faults = record { left = left; faults = faults }
+
+abbrev pub output_seen : Option (List ℕ) → ℕ → OutputSeen
+output_seen taken faults = record { taken = taken; faults = faults }
+
+-- a run that leaves files and the net alone
+abbrev pub told_beside : Around → (input_before input_after : InputSeen) (output_before output_after : OutputSeen) → Told
+told_beside around input_before input_after output_before output_after = record {
+  before = record { input = input_before; around = around };
+  after = record { input = input_after; around = around };
+  output_before = output_before;
+  output_after = output_after;
+}

@@ -1,0 +1,75 @@
+//! Why a command did not do its work.
+
+ghost use Rattle.std.specs.Prelude.{◌≡◌, ℕ, List, IfOk};
+ghost use Rattle.command_core.specs.Faults.{fault_line, fault_status};
+
+use daap_outside::Failed;
+use std::alloc::{AllocError, Global};
+
+/// What ended a command early: one of its own faults, or what may end any command.
+#[derive(Debug, Drop)]
+pub enum Fault<E> {
+    Own(E),
+    /// The input could not be read.
+    Read,
+    Memory,
+}
+
+/// A command's own faults: the line that the user sees for each, and the status.
+pub trait Refusal {
+    ghost told_line: { Self → List ℕ };
+
+    ghost told_status: { Self → ℕ };
+
+    /// The line, with its end.
+    fn line(&self, alloc: Global) -> Result<Vec<u8>, AllocError>
+        ensures { IfOk result (λ line. line.items ≡ told_line self.now) };
+
+    /// The status that the program ends with.
+    fn status(&self) -> u8
+        ensures { result ≡ told_status self.now };
+}
+
+impl<E> From<AllocError> for Fault<E> {
+    ghost use Rattle.command_core.specs.declared.fault.Fault.TheVariants.{Memory};
+
+    ghost from_gives = { λ _ f. f ≡ Memory };
+
+    fn from(_error: AllocError) -> Fault<E> {
+        Fault::Memory
+    }
+}
+
+impl<E> From<Failed> for Fault<E> {
+    ghost use Rattle.command_core.specs.declared.fault.Fault.TheVariants.{Read as read};
+
+    ghost from_gives = { λ _ f. f ≡ read };
+
+    fn from(_fault: Failed) -> Fault<E> {
+        Fault::Read
+    }
+}
+
+impl<E: Refusal> Fault<E> {
+    /// The line that the user sees.
+    pub fn line(&self, alloc: Global) -> Result<Vec<u8>, AllocError>
+        ensures { IfOk result (λ line. line.items ≡ fault_line E.told_line self.now) }
+    {
+        match self {
+            Fault::Own(own) => own.line(alloc),
+            Fault::Read => Vec::from_slice(alloc, b"read failed\n"),
+            Fault::Memory => Vec::from_slice(alloc, b"memory\n"),
+        }
+    }
+
+    /// The status that the program ends with.
+    pub fn status(&self) -> u8
+        ensures { result ≡ fault_status E.told_status self.now }
+    {
+        match self {
+            Fault::Own(own) => own.status(),
+            Fault::Read => 4,
+            Fault::Memory => 9,
+        }
+    }
+}

@@ -1,0 +1,11 @@
+//! What a command of the program means, as one record (`specs/Meanings.antt`), and how it ends: its output or the line
+//! of a fault is written so that a run ends as the command means (`specs/Endings.antt`).
+#![tactic(auto)]
+
+mod fault;
+mod outcome;
+#[cfg(test)]
+mod tests;
+
+pub use fault::{Fault, Refusal};
+pub use outcome::{Outcome, done, out_of_memory, refused, written};
