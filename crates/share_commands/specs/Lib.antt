@@ -1,0 +1,4 @@
+pub mod Looks
+pub mod ListShare
+pub mod LookFaults
+pub mod RehearseShare

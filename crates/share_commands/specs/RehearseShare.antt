@@ -1,0 +1,56 @@
+-- The command `rehearse`: a share that made-up batches edit while mirrors follow it, and the summary of what they held.
+use Rattle.std.specs.Prelude.{◌≡◌, ◌<◌, ◌≤◌, ◌*◌, ◌++◌, ◌∷◌, [], ℕ, List, true, codes}
+use Rattle.share_history.specs.Numbers.{most_edits}
+use Rattle.rehearsal.specs.Edits.{rehearsed}
+use Rattle.rehearsal.specs.Histories.{history_of}
+use Rattle.rehearsal.specs.Summary.{summary_text}
+use Rattle.command_core.specs.Seen.{InputSeen, ShareSeen, share_with, IsUnread}
+use Rattle.command_core.specs.Causes.{Cause, OfWords}
+use Rattle.command_core.specs.Meanings.{Meaning, writes_nothing_before, leaves_no_share, may_not_read}
+use Rattle.share_commands.specs.declared.rehearse.RehearseFault.{RehearseFault}
+use Rattle.share_commands.specs.declared.rehearse.RehearseFault.TheVariants.{TooMany}
+
+-- the numbers of a rehearsal: what its batches begin with, how many there are of how many edits, and how many revisions
+-- the share keeps back
+pub record MayRehearse (number batches size keep : ℕ) : Type 0 where
+  pub begins : number ≤ 2147483647
+  pub some_batches : 1 ≤ batches
+  pub few_batches : batches ≤ 65536
+  pub some_edits : 1 ≤ size
+  pub few_edits : size ≤ 256
+  pub some_kept : 1 ≤ keep
+  pub few_kept : keep ≤ 65536
+
+-- the input was left as it was, there are not too many edits, the history of the share has the batches, and the output is
+-- their summary
+pub record IsRehearsed (number batches size keep : ℕ) (before after : InputSeen) (share : ShareSeen) (output : List ℕ) : Type 0 where
+  pub unread : IsUnread before after
+  pub within : batches * size ≤ most_edits
+  pub opened : share ≡ share_with (history_of (rehearsed number batches size))
+  pub written : output ≡ summary_text keep (rehearsed number batches size)
+
+abbrev pub rehearse_line : RehearseFault → List ℕ
+rehearse_line TooMany = codes "limit: rehearsal" ++ 10 ∷ []
+
+abbrev pub rehearse_status : RehearseFault → ℕ
+rehearse_status TooMany = 8
+
+abbrev pub rehearse_cause : (batches size : ℕ) → RehearseFault → Cause
+rehearse_cause batches size TooMany = OfWords (most_edits < batches * size)
+
+abbrev pub rehearse_meaning : (number batches size keep : ℕ) → Meaning
+rehearse_meaning number batches size keep = record {
+  fault = RehearseFault;
+  line = rehearse_line;
+  status = rehearse_status;
+  cause = rehearse_cause batches size;
+  reads_on = λ bytes. ⊥;
+  gives = λ input. batches * size ≤ most_edits;
+  is_done = λ before after share output. IsRehearsed number batches size keep before.input after.input share output;
+  is_begun = λ before after share output. IsRehearsed number batches size keep before.input after.input share output;
+  is_front = writes_nothing_before;
+  leaves = leaves_no_share;
+  may_want = may_not_read;
+  leaves_files = true;
+  leaves_net = true;
+}

@@ -1,0 +1,13 @@
+//! The commands on a share that no one else reaches: `list` opens one with a batch of records and lists it, `rehearse`
+//! one that made-up batches edit. Each has its meaning in a file of `specs/`, and its function ends as that says.
+#![tactic(auto)]
+
+mod list;
+mod look;
+mod opening;
+mod rehearse;
+#[cfg(test)]
+mod tests;
+
+pub use list::{ListFault, list_share};
+pub use rehearse::{RehearseFault, rehearse_share};

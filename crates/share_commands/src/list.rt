@@ -1,0 +1,162 @@
+//! The command `list`: the full listing of a share that is opened with the records of the input.
+
+ghost use Rattle.std.specs.Prelude.{◌≡◌, ◌≤◌, List, length, Some, option_copied, IfOk, IfErr};
+ghost use Rattle.item_model.specs.declared.changes.Edit.{Edit};
+ghost use Rattle.item_store.specs.Stands.{StandsFor};
+ghost use Rattle.listing_plan.specs.Plans.{plan_bytes, IsWritable};
+ghost use Rattle.share_history.specs.Histories.{opening, batches};
+ghost use Rattle.command_core.specs.Seen.{Around, input_seen, output_seen, told_beside, share_with};
+ghost use Rattle.command_core.specs.Answers.{TellsDone};
+ghost use Rattle.command_core.specs.Endings.{IsAnswered};
+ghost use Rattle.share_commands.specs.ListShare.{listing_bytes, IsOpened, StopsOpening, list_line, list_status, read_fault, record_fault, list_meaning};
+
+use crate::look::look_of;
+use crate::opening::{Opened, open};
+use command_core::{Fault, Outcome, Refusal, out_of_memory, refused};
+use daap_outside::{Failed, ReadError, Sink, Source, read_within};
+use dmap_tags::Text;
+use fault_lines::{query_line, records_line};
+use item_model::{Entries, Look, QueryError};
+use item_store::ItemStore;
+use listing_plan::Plan;
+use records_import::{RecordError, read_batch};
+use share_listings::full_items;
+use std::alloc::{AllocError, Global};
+
+/// The most bytes of records that the input may have.
+const RECORDS_LIMIT: u64 = 4_194_304;
+
+/// Why nothing is listed. Want of memory is none of these.
+#[derive(Debug, Drop)]
+pub enum ListFault {
+    /// The text of `--query` is refused.
+    Query(QueryError),
+    /// The text of `--meta` has too many names.
+    Meta,
+    /// The input has more bytes than are read.
+    TooLong,
+    /// Its records don't read as a batch.
+    Records(RecordError),
+}
+
+impl Refusal for ListFault {
+    ghost told_line = { list_line };
+
+    ghost told_status = { list_status };
+
+    fn line(&self, alloc: Global) -> Result<Vec<u8>, AllocError> {
+        match self {
+            ListFault::Query(error) => query_line(alloc, error),
+            ListFault::Meta => Vec::from_slice(alloc, b"meta: too many names\n"),
+            ListFault::TooLong => Vec::from_slice(alloc, b"limit: input\n"),
+            ListFault::Records(error) => records_line(alloc, error),
+        }
+    }
+
+    fn status(&self) -> u8 {
+        match self {
+            ListFault::Query(_) | ListFault::Meta | ListFault::Records(_) => 3,
+            ListFault::TooLong => 8,
+        }
+    }
+}
+
+/// Does `list`: opens a share with the records of the input, and writes the listing of what the texts ask for.
+pub fn list_share<I: Source, W: Sink>(
+    alloc: Global,
+    query: Option<&Text>,
+    meta: Option<&Text>,
+    input: &mut I,
+    output: &mut W,
+) -> Outcome
+    ensures { (around : Around) → IsAnswered (list_meaning (option_copied query.entry) (option_copied meta.entry))
+        (told_beside around
+        (input_seen (I.left input.old) (I.faults input.old))
+        (input_seen (I.left input.new) (I.faults input.new))
+        (output_seen (W.taken output.old) (W.faults output.old))
+        (output_seen (W.taken output.new) (W.faults output.new)))
+        result }
+{
+    let look = match look_of(alloc, query, meta) {
+        Ok(look) => look,
+        Err(fault) => return refused(alloc, output, &fault),
+    };
+    let opened = match opened(alloc, input) {
+        Ok(opened) => opened,
+        Err(fault) => return refused(alloc, output, &fault),
+    };
+    match planned(alloc, &opened.items, look) {
+        Ok(listing) => written(output, &listing, opened.history),
+        Err(AllocError) => out_of_memory(output, Some(opened.history)),
+    }
+}
+
+/// Opens a share with the batch that the input's records are.
+fn opened<I: Source>(alloc: Global, input: &mut I) -> Result<Opened, Fault<ListFault>>
+    ensures opened { IfOk result (λ opened. (edits : List Edit)
+        × IsOpened edits (input_seen (I.left input.old) (I.faults input.old)) (input_seen (I.left input.new) (I.faults input.new)) (share_with opened.history)
+        × StandsFor (batches (opening edits)) opened.items × (length edits ≤ 65536)) }
+    ensures cause { IfErr result (λ fault. StopsOpening
+        (input_seen (I.left input.old) (I.faults input.old))
+        (input_seen (I.left input.new) (I.faults input.new))
+        fault) }
+{
+    let bytes = match read_within(alloc, input, RECORDS_LIMIT) {
+        Ok(bytes) => bytes,
+        Err(error) => return Err(read_fault(error)),
+    };
+    let batch = match read_batch(alloc, bytes.as_slice()) {
+        Ok(batch) => batch,
+        Err(error) => return Err(record_fault(error)),
+    };
+    Ok(open(alloc, batch)?)
+}
+
+/// What a refusal of the input is to `list`.
+fn read_fault(error: ReadError) -> Fault<ListFault>
+    ensures { result ≡ read_fault error }
+{
+    match error {
+        ReadError::Failed => Fault::Read,
+        ReadError::TooLong => Fault::Own(ListFault::TooLong),
+        ReadError::Memory => Fault::Memory,
+    }
+}
+
+/// What a refusal of its records is.
+fn record_fault(error: RecordError) -> Fault<ListFault>
+    ensures { result ≡ record_fault error }
+{
+    match error {
+        RecordError::Memory => Fault::Memory,
+        refusal => Fault::Own(ListFault::Records(refusal)),
+    }
+}
+
+/// The listing of the items that a look asks for.
+fn planned(alloc: Global, items: &ItemStore, look: Look) -> Result<Plan, AllocError>
+    requires { (edits : List Edit) × StandsFor (batches (opening edits)) items.now × (length edits ≤ 65536) }
+    ensures listing { IfOk result (λ plan. (edits : List Edit) → StandsFor (batches (opening edits)) items.now
+        → plan_bytes plan ≡ listing_bytes edits look) }
+    ensures writable { IfOk result (λ plan. IsWritable plan) }
+{
+    full_items(alloc, items, look)
+}
+
+/// Writes the listing of a share.
+fn written<W: Sink>(output: &mut W, listing: &Plan, history: Entries) -> Outcome
+    requires { IsWritable listing.now }
+    ensures { TellsDone (Some history) (plan_bytes listing.now)
+        (output_seen (W.taken output.old) (W.faults output.old))
+        (output_seen (W.taken output.new) (W.faults output.new))
+        result }
+{
+    let status = match listing.write(output) {
+        Ok(()) => 0,
+        Err(Failed) => 5,
+    };
+    Outcome {
+        status,
+        history: Some(history),
+    }
+}

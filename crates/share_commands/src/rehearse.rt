@@ -1,0 +1,68 @@
+//! The command `rehearse`: a share that made-up batches edit while mirrors follow it, and the summary of what they held.
+
+ghost use Rattle.std.specs.Prelude.{◌≡◌, ◌≤◌};
+ghost use Rattle.command_core.specs.Seen.{Around, InputSeen, output_seen, told_beside};
+ghost use Rattle.command_core.specs.Endings.{IsAnswered};
+ghost use Rattle.share_commands.specs.RehearseShare.{rehearse_line, rehearse_status, MayRehearse, rehearse_meaning};
+
+use command_core::{Fault, Outcome, Refusal, done, out_of_memory, refused};
+use daap_outside::Sink;
+use rehearsal::{Rehearsal, rehearse};
+use share_history::MAX_EDITS;
+use std::alloc::{AllocError, Global};
+
+/// Why nothing is rehearsed.
+#[derive(Debug, Drop)]
+pub enum RehearseFault {
+    /// There are more edits than a share's history may have.
+    TooMany,
+}
+
+impl Refusal for RehearseFault {
+    ghost told_line = { rehearse_line };
+
+    ghost told_status = { rehearse_status };
+
+    fn line(&self, alloc: Global) -> Result<Vec<u8>, AllocError> {
+        Vec::from_slice(alloc, b"limit: rehearsal\n")
+    }
+
+    fn status(&self) -> u8 {
+        8
+    }
+}
+
+/// Does `rehearse`: batches of so many edits, made up from a number, of a share that keeps so many revisions back. It
+/// reads nothing.
+pub fn rehearse_share<W: Sink>(
+    alloc: Global,
+    number: u32,
+    batches: u32,
+    size: u32,
+    keep: u32,
+    output: &mut W,
+) -> Outcome
+    requires { MayRehearse number batches size keep }
+    ensures { (around : Around) (input : InputSeen) → IsAnswered (rehearse_meaning number batches size keep)
+        (told_beside around input input
+        (output_seen (W.taken output.old) (W.faults output.old))
+        (output_seen (W.taken output.new) (W.faults output.new)))
+        result }
+{
+    if MAX_EDITS < batches as usize * size as usize {
+        return refused(alloc, output, &Fault::Own(RehearseFault::TooMany));
+    }
+    let plan = Rehearsal {
+        number,
+        batches,
+        size,
+        keep,
+    };
+    match rehearse(alloc, &plan) {
+        Ok(rehearsed) => {
+            let summary = rehearsed.summary;
+            done(output, summary.as_slice(), Some(rehearsed.history))
+        }
+        Err(AllocError) => out_of_memory(output, None),
+    }
+}

@@ -1,0 +1,7 @@
+pub mod Tagged
+pub mod FewEvents
+pub mod Counted
+pub mod Showing
+pub mod Learned
+pub mod Backed
+pub mod Senses

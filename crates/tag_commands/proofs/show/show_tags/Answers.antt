@@ -1,0 +1,35 @@
+use Rattle.std.proofs.Common.{None, refl, subst}
+use Rattle.command_core.specs.Seen.{Told, OutputSeen, input_seen, output_seen, told_beside}
+use Rattle.command_core.proofs.Ended.{by_done, by_cut, by_fault}
+use Rattle.tag_commands.specs.Show.{show_meaning}
+use Rattle.tag_commands.specs.Showing.{ShowStops}
+use Rattle.tag_commands.proofs.Senses.{show_sense}
+use Rattle.tag_commands.proofs.show.show_tags.Goals as goal
+
+pub returns-in-Ok : goal.returns-in-Ok
+returns-in-Ok g c =
+    let shown = c.in-Ok.ensures.shown in
+    λ around.
+    let told : Told = told_beside around
+    (input_seen (g.I.Source.left c.args.input.now) (g.I.Faulted.faults c.args.input.now)) (input_seen (g.I.Source.left c.shown.new.input) (g.I.Faulted.faults c.shown.new.input))
+    (output_seen (g.W.Sink.taken c.args.output.now) (g.W.Faulted.faults c.args.output.now)) (output_seen (g.W.Sink.taken c.shown.new.output) (g.W.Faulted.faults c.shown.new.output)) in
+    by_done show_meaning show_sense told (record { status = 0; history = None }) shown.0 shown.1 refl shown.2
+
+pub returns-in-Err-Input : goal.returns-in-Err-Input
+returns-in-Err-Input g c =
+    λ around.
+    let told : Told = told_beside around
+    (input_seen (g.I.Source.left c.args.input.now) (g.I.Faulted.faults c.args.input.now)) (input_seen (g.I.Source.left c.shown.new.input) (g.I.Faulted.faults c.shown.new.input))
+    (output_seen (g.W.Sink.taken c.args.output.now) (g.W.Faulted.faults c.args.output.now)) (output_seen (g.W.Sink.taken c.refused.new.output) (g.W.Faulted.faults c.refused.new.output)) in
+    let mid : OutputSeen = output_seen (g.W.Sink.taken c.shown.new.output) (g.W.Faulted.faults c.shown.new.output) in
+    let stops = subst (ShowStops told.before.input told.after.input told.output_before mid) c.in-Err-Input.field-0-is c.in-Err-Input.ensures.stopped in
+    by_fault show_meaning show_sense told mid c.refused.result stops.1.0 c.in-Err-Input.fault stops.0 refl stops.1.1 stops.1.2 c.refused.ensures
+
+pub returns-in-Err-Output : goal.returns-in-Err-Output
+returns-in-Err-Output g c =
+    λ around.
+    let told : Told = told_beside around
+    (input_seen (g.I.Source.left c.args.input.now) (g.I.Faulted.faults c.args.input.now)) (input_seen (g.I.Source.left c.shown.new.input) (g.I.Faulted.faults c.shown.new.input))
+    (output_seen (g.W.Sink.taken c.args.output.now) (g.W.Faulted.faults c.args.output.now)) (output_seen (g.W.Sink.taken c.shown.new.output) (g.W.Faulted.faults c.shown.new.output)) in
+    let stops = subst (ShowStops told.before.input told.after.input told.output_before told.output_after) c.in-Err-Output.field-0-is c.in-Err-Output.ensures.stopped in
+    by_cut show_meaning show_sense told (record { status = 5; history = None }) stops.0 stops.1 refl stops.2

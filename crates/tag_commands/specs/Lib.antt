@@ -1,0 +1,9 @@
+pub mod TopTags
+pub mod Check
+pub mod Show
+pub mod ShowBack
+pub mod Codes
+pub mod LearnCodes
+pub mod Counting
+pub mod Showing
+pub mod Learning

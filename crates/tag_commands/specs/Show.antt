@@ -1,0 +1,79 @@
+-- The command `show`: the lines of the tags that the input's bytes are, written as the bytes come.
+use Rattle.std.specs.Prelude.{◌≡◌, ◌≤◌, ℕ, List, length, take, true, IfSome}
+use Rattle.std.specs.Io.KnownBytes.{Consumes, IsAtEnd}
+use Rattle.dmap_tags.specs.Tree.{Tree, trees_of}
+use Rattle.dmap_stream.specs.declared.event.Event.{Event}
+use Rattle.dmap_show.specs.Events.{shown_events}
+use Rattle.dmap_show.specs.Shown.{shown_tags}
+use Rattle.command_core.specs.declared.fault.Fault.{Fault}
+use Rattle.command_core.specs.declared.fault.Fault.TheVariants.{Own, Read, Memory}
+use Rattle.command_core.specs.Seen.{InputSeen, ShareSeen, no_share}
+use Rattle.command_core.specs.Causes.{HasReadOn}
+use Rattle.command_core.specs.Meanings.{Meaning, leaves_no_share, may_read}
+use Rattle.tag_commands.specs.declared.tags_fault.TagsFault.{TagsFault}
+use Rattle.tag_commands.specs.TopTags.{tags_limit, walked, AreTopTags, IsSound, IsSoundSoFar, tags_line, tags_status, tags_cause}
+
+-- the events in as many of the bytes as are read
+abbrev pub read_events : List ℕ → List Event
+read_events bytes = (walked (take tags_limit bytes)).events
+
+-- the lines of all of them
+abbrev pub shown_text : List ℕ → List ℕ
+shown_text bytes = shown_events 0 (read_events bytes)
+
+-- the lines of the first of them
+abbrev pub BeginsShown : (bytes lines : List ℕ) → Type 0
+BeginsShown bytes lines = (count : ℕ) × (lines ≡ shown_events 0 (take count (read_events bytes)))
+
+-- the input was read to its end, without a fault, and is tags, and the output is their lines
+pub record IsShownWhole (before after : InputSeen) (share : ShareSeen) (output : List ℕ) : Type 0 where
+  pub bytes : List ℕ
+  pub read : Consumes before.left after.left bytes
+  pub end : IsAtEnd after.left
+  pub faultless : after.faults ≡ before.faults
+  pub within : length bytes ≤ tags_limit
+  pub tags : List Tree
+  pub sound : AreTopTags tags bytes
+  pub unopened : share ≡ no_share
+  pub written : output ≡ shown_tags 0 (trees_of tags)
+
+-- the lines of the first events of bytes that were read
+pub record IsShownFront (before after : InputSeen) (lines : List ℕ) : Type 0 where
+  pub bytes : List ℕ
+  pub read : Consumes before.left after.left bytes
+  pub shown : BeginsShown bytes lines
+
+-- where the output fails within those, no more was read than there was cause to
+pub record IsShownCut (before after : InputSeen) (share : ShareSeen) (lines : List ℕ) : Type 0 where
+  pub shown : IsShownFront before after lines
+  pub read_on : HasReadOn IsSoundSoFar before after
+  pub unopened : share ≡ no_share
+
+-- all events before a fault are shown: of the input up to its faulty place or the limit, or of what was read when a
+-- read failed. For want of memory they may be fewer
+abbrev pub ShowsAll : Fault TagsFault → InputSeen → InputSeen → List ℕ → Type 0
+ShowsAll (Own own) before after lines = IfSome before.left (λ input. lines ≡ shown_text input)
+ShowsAll Read before after lines = (bytes : List ℕ) × Consumes before.left after.left bytes × (lines ≡ shown_text bytes)
+ShowsAll Memory before after lines = Unit {0}
+
+-- what stands on the output before the line of a fault
+pub record IsShownBefore (before after : InputSeen) (fault : Fault TagsFault) (lines : List ℕ) : Type 0 where
+  pub some : IsShownFront before after lines
+  pub all : ShowsAll fault before after lines
+
+abbrev pub show_meaning : Meaning
+show_meaning = record {
+  fault = TagsFault;
+  line = tags_line;
+  status = tags_status;
+  cause = tags_cause;
+  reads_on = IsSoundSoFar;
+  gives = IsSound;
+  is_done = λ before after share output. IsShownWhole before.input after.input share output;
+  is_begun = λ before after share output. IsShownCut before.input after.input share output;
+  is_front = λ before after fault front. IsShownBefore before.input after.input fault front;
+  leaves = leaves_no_share;
+  may_want = may_read;
+  leaves_files = true;
+  leaves_net = true;
+}

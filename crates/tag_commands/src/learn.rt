@@ -1,0 +1,222 @@
+//! The command `codes --learn`: the table that a reply to `/content-codes` tells.
+
+ghost use Rattle.std.specs.Prelude.{◌≡◌, ◌++◌, ◌∷◌, [], ℕ, List, length, IfOk, IfErr, OnOk, MatchOption};
+ghost use Rattle.std.specs.Io.KnownBytes.{Consumes};
+ghost use Rattle.command_core.specs.Seen.{Around, input_seen, output_seen, told_beside, no_share};
+ghost use Rattle.command_core.specs.Endings.{IsAnswered};
+ghost use Rattle.tag_commands.specs.LearnCodes.{IsUnfinished, IsReply, IsLearned, StopsReading, table_text, learn_line, learn_status, table_fault, broken_fault, learn_meaning};
+ghost use Rattle.tag_commands.specs.Learning.{is_whole, IsLearning, LearnStops, IsRefusal};
+
+use crate::codes::lines_of;
+use crate::counting::{Counter, PIECE, TAG_LIMIT};
+use crate::tags_fault::broken_line;
+use code_table::{CodeError, CodeTable};
+use command_core::{Fault, Outcome, Refusal, written};
+use daap_outside::{Failed, Sink, Source};
+use dmap_stream::{Limits, StreamError, read_tag};
+use fault_lines::push_number;
+use std::alloc::{AllocError, Global};
+
+/// Why an input is not taken as a reply. Want of memory is none of these.
+#[derive(Debug, Drop)]
+pub enum LearnFault {
+    /// It begins with no whole tag.
+    Broken(StreamError),
+    /// Its tag tells no table, or is not all of it.
+    Table(CodeError),
+}
+
+impl Refusal for LearnFault {
+    ghost told_line = { learn_line };
+
+    ghost told_status = { learn_status };
+
+    fn line(&self, alloc: Global) -> Result<Vec<u8>, AllocError> {
+        match self {
+            LearnFault::Broken(error) => broken_line(alloc, error),
+            LearnFault::Table(error) => table_line(alloc, error),
+        }
+    }
+
+    fn status(&self) -> u8 {
+        3
+    }
+}
+
+fn table_line(alloc: Global, error: &CodeError) -> Result<Vec<u8>, AllocError>
+    ensures { IfOk result (λ line. line.items ≡ table_text error.now ++ 10 ∷ []) }
+{
+    let mut line = Vec::new(alloc);
+    push_table(&mut line, error)?;
+    line.push(b'\n')?;
+    Ok(line)
+}
+
+fn push_table(line: &mut Vec<u8>, error: &CodeError) -> Result<(), AllocError>
+    ensures { OnOk result (line.new.items ≡ line.old.items ++ table_text error.now) }
+{
+    match error {
+        CodeError::NotReply => line.extend_from_slice(b"codes: not a reply"),
+        CodeError::Entry { index } => push_number(line, b"codes: entry ", *index),
+        CodeError::Repeated { index } => push_number(line, b"codes: repeated ", *index),
+        CodeError::Memory => line.extend_from_slice(b"memory"),
+    }
+}
+
+/// What a refusal of the reply's tag is to `codes --learn`.
+fn broken_fault(error: StreamError) -> Fault<LearnFault>
+    ensures { result ≡ broken_fault error }
+{
+    match error {
+        StreamError::Memory => Fault::Memory,
+        refusal => Fault::Own(LearnFault::Broken(refusal)),
+    }
+}
+
+/// What a refusal of its table is.
+fn table_fault(error: CodeError) -> Fault<LearnFault>
+    ensures { result ≡ table_fault error }
+{
+    match error {
+        CodeError::Memory => Fault::Memory,
+        refusal => Fault::Own(LearnFault::Table(refusal)),
+    }
+}
+
+/// Does `codes --learn`: the lines of the table that the input tells.
+pub fn learn_codes<I: Source, W: Sink>(alloc: Global, input: &mut I, output: &mut W) -> Outcome
+    ensures { (around : Around) → IsAnswered learn_meaning
+        (told_beside around
+        (input_seen (I.left input.old) (I.faults input.old))
+        (input_seen (I.left input.new) (I.faults input.new))
+        (output_seen (W.taken output.old) (W.faults output.old))
+        (output_seen (W.taken output.new) (W.faults output.new)))
+        result }
+{
+    let answer = learned(alloc, input);
+    written(alloc, output, answer)
+}
+
+/// The front of a reply: its bytes, and a reader that was fed them and finds each faulty place as it comes.
+#[derive(Debug, Drop)]
+pub struct Learner {
+    pub counter: Counter,
+    pub bytes: Vec<u8>,
+}
+
+impl Learner {
+    /// Before the first byte.
+    fn new(alloc: Global) -> Result<Learner, AllocError>
+        ensures { IfOk result (λ learner. IsLearning [] learner) }
+    {
+        Ok(Learner {
+            counter: Counter::new(alloc)?,
+            bytes: Vec::new(alloc),
+        })
+    }
+
+    /// Takes more bytes, and answers the table where they end its reply.
+    fn take(&mut self, alloc: Global, piece: &[u8]) -> Result<Option<CodeTable>, Fault<LearnFault>>
+        requires { (fed : List ℕ) × IsLearning fed self.old }
+        ensures took { (fed : List ℕ) → IsLearning fed self.old → IfOk result (λ learned. MatchOption learned
+            (IsLearning (fed ++ piece.now) self.new)
+            (λ table. IsReply table (fed ++ piece.now))) }
+        ensures stopped { (fed : List ℕ) → IsLearning fed self.old
+            → IfErr result (λ fault. LearnStops (fed ++ piece.now) fault) }
+    {
+        self.bytes.extend_from_slice(piece)?;
+        match self.counter.feed(piece) {
+            Ok(()) if !is_whole(self.bytes.as_slice()) => Ok(None),
+            Ok(()) => judged(alloc, self.bytes.as_slice()),
+            Err(StreamError::Memory) => Err(Fault::Memory),
+            // The faulty place may lie behind the first tag.
+            Err(_) => judged(alloc, self.bytes.as_slice()),
+        }
+    }
+}
+
+/// As many bytes are there as their head tells of the first tag.
+fn is_whole(bytes: &[u8]) -> bool
+    ensures { result ≡ is_whole bytes.now }
+{
+    if bytes.len() < 8 {
+        return false;
+    }
+    let (head, payload) = bytes.split_at(8);
+    let told = u32::from_be_bytes([head[4], head[5], head[6], head[7]]);
+    told as usize <= payload.len()
+}
+
+/// The table that the first tag of the bytes tells, where the tag is whole and nothing stands behind it.
+fn judged(alloc: Global, bytes: &[u8]) -> Result<Option<CodeTable>, Fault<LearnFault>>
+    ensures told { IfOk result (λ learned. MatchOption learned (IsUnfinished bytes.now) (λ table. IsReply table bytes.now)) }
+    ensures refused { IfErr result (λ fault. IsRefusal bytes.now fault) }
+{
+    let standard = CodeTable::standard(alloc)?;
+    match read_tag(alloc, bytes, &standard, Limits { top: TAG_LIMIT }) {
+        Ok((tag, len)) => {
+            let table = match CodeTable::from_reply(alloc, &tag) {
+                Ok(table) => table,
+                Err(error) => return Err(table_fault(error)),
+            };
+            if len < bytes.len() {
+                return Err(Fault::Own(LearnFault::Table(CodeError::NotReply)));
+            }
+            Ok(Some(table))
+        }
+        Err(StreamError::Truncated { .. }) => Ok(None),
+        Err(error) => Err(broken_fault(error)),
+    }
+}
+
+/// Reads the input to the end of its first tag, and answers the table that the tag tells.
+fn told_table<I: Source>(alloc: Global, input: &mut I) -> Result<CodeTable, Fault<LearnFault>>
+    ensures told { IfOk result (λ table. (fed : List ℕ) × IsReply table fed × Consumes (I.left input.old) (I.left input.new) fed) }
+    ensures faultless { IfOk result (λ _. I.faults input.new ≡ I.faults input.old) }
+    ensures cause { IfErr result (λ fault. StopsReading
+        (input_seen (I.left input.old) (I.faults input.old))
+        (input_seen (I.left input.new) (I.faults input.new))
+        fault) }
+{
+    let mut learner = Learner::new(alloc)?;
+    let mut piece = [0; PIECE];
+    loop {
+        let n = match input.read(&mut piece) {
+            Ok(n) => n,
+            Err(Failed) => return Err(Fault::Read),
+        };
+        if n == 0 {
+            let at = learner.counter.bytes;
+            return Err(Fault::Own(LearnFault::Broken(StreamError::Truncated { at })));
+        }
+        let (read, _) = piece.split_at(n);
+        match learner.take(alloc, read) {
+            Ok(None) => {}
+            Ok(Some(table)) => return Ok(table),
+            Err(fault) => return Err(fault),
+        }
+    }
+}
+
+/// Reads the input to its end, and answers the lines of the table that it tells.
+fn learned<I: Source>(alloc: Global, input: &mut I) -> Result<Vec<u8>, Fault<LearnFault>>
+    ensures learned { IfOk result (λ lines. IsLearned
+        (input_seen (I.left input.old) (I.faults input.old))
+        (input_seen (I.left input.new) (I.faults input.new))
+        no_share lines.items) }
+    ensures cause { IfErr result (λ fault. StopsReading
+        (input_seen (I.left input.old) (I.faults input.old))
+        (input_seen (I.left input.new) (I.faults input.new))
+        fault) }
+{
+    let table = match told_table(alloc, input) {
+        Ok(table) => table,
+        Err(fault) => return Err(fault),
+    };
+    let mut behind = [0; 1];
+    match input.read(&mut behind) {
+        Ok(0) => Ok(lines_of(alloc, &table)?),
+        Ok(_) => Err(Fault::Own(LearnFault::Table(CodeError::NotReply))),
+        Err(Failed) => Err(Fault::Read),
+    }
+}

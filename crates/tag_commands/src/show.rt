@@ -1,0 +1,223 @@
+//! The command `show`: tags are read as they come, and their lines are written piece by piece.
+
+ghost use Rattle.std.specs.Prelude.{◌≡◌, ◌+◌, ◌≤◌, ◌++◌, [], ℕ, List, length, IfOk, IfErr, OnOk};
+ghost use Rattle.std.specs.Io.KnownBytes.{Consumes, Appends, IsAtEnd};
+ghost use Rattle.dmap_stream.specs.Reader.{ready};
+ghost use Rattle.command_core.specs.Seen.{Around, input_seen, output_seen, told_beside, no_share};
+ghost use Rattle.command_core.specs.Endings.{IsWritten, IsAnswered};
+ghost use Rattle.tag_commands.specs.TopTags.{tags_limit};
+ghost use Rattle.tag_commands.specs.Show.{show_meaning, IsShownWhole};
+ghost use Rattle.tag_commands.specs.Showing.{HasShown, IsShowing, ShowsSome, IsLast, StopsShowing, StepStops, ShowStops};
+
+use crate::counting::{Counter, PIECE, TAGS_LIMIT};
+use crate::tags_fault::{TagsFault, tags_fault};
+use command_core::{Fault, Outcome, refused};
+use daap_outside::{Failed, Sink, Source, put_all};
+use dmap_show::show_event;
+use dmap_stream::StreamError;
+use std::alloc::{AllocError, Global};
+
+/// Does `show`: the lines of the input's tags, written as they are read.
+pub fn show_tags<I: Source, W: Sink>(alloc: Global, input: &mut I, output: &mut W) -> Outcome
+    ensures { (around : Around) → IsAnswered show_meaning
+        (told_beside around
+        (input_seen (I.left input.old) (I.faults input.old))
+        (input_seen (I.left input.new) (I.faults input.new))
+        (output_seen (W.taken output.old) (W.faults output.old))
+        (output_seen (W.taken output.new) (W.faults output.new)))
+        result }
+{
+    match shown(alloc, input, output) {
+        Ok(()) => Outcome {
+            status: 0,
+            history: None,
+        },
+        Err(Stop::Input(fault)) => refused(alloc, output, &fault),
+        Err(Stop::Output) => Outcome {
+            status: 5,
+            history: None,
+        },
+    }
+}
+
+/// Why showing ended early.
+#[derive(Debug, Drop)]
+pub enum Stop {
+    /// The input, or want of memory. The lines before it were written.
+    Input(Fault<TagsFault>),
+    /// The output took no more.
+    Output,
+}
+
+/// What was read so far, and the lines that are not written yet.
+#[derive(Debug, Drop)]
+pub struct Shower {
+    pub counter: Counter,
+    pub lines: Vec<u8>,
+}
+
+impl Shower {
+    /// Before the first byte.
+    fn new(alloc: Global) -> Result<Shower, AllocError>
+        ensures showing { IfOk result (λ shower. IsShowing [] [] shower) }
+        ensures idle { IfOk result (λ shower. shower.lines.items ≡ []) }
+    {
+        Ok(Shower {
+            counter: Counter::new(alloc)?,
+            lines: Vec::new(alloc),
+        })
+    }
+
+    /// Takes more bytes, and writes the lines that they bring.
+    fn step<W: Sink>(&mut self, piece: &[u8], output: &mut W) -> Result<(), Stop>
+        requires { (fed written : List ℕ) × IsShowing fed written self.old × (length fed ≤ tags_limit) }
+        ensures went { (fed written : List ℕ) → IsShowing fed written self.old
+            → IfOk result (λ _. (more : List ℕ) × IsShowing (fed ++ piece.now) (written ++ more) self.new
+            × (length (fed ++ piece.now) ≤ tags_limit)
+            × IsWritten (output_seen (W.taken output.old) (W.faults output.old))
+            (output_seen (W.taken output.new) (W.faults output.new)) more) }
+        ensures idle { OnOk result (self.new.lines.items ≡ []) }
+        ensures stopped { (fed written : List ℕ) → IsShowing fed written self.old
+            → IfErr result (λ stop. (more : List ℕ) × StepStops (fed ++ piece.now) (written ++ more) more
+            (output_seen (W.taken output.old) (W.faults output.old))
+            (output_seen (W.taken output.new) (W.faults output.new)) stop) }
+    {
+        let took = self.take(piece);
+        if let Err(Failed) = put_all(output, self.lines.as_slice()) {
+            return Err(Stop::Output);
+        }
+        self.lines.clear();
+        match took {
+            Ok(()) => Ok(()),
+            Err(fault) => Err(Stop::Input(fault)),
+        }
+    }
+
+    /// Makes the lines of what more bytes bring, up to the limit of the input.
+    fn take(&mut self, piece: &[u8]) -> Result<(), Fault<TagsFault>>
+        requires { (fed written : List ℕ) × IsShowing fed written self.old × (length fed ≤ tags_limit) }
+        ensures took { (fed written : List ℕ) → IsShowing fed written self.old
+            → IfOk result (λ _. IsShowing (fed ++ piece.now) written self.new × (length (fed ++ piece.now) ≤ tags_limit)) }
+        ensures stopped { (fed written : List ℕ) → IsShowing fed written self.old
+            → IfErr result (λ fault. StopsShowing (fed ++ piece.now) (written ++ self.new.lines.items) fault) }
+    {
+        let room = (TAGS_LIMIT - self.counter.bytes) as usize;
+        let (front, behind) = piece.split_at(piece.len().min(room));
+        match self.feed(front) {
+            Ok(()) if behind.is_empty() => Ok(()),
+            Ok(()) => Err(Fault::Own(TagsFault::TooLong)),
+            Err(error) => Err(tags_fault(error)),
+        }
+    }
+
+    /// Feeds all bytes to the reader, and makes the lines of their events, also of those before a faulty place.
+    fn feed(&mut self, piece: &[u8]) -> Result<(), StreamError>
+        requires { (fed written : List ℕ) × IsShowing fed written self.old × (length fed + length piece.now ≤ tags_limit) }
+        ensures fed { (fed written : List ℕ) → IsShowing fed written self.old
+            → IfOk result (λ _. IsShowing (fed ++ piece.now) written self.new) }
+        ensures stopped { (fed written : List ℕ) → IsShowing fed written self.old
+            → IfErr result (λ error. IsLast (fed ++ piece.now) (written ++ self.new.lines.items) error) }
+    {
+        let mut rest = piece;
+        while !rest.is_empty() {
+            let taken = match self.counter.reader.feed(rest) {
+                Ok(taken) => taken,
+                Err(error) => {
+                    self.show_ready()?;
+                    return Err(error);
+                }
+            };
+            self.show_ready()?;
+            let (_, behind) = rest.split_at(taken);
+            rest = behind;
+        }
+        self.counter.bytes += piece.len() as u64;
+        Ok(())
+    }
+
+    /// Makes the lines of all events that are ready.
+    fn show_ready(&mut self) -> Result<(), AllocError>
+        requires { (fed written : List ℕ)
+            × HasShown fed written self.old.counter.reader self.old.counter.tops self.old.lines.items
+            × (length fed ≤ tags_limit) }
+        ensures shown { (fed written : List ℕ)
+            → HasShown fed written self.old.counter.reader self.old.counter.tops self.old.lines.items
+            → OnOk result (HasShown fed written self.new.counter.reader self.new.counter.tops self.new.lines.items) }
+        ensures quiet { OnOk result (ready self.new.counter.reader ≡ []) }
+        ensures error { self.new.counter.reader.error ≡ self.old.counter.reader.error }
+        ensures bytes { self.new.counter.bytes ≡ self.old.counter.bytes }
+        ensures some { (fed written : List ℕ)
+            → HasShown fed written self.old.counter.reader self.old.counter.tops self.old.lines.items
+            → IfErr result (λ _. ShowsSome fed (written ++ self.new.lines.items)) }
+    {
+        while let Some(event) = self.counter.reader.next() {
+            let level = self.counter.tops.depth as u32;
+            show_event(&event, level, &mut self.lines)?;
+            self.counter.tops.count(event);
+        }
+        Ok(())
+    }
+}
+
+/// Reads the input to its end, within its limit, and writes the lines of its events.
+fn streamed<I: Source, W: Sink>(
+    alloc: Global,
+    input: &mut I,
+    output: &mut W,
+) -> Result<Shower, Stop>
+    ensures read { IfOk result (λ shower. (fed written : List ℕ) × IsShowing fed written shower × (length fed ≤ tags_limit)
+        × Consumes (I.left input.old) (I.left input.new) fed × Appends (W.taken output.old) (W.taken output.new) written) }
+    ensures end { IfOk result (λ shower. IsAtEnd (I.left input.new) × (shower.lines.items ≡ [])) }
+    ensures faultless { OnOk result ((I.faults input.new ≡ I.faults input.old) × (W.faults output.new ≡ W.faults output.old)) }
+    ensures stopped { IfErr result (λ stop. ShowStops
+        (input_seen (I.left input.old) (I.faults input.old))
+        (input_seen (I.left input.new) (I.faults input.new))
+        (output_seen (W.taken output.old) (W.faults output.old))
+        (output_seen (W.taken output.new) (W.faults output.new))
+        stop) }
+{
+    let mut shower = match Shower::new(alloc) {
+        Ok(shower) => shower,
+        Err(AllocError) => return Err(Stop::Input(Fault::Memory)),
+    };
+    let mut piece = [0; PIECE];
+    loop {
+        let n = match input.read(&mut piece) {
+            Ok(n) => n,
+            Err(Failed) => return Err(Stop::Input(Fault::Read)),
+        };
+        if n == 0 {
+            return Ok(shower);
+        }
+        let (read, _) = piece.split_at(n);
+        if let Err(stop) = shower.step(read, output) {
+            return Err(stop);
+        }
+    }
+}
+
+/// Reads the input to its end, and writes the lines of its tags as it reads them.
+///
+/// Where the input is refused, its lines up to there have been written.
+fn shown<I: Source, W: Sink>(alloc: Global, input: &mut I, output: &mut W) -> Result<(), Stop>
+    ensures shown { OnOk result ((lines : List ℕ)
+        × IsShownWhole (input_seen (I.left input.old) (I.faults input.old))
+        (input_seen (I.left input.new) (I.faults input.new)) no_share lines
+        × IsWritten (output_seen (W.taken output.old) (W.faults output.old))
+        (output_seen (W.taken output.new) (W.faults output.new)) lines) }
+    ensures stopped { IfErr result (λ stop. ShowStops
+        (input_seen (I.left input.old) (I.faults input.old))
+        (input_seen (I.left input.new) (I.faults input.new))
+        (output_seen (W.taken output.old) (W.faults output.old))
+        (output_seen (W.taken output.new) (W.faults output.new))
+        stop) }
+{
+    let shower = match streamed(alloc, input, output) {
+        Ok(shower) => shower,
+        Err(stop) => return Err(stop),
+    };
+    match shower.counter.end() {
+        Ok(_) => Ok(()),
+        Err(error) => Err(Stop::Input(tags_fault(error))),
+    }
+}
