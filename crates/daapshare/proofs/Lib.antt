@@ -1,10 +1,1 @@
-pub mod Tagged
-pub mod Counting
-pub mod Counted
-pub mod Showing
-pub mod Agreed
-pub mod Endings
-pub mod Learned
-pub mod Backed
-pub mod Causes
-pub mod Mirrors
+pub mod Senses

@@ -1,21 +1,21 @@
-//! What holds of mirrors of the items, over all histories. The functions do nothing; each has a law as its contract.
+//! What holds of mirrors of a share, over all histories, targets, queries and choices of properties. The functions do
+//! nothing; each has a law as its contract.
 
-ghost use Rattle.daapshare.specs.MirrorLaw.{MirrorsStayWhole, MirrorsBeginWhole, AnswersAreListings};
+ghost use Rattle.mirror_core.specs.Laws.{MirrorsFollowAnswers, FullBodiesSuffice};
 
-/// A mirror that was up to date is so again after each answer, whatever came in between.
-#[tactic(auto, using(crate::proofs::Mirrors::stay_whole))]
-pub fn a_mirror_stays_whole()
-    ensures { MirrorsStayWhole }
-{}
+use mirror_core::laws;
 
-/// A mirror is up to date after its first listing.
-#[tactic(auto, using(crate::proofs::Mirrors::begin_whole))]
-pub fn a_mirror_begins_whole()
-    ensures { MirrorsBeginWhole }
-{}
+/// A mirror that held all rows of a front of a history holds all rows of the whole after the body of its answer, whether
+/// that is a change or all rows.
+pub fn a_mirror_follows_answers()
+    ensures { MirrorsFollowAnswers }
+{
+    laws::a_mirror_follows_answers();
+}
 
-/// The body of each answer to a mirror is a listing for it, and by `mirror_core`'s laws no other one.
-#[tactic(auto, using(crate::proofs::Mirrors::answers_are_listings))]
-pub fn an_answer_is_a_listing()
-    ensures { AnswersAreListings }
-{}
+/// After a body that tells all rows a mirror holds them, whatever it held.
+pub fn a_full_body_suffices()
+    ensures { FullBodiesSuffice }
+{
+    laws::a_full_body_suffices();
+}

@@ -1,26 +1,16 @@
 //! `daapshare`: a server and a mirror client for a shared music catalogue over DAAP.
-//! Today it lists a library from records, checks tags, shows them as text and reads that back, and tells and learns
-//! tables of content codes.
+//! `run` ends as the meaning of its words' command says (`specs/Table.antt`), whatever input and output it is given.
 #![tactic(auto)]
 
-mod answer;
-mod back;
-mod check;
-mod codes;
-mod fault;
 pub mod laws;
-mod learn;
-mod list;
-mod listing;
-mod look;
 mod run;
-mod show;
 #[cfg(test)]
 mod tests;
-mod tops;
+mod usage;
 
-use crate::fault::Fault;
-use crate::run::{Outcome, refused, run};
+use crate::run::run;
+use crate::usage::UsageFault;
+use command_core::{Fault, Outcome, out_of_memory, refused};
 use daap_outside::{MemFiles, MemNet, Reading, Writing};
 use std::alloc::Global;
 use std::io::{ErrorKind, Read, Write};
@@ -61,7 +51,7 @@ fn run_on<R: Read, W: Write>(
             &mut MemFiles::new(),
             &mut MemNet::new(alloc),
         ),
-        Err(_) => refused(alloc, output, &Fault::Memory),
+        Err(_) => out_of_memory(output, None),
     }
 }
 
@@ -71,10 +61,8 @@ fn main(rt: HostRuntime) -> ExitCode {
     let mut output = Writing::new(rt.stdout());
     let outcome = match words_of(&rt) {
         Ok(words) => run_on(alloc, words.as_slice(), &mut input, &mut output),
-        Err(error) if error.kind() == ErrorKind::OutOfMemory => {
-            refused(alloc, &mut output, &Fault::Memory)
-        }
-        Err(_) => refused(alloc, &mut output, &Fault::Words),
+        Err(error) if error.kind() == ErrorKind::OutOfMemory => { out_of_memory(&mut output, None) }
+        Err(_) => refused(alloc, &mut output, &Fault::Own(UsageFault::NoCommand)),
     };
     ExitCode::from(outcome.status)
 }

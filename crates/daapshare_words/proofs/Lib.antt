@@ -2,4 +2,3 @@ pub mod Digits
 pub mod Parts
 pub mod Plain
 pub mod Taken
-pub mod Unnamed

@@ -1,6 +1,6 @@
 -- What the words of one command are: those that clap's own definition takes, for a command with
 -- places, options with a value and flags, by long names alone, without help or version.
-use Rattle.std.specs.Prelude.{List, [], ◌∷◌, map, Bool, true, false, Option, Some, None, codes}
+use Rattle.std.specs.Prelude.{List, [], ◌∷◌, map, Bool, true, false, Option, Some, None, codes, option_and_then}
 use Rattle.std.specs.Option.{option_map_or}
 use Rattle.std.specs.Str.{bytes_eq}
 use Rattle.std.specs.Borrow.{Bor}
@@ -57,3 +57,7 @@ rows_for g words = unless_faulty (fault_of (app_for g) words) (matches_of (app_f
 abbrev pub is_flagged : Text → List Row → Bool
 is_flagged name rows =
     option_map_or (λ text. bytes_eq text (codes "true")) (first_of name rows) false
+
+-- what the words are by a grammar and what its matches say, where clap's definition takes them
+abbrev pub command_by : {T : Type 0} → (List Row → Option T) → Grammar → List Text → Option T
+command_by reads g words = option_and_then reads (rows_for g words)

@@ -1,3 +1,9 @@
 pub mod Grammar
-pub mod Words
 pub mod Numbers
+pub mod List
+pub mod Show
+pub mod Check
+pub mod Codes
+pub mod Rehearse
+pub mod Usage
+pub mod Words

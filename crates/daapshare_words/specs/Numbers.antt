@@ -1,7 +1,6 @@
 -- A number that is given as a word: from one to ten decimal digits, zeros in front counted among
 -- them, and no other byte. It is at most 4,294,967,295.
-use Rattle.std.specs.Prelude.{◌&&◌, ℕ, Bool, Option, Some, None, if◌then◌else◌, length}
-use Rattle.std.specs.Prelude.{nat_le}
+use Rattle.std.specs.Prelude.{◌&&◌, ℕ, Bool, Option, Some, None, if◌then◌else◌, length, nat_le, option_and_then}
 use Rattle.std.specs.Char.{is_ascii_digit}
 use Rattle.std.specs.List.{list_all}
 use Rattle.std.specs.Str.Parse.{digits_value}
@@ -16,3 +15,13 @@ abbrev pub number_of_word : Text → Option ℕ
 number_of_word word =
     if is_number_word word && nat_le (digits_value 10 word) 4294967295
     then Some (digits_value 10 word) else None
+
+-- the number that a word writes, where it is between two numbers or one of them
+abbrev pub number_within : (least most : ℕ) → Option Text → Option ℕ
+number_within least most word =
+    option_and_then (λ n. if nat_le least n && nat_le n most then Some n else None) (option_and_then number_of_word word)
+
+-- for how many revisions a share keeps what changed: 256 where it is not said
+abbrev pub keep_of : Option Text → Option ℕ
+keep_of None = Some 256
+keep_of (Some word) = number_within 1 65536 (Some word)

@@ -2,10 +2,11 @@
 
 ghost use Rattle.std.specs.Prelude.{◌≡◌, ◌≢◌, Some, None, false, [], IfOk, MatchResult, option_map};
 ghost use Rattle.clap.specs.Words.{app_of, rule_of, rows_of, first_of, found_of};
-ghost use Rattle.daapshare_words.specs.Grammar.{app_for, grammar_of, rule_for, rows_for, texts_of};
+ghost use Rattle.daapshare_words.specs.Grammar.{app_for, grammar_of, is_flagged, rule_for, rows_for, texts_of};
 
-use crate::words::WordsError;
+use crate::command::WordsError;
 use clap::{Arg, ArgAction, ArgMatches, Command};
+use dmap_tags::Text;
 use std::alloc::{AllocError, Global};
 
 /// How a part of a command stands among its words.
@@ -73,5 +74,29 @@ fn argument<'a>(alloc: Global, name: &'a str, part: Part) -> Arg<'a>
         Part::Place => argument.required(true).action(ArgAction::Set),
         Part::Valued => argument.long(name).action(ArgAction::Set),
         Part::Flag => argument.long(name).action(ArgAction::SetTrue),
+    }
+}
+
+/// The value of an option as a text of its own, `None` where the option doesn't stand.
+pub fn text_of(
+    alloc: Global,
+    matches: &ArgMatches<'_>,
+    name: &str,
+) -> Result<Option<Text>, AllocError>
+    ensures { IfOk result (λ t. t ≡ first_of name.now (rows_of (found_of matches.now))) }
+{
+    match value_of(matches, name) {
+        Some(text) => Ok(Some(Text::of(alloc, text)?)),
+        None => Ok(None),
+    }
+}
+
+/// The flag `name` was given.
+pub fn has_flag(matches: &ArgMatches<'_>, name: &str) -> bool
+    ensures { result ≡ is_flagged name.now (rows_of (found_of matches.now)) }
+{
+    match value_of(matches, name) {
+        Some(text) => text == "true",
+        None => false,
     }
 }

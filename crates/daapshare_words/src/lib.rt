@@ -1,12 +1,24 @@
 //! The words of the command line: a command is read where `clap`'s definition of that command takes the words.
-//! Contracts see a command line as a list of texts, and its command by `specs/Words.antt`.
+//! Contracts see a command line as a list of texts, and its command by `specs/Words.antt`. What the words of one command
+//! are stands in its file of `src/` and of `specs/`.
 #![tactic(auto)]
 
+mod check;
+mod codes;
+mod command;
 mod grammar;
+mod list;
 mod numbers;
+mod rehearse;
+mod show;
 #[cfg(test)]
 mod tests;
-mod words;
+mod usage;
 
+pub use codes::CodesWords;
+pub use command::{Command, WordsError, read_words};
+pub use list::ListWords;
 pub use numbers::number_word;
-pub use words::{Command, WordsError, read_words};
+pub use rehearse::RehearseWords;
+pub use show::ShowWords;
+pub use usage::usage_text;

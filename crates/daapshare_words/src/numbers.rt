@@ -1,9 +1,9 @@
 //! Numbers among the words of the command line.
 
-ghost use Rattle.std.specs.Prelude.{◌≡◌};
+ghost use Rattle.std.specs.Prelude.{◌≡◌, ◌≤◌, IfSome, option_map};
 ghost use Rattle.std.specs.Char.{is_ascii_digit};
 ghost use Rattle.std.specs.List.{list_all};
-ghost use Rattle.daapshare_words.specs.Numbers.{number_of_word};
+ghost use Rattle.daapshare_words.specs.Numbers.{number_of_word, number_within, keep_of};
 
 /// The number that a word of 1 to 10 decimal digits writes, where it is at most 4,294,967,295.
 pub fn number_word(word: &str) -> Option<u32>
@@ -20,4 +20,31 @@ fn are_digits(word: &[u8]) -> bool
     ensures { result ≡ list_all is_ascii_digit word.now }
 {
     word.iter().all(|byte| byte.is_ascii_digit())
+}
+
+/// For how many revisions a share keeps what changed, where the words don't say it.
+const DEFAULT_KEEP: u32 = 256;
+
+/// The number that a word writes, where it is between two numbers or one of them.
+pub fn number_of(word: Option<&str>, least: u32, most: u32) -> Option<u32>
+    ensures read { result ≡ number_within least most (option_map (λ s. s.now) word.entry) }
+    ensures within { IfSome result (λ n. (least ≤ n) × (n ≤ most)) }
+{
+    let number = number_word(word?)?;
+    if least <= number && number <= most {
+        Some(number)
+    } else {
+        None
+    }
+}
+
+/// For how many revisions a share keeps what changed, where the word is that of `--keep`.
+pub fn keep_of(word: Option<&str>) -> Option<u32>
+    ensures read { result ≡ keep_of (option_map (λ s. s.now) word.entry) }
+    ensures within { IfSome result (λ n. (1 ≤ n) × (n ≤ 65536)) }
+{
+    match word {
+        Some(_) => number_of(word, 1, 65_536),
+        None => Some(DEFAULT_KEEP),
+    }
 }

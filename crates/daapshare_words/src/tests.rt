@@ -1,6 +1,6 @@
 //! Whole command lines, and number words.
 
-use crate::{Command, WordsError, number_word, read_words};
+use crate::{Command, WordsError, number_word, read_words, usage_text};
 use std::alloc::{AllocError, Global};
 use std::test::Fail;
 
@@ -26,23 +26,15 @@ fn is_text(text: &Option<dmap_tags::Text>, wanted: Option<&str>) -> bool {
 
 fn is_wanted(answer: &Result<Command, WordsError>, wanted: Wanted) -> bool {
     match (answer, wanted) {
-        (Ok(Command::List { query, meta }), Wanted::List(wanted_query, wanted_meta)) => {
-            is_text(query, wanted_query) && is_text(meta, wanted_meta)
+        (Ok(Command::List(words)), Wanted::List(wanted_query, wanted_meta)) => {
+            is_text(&words.query, wanted_query) && is_text(&words.meta, wanted_meta)
         }
-        (Ok(Command::Show { back }), Wanted::Show(wanted)) => *back == wanted,
+        (Ok(Command::Show(words)), Wanted::Show(wanted)) => words.back == wanted,
         (Ok(Command::Check), Wanted::Check) => true,
-        (Ok(Command::Codes { learn }), Wanted::Codes(wanted)) => *learn == wanted,
-        (
-            Ok(
-                Command::Rehearse {
-                    number,
-                    batches,
-                    size,
-                    keep,
-                },
-            ),
-            Wanted::Rehearse(wanted),
-        ) => [*number, *batches, *size, *keep] == wanted,
+        (Ok(Command::Codes(words)), Wanted::Codes(wanted)) => words.learn == wanted,
+        (Ok(Command::Rehearse(words)), Wanted::Rehearse(wanted)) => {
+            [words.number, words.batches, words.size, words.keep] == wanted
+        }
         (Err(WordsError::Usage), Wanted::Usage) => true,
         _ => false,
     }
@@ -170,4 +162,22 @@ fn number_words(rt: HostRuntime) {
     ] {
         assert_eq!(rt; number_word(word), wanted, "{word}");
     }
+}
+
+#[test]
+fn the_usage_text_has_a_line_for_each_command(rt: HostRuntime) -> Result<(), Fail> {
+    let text = usage_text(rt.alloc())?;
+    let wanted = "\
+usage: daapshare list [--query Q] [--meta M] [--list ID]
+       daapshare show [--back]
+       daapshare check
+       daapshare codes [--learn]
+       daapshare replay [--keep K] [--name N]
+       daapshare rehearse NUMBER BATCHES SIZE [--keep K]
+       daapshare serve LISTEN EDIT [--name N] [--keep K] [--workers W] [--editors E]
+       daapshare edit PLACE [--stop]
+       daapshare follow PLACE ROUNDS [--query Q] [--meta M] [--list ID]
+";
+    assert_eq!(rt; text.as_slice(), wanted.as_bytes());
+    Ok(())
 }

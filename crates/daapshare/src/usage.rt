@@ -1,0 +1,29 @@
+//! Words that are no command's.
+
+ghost use Rattle.std.specs.Prelude.{◌≡◌};
+ghost use Rattle.daapshare.specs.Usage.{usage_line, usage_status};
+
+use command_core::Refusal;
+use daapshare_words::usage_text;
+use std::alloc::{AllocError, Global};
+
+/// Why no command is done.
+#[derive(Debug, Drop)]
+pub enum UsageFault {
+    /// The words are no command's.
+    NoCommand,
+}
+
+impl Refusal for UsageFault {
+    ghost told_line = { usage_line };
+
+    ghost told_status = { usage_status };
+
+    fn line(&self, alloc: Global) -> Result<Vec<u8>, AllocError> {
+        usage_text(alloc)
+    }
+
+    fn status(&self) -> u8 {
+        2
+    }
+}

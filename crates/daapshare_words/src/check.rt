@@ -1,0 +1,22 @@
+//! The words of `check`, which has no other than its name.
+
+ghost use Rattle.std.specs.Prelude.{IfOk};
+ghost use Rattle.daapshare_words.specs.Grammar.{texts_of};
+ghost use Rattle.daapshare_words.specs.Check.{check_command};
+ghost use Rattle.daapshare_words.specs.Words.{Reads, IsRanged};
+
+use crate::command::{Command, WordsError};
+use crate::grammar::{Part, matches_for};
+use std::alloc::Global;
+
+pub const USAGE: &str = "check";
+
+static PARTS: [(&str, Part); 0] = [];
+
+pub fn read(alloc: Global, words: &[&str]) -> Result<Command, WordsError>
+    ensures read { Reads (check_command (texts_of words.now)) result }
+    ensures ranged { IfOk result IsRanged }
+{
+    matches_for(alloc, "check", &PARTS, words)?;
+    Ok(Command::Check)
+}

@@ -1,0 +1,30 @@
+//! The words of `codes`.
+
+ghost use Rattle.std.specs.Prelude.{IfOk};
+ghost use Rattle.daapshare_words.specs.Grammar.{texts_of};
+ghost use Rattle.daapshare_words.specs.Codes.{codes_command};
+ghost use Rattle.daapshare_words.specs.Words.{Reads, IsRanged};
+
+use crate::command::{Command, WordsError};
+use crate::grammar::{Part, has_flag, matches_for};
+use std::alloc::Global;
+
+pub const USAGE: &str = "codes [--learn]";
+
+/// Whether `codes` is asked for the standard table, or for one to `learn` from the input.
+#[derive(Debug, Drop)]
+pub struct CodesWords {
+    pub learn: bool,
+}
+
+static PARTS: [(&str, Part); 1] = [("learn", Part::Flag)];
+
+pub fn read(alloc: Global, words: &[&str]) -> Result<Command, WordsError>
+    ensures read { Reads (codes_command (texts_of words.now)) result }
+    ensures ranged { IfOk result IsRanged }
+{
+    let matches = matches_for(alloc, "codes", &PARTS, words)?;
+    Ok(Command::Codes(CodesWords {
+        learn: has_flag(&matches, "learn"),
+    }))
+}

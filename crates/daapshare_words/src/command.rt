@@ -1,0 +1,91 @@
+//! The commands of the program, by the first word.
+
+ghost use Rattle.std.specs.Prelude.{◌≡◌, Some, None, IfOk, IfErr};
+ghost use Rattle.daapshare_words.specs.Grammar.{texts_of};
+ghost use Rattle.daapshare_words.specs.Words.{command_of, IsRanged};
+
+use crate::codes::CodesWords;
+use crate::list::ListWords;
+use crate::rehearse::RehearseWords;
+use crate::show::ShowWords;
+use crate::{check, codes, list, rehearse, show};
+use clap::error::ErrorKind;
+use std::alloc::{AllocError, Global};
+use thiserror::Error;
+
+/// What the program is asked for.
+#[derive(Debug, Drop)]
+pub enum Command {
+    /// The full listing of the records on the input.
+    List(ListWords),
+    /// Tags as shown text, or back from it.
+    Show(ShowWords),
+    /// Counts of the tags on the input.
+    Check,
+    /// The rows of the content code table, or those that the input tells.
+    Codes(CodesWords),
+    /// A rehearsal of made-up batches.
+    Rehearse(RehearseWords),
+}
+
+/// Why no command was read.
+#[derive(Debug, Drop, Error)]
+pub enum WordsError {
+    #[error("the words are not those of a command")]
+    Usage,
+    #[error("out of memory")]
+    Memory,
+}
+
+impl From<AllocError> for WordsError {
+    ghost use Rattle.std.specs.Prelude.{◌≡◌};
+    ghost use Rattle.daapshare_words.specs.declared.command.WordsError.TheVariants.{Memory};
+
+    ghost from_gives = { λ _ e. e ≡ Memory };
+
+    fn from(_: AllocError) -> WordsError {
+        WordsError::Memory
+    }
+}
+
+impl From<clap::Error> for WordsError {
+    ghost use Rattle.std.specs.Prelude.{◌≡◌, ◌≢◌};
+    ghost use Rattle.clap.specs.Words.{kind_of};
+    ghost use Rattle.clap.specs.declared.error.kind.ErrorKind.TheVariants.{OutOfMemory};
+    ghost use Rattle.daapshare_words.specs.declared.command.WordsError.TheVariants.{Usage};
+
+    ghost from_gives = { λ error e. e ≡ Usage → kind_of error ≢ OutOfMemory };
+
+    fn from(error: clap::Error) -> WordsError {
+        if error.kind() == ErrorKind::OutOfMemory {
+            WordsError::Memory
+        } else {
+            WordsError::Usage
+        }
+    }
+}
+
+/// Reads the words behind the program's name, the first of which names the command. Every fault of
+/// the words is `Usage`.
+pub fn read_words(alloc: Global, words: &[&str]) -> Result<Command, WordsError>
+    ensures read { IfOk result (λ c. command_of (texts_of words.now) ≡ Some c) }
+    ensures usage { IfErr result (λ e. e ≡ WordsError.Usage → command_of (texts_of words.now) ≡ None) }
+    ensures ranged { IfOk result IsRanged }
+{
+    let Some(name) = words.first() else {
+        return Err(WordsError::Usage);
+    };
+    if *name == "list" {
+        list::read(alloc, words)
+    } else if *name == "show" {
+        show::read(alloc, words)
+    } else if *name == "check" {
+        check::read(alloc, words)
+    } else if *name == "codes" {
+        codes::read(alloc, words)
+    } else if *name == "rehearse" {
+        rehearse::read(alloc, words)
+    } else {
+        Err(WordsError::Usage)
+    }
+}

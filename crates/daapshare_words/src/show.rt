@@ -1,0 +1,30 @@
+//! The words of `show`.
+
+ghost use Rattle.std.specs.Prelude.{IfOk};
+ghost use Rattle.daapshare_words.specs.Grammar.{texts_of};
+ghost use Rattle.daapshare_words.specs.Show.{show_command};
+ghost use Rattle.daapshare_words.specs.Words.{Reads, IsRanged};
+
+use crate::command::{Command, WordsError};
+use crate::grammar::{Part, has_flag, matches_for};
+use std::alloc::Global;
+
+pub const USAGE: &str = "show [--back]";
+
+/// Whether `show` is asked for tags as text, or `back` from it.
+#[derive(Debug, Drop)]
+pub struct ShowWords {
+    pub back: bool,
+}
+
+static PARTS: [(&str, Part); 1] = [("back", Part::Flag)];
+
+pub fn read(alloc: Global, words: &[&str]) -> Result<Command, WordsError>
+    ensures read { Reads (show_command (texts_of words.now)) result }
+    ensures ranged { IfOk result IsRanged }
+{
+    let matches = matches_for(alloc, "show", &PARTS, words)?;
+    Ok(Command::Show(ShowWords {
+        back: has_flag(&matches, "back"),
+    }))
+}
