@@ -1,0 +1,16 @@
+pub mod KeptFacts
+pub mod FrameFacts
+pub mod TellFacts
+pub mod ShowFacts
+pub mod StandFacts
+pub mod WholeFacts
+pub mod BackFacts
+pub mod RuleFacts
+pub mod TickFacts
+pub mod PruneFacts
+pub mod NoteFacts
+pub mod MemberFacts
+pub mod SinceFacts
+pub mod CountFacts
+pub mod NearFacts
+pub mod ReadFacts

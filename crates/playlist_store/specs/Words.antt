@@ -1,0 +1,29 @@
+-- What is told of a list: what it is, the item that stands under each of its keys, and a member as a pair.
+use Rattle.std.specs.Prelude.{ℕ, List, Option, Some, None, if◌then◌else◌}
+use Rattle.item_model.specs.declared.item.Row.{Row}
+use Rattle.item_model.specs.declared.query.Query.{Query}
+use Rattle.item_model.specs.declared.changes.Edit.{Edit}
+use Rattle.share_history.specs.LastSaid.{Playlist, Plain, Ruled, item_at, member_at}
+use Rattle.share_history.specs.Rows.{is_asked}
+use Rattle.playlist_store.specs.declared.head.ListHead.{ListHead}
+use Rattle.playlist_store.specs.declared.head.Member.{Member}
+
+-- the name of a list, and its rule if it has one
+abbrev pub head_of : Playlist → ListHead
+head_of (Plain name) = record { name = name; rule = None }
+head_of (Ruled name rule) = record { name = name; rule = Some rule }
+
+-- an item stands under its own id, where the rule holds of it
+abbrev pub ruled : Query → ℕ → Option Row → Option ℕ
+ruled rule id None = None
+ruled rule id (Some row) = if is_asked (Some rule) row then Some id else None
+
+-- the id of the item that stands under a key of a list: that of a plain list's member, whether the library has it or
+-- not, or that of an item of which the rule holds
+abbrev pub standing : Option Playlist → List Edit → ℕ → ℕ → Option ℕ
+standing None es c key = None
+standing (Some (Plain name)) es c key = member_at es c key
+standing (Some (Ruled name rule)) es c key = ruled rule key (item_at es key)
+
+abbrev pub pair_of : Member → ℕ × ℕ
+pair_of member = (member.key, member.item)

@@ -1,0 +1,103 @@
+//! Lists under their ids: a list that is put or dropped, and one that is taken back.
+
+ghost use Rattle.std.specs.Prelude.{◌≡◌, ◌≤◌, ◌<◌, ◌==◌, ℕ, true, false, None, OnOk, OnErr, if◌then◌else◌};
+ghost use Rattle.key_versions.specs.Held.{at};
+ghost use Rattle.playlist_store.specs.Changes.{found_in, Puts, PopsOne, Pops};
+
+use crate::kept::{Kept, KeptList};
+use std::alloc::{AllocError, Global};
+use std::collections::{BTreeMap, VecDeque};
+use std::mem;
+
+pub(crate) type Lists = BTreeMap<u32, KeptList>;
+
+// Makes this the newest of a list, in the place of one of its revision.
+pub(crate) fn put(alloc: Global, lists: &mut Lists, id: u32, kept: Kept) -> Result<(), AllocError>
+    ensures { Puts id kept result lists.old.entries lists.new.entries }
+{
+    match lists.get_mut(&id) {
+        Some(list) => put_over(list, kept),
+        None => put_first(alloc, lists, id, kept),
+    }
+}
+
+fn put_over(list: &mut KeptList, kept: Kept) -> Result<(), AllocError>
+    ensures now { OnOk result (list.new.now ≡ kept) }
+    ensures left { OnErr result (list.new.now ≡ list.old.now) }
+    ensures below { (v : ℕ) → v < kept.since → found_in list.new v ≡ found_in list.old v }
+{
+    if list.now.since == kept.since {
+        list.now = kept;
+        return Ok(());
+    }
+    match list.older.reserve(1) {
+        Ok(()) => {}
+        Err(error) => return Err(error),
+    }
+    let last = mem::replace(&mut list.now, kept);
+    list.older.push_front_reserved(last);
+    Ok(())
+}
+
+fn put_first(alloc: Global, lists: &mut Lists, id: u32, kept: Kept) -> Result<(), AllocError>
+    requires { at id lists.old.entries ≡ None }
+    ensures { Puts id kept result lists.old.entries lists.new.entries }
+{
+    let list = KeptList {
+        now: kept,
+        older: VecDeque::new(alloc),
+    };
+    match lists.insert(id, list) {
+        Ok(_) => Ok(()),
+        Err(_) => Err(AllocError),
+    }
+}
+
+// Takes out what lists were from a revision on.
+pub(crate) fn pop_all(lists: &mut Lists, ids: &[u32], revision: u32)
+    ensures { 1 ≤ revision → Pops revision ids.now lists.old.entries lists.new.entries }
+{
+    for id in ids {
+        pop(lists, *id, revision);
+    }
+}
+
+fn pop(lists: &mut Lists, id: u32, revision: u32)
+    ensures here { 1 ≤ revision → PopsOne revision (at id lists.old.entries) (at id lists.new.entries) }
+    ensures others { (q : ℕ) → (id == q) ≡ false → at q lists.new.entries ≡ at q lists.old.entries }
+{
+    if pop_at(lists, id, revision) {
+        remove(lists, id);
+    }
+}
+
+fn pop_at(lists: &mut Lists, id: u32, revision: u32) -> bool
+    ensures here { 1 ≤ revision → PopsOne revision (at id lists.old.entries) (if result then None else at id lists.new.entries) }
+    ensures others { (q : ℕ) → (id == q) ≡ false → at q lists.new.entries ≡ at q lists.old.entries }
+{
+    match lists.get_mut(&id) {
+        Some(list) => step_back(list, revision),
+        None => false,
+    }
+}
+
+// Tells whether nothing is left.
+fn step_back(list: &mut KeptList, revision: u32) -> bool
+    ensures gone { result ≡ true → (v : ℕ) → v < revision → found_in list.old v ≡ None }
+    ensures left { result ≡ false → (v : ℕ) → v < revision → found_in list.new v ≡ found_in list.old v }
+    ensures since { result ≡ false → list.new.now.since < revision }
+{
+    while revision <= list.now.since {
+        match list.older.pop_front() {
+            Some(kept) => list.now = kept,
+            None => return true,
+        }
+    }
+    false
+}
+
+pub(crate) fn remove(lists: &mut Lists, id: u32)
+    ensures { (q : ℕ) → at q lists.new.entries ≡ (if id == q then None else at q lists.old.entries) }
+{
+    lists.remove(&id);
+}

@@ -1,0 +1,19 @@
+//! What batches name.
+
+use std::marker::Model;
+
+/// What a batch names, each kind in order.
+#[derive(Debug, Drop)]
+pub(crate) struct Named {
+    pub(crate) lists: Vec<u32>,
+    pub(crate) members: Vec<(u32, u32)>,
+    pub(crate) items: Vec<u32>,
+}
+
+impl Model for Named {
+    ghost use Rattle.playlist_store.specs.Names.{Names};
+
+    ghost Value = { Names };
+
+    ghost view = { λ a. record { lists = a.lists.items; members = a.members.items; items = a.items.items } };
+}

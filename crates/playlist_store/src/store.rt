@@ -1,0 +1,150 @@
+//! A store of lists.
+
+ghost use Rattle.std.specs.Prelude.{◌≡◌, ◌≤◌, ◌+◌, ◌-◌, ◌++◌, ◌∷◌, [], List, true, false, OnOk, OnErr};
+ghost use Rattle.item_model.specs.declared.changes.Edit.{Edit};
+ghost use Rattle.item_model.specs.Valid.{AreValid};
+ghost use Rattle.item_store.specs.Stands as item_stands;
+ghost use Rattle.item_store.specs.Stands.{floor_of};
+ghost use Rattle.share_history.specs.Histories.{edits};
+ghost use Rattle.playlist_store.specs.Tests.{tests_of};
+ghost use Rattle.playlist_store.specs.Stands.{StandsFor, IsUnchanged};
+
+use crate::batches::{take_back_batch, take_in_batch};
+use crate::kept::KeptList;
+use crate::named::Named;
+use crate::prune::prune_to;
+use item_model::Edit;
+use item_store::ItemStore;
+use share_history::FIRST_REVISION;
+use song_query::Steps;
+use std::alloc::{AllocError, Global};
+use std::collections::{BTreeMap, VecDeque};
+use std::marker::Model;
+use std::sync::ledger::Ledger;
+
+/// The lists that batches of edits leave, with what they were as far back as is kept.
+#[derive(Debug, Drop)]
+pub struct PlaylistStore {
+    pub(crate) alloc: Global,
+    pub(crate) keep: u32,
+    pub(crate) revision: u32,
+    // the least revision that `lists` and `named` reach back to
+    pub(crate) low: u32,
+    pub(crate) can_undo: bool,
+    // what each batch after `low` names, in order
+    pub(crate) named: VecDeque<Named>,
+    pub(crate) lists: BTreeMap<u32, KeptList>,
+}
+
+impl Model for PlaylistStore {
+    ghost use Rattle.std.specs.Coded.{codes};
+    ghost use Rattle.item_model.specs.QueryCells.{query_coded};
+    ghost use Rattle.playlist_store.specs.Store.{Store};
+
+    ghost Value = { Store };
+
+    ghost coded = { Prim.hlevel (codes, query_coded) };
+
+    ghost view = { λ a. record { keep = a.keep; revision = a.revision; low = a.low; can_undo = a.can_undo; named = a.named.items; lists = a.lists.entries } };
+}
+
+impl PlaylistStore {
+    /// A store that no batch has changed yet, without memory. It keeps what was for `keep` revisions back, and for one
+    /// more as long as the last batch can be taken back.
+    pub fn open(alloc: Global, keep: u32) -> PlaylistStore
+        requires some { 1 ≤ keep }
+        requires few { keep ≤ 65536 }
+        ensures keep { result.keep ≡ keep }
+        ensures stands { StandsFor [] result }
+    {
+        PlaylistStore {
+            alloc,
+            keep,
+            revision: FIRST_REVISION,
+            low: FIRST_REVISION,
+            can_undo: false,
+            named: VecDeque::new(alloc),
+            lists: BTreeMap::new(alloc),
+        }
+    }
+
+    /// Takes in a batch, which makes the next revision. The items are those that are there with this batch. After an `Err`
+    /// the store answers as before. A rule is looked at only where an item of the batch may come or go, or where the
+    /// batch puts the rule: `steps` counts it.
+    pub fn apply<L: Ledger>(
+        &mut self,
+        batch: &[Edit],
+        revision: u32,
+        items: &ItemStore,
+        steps: &mut Steps<L>,
+    ) -> Result<(), AllocError>
+        requires next { revision ≡ self.old.revision + 1 }
+        requires valid { AreValid batch.now }
+        ensures stands { OnOk result ((bs : List (List Edit)) → StandsFor bs self.old → item_stands.StandsFor (bs ++ batch.now ∷ []) items.now → StandsFor (bs ++ batch.now ∷ []) self.new) }
+        ensures undo { OnOk result (self.new.can_undo ≡ true) }
+        ensures keep { self.new.keep ≡ self.old.keep }
+        ensures unchanged { OnErr result (IsUnchanged self.old self.new) }
+        ensures cost { (bs : List (List Edit)) → StandsFor bs self.old → item_stands.StandsFor (bs ++ batch.now ∷ []) items.now → steps.new ≤ steps.old + tests_of (edits (bs ++ batch.now ∷ [])) batch.now }
+    {
+        let taken = take_in_batch(
+            self.alloc,
+            &mut self.lists,
+            &mut self.named,
+            batch,
+            revision,
+            items,
+            steps,
+        );
+        match taken {
+            Ok(()) => {
+                // what was is kept as the revision before has it, so that the batch can be taken back
+                let low = floor(self.keep, self.revision);
+                prune_to(
+                    self.alloc,
+                    &mut self.lists,
+                    &mut self.named,
+                    self.low,
+                    low,
+                    self.revision,
+                );
+                self.low = low;
+                self.revision = revision;
+                self.can_undo = true;
+                Ok(())
+            }
+            Err(error) => Err(error),
+        }
+    }
+
+    /// Takes the last batch back, without memory. This can be done after an `apply` that answered `Ok`, and once.
+    pub fn undo(&mut self)
+        requires { self.old.can_undo ≡ true }
+        ensures stands { (bs : List (List Edit)) (batch : List Edit) → StandsFor (bs ++ batch ∷ []) self.old → StandsFor bs self.new }
+        ensures keep { self.new.keep ≡ self.old.keep }
+        ensures once { self.new.can_undo ≡ false }
+    {
+        take_back_batch(&mut self.lists, &mut self.named, self.revision);
+        self.revision = self.revision.saturating_sub(1);
+        self.can_undo = false;
+    }
+
+    pub fn revision(&self) -> u32
+        ensures { result ≡ self.now.revision }
+    {
+        self.revision
+    }
+
+    /// The least base that `changed_since` may be asked from.
+    pub fn floor(&self) -> u32
+        ensures { result ≡ floor_of self.now.keep self.now.revision }
+    {
+        floor(self.keep, self.revision)
+    }
+}
+
+// The least base that `keep` allows at a revision.
+pub(crate) fn floor(keep: u32, revision: u32) -> u32
+    ensures { result ≡ floor_of keep revision }
+{
+    revision.saturating_sub(keep).max(FIRST_REVISION)
+}
