@@ -1,2 +1,4 @@
 pub mod Replies
 pub mod Gathers
+pub mod Targets
+pub mod Requests

@@ -1,0 +1,228 @@
+//! The text of a client's request.
+
+ghost use Rattle.std.specs.Prelude.{◌≡◌, [], ◌∷◌, ◌++◌, None, IfOk, OnOk, codes};
+ghost use Rattle.http_front.specs.Readings.{IsReading, reading};
+ghost use Rattle.http_front.specs.ReplyHeads.{field};
+ghost use Rattle.http_front.specs.Routes.{verb_text};
+ghost use Rattle.http_client.specs.Requests.{CanSend, HasListNumber, HasNumbers, HasPlaces, IsRead, IsSent, length_line, request_line, request_text, sent_body, verb_for};
+ghost use Rattle.http_client.specs.Targets.{behind_path, form_text, path_to, rows_path, target_of, values_path, IsTextOf};
+
+use crate::parameters::form_of;
+use dmap_tags::Bytes;
+use item_model::{Browse, Range, Target};
+use itoa::Buffer;
+use records_import::write_batch;
+use share_asks::{Ask, Verb, Want};
+use std::alloc::{AllocError, Global};
+
+/// The bytes that ask this of a host, which a reader of the ask's role reads as the ask.
+pub fn request(alloc: Global, ask: &Ask, host: &str) -> Result<Bytes, AllocError>
+    requires { CanSend ask.now.want }
+    ensures text { IfOk result (λ b. b ≡ request_text ask.now.want host.now) }
+    ensures reads { IfOk result (λ b. IsSent ask.now host.now → IsReading ask.now.role b (reading (ask.now ∷ []) [] None)) }
+{
+    know_numbers(&ask.want);
+    text_of(alloc, &ask.want, host)
+}
+
+#[tactic(auto, unfolding(crate::specs::Requests::request_text))]
+fn text_of(alloc: Global, want: &Want, host: &str) -> Result<Bytes, AllocError>
+    requires { CanSend want.now }
+    ensures text { IfOk result (λ b. b ≡ request_text want.now host.now) }
+    ensures utf8 { OnOk result (IsTextOf want.now) }
+    ensures read { OnOk result (IsRead want.now) }
+{
+    let form = form_of(alloc, want)?;
+    let body = body_of(alloc, want)?;
+    let mut text = Vec::new(alloc);
+    push_line(&mut text, want, form.as_bytes())?;
+    push_field(&mut text, b"Host", host.as_bytes())?;
+    push_field(&mut text, b"Client-DAAP-Version", b"3.0")?;
+    push_length(&mut text, verb_for(want), body.as_slice().len())?;
+    text.extend_from_slice(b"\r\n")?;
+    text.extend_from_slice(body.as_slice())?;
+    Ok(Bytes::from(text))
+}
+
+// The numbers of a want are those of their types.
+fn know_numbers(want: &Want)
+    ensures { HasNumbers want.now }
+{
+    match want {
+        Want::Logout { session } | Want::Databases { session } | Want::Lists { session } => {
+            let _session = *session;
+        }
+        Want::Update { session, revision } => {
+            let _numbers = (*session, *revision);
+        }
+        Want::Rows {
+            session,
+            target,
+            look,
+        } => {
+            let _session = *session;
+            let _base = look.base;
+            know_target(*target);
+            know_range(look.range);
+        }
+        Want::Values { session, .. } => {
+            let _session = *session;
+        }
+        _ => {}
+    }
+}
+
+fn know_target(target: Target)
+    ensures { HasListNumber target }
+{
+    if let Target::Container(list) = target {
+        let _list = list;
+    }
+}
+
+fn know_range(range: Range)
+    ensures { HasPlaces range }
+{
+    match range {
+        Range::All => {}
+        Range::One { at } | Range::From { at } => {
+            let _at = at;
+        }
+        Range::Span { from, to } => {
+            let _places = (from, to);
+        }
+        Range::Last { count } => {
+            let _count = count;
+        }
+    }
+}
+
+#[tactic(auto, unfolding(crate::specs::Requests::sent_body))]
+fn body_of(alloc: Global, want: &Want) -> Result<Bytes, AllocError>
+    requires { CanSend want.now }
+    ensures body { IfOk result (λ body. body ≡ sent_body want.now) }
+    ensures read { OnOk result (IsRead want.now) }
+{
+    match want {
+        Want::Edit { body: Ok(batch) } => write_batch(alloc, batch),
+        _ => Ok(Bytes::from(Vec::new(alloc))),
+    }
+}
+
+fn verb_for(want: &Want) -> Verb
+    ensures { result ≡ verb_for want.now }
+{
+    match want {
+        Want::Edit { .. } | Want::Stop => Verb::Post,
+        _ => Verb::Get,
+    }
+}
+
+fn verb_text(verb: Verb) -> &'static str
+    ensures { result.now ≡ verb_text verb }
+{
+    match verb {
+        Verb::Get => "GET",
+        Verb::Post => "POST",
+    }
+}
+
+fn push_line(text: &mut Vec<u8>, want: &Want, form: &[u8]) -> Result<(), AllocError>
+    requires { form.now ≡ form_text want.now }
+    ensures { OnOk result (text.new.items ≡ text.old.items ++ request_line want.now) }
+{
+    text.extend_from_slice(verb_text(verb_for(want)).as_bytes())?;
+    text.extend_from_slice(b" ")?;
+    push_target(text, want, form)?;
+    text.extend_from_slice(b" HTTP/1.1")?;
+    text.extend_from_slice(b"\r\n")
+}
+
+#[tactic(auto, unfolding(crate::specs::Targets::target_of))]
+fn push_target(text: &mut Vec<u8>, want: &Want, form: &[u8]) -> Result<(), AllocError>
+    requires { form.now ≡ form_text want.now }
+    ensures { OnOk result (text.new.items ≡ text.old.items ++ target_of want.now) }
+{
+    push_path(text, want)?;
+    push_form(text, form)
+}
+
+fn push_form(text: &mut Vec<u8>, form: &[u8]) -> Result<(), AllocError>
+    ensures { OnOk result (text.new.items ≡ text.old.items ++ behind_path form.now) }
+{
+    if form.is_empty() {
+        return Ok(());
+    }
+    text.extend_from_slice(b"?")?;
+    text.extend_from_slice(form)
+}
+
+fn push_path(text: &mut Vec<u8>, want: &Want) -> Result<(), AllocError>
+    ensures { OnOk result (text.new.items ≡ text.old.items ++ path_to want.now) }
+{
+    match want {
+        Want::ServerInfo => text.extend_from_slice(b"/server-info"),
+        Want::Codes => text.extend_from_slice(b"/content-codes"),
+        Want::Login => text.extend_from_slice(b"/login"),
+        Want::Logout { .. } => text.extend_from_slice(b"/logout"),
+        Want::Update { .. } => text.extend_from_slice(b"/update"),
+        Want::Databases { .. } => text.extend_from_slice(b"/databases"),
+        Want::Rows { target, .. } => push_rows_path(text, *target),
+        Want::Lists { .. } => text.extend_from_slice(b"/databases/1/containers"),
+        Want::Values { browse, .. } => text.extend_from_slice(values_path(*browse).as_bytes()),
+        Want::Edit { .. } => text.extend_from_slice(b"/edit"),
+        Want::Stop => text.extend_from_slice(b"/stop"),
+        Want::Bad(_) => Ok(()),
+    }
+}
+
+fn push_rows_path(text: &mut Vec<u8>, target: Target) -> Result<(), AllocError>
+    ensures { OnOk result (text.new.items ≡ text.old.items ++ rows_path target) }
+{
+    match target {
+        Target::Items => text.extend_from_slice(b"/databases/1/items"),
+        Target::Container(list) => push_list_path(text, list),
+    }
+}
+
+fn push_list_path(text: &mut Vec<u8>, list: u32) -> Result<(), AllocError>
+    ensures { OnOk result (text.new.items ≡ text.old.items ++ rows_path (Target.Container list)) }
+{
+    text.extend_from_slice(b"/databases/1/containers/")?;
+    text.extend_from_slice(Buffer::new().format(list).as_bytes())?;
+    text.extend_from_slice(b"/items")
+}
+
+fn values_path(browse: Browse) -> &'static str
+    ensures { result.now ≡ values_path browse }
+{
+    match browse {
+        Browse::Artists => "/databases/1/browse/artists",
+        Browse::Albums => "/databases/1/browse/albums",
+        Browse::Genres => "/databases/1/browse/genres",
+        Browse::Composers => "/databases/1/browse/composers",
+    }
+}
+
+// A method that sends a body tells its length.
+fn push_length(text: &mut Vec<u8>, verb: Verb, len: usize) -> Result<(), AllocError>
+    ensures { OnOk result (text.new.items ≡ text.old.items ++ length_line verb len) }
+{
+    match verb {
+        Verb::Get => Ok(()),
+        Verb::Post => push_field(
+            text,
+            b"Content-Length",
+            Buffer::new().format(len).as_bytes(),
+        ),
+    }
+}
+
+fn push_field(text: &mut Vec<u8>, name: &[u8], value: &[u8]) -> Result<(), AllocError>
+    ensures { OnOk result (text.new.items ≡ text.old.items ++ field name.now value.now) }
+{
+    text.extend_from_slice(name)?;
+    text.extend_from_slice(b": ")?;
+    text.extend_from_slice(value)?;
+    text.extend_from_slice(b"\r\n")
+}
