@@ -1,0 +1,9 @@
+-- Why a text is no script. Want of memory may come whenever.
+use Rattle.std.specs.Prelude.{◌≡◌, ℕ, List, Err}
+use Rattle.share_replay.specs.Scripts.{script_of}
+use Rattle.share_replay.specs.declared.script.ScriptError.{ScriptError}
+use Rattle.share_replay.specs.declared.script.ScriptError.TheVariants.{Line, Memory}
+
+abbrev pub IsRefused : List ℕ → ScriptError → Type 0
+IsRefused text (Line line) = script_of text ≡ Err line
+IsRefused text Memory = Unit {0}
