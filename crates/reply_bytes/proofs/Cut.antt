@@ -1,0 +1,20 @@
+-- A write that fails behind another one.
+use Rattle.std.proofs.Common.{◌≡◌, ◌≤◌, ◌+◌, ◌++◌, ℕ, List, Option, Result, Ok, Err, length, sym, subst, length-append, arith}
+use Rattle.std.proofs.Math.Seq.{take-append-add}
+use Rattle.std.proofs.KnownBytes.{Appends-trans}
+use Rattle.std.specs.Io.KnownBytes.{Appends}
+use Rattle.std.specs.Prelude.{take, OnErr}
+use Rattle.daap_outside.specs.Told.{AppendsPrefix}
+use Rattle.daap_outside.specs.declared.faulted.Failed.{Failed}
+
+-- a front of the second bytes is taken behind the first, all of which were
+pub cut_behind : (a b : List ℕ) (t0 t1 t2 : Option (List ℕ)) → Appends t0 t1 a → AppendsPrefix t1 t2 b → AppendsPrefix t0 t2 (a ++ b)
+cut_behind a b t0 t1 t2 first (n, within, cut) = (
+  length a + n,
+  omega (arith, within, length-append a b),
+  subst (Appends t0 t2) (sym (take-append-add a b n)) (Appends-trans t0 t1 t2 a (take n b) first cut),
+)
+
+pub failed_behind : (a b : List ℕ) (r : Result Unit Failed) (t0 t1 t2 : Option (List ℕ)) → Appends t0 t1 a → OnErr r (AppendsPrefix t1 t2 b) → OnErr r (AppendsPrefix t0 t2 (a ++ b))
+failed_behind a b (Ok u) t0 t1 t2 first cut = cut
+failed_behind a b (Err e) t0 t1 t2 first cut = cut_behind a b t0 t1 t2 first cut

@@ -1,0 +1,2 @@
+pub mod ReasonFacts
+pub mod Cut

@@ -1,0 +1,45 @@
+-- A reply as the bytes of a connection: its head, whose fields the body decides, and the body (RFC 9112, section 6). The
+-- last reply of a connection says in its head that it closes.
+use Rattle.std.specs.Prelude.{ℕ, List, [], ◌++◌, length, Bool, true}
+use Rattle.dmap_tags.specs.Spelling.{spelling}
+use Rattle.http_heads.specs.declared.refusal.HeadError.{HeadError}
+use Rattle.http_heads.specs.declared.refusal.HeadError.TheVariants.{Head, Length, BodyTooLarge, HeadTooLarge, Memory}
+use Rattle.share_asks.specs.declared.form.BodyForm.{BodyForm}
+use Rattle.share_asks.specs.declared.form.BodyForm.TheVariants.{NoBody, Dmap, Plain, Allow}
+use Rattle.share_replies.specs.Replies.{Body, Nothing, Allowed, Line, Tagged, Reply}
+use Rattle.http_front.specs.ReplyHeads.{reply_head_text}
+
+abbrev pub form_of : Body → BodyForm
+form_of Nothing = NoBody
+form_of (Allowed verb) = Allow verb
+form_of (Line text) = Plain
+form_of (Tagged tag) = Dmap
+
+abbrev pub body_bytes : Body → List ℕ
+body_bytes Nothing = []
+body_bytes (Allowed verb) = []
+body_bytes (Line text) = text
+body_bytes (Tagged tag) = spelling tag
+
+-- a head that tells of these bytes, and the bytes
+abbrev pub with_head : ℕ → BodyForm → List ℕ → Bool → List ℕ
+with_head status form body last = reply_head_text status form (length body) last ++ body
+
+abbrev pub reply_bytes : Reply → Bool → List ℕ
+reply_bytes reply last = with_head reply.status (form_of reply.body) (body_bytes reply.body) last
+
+-- what a request gets for whose answer there was no memory
+abbrev pub failure_bytes : Bool → List ℕ
+failure_bytes last = with_head 500 NoBody [] last
+
+-- the status by which bytes that are no request are refused
+abbrev pub status_of : HeadError → ℕ
+status_of Head = 400
+status_of Length = 400
+status_of BodyTooLarge = 413
+status_of HeadTooLarge = 431
+status_of Memory = 500
+
+-- a refusal ends the connection
+abbrev pub refusal_bytes : HeadError → List ℕ
+refusal_bytes error = with_head (status_of error) NoBody [] true

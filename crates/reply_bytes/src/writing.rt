@@ -1,0 +1,131 @@
+//! The writing of replies.
+
+ghost use Rattle.std.specs.Prelude.{◌≡◌, ◌++◌, Err, OnOk, OnErr};
+ghost use Rattle.std.specs.Io.KnownBytes.{Appends};
+ghost use Rattle.daap_outside.specs.Counts.{CountsFaults, Rose};
+ghost use Rattle.daap_outside.specs.Told.{AppendsPrefix};
+ghost use Rattle.http_front.specs.ReplyHeads.{HasReason};
+ghost use Rattle.listing_plan.specs.Plans.{IsWritable, plan_bytes};
+ghost use Rattle.reply_bytes.specs.ReplyBytes.{with_head, status_of, failure_bytes, refusal_bytes};
+
+use daap_outside::{Failed, Sink, put_all};
+use http_front::{failure_head, reply_head};
+use http_heads::HeadError;
+use listing_plan::Plan;
+use share_asks::BodyForm;
+use std::alloc::{AllocError, Global};
+use thiserror::Error;
+
+/// Why a reply was not written.
+#[derive(Debug, Drop, Error)]
+pub enum ReplyError {
+    /// The sink failed; what it took is a front of the reply.
+    #[error("write failed")]
+    Failed,
+    /// There was no memory for the head; nothing was written.
+    #[error("memory")]
+    Memory,
+}
+
+impl From<AllocError> for ReplyError {
+    ghost use Rattle.reply_bytes.specs.declared.writing.ReplyError.TheVariants.{Memory};
+
+    ghost from_gives = { λ _ e. e ≡ Memory };
+
+    fn from(_error: AllocError) -> ReplyError {
+        ReplyError::Memory
+    }
+}
+
+impl From<Failed> for ReplyError {
+    ghost use Rattle.reply_bytes.specs.declared.writing.ReplyError.TheVariants.{Failed};
+
+    ghost from_gives = { λ _ e. e ≡ Failed };
+
+    fn from(_error: Failed) -> ReplyError {
+        ReplyError::Failed
+    }
+}
+
+/// Writes a reply with the body that the plan writes. `last` says that the connection ends behind it.
+pub fn write_reply<W: Sink>(
+    alloc: Global,
+    status: u16,
+    form: BodyForm,
+    body: &Plan,
+    last: bool,
+    sink: &mut W,
+) -> Result<(), ReplyError>
+    requires reason { HasReason status }
+    requires writable { IsWritable body.now }
+    ensures written { OnOk result (Appends (W.taken sink.old) (W.taken sink.new) (with_head status form (plan_bytes body.now) last)) }
+    ensures part { result ≡ Err ReplyError.Failed → AppendsPrefix (W.taken sink.old) (W.taken sink.new) (with_head status form (plan_bytes body.now) last) }
+    ensures unchanged { result ≡ Err ReplyError.Memory → sink.new ≡ sink.old }
+    ensures count { OnOk result (W.faults sink.new ≡ W.faults sink.old) }
+    ensures failed { result ≡ Err ReplyError.Failed → Rose (W.faults sink.old) (W.faults sink.new) }
+    ensures beside { W.beside_taken sink.new ≡ W.beside_taken sink.old }
+{
+    let head = reply_head(alloc, status, form, body.body_len(), last)?;
+    match write_both(head.as_slice(), body, sink) {
+        Ok(()) => Ok(()),
+        Err(Failed) => Err(ReplyError::Failed),
+    }
+}
+
+/// Writes what a request gets for whose answer there was no memory. It takes none.
+pub fn write_failure<W: Sink>(last: bool, sink: &mut W) -> Result<(), Failed>
+    ensures written { OnOk result (Appends (W.taken sink.old) (W.taken sink.new) (failure_bytes last)) }
+    ensures part { OnErr result (AppendsPrefix (W.taken sink.old) (W.taken sink.new) (failure_bytes last)) }
+    ensures count { CountsFaults (W.faults sink.old) (W.faults sink.new) result }
+    ensures beside { W.beside_taken sink.new ≡ W.beside_taken sink.old }
+{
+    put_all(sink, failure_head(last).as_bytes())
+}
+
+/// Writes the refusal of bytes that are no request, behind which the connection ends.
+pub fn write_refusal<W: Sink>(
+    alloc: Global,
+    error: &HeadError,
+    sink: &mut W,
+) -> Result<(), ReplyError>
+    ensures written { OnOk result (Appends (W.taken sink.old) (W.taken sink.new) (refusal_bytes error.now)) }
+    ensures part { result ≡ Err ReplyError.Failed → AppendsPrefix (W.taken sink.old) (W.taken sink.new) (refusal_bytes error.now) }
+    ensures unchanged { result ≡ Err ReplyError.Memory → sink.new ≡ sink.old }
+    ensures count { OnOk result (W.faults sink.new ≡ W.faults sink.old) }
+    ensures failed { result ≡ Err ReplyError.Failed → Rose (W.faults sink.old) (W.faults sink.new) }
+    ensures beside { W.beside_taken sink.new ≡ W.beside_taken sink.old }
+{
+    write_reply(
+        alloc,
+        status_of(error),
+        BodyForm::NoBody,
+        &Plan::Empty,
+        true,
+        sink,
+    )
+}
+
+/// The status by which bytes that are no request are refused.
+pub fn status_of(error: &HeadError) -> u16
+    ensures status { result ≡ status_of error.now }
+    ensures reason { HasReason result }
+{
+    match error {
+        HeadError::Head | HeadError::Length => 400,
+        HeadError::BodyTooLarge => 413,
+        HeadError::HeadTooLarge => 431,
+        HeadError::Memory => 500,
+    }
+}
+
+// The two parts of a reply, one behind the other.
+fn write_both<W: Sink>(head: &[u8], body: &Plan, sink: &mut W) -> Result<(), Failed>
+    requires { IsWritable body.now }
+    ensures written { OnOk result (Appends (W.taken sink.old) (W.taken sink.new) (head.now ++ plan_bytes body.now)) }
+    ensures part { OnErr result (AppendsPrefix (W.taken sink.old) (W.taken sink.new) (head.now ++ plan_bytes body.now)) }
+    ensures count { CountsFaults (W.faults sink.old) (W.faults sink.new) result }
+    ensures beside { W.beside_taken sink.new ≡ W.beside_taken sink.old }
+{
+    put_all(sink, head)?;
+    body.write(sink)
+}
