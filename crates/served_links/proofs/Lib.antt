@@ -1,0 +1,5 @@
+pub mod Longer
+pub mod Turns
+pub mod Endings
+pub mod Counting
+pub mod Listening
