@@ -4,6 +4,8 @@
 mod parameters;
 mod reader;
 mod refusal;
+#[cfg(test)]
+mod request_tests;
 mod requests;
 #[cfg(test)]
 mod tests;
