@@ -1,0 +1,88 @@
+-- What bodies tell: at most one tag, and so at most one number.
+use Rattle.std.proofs.Common.{◌≡◌, ◌≢◌, ◌≤◌, ℕ, List, [], ◌++◌, length, take, true, Option, None, Some, Result, Ok, Err, MatchResult, refl, sym, ap, ◌∙◌, subst, append-nil, arith}
+use Rattle.std.proofs.lemmas.List.{take_all}
+use Rattle.dmap_tags.specs.Codes.{Four}
+use Rattle.dmap_tags.specs.Tree.{Tree}
+use Rattle.dmap_tags.specs.Proper.{IsProperTag}
+use Rattle.dmap_tags.specs.Spelling.{spelling}
+use Rattle.code_table.specs.declared.row.CodeRow.{CodeRow}
+use Rattle.std.specs.Prelude.{MatchOption}
+use Rattle.dmap_stream.specs.declared.refusal.StreamError.{StreamError}
+use Rattle.dmap_stream.specs.declared.refusal.StreamError.TheVariants as stream
+use Rattle.dmap_stream.specs.WholeTag.{is_accepted}
+use Rattle.dmap_stream.proofs.OneTag.{one_tag}
+use Rattle.http_client.specs.Replies.{Reply}
+use Rattle.mirror_client.specs.declared.refusal.FollowError.{FollowError}
+use Rattle.mirror_client.specs.declared.refusal.FollowError.TheVariants.{Refused, BadReply, Ended, Listing, Codes, LinkFault, Memory}
+use Rattle.mirror_client.specs.Stopping.{CountsFault}
+use Rattle.mirror_client.specs.Tellings.{HasNoNumber, HasNoTag, IsTag, UndueNumber, UndueTag, body_limit, number_told}
+
+pub tag_is : (rows : List CodeRow) (body : List ℕ) (tag : Tree) (n : ℕ) → n ≡ length body → take n body ≡ spelling tag → is_accepted rows body_limit tag ≡ true
+    → IsProperTag tag → IsTag rows body tag
+tag_is rows body tag n all spelled accepted proper = record {
+  spelled = sym (take_all n body (omega (arith, all))) ∙ spelled;
+  accepted = accepted;
+  proper = proper;
+}
+
+-- the bytes of a tag that is alone are those of the tag and nothing behind it
+pub spelled_alone : (rows : List CodeRow) (body : List ℕ) (tag : Tree) → IsTag rows body tag → body ≡ spelling tag ++ []
+spelled_alone rows body tag is = is.spelled ∙ sym (append-nil (spelling tag))
+
+pub tags_once : (rows : List CodeRow) (body : List ℕ) (t u : Tree) → IsTag rows body t → IsTag rows body u → t ≡ u
+tags_once rows body t u a b =
+    (one_tag rows body_limit t u [] [] (omega arith) a.accepted a.proper b.accepted b.proper
+    (sym (spelled_alone rows body t a) ∙ spelled_alone rows body u b)).0
+
+pub no_number : (c : Four) (rows : List CodeRow) (body : List ℕ) (tag : Tree) → IsTag rows body tag → number_told c tag ≡ None → HasNoNumber c rows body
+no_number c rows body tag is none = λ u too. ap (number_told c) (tags_once rows body u tag too is) ∙ none
+
+-- an answer that tells no tag tells no number
+pub no_tag_no_number : (c : Four) (rows : List CodeRow) (used : ℕ) (answer : Reply) (e : FollowError) → UndueTag rows used answer e → UndueNumber c rows used answer e
+no_tag_no_number c rows used answer (Refused status) h = h
+no_tag_no_number c rows used answer (BadReply at) h = (h.0, λ tag is. absurd (h.1 tag is))
+no_tag_no_number c rows used answer (Ended at) h = h
+no_tag_no_number c rows used answer (Listing error) h = h
+no_tag_no_number c rows used answer (Codes error) h = h
+no_tag_no_number c rows used answer LinkFault h = h
+no_tag_no_number c rows used answer Memory h = h
+
+-- an answer that is undue is no fault of the link
+pub tag_counts : (rows : List CodeRow) (used : ℕ) (answer : Reply) (e : FollowError) (before now : ℕ) → UndueTag rows used answer e → now ≡ before → CountsFault before now e
+tag_counts rows used answer (Refused status) before now h same = same
+tag_counts rows used answer (BadReply at) before now h same = same
+tag_counts rows used answer (Ended at) before now h same = same
+tag_counts rows used answer (Listing error) before now h same = same
+tag_counts rows used answer (Codes error) before now h same = same
+tag_counts rows used answer LinkFault before now h same = absurd h
+tag_counts rows used answer Memory before now h same = same
+
+pub number_counts : (c : Four) (rows : List CodeRow) (used : ℕ) (answer : Reply) (e : FollowError) (before now : ℕ) → UndueNumber c rows used answer e → now ≡ before
+    → CountsFault before now e
+number_counts c rows used answer (Refused status) before now h same = same
+number_counts c rows used answer (BadReply at) before now h same = same
+number_counts c rows used answer (Ended at) before now h same = same
+number_counts c rows used answer (Listing error) before now h same = same
+number_counts c rows used answer (Codes error) before now h same = same
+number_counts c rows used answer LinkFault before now h same = absurd h
+number_counts c rows used answer Memory before now h same = same
+
+-- a count that was the same before may stand for it
+pub counts_since : (before mid now : ℕ) (e : FollowError) → mid ≡ before → CountsFault mid now e → CountsFault before now e
+counts_since before mid now e same h = subst (λ (n : ℕ). CountsFault n now e) same h
+
+-- the tag that was read off the front of a body, where it takes all of it
+pub whole : (rows : List CodeRow) (body bytes : List ℕ) (tag : Tree) (n total : ℕ) (o : Option Tree) → bytes ≡ body → total ≡ length bytes
+    → (n ≤ length bytes) × (take n bytes ≡ spelling tag) × (is_accepted rows body_limit tag ≡ true) × IsProperTag tag
+    → ((t : Tree) (rest : List ℕ) → is_accepted rows body_limit t ≡ true → IsProperTag t → bytes ≡ spelling t ++ rest → (tag ≡ t) × (n ≡ length (spelling t)))
+    → MatchOption o (n ≢ total) (λ t. (t ≡ tag) × (n ≡ total)) → MatchOption o (HasNoTag rows body) (λ t. IsTag rows body t)
+whole rows body bytes tag n total None same all found only h =
+    λ t is. h ((only t [] is.accepted is.proper (same ∙ spelled_alone rows body t is)).1 ∙ ap length (sym (same ∙ is.spelled)) ∙ sym all)
+whole rows body bytes tag n total (Some t) same all found only h =
+    subst (λ (u : Tree). IsTag rows body u) (sym h.0)
+    (subst (λ (b : List ℕ). IsTag rows b tag) same (tag_is rows bytes tag n (h.1 ∙ all) found.1 found.2 found.3))
+
+-- bytes that are refused for another cause than memory are no tag
+pub none_read : (rows : List CodeRow) (body bytes : List ℕ) (e : StreamError) → bytes ≡ body → e ≢ stream.Memory
+    → ((t : Tree) (rest : List ℕ) → is_accepted rows body_limit t ≡ true → IsProperTag t → bytes ≡ spelling t ++ rest → e ≡ stream.Memory) → HasNoTag rows body
+none_read rows body bytes e same other only = λ t is. other (only t [] is.accepted is.proper (same ∙ spelled_alone rows body t is))

@@ -1,0 +1,6 @@
+pub mod Points
+pub mod Exchanges
+pub mod Stopping
+pub mod Readers
+pub mod Tellings
+pub mod Pushes

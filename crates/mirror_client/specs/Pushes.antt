@@ -1,0 +1,68 @@
+-- An edit or a stop that is pushed to a share: its request, which carries the bytes handed in as they are, and what the answer
+-- is to whoever sent it.
+use Rattle.std.specs.Prelude.{◌≡◌, ◌≢◌, ⊤, ℕ, List, [], ◌++◌, length, codes, decimal, Option, Some, None}
+use Rattle.dmap_tags.specs.Codes.{code}
+use Rattle.code_table.specs.Standard.{standard_rows}
+use Rattle.http_client.specs.Replies.{Reply}
+use Rattle.mirror_client.specs.declared.pushing.Pushed.{Pushed}
+use Rattle.mirror_client.specs.declared.pushing.Pushed.TheVariants as pushed
+use Rattle.mirror_client.specs.declared.refusal.FollowError.{FollowError}
+use Rattle.mirror_client.specs.declared.refusal.FollowError.TheVariants.{Refused, BadReply, Ended, Listing, Codes, LinkFault, Memory}
+use Rattle.mirror_client.specs.Tellings.{HasNoNumber, IsBadBody, TellsNumber}
+
+abbrev pub line : List ℕ → List ℕ
+line text = text ++ codes "\r\n"
+
+-- an edit has a body, a stop none
+abbrev pub push_target : Option (List ℕ) → List ℕ
+push_target (Some body) = codes "/edit HTTP/1.1"
+push_target None = codes "/stop HTTP/1.1"
+
+abbrev pub push_body : Option (List ℕ) → List ℕ
+push_body (Some body) = body
+push_body None = []
+
+-- the fields, then an empty line and the body
+abbrev pub push_fields : List ℕ → ℕ → List ℕ
+push_fields host len = line (codes "Host: " ++ host) ++ (line (codes "Client-DAAP-Version: " ++ codes "3.0") ++ line (codes "Content-Length: " ++ decimal len))
+
+abbrev pub push_rest : List ℕ → List ℕ → List ℕ
+push_rest host body = push_fields host (length body) ++ (codes "\r\n" ++ body)
+
+unfoldable pub push_text : Option (List ℕ) → List ℕ → List ℕ
+push_text body host = line (codes "POST " ++ push_target body) ++ push_rest host (push_body body)
+
+-- the answer is another one than the success
+abbrev pub IsAsTold : Reply → ℕ → List ℕ → Type 0
+IsAsTold answer status text = (status ≡ answer.0) × (text ≡ answer.1)
+
+-- what the answer to an edit is, and that to a stop; the number is the revision that the edit made
+abbrev pub IsEdited : Reply → Pushed → Type 0
+IsEdited answer (pushed.Revision n) = TellsNumber (code "musr") standard_rows answer n
+IsEdited answer pushed.Unchanged = answer.0 ≡ 204
+IsEdited answer pushed.Stopped = ⊥
+IsEdited answer (pushed.Refused status text) = IsAsTold answer status text × (status ≢ 200) × (status ≢ 204)
+
+abbrev pub IsStopped : Reply → Pushed → Type 0
+IsStopped answer (pushed.Revision n) = ⊥
+IsStopped answer pushed.Unchanged = ⊥
+IsStopped answer pushed.Stopped = answer.0 ≡ 204
+IsStopped answer (pushed.Refused status text) = IsAsTold answer status text × (status ≢ 204)
+
+abbrev pub IsPushed : Option (List ℕ) → Reply → Pushed → Type 0
+IsPushed (Some body) answer p = IsEdited answer p
+IsPushed None answer p = IsStopped answer p
+
+-- an edit that succeeds without telling a revision is undue, and no other answer is
+abbrev pub UndueEdit : ℕ → Reply → FollowError → Type 0
+UndueEdit used answer (Refused status) = ⊥
+UndueEdit used answer (BadReply at) = IsBadBody used answer at × HasNoNumber (code "musr") standard_rows answer.1
+UndueEdit used answer (Ended at) = ⊥
+UndueEdit used answer (Listing error) = ⊥
+UndueEdit used answer (Codes error) = ⊥
+UndueEdit used answer LinkFault = ⊥
+UndueEdit used answer Memory = ⊤
+
+abbrev pub UnduePush : Option (List ℕ) → ℕ → Reply → FollowError → Type 0
+UnduePush (Some body) used answer e = UndueEdit used answer e
+UnduePush None used answer e = ⊥

@@ -1,0 +1,64 @@
+-- Why an exchange came to no end, or to an answer that is not the one that is needed.
+use Rattle.std.specs.Prelude.{◌≡◌, ◌⊎◌, ⊤, ℕ, ◌+◌, List, [], ◌∷◌, ◌++◌, length, Option, IfSome}
+use Rattle.daap_outside.specs.Counts.{Rose}
+use Rattle.daap_outside.specs.Told.{AppendsPrefix}
+use Rattle.http_heads.specs.declared.kind.Kind.TheVariants as kind
+use Rattle.http_heads.specs.declared.refusal.HeadError.{HeadError}
+use Rattle.http_heads.specs.Messages.{HasNoMessage, IsRefused, Refuses}
+use Rattle.http_client.specs.Replies.{Reply}
+use Rattle.mirror_client.specs.declared.refusal.FollowError.{FollowError}
+use Rattle.mirror_client.specs.declared.refusal.FollowError.TheVariants.{Refused, BadReply, Ended, Listing, Codes, LinkFault, Memory}
+use Rattle.mirror_client.specs.Exchanges.{Exchange, Went}
+use Rattle.mirror_client.specs.Points.{Point}
+
+-- the bytes begin with what is no reply; the place counts all bytes up to the one that shows it
+pub record BeginsBad (bytes : List ℕ) (used at : ℕ) : Type 0 where
+  pub front : List ℕ
+  pub more : List ℕ
+  pub cause : HeadError
+  pub split : bytes ≡ front ++ more
+  pub refused : IsRefused kind.Reply front cause
+  pub counted : at ≡ used + length front
+
+-- the bytes end before they are a whole reply
+pub record EndsEarly (bytes : List ℕ) (used at : ℕ) : Type 0 where
+  pub partial : HasNoMessage kind.Reply bytes
+  pub goes : (e : HeadError) → Refuses kind.Reply bytes e → ⊥
+  pub counted : at ≡ used + length bytes
+
+-- why no reply was read, by the bytes that the peer owed
+abbrev pub NoReply : Point → FollowError → Type 0
+NoReply p (Refused status) = ⊥
+NoReply p (BadReply at) = IfSome p.owed (λ bytes. BeginsBad bytes p.used at)
+NoReply p (Ended at) = IfSome p.owed (λ bytes. EndsEarly bytes p.used at)
+NoReply p (Listing error) = ⊥
+NoReply p (Codes error) = ⊥
+NoReply p LinkFault = ⊤
+NoReply p Memory = ⊤
+
+-- the request was written, perhaps in part, and no reply was read
+pub record StopsShort (request : List ℕ) (p : Point) (taken : Option (List ℕ)) (e : FollowError) : Type 0 where
+  pub written : AppendsPrefix p.taken taken request
+  pub cause : NoReply p e
+
+-- the request was answered, and the answer is undue; `Undue` says so of the number of bytes read, the answer and the error
+pub record AnswersUndue (request : List ℕ) (Undue : ℕ → Reply → FollowError → Type 0) (p : Point) (taken : Option (List ℕ)) (e : FollowError) : Type 0 where
+  pub exchange : Exchange
+  pub there : Point
+  pub asked : exchange.request ≡ request
+  pub went : Went p there (exchange ∷ [])
+  pub written : there.taken ≡ taken
+  pub undue : Undue there.used exchange.answer e
+
+abbrev pub Stops : List ℕ → (ℕ → Reply → FollowError → Type 0) → Point → Option (List ℕ) → FollowError → Type 0
+Stops request Undue p taken e = StopsShort request p taken e ⊎ AnswersUndue request Undue p taken e
+
+-- the link's count rose where its fault is told, and else stayed
+abbrev pub CountsFault : ℕ → ℕ → FollowError → Type 0
+CountsFault before now LinkFault = Rose before now
+CountsFault before now (Refused status) = now ≡ before
+CountsFault before now (BadReply at) = now ≡ before
+CountsFault before now (Ended at) = now ≡ before
+CountsFault before now (Listing error) = now ≡ before
+CountsFault before now (Codes error) = now ≡ before
+CountsFault before now Memory = now ≡ before

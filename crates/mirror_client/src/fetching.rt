@@ -1,0 +1,115 @@
+//! Answers that tell a tag, and numbers in it.
+
+ghost use Rattle.std.specs.Prelude.{◌≡◌, ◌≢◌, ◌≤◌, ◌<◌, ◌+◌, ◌^◌, Option, option_copied, IfOk, IfErr, MatchBool, MatchOption, MatchResult};
+ghost use Rattle.dmap_tags.specs.Tree.{trees_of};
+ghost use Rattle.code_table.specs.Reply.{first_in, number_in};
+ghost use Rattle.mirror_client.specs.Tellings.{HasNoTag, IsTag, Tells, TellsNumber, UndueNumber, UndueTag, number_told};
+
+use crate::refusal::FollowError;
+use code_table::CodeTable;
+use dmap_stream::{Limits, StreamError, read_tag};
+use dmap_tags::{Bytes, Code, Tag, Value};
+use std::alloc::{AllocError, Global};
+
+// How many bytes of payload the tag of a body has at most.
+const BODY_LIMIT: u32 = 1_073_741_824;
+
+/// The tag that an answer tells, which ends at the byte `used`.
+fn told_tag(
+    alloc: Global,
+    table: &CodeTable,
+    used: u64,
+    status: u16,
+    body: &Bytes,
+) -> Result<Tag, FollowError>
+    ensures { MatchResult result (λ tag. Tells table.now (status, body.now) tag) (λ e. UndueTag table.now used (status, body.now) e) }
+{
+    if status != 200 {
+        return Err(FollowError::Refused { status });
+    }
+    match whole_tag(alloc, table, body) {
+        Ok(Some(tag)) => Ok(tag),
+        Ok(None) => Err(FollowError::BadReply { at: used }),
+        Err(AllocError) => Err(FollowError::Memory),
+    }
+}
+
+/// The number that an answer tells, which ends at the byte `used`.
+pub(crate) fn told_number(
+    alloc: Global,
+    table: &CodeTable,
+    code: Code,
+    used: u64,
+    status: u16,
+    body: &Bytes,
+) -> Result<u32, FollowError>
+    ensures { MatchResult result (λ n. TellsNumber code table.now (status, body.now) n) (λ e. UndueNumber code table.now used (status, body.now) e) }
+{
+    match told_tag(alloc, table, used, status, body) {
+        Ok(tag) => match number_in(code, &tag) {
+            Some(n) => Ok(n),
+            None => Err(FollowError::BadReply { at: used }),
+        },
+        Err(error) => Err(error),
+    }
+}
+
+// The tag that a body is.
+fn whole_tag(alloc: Global, table: &CodeTable, body: &Bytes) -> Result<Option<Tag>, AllocError>
+    ensures { IfOk result (λ found. MatchOption found (HasNoTag table.now body.now) (λ tag. IsTag table.now body.now tag)) }
+{
+    let bytes = body.as_slice();
+    match read_tag(alloc, bytes, table, Limits { top: BODY_LIMIT }) {
+        Ok((tag, len)) => Ok(alone(tag, len, bytes.len())),
+        Err(error) => {
+            if is_memory(&error) {
+                Err(AllocError)
+            } else {
+                Ok(None)
+            }
+        }
+    }
+}
+
+// A tag, where it takes all of the bytes.
+fn alone(tag: Tag, len: usize, total: usize) -> Option<Tag>
+    ensures { MatchOption result (len ≢ total) (λ t. (t ≡ tag) × (len ≡ total)) }
+{
+    if len == total { Some(tag) } else { None }
+}
+
+fn is_memory(error: &StreamError) -> bool
+    ensures { MatchBool result (error.now ≡ StreamError.Memory) (error.now ≢ StreamError.Memory) }
+{
+    matches!(error, StreamError::Memory)
+}
+
+// The number in the first member with the code.
+fn number_in(code: Code, tag: &Tag) -> Option<u32>
+    ensures { result ≡ number_told code tag.now }
+{
+    match &tag.value {
+        Value::List(members) => number_of(first_in(members.as_slice(), code)),
+        _ => None,
+    }
+}
+
+fn first_in(tags: &[Tag], code: Code) -> Option<&Tag>
+    ensures { option_copied result ≡ first_in code (trees_of tags.now) }
+{
+    for tag in tags {
+        if tag.code == code {
+            return Some(tag);
+        }
+    }
+    None
+}
+
+fn number_of(tag: Option<&Tag>) -> Option<u32>
+    ensures { result ≡ number_in (option_copied tag.entry) }
+{
+    match &tag?.value {
+        Value::U32(n) => Some(*n),
+        _ => None,
+    }
+}

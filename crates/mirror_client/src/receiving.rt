@@ -1,0 +1,88 @@
+//! Reading one reply off a link.
+
+ghost use Rattle.std.specs.Prelude.{◌≡◌, ◌≢◌, ◌≤◌, ◌<◌, ◌+◌, ◌^◌, ◌++◌, ℕ, List, [], Option, IfOk, IfErr, OnErr, MatchResult};
+ghost use Rattle.mirror_client.specs.Exchanges.{Replied};
+ghost use Rattle.mirror_client.specs.Points.{point};
+ghost use Rattle.mirror_client.specs.Readers.{Advances, IsBegun, refused_by};
+ghost use Rattle.mirror_client.specs.Stopping.{CountsFault, NoReply};
+
+use crate::incoming::Incoming;
+use crate::refusal::FollowError;
+use daap_outside::Link;
+use dmap_tags::Bytes;
+use http_client::{ReplyError, ReplyReader};
+use std::alloc::Global;
+
+/// The next reply of the peer, its status and its body.
+pub(crate) fn next_reply<K: Link>(
+    alloc: Global,
+    link: &mut K,
+    incoming: &mut Incoming,
+) -> Result<(u16, Bytes), FollowError>
+    requires few { incoming.old.used < 2 ^ 63 }
+    ensures replied { IfOk result (λ answer. Replied (point (K.taken link.old) (K.left link.old) incoming.old.unused incoming.old.used)
+        (point (K.taken link.new) (K.left link.new) incoming.new.unused incoming.new.used) answer) }
+    ensures cause { IfErr result (λ e. NoReply (point (K.taken link.old) (K.left link.old) incoming.old.unused incoming.old.used) e) }
+    ensures grows { incoming.new.used ≤ incoming.old.used + 2 ^ 31 }
+    ensures taken { K.taken link.new ≡ K.taken link.old }
+    ensures count { MatchResult result (λ _. K.faults link.new ≡ K.faults link.old) (λ e. CountsFault (K.faults link.old) (K.faults link.new) e) }
+{
+    let mut reader = ReplyReader::new(alloc);
+    loop {
+        let held = reader.held();
+        match incoming.refill(link) {
+            Ok(true) => {}
+            Ok(false) => {
+                return Err(FollowError::Ended {
+                    at: incoming.used() + held,
+                });
+            }
+            Err(error) => return Err(error),
+        }
+        match advance(&mut reader, incoming) {
+            Ok(None) => {}
+            Ok(Some(reply)) => return Ok(reply),
+            Err(error) => return Err(error),
+        }
+    }
+}
+
+// Feeds what was read ahead: a reply, where it is whole then.
+fn advance(
+    reader: &mut ReplyReader,
+    incoming: &mut Incoming,
+) -> Result<Option<(u16, Bytes)>, FollowError>
+    requires begun { IsBegun reader.old }
+    requires some { incoming.old.unused ≢ [] }
+    requires few { incoming.old.used < 2 ^ 63 }
+    ensures advances { IfOk result (λ reply. Advances reader.old reader.new incoming.old incoming.new reply) }
+    ensures cause { IfErr result (λ e. (taken left : Option (List ℕ)) → NoReply (point taken left (reader.old.kept ++ incoming.old.unused) incoming.old.used) e) }
+    ensures used { OnErr result (incoming.new.used ≡ incoming.old.used) }
+    ensures count { IfErr result (λ e. (faults : ℕ) → CountsFault faults faults e) }
+{
+    let held = reader.held();
+    match reader.feed(incoming.unused()) {
+        Ok(n) => {
+            incoming.skip(n);
+            match reader.next() {
+                None => Ok(None),
+                Some(reply) => {
+                    incoming.count(held + n as u64);
+                    Ok(Some(reply))
+                }
+            }
+        }
+        Err(error) => Err(refused(incoming.used(), error)),
+    }
+}
+
+// The error that a refused reply is, behind so many bytes.
+fn refused(used: u64, error: ReplyError) -> FollowError
+    requires { (at : ℕ) → error ≡ ReplyError.Bad at → used + at < 2 ^ 64 }
+    ensures { result ≡ refused_by used error }
+{
+    match error {
+        ReplyError::Bad { at } => FollowError::BadReply { at: used + at },
+        ReplyError::Memory => FollowError::Memory,
+    }
+}
