@@ -17,6 +17,8 @@ mod prune;
 mod reads;
 mod rules;
 mod store;
+#[cfg(test)]
+mod tests;
 mod tops;
 mod touched;
 
