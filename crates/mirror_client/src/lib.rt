@@ -8,6 +8,8 @@ mod incoming;
 mod pushing;
 mod receiving;
 mod refusal;
+#[cfg(test)]
+mod tests;
 
 pub use pushing::{Pushed, push_link};
 pub use refusal::FollowError;
