@@ -233,7 +233,7 @@ delta_readable bs look base meta made few v =
       gone = small_filter g (touched bs Items base)
           (small_filter (touches (edits bs) Items (later bs base)) (ascending (named_keys (edits bs))) (small_folded [] (named_keys (edits bs)) tt (small_keys (edits bs) made)));
       few = omega (arith, same, count, few);
-      few_gone = omega (arith, few_filtered g (touched bs Items base), few_touched bs base, few);
+      few_gone = omega (arith, few_filtered g (touched bs Items base), few_touched bs Items base, few);
       revision = v;
       total = omega (arith, count, few);
     }

@@ -1,124 +1,239 @@
--- The rows that are asked for, taken from the store one id after another, and the listings that they make.
-use Rattle.std.proofs.Common.{◌≡◌, ◌<◌, ◌≤◌, ◌+◌, ◌-◌, ◌++◌, ◌∷◌, [], ℕ, zero, suc, List, Bool, true, false, cond, ◌==◌, Option, Some, None, is_some, is_none, filter, take, drop, All, length, get_or, unwrap_or, if◌then◌else◌, refl, sym, subst, ap, ◌∙◌, arith, length-append}
-use Rattle.std.specs.Option.{option_map, option_and_then, option_or}
+-- The rows that are asked for, taken one key after another.
+use Rattle.std.proofs.Common.{◌≡◌, ◌<◌, ◌≤◌, ◌+◌, ◌++◌, ◌∷◌, [], ◌==◌, ℕ, suc, List, Bool, true, false, cond, Option, Some, None, is_some, is_none, filter, map, take, All, length, get_or, unwrap_or, not, if◌then◌else◌, refl, sym, subst, ap, ◌∙◌, arith, length-append, append-nil}
+use Rattle.std.specs.Option.{option_map, option_and_then}
 use Rattle.std.specs.List.{cons_option}
-use Rattle.std.specs.List.{AllByRecursion}
-use Rattle.std.specs.List.Sorted.{IsStrictlySortedBy}
 use Rattle.std.specs.Map.{keys_of}
 use Rattle.std.specs.Ordering.{nat_cmp}
-use Rattle.std.proofs.lemmas.Bool.{eqb-true}
-use Rattle.std.proofs.lemmas.List.{length-map, length-take, length-drop, take_more}
-use Rattle.std.proofs.lemmas.List.Elements.{filter_map-append, All-take, All-drop}
+use Rattle.std.proofs.lemmas.Bool.{false≢true}
+use Rattle.std.proofs.lemmas.List.{length-map, take_more}
+use Rattle.std.proofs.lemmas.List.Elements.{filter-append, filter_map-append, All-cons}
 use Rattle.item_model.specs.declared.changes.Edit.{Edit}
 use Rattle.item_model.specs.declared.changes.Edit.TheVariants.{PutItem, DropItem, PutList, PutRule, DropList, PutMember, DropMember}
 use Rattle.item_model.specs.declared.item.Row.{Row}
 use Rattle.item_model.specs.declared.query.Query.{Query}
 use Rattle.item_model.specs.declared.request.Look.{Look}
-use Rattle.item_model.specs.declared.request.Range.{Range}
-use Rattle.item_model.specs.declared.request.Range.TheVariants.{All as whole_range, One, From, Span, Last}
-use Rattle.item_model.specs.declared.request.Target.TheVariants.{Items}
+use Rattle.item_model.specs.declared.request.Target.{Target}
+use Rattle.item_model.specs.declared.request.Target.TheVariants.{Items, Container}
 use Rattle.share_history.specs.Histories.{edits, revision, later}
-use Rattle.share_history.specs.Keyed.{AreAscending, ascending, pairs_at}
+use Rattle.share_history.specs.Keyed.{at, AreAscending, ascending, pairs_at}
 use Rattle.share_history.specs.Kept.{touches, touched}
-use Rattle.share_history.specs.LastSaid.{last_said, only_if, says_item, item_at}
-use Rattle.share_history.specs.Listings.{Listing, shown_rows, full_listing, delta_listing}
+use Rattle.share_history.specs.LastSaid.{Playlist, Plain, Ruled, only_if, item_at, list_at, member_at}
+use Rattle.share_history.specs.Listings.{member_of, full_of, delta_of, full_listing, delta_listing}
 use Rattle.share_history.specs.Named.{named_keys, keys_in}
-use Rattle.share_history.specs.Ranges.{in_range}
-use Rattle.share_history.specs.Rows.{rows, row_at, library, is_asked, if_asked}
+use Rattle.share_history.specs.Numbers.{base_list}
+use Rattle.share_history.specs.Rows.{rows, row_at, library, is_asked, if_asked, in_list, in_target}
 use Rattle.share_history.proofs.KeyedFacts.{has, has-keys_of, at-pairs_at, ascending-pairs_at, sorted-filter, sorted-ascending}
-use Rattle.share_history.proofs.RangeFacts.{in_range-map}
-use Rattle.share_history.proofs.RowFacts.{at-library, ascending-library, rows_are, length-rows, folded-longer}
+use Rattle.share_history.proofs.OwnFacts.{item_id}
+use Rattle.share_history.proofs.RowFacts.{at-rows, at-library, ascending-library, ascending-rows, rows_are, length-rows, folded-longer}
 use Rattle.listing_plan.specs.declared.row.PlanRow.{PlanRow}
-use Rattle.share_listings.specs.Answers.{AreCandidates}
-use Rattle.listing_plan.specs.Plans.{key_of, keys_of_rows, keyed, full_plan, delta_plan, AreRowsOf, AreGone}
+use Rattle.listing_plan.specs.Plans.{key_of, keys_of_rows, keyed, AreRowsOf, AreGone}
+use Rattle.playlist_store.specs.Words.{pair_of}
+use Rattle.playlist_store.specs.declared.head.Member.{Member}
+use Rattle.share_listings.specs.Answers.{AreCandidates, is_library}
+use Rattle.share_listings.specs.Memberships.{AreMembersOf}
+use Rattle.share_listings.proofs.MembershipFacts.{library_rows}
+use Rattle.share_listings.proofs.PlanFacts.{keys_keyed, counted}
 
--- a row has the id that it is asked for, if there is one
-abbrev HasId : ℕ → Option Row → Type 0
-HasId id None = Unit {0}
-HasId id (Some row) = row.id ≡ id
-
-abbrev SaysId : ℕ → Option (Option Row) → Type 0
-SaysId id None = Unit {0}
-SaysId id (Some found) = HasId id found
-
-put_id : (id : ℕ) (row : Row) (b : Bool) → (row.id == id) ≡ b → SaysId id (only_if b (Some row))
-put_id id row true is = eqb-true row.id id is
-put_id id row false is = tt
-
-drop_id : (id : ℕ) (b : Bool) → SaysId id (only_if {A = Option Row} b None)
-drop_id id true = tt
-drop_id id false = tt
-
-said_id : (id : ℕ) (e : Edit) → SaysId id (says_item id e)
-said_id id (PutItem row) = put_id id row (row.id == id) refl
-said_id id (DropItem dropped) = drop_id id (dropped == id)
-said_id id (PutList list name) = tt
-said_id id (PutRule list name rule) = tt
-said_id id (DropList list) = tt
-said_id id (PutMember list member item) = tt
-said_id id (DropMember list member) = tt
-
-later_id : (id : ℕ) (later now : Option (Option Row)) → SaysId id later → SaysId id now → SaysId id (option_or later now)
-later_id id None now h k = k
-later_id id (Some found) now h k = h
-
-last_id : (id : ℕ) (es : List Edit) → SaysId id (last_said (says_item id) es)
-last_id id [] = tt
-last_id id (e ∷ es) = later_id id (last_said (says_item id) es) (says_item id e) (last_id id es) (said_id id e)
-
-found_id : (id : ℕ) (said : Option (Option Row)) → SaysId id said → HasId id (unwrap_or said None)
-found_id id None h = tt
-found_id id (Some found) h = h
-
--- the row of an item has the item's id
-pub item_id : (es : List Edit) (id : ℕ) (row : Row) → item_at es id ≡ Some row → row.id ≡ id
-item_id es id row is = subst (HasId id) is (found_id id (last_said (says_item id) es) (last_id id es))
+-- ---- one key more
 
 -- the pairs at some keys and at one more
-pub pairs_more : (f : ℕ → Option Row) (ids : List ℕ) (i id : ℕ) → i < length ids → id ≡ get_or ids i id
-    → pairs_at f (take (i + 1) ids) ≡ pairs_at f (take i ids) ++ pairs_at f (id ∷ [])
-pairs_more f ids i id lt is =
-    ap (pairs_at f) (take_more ids i id lt ∙ ap (λ k. take i ids ++ k ∷ []) (sym is)) ∙ filter_map-append (λ k. option_map (λ row. (k, row)) (f k)) (take i ids) (id ∷ [])
+pub pairs_more : (f : ℕ → Option Row) (keys : List ℕ) (i key : ℕ) → i < length keys → key ≡ get_or keys i key
+    → pairs_at f (take (i + 1) keys) ≡ pairs_at f (take i keys) ++ pairs_at f (key ∷ [])
+pairs_more f keys i key lt is =
+    ap (pairs_at f) (take_more keys i key lt ∙ ap (λ k. take i keys ++ k ∷ []) (sym is)) ∙ filter_map-append (λ k. option_map (λ row. (k, row)) (f k)) (take i keys) (key ∷ [])
+
+-- the same at the keys of members
+pub members_more : (f : ℕ → Option Row) (members : List Member) (i : ℕ) (member : Member) → i < length members → member ≡ get_or members i member
+    → pairs_at f (map (λ member. member.key) (take (i + 1) members)) ≡ pairs_at f (map (λ member. member.key) (take i members)) ++ pairs_at f (member.key ∷ [])
+members_more f members i member lt is =
+    ap (λ ms. pairs_at f (map (λ (m : Member). m.key) ms)) (take_more members i member lt ∙ ap (λ m. take i members ++ m ∷ []) (sym is))
+    ∙ ap (pairs_at f) (map_more (take i members) member)
+    ∙ filter_map-append (λ k. option_map (λ row. (k, row)) (f k)) (map (λ (m : Member). m.key) (take i members)) (member.key ∷ [])
+  where
+    map_more : (ms : List Member) (m : Member) → map (λ (m : Member). m.key) (ms ++ m ∷ []) ≡ map (λ (m : Member). m.key) ms ++ m.key ∷ []
+    map_more [] m = refl
+    map_more (first ∷ ms) m = ap (λ ks. first.key ∷ ks) (map_more ms m)
 
 abbrev one_pair : ℕ → Option Row → List (ℕ × Row)
-one_pair id found = cons_option (option_map (λ row. (id, row)) found) []
+one_pair key found = cons_option (option_map (λ row. (key, row)) found) []
 
-asked_pair : (id : ℕ) (row : Row) (b : Bool) → row.id ≡ id → cond b ((row.id, row) ∷ []) [] ≡ one_pair id (only_if b row)
-asked_pair id row true is = ap (λ k. (k, row) ∷ []) is
-asked_pair id row false is = refl
+-- a row tells the key under which it stands
+key_shown : (es : List Edit) (t : Target) (key : ℕ) (row : Row) → in_target es t key ≡ Some row → unwrap_or (member_of t key) row.id ≡ key
+key_shown es Items key row is = item_id es key row is
+key_shown es (Container c) key row is = refl
 
--- what one id adds: its item, if it is asked for
-pub asked_more : (es : List Edit) (q : Option Query) (id : ℕ) (row : Row) (old new : List (ℕ × Row)) → item_at es id ≡ Some row
-    → new ≡ old ++ (if is_asked q row then (row.id, row) ∷ [] else []) → new ≡ old ++ pairs_at (row_at es Items q) (id ∷ [])
-asked_more es q id row old new found pushed =
+asked_pair : (shown key : ℕ) (row : Row) (b : Bool) → shown ≡ key → cond b ((shown, row) ∷ []) [] ≡ one_pair key (only_if b row)
+asked_pair shown key row true is = ap (λ k. (k, row) ∷ []) is
+asked_pair shown key row false is = refl
+
+-- what a key adds whose item is there: its row, if it is asked for
+pub asked_more : (es : List Edit) (t : Target) (q : Option Query) (key : ℕ) (member : Option ℕ) (row : Row) (old new : List (ℕ × Row)) → member ≡ member_of t key
+    → in_target es t key ≡ Some row → new ≡ old ++ (if is_asked q row then (unwrap_or member row.id, row) ∷ [] else []) → new ≡ old ++ pairs_at (row_at es t q) (key ∷ [])
+asked_more es t q key member row old new is found pushed =
     pushed
-    ∙ ap (λ l. old ++ l) (asked_pair id row (is_asked q row) (item_id es id row found) ∙ ap (λ o. one_pair id (option_and_then (if_asked q) o)) (sym found))
+    ∙ ap (λ l. old ++ l)
+    (asked_pair (unwrap_or member row.id) key row (is_asked q row) (ap (λ m. unwrap_or m row.id) is ∙ key_shown es t key row found)
+    ∙ ap (λ o. one_pair key (option_and_then (if_asked q) o)) (sym found))
+
+-- and one whose item is not there: nothing
+pub none_more : (es : List Edit) (t : Target) (q : Option Query) (key : ℕ) (old : List (ℕ × Row)) → in_target es t key ≡ None
+    → old ≡ old ++ pairs_at (row_at es t q) (key ∷ [])
+none_more es t q key old none = sym (ap (λ o. old ++ one_pair key (option_and_then (if_asked q) o)) none ∙ append-nil old)
+
+-- ---- keys from which a full listing may start
+
+-- they ascend, and under no other key there is a row that is asked for
+pub record Starts (es : List Edit) (t : Target) (q : Option Query) (keys : List ℕ) : Type 0 where
+  pub ascending : AreAscending keys
+  pub others : (k : ℕ) → has k keys ≡ false → row_at es t q k ≡ None
+
+-- candidates are such where the rows are all items
+pub candidates_start : (es : List Edit) (t : Target) (q : Option Query) (ids : List ℕ) → is_library t ≡ true → AreCandidates es q ids → Starts es t q ids
+candidates_start es t q ids all h = record { ascending = h.ascending; others = λ k out. library_rows es t q k all ∙ h.others k out }
+
+none_asked : (q : Option Query) (found : Option Row) → is_some (option_and_then (if_asked None) found) ≡ false → option_and_then (if_asked q) found ≡ None
+none_asked q None h = refl
+none_asked q (Some row) h = absurd (cc)
+
+-- where there is no row without a query, there is none with one
+unlisted : (es : List Edit) (t : Target) (q : Option Query) (k : ℕ) → has k (keys_of (rows es t None)) ≡ false → row_at es t q k ≡ None
+unlisted es t q k h =
+    none_asked q (in_target es t k) (sym (ap is_some (at-rows es t None k)) ∙ sym (has-keys_of k (rows es t None)) ∙ h)
+
+rows_start : (es : List Edit) (t : Target) (q : Option Query) → Starts es t q (keys_of (rows es t None))
+rows_start es t q = record { ascending = ascending-rows es t None; others = unlisted es t q }
 
 -- the ids of the library are candidates
 pub library_starts : (es : List Edit) (q : Option Query) (ids : List ℕ) → ids ≡ keys_of (library es) → AreCandidates es q ids
-library_starts es q ids all = record {
-  ascending = subst AreAscending (sym all) (ascending-library es);
-  others = λ id h.
-      none_there (item_at es id) (sym (ap is_some (at-library es id)) ∙ sym (has-keys_of id (library es)) ∙ sym (ap (has id) all) ∙ h);
-}
-  where
-    none_there : (found : Option Row) → is_some found ≡ false → option_and_then (if_asked q) found ≡ None
-    none_there None h = refl
-    none_there (Some row) h = absurd (cc)
+library_starts es q ids all =
+    let start = subst (Starts es Items q) (sym all) (rows_start es Items q) in
+    record { ascending = start.ascending; others = start.others }
 
--- the rows at candidates are all rows of a listing of items
-rows_from : (es : List Edit) (q : Option Query) (ids : List ℕ) → AreCandidates es q ids → pairs_at (row_at es Items q) ids ≡ rows es Items q
-rows_from es q ids start =
-    rows_are es Items q (pairs_at (row_at es Items q) ids) (ascending-pairs_at (row_at es Items q) ids start.ascending)
-    (λ k. at-pairs_at k (row_at es Items q) ids ∙ there_or_not (has k ids) (row_at es Items q k) (start.others k))
+-- the rows at such keys are all rows
+pub rows_from : (es : List Edit) (t : Target) (q : Option Query) (keys : List ℕ) → Starts es t q keys → pairs_at (row_at es t q) keys ≡ rows es t q
+rows_from es t q keys start =
+    rows_are es t q (pairs_at (row_at es t q) keys) (ascending-pairs_at (row_at es t q) keys start.ascending)
+    (λ k. at-pairs_at k (row_at es t q) keys ∙ there_or_not (has k keys) (row_at es t q k) (start.others k))
   where
     there_or_not : (b : Bool) (v : Option Row) → (b ≡ false → v ≡ None) → cond b v None ≡ v
     there_or_not true v f = refl
     there_or_not false v f = sym (f refl)
 
-keys_keyed : (found : List PlanRow) → keys_of_rows found ≡ keys_of (keyed found)
-keys_keyed [] = refl
-keys_keyed (row ∷ found) = ap (λ ks. key_of row ∷ ks) (keys_keyed found)
+-- ---- the members that a store of lists tells
+
+-- their keys are those of the list's rows
+pub member_keys : (members : List Member) (rs : List (ℕ × Row)) → map pair_of members ≡ map (λ row. (row.0, row.1.id)) rs
+    → map (λ member. member.key) members ≡ keys_of rs
+member_keys members rs h = first_of_members members ∙ ap (map (λ (p : ℕ × ℕ). p.0)) h ∙ first_of_rows rs
+  where
+    first_of_members : (ms : List Member) → map (λ (m : Member). m.key) ms ≡ map (λ (p : ℕ × ℕ). p.0) (map pair_of ms)
+    first_of_members [] = refl
+    first_of_members (m ∷ ms) = ap (λ ks. m.key ∷ ks) (first_of_members ms)
+
+    first_of_rows : (rs : List (ℕ × Row)) → map (λ (p : ℕ × ℕ). p.0) (map (λ (row : ℕ × Row). (row.0, row.1.id)) rs) ≡ keys_of rs
+    first_of_rows [] = refl
+    first_of_rows (row ∷ rs) = ap (λ ks. row.0 ∷ ks) (first_of_rows rs)
+
+pub members_start : (es : List Edit) (t : Target) (q : Option Query) (members : List Member)
+    → map pair_of members ≡ map (λ row. (row.0, row.1.id)) (rows es t None) → Starts es t q (map (λ member. member.key) members)
+members_start es t q members h = subst (Starts es t q) (sym (member_keys members (rows es t None) h)) (rows_start es t q)
+
+-- a row is found under its own id
+asked_some : (q : Option Query) (found : Option Row) (row : Row) → option_and_then (if_asked q) found ≡ Some row → found ≡ Some row
+asked_some q None row is = absurd (cc)
+asked_some q (Some other) row is = kept (is_asked q other) is
+  where
+    kept : (b : Bool) → only_if b other ≡ Some row → Some other ≡ Some row
+    kept true is = is
+    kept false is = absurd (cc)
+
+own_item : (es : List Edit) (id : ℕ) (row : Row) → item_at es id ≡ Some row → item_at es row.id ≡ Some row
+own_item es id row is = ap (item_at es) (item_id es id row is) ∙ is
+
+own_member : (es : List Edit) (member : Option ℕ) (row : Row) → option_and_then (item_at es) member ≡ Some row → item_at es row.id ≡ Some row
+own_member es None row is = absurd (cc)
+own_member es (Some id) row is = own_item es id row is
+
+own_listed : (es : List Edit) (list : Option Playlist) (c key : ℕ) (row : Row) → in_list list es c key ≡ Some row → item_at es row.id ≡ Some row
+own_listed es None c key row is = absurd (cc)
+own_listed es (Some (Plain name)) c key row is = own_member es (member_at es c key) row is
+own_listed es (Some (Ruled name rule)) c key row is = own_item es key row (asked_some (Some rule) (item_at es key) row is)
+
+own_row : (es : List Edit) (t : Target) (key : ℕ) (row : Row) → in_target es t key ≡ Some row → item_at es row.id ≡ Some row
+own_row es Items key row is = own_item es key row is
+own_row es (Container c) key row is = either (c == base_list) is
+  where
+    either : (b : Bool) → cond b (item_at es key) (in_list (list_at es c) es c key) ≡ Some row → item_at es row.id ≡ Some row
+    either true is = own_item es key row is
+    either false is = own_listed es (list_at es c) c key row is
+
+-- the item of each row under its key is that of the row's id
+abbrev IsAt : List Edit → Target → ℕ × ℕ → Type 0
+IsAt es t pair = in_target es t pair.0 ≡ item_at es pair.1
+
+abbrev id_pair : ℕ × Row → ℕ × ℕ
+id_pair row = (row.0, row.1.id)
+
+id_more : (es : List Edit) (t : Target) (key : ℕ) (rest : List (ℕ × Row)) (found : Option Row) → in_target es t key ≡ found → All (IsAt es t) (map id_pair rest)
+    → All (IsAt es t) (map id_pair (cons_option (option_map (λ row. (key, row)) (option_and_then (if_asked None) found)) rest))
+id_more es t key rest None is all = all
+id_more es t key rest (Some row) is all = All-cons (IsAt es t) (key, row.id) (map id_pair rest) (is ∙ sym (own_row es t key row is)) all
+
+pairs_at_ids : (es : List Edit) (t : Target) (keys : List ℕ) → All (IsAt es t) (map id_pair (pairs_at (row_at es t None) keys))
+pairs_at_ids es t [] = λ i d lt. absurd (omega arith)
+pairs_at_ids es t (key ∷ keys) = id_more es t key (pairs_at (row_at es t None) keys) (in_target es t key) refl (pairs_at_ids es t keys)
+
+told_members : (es : List Edit) (t : Target) (members : List Member) → All (IsAt es t) (map pair_of members) → AreMembersOf es t members
+told_members es t [] all = λ i d lt. absurd (omega arith)
+told_members es t (member ∷ members) all =
+    All-cons (λ (m : Member). in_target es t m.key ≡ item_at es m.item) member members (all 0 (0, 0) (omega arith))
+    (told_members es t members (λ i d lt. all (suc i) d (omega (arith, lt))))
+
+pub members_are : (es : List Edit) (t : Target) (members : List Member)
+    → map pair_of members ≡ map (λ row. (row.0, row.1.id)) (rows es t None) → AreMembersOf es t members
+members_are es t members h = told_members es t members (subst (All (IsAt es t)) (sym h) (pairs_at_ids es t (ascending (named_keys es))))
+
+pub members_count : (members : List Member) (rs : List (ℕ × Row)) → map pair_of members ≡ map (λ row. (row.0, row.1.id)) rs → length members ≡ length rs
+members_count members rs h = sym (length-map members pair_of) ∙ ap length h ∙ length-map rs id_pair
+
+-- a list that is not there has no rows
+pub rows_unlisted : (es : List Edit) (c : ℕ) → (c == base_list) ≡ false → list_at es c ≡ None → rows es (Container c) None ≡ []
+rows_unlisted es c other none = no_pairs (ascending (named_keys es))
+  where
+    no_row : (k : ℕ) → row_at es (Container c) None k ≡ None
+    no_row k =
+        ap (λ b. option_and_then (if_asked None) (cond b (item_at es k) (in_list (list_at es c) es c k))) other
+        ∙ ap (λ l. option_and_then (if_asked None) (in_list l es c k)) none
+
+    no_pairs : (ks : List ℕ) → pairs_at (row_at es (Container c) None) ks ≡ []
+    no_pairs [] = refl
+    no_pairs (k ∷ ks) = ap (λ o. cons_option (option_map (λ row. (k, row)) o) (pairs_at (row_at es (Container c) None) ks)) (no_row k) ∙ no_pairs ks
+
+none_there : {X Y : Type 0} (x : Y) (found : Option X) → None ≡ option_map (λ _. x) found → found ≡ None
+none_there x None h = refl
+none_there x (Some y) h = absurd (cc)
+
+pub no_members : (es : List Edit) (c : ℕ) (members : List Member) → (c == base_list) ≡ false → members ≡ []
+    → None ≡ option_map (λ _. map id_pair (rows es (Container c) None)) (list_at es c) → map pair_of members ≡ map id_pair (rows es (Container c) None)
+no_members es c members other none unlisted =
+    ap (map pair_of) none
+    ∙ sym (ap (map id_pair) (rows_unlisted es c other (none_there (map id_pair (rows es (Container c) None)) (list_at es c) unlisted)))
+
+-- ---- the keys that are no rows
+
+-- what a key adds that is a row, and one that is none
+pub none_gone : (gone : List ℕ) (key : ℕ) (is_row is_gone : Bool) → is_row ≡ true → is_row ≡ not is_gone → gone ≡ gone ++ cond is_gone (key ∷ []) []
+none_gone gone key is_row true is told = absurd (false≢true (sym told ∙ is))
+none_gone gone key is_row false is told = sym (append-nil gone)
+
+pub one_gone : (gone : List ℕ) (key : ℕ) (is_row is_gone : Bool) → is_row ≡ false → is_row ≡ not is_gone → gone ++ key ∷ [] ≡ gone ++ cond is_gone (key ∷ []) []
+one_gone gone key is_row true is told = refl
+one_gone gone key is_row false is told = absurd (false≢true (sym is ∙ told))
+
+pub gone_more : (p : ℕ → Bool) (keys : List ℕ) (i key : ℕ) → i < length keys → key ≡ get_or keys i key
+    → filter p (take (i + 1) keys) ≡ filter p (take i keys) ++ filter p (key ∷ [])
+gone_more p keys i key lt is =
+    ap (filter p) (take_more keys i key lt ∙ ap (λ k. take i keys ++ k ∷ []) (sym is)) ∙ filter-append p (take i keys) (key ∷ [])
 
 -- ---- how many there are
 
@@ -149,113 +264,49 @@ few_filtered p (k ∷ ks) = elim (p k) as (λ b. length (cond b (k ∷ filter p 
   | false ↦ omega (arith, few_filtered p ks)
 ]
 
-pub few_touched : (bs : List (List Edit)) (base : ℕ) → length (touched bs Items base) ≤ length (edits bs)
-few_touched bs base =
-    omega (arith, few_filtered (touches (edits bs) Items (later bs base)) (ascending (named_keys (edits bs))), folded-longer nat_cmp [] (named_keys (edits bs)), few_keys (edits bs))
+pub few_touched : (bs : List (List Edit)) (t : Target) (base : ℕ) → length (touched bs t base) ≤ length (edits bs)
+few_touched bs t base =
+    omega (arith, few_filtered (touches (edits bs) t (later bs base)) (ascending (named_keys (edits bs))), folded-longer nat_cmp [] (named_keys (edits bs)), few_keys (edits bs))
 
-sorted-touched : (bs : List (List Edit)) (base : ℕ) → AreAscending (touched bs Items base)
-sorted-touched bs base = sorted-filter (touches (edits bs) Items (later bs base)) (ascending (named_keys (edits bs))) (sorted-ascending (named_keys (edits bs)))
+sorted-touched : (bs : List (List Edit)) (t : Target) (base : ℕ) → AreAscending (touched bs t base)
+sorted-touched bs t base = sorted-filter (touches (edits bs) t (later bs base)) (ascending (named_keys (edits bs))) (sorted-ascending (named_keys (edits bs)))
 
 -- ---- rows that can be planned
 
-fit_at : (f : ℕ → Option Row) (ids : List ℕ) (found : List PlanRow) → keyed found ≡ pairs_at f ids → All (λ row. row.member ≡ None) found
-    → AreAscending ids → length ids ≤ 262144 → AreRowsOf Items found
-fit_at f ids found is members sorted few =
-    let count : length (keyed found) ≡ length found = length-map found (λ (row : PlanRow). (key_of row, row.row)) in
-    record {
-      members = members;
-      ascending = subst AreAscending (sym (keys_keyed found ∙ ap keys_of is)) (ascending-pairs_at f ids sorted);
-      few = omega (arith, count, ap length is, few_pairs f ids, few);
-    }
+fit_at : (t : Target) (f : ℕ → Option Row) (keys : List ℕ) (found : List PlanRow) → keyed found ≡ pairs_at f keys
+    → All (λ row. row.member ≡ member_of t (key_of row)) found → AreAscending keys → length (keyed found) ≤ 262144 → AreRowsOf t found
+fit_at t f keys found is members sorted few = record {
+  members = members;
+  ascending = subst AreAscending (sym (keys_keyed found ∙ ap keys_of is)) (ascending-pairs_at f keys sorted);
+  few = omega (arith, counted found, few);
+}
 
--- ---- ranges
+-- all rows can, as there are no more than edits
+pub full_fit : (es : List Edit) (t : Target) (q : Option Query) (keys : List ℕ) (found : List PlanRow) → Starts es t q keys
+    → keyed found ≡ pairs_at (row_at es t q) keys → All (λ row. row.member ≡ member_of t (key_of row)) found → length es ≤ 262144 → AreRowsOf t found
+full_fit es t q keys found start is members few =
+    fit_at t (row_at es t q) keys found is members start.ascending (omega (arith, ap length (is ∙ rows_from es t q keys start), length-rows es t q, few))
 
-below_front : (P : ℕ → Type 0) (n : ℕ) (ks : List ℕ) → AllByRecursion P ks → AllByRecursion P (take n ks)
-below_front P zero ks h = tt
-below_front P (suc n) [] h = tt
-below_front P (suc n) (k ∷ ks) h = (h.0, below_front P n ks h.1)
+pub delta_fit : (bs : List (List Edit)) (t : Target) (q : Option Query) (base : ℕ) (keys : List ℕ) (found : List PlanRow) → keys ≡ touched bs t base
+    → keyed found ≡ pairs_at (row_at (edits bs) t q) keys → All (λ row. row.member ≡ member_of t (key_of row)) found → length (edits bs) ≤ 262144 → AreRowsOf t found
+delta_fit bs t q base keys found all is members few =
+    fit_at t (row_at (edits bs) t q) keys found is members (subst AreAscending (sym all) (sorted-touched bs t base))
+    (omega (arith, ap length is, few_pairs (row_at (edits bs) t q) keys, ap length all, few_touched bs t base, few))
 
-sorted-take : (n : ℕ) (ks : List ℕ) → AreAscending ks → AreAscending (take n ks)
-unfolding IsStrictlySortedBy
-sorted-take zero ks h = tt
-sorted-take (suc n) [] h = tt
-sorted-take (suc n) (k ∷ ks) h = (below_front _ n ks h.0, sorted-take n ks h.1)
-
-sorted-drop : (n : ℕ) (ks : List ℕ) → AreAscending ks → AreAscending (drop n ks)
-unfolding IsStrictlySortedBy
-sorted-drop zero ks h = h
-sorted-drop (suc n) [] h = tt
-sorted-drop (suc n) (k ∷ ks) h = sorted-drop n ks h.1
-
-sorted-in_range : (r : Range) (ks : List ℕ) → AreAscending ks → AreAscending (in_range r ks)
-sorted-in_range whole_range ks h = h
-sorted-in_range (One place) ks h = sorted-take 1 (drop place ks) (sorted-drop place ks h)
-sorted-in_range (From place) ks h = sorted-drop place ks h
-sorted-in_range (Span from to) ks h = sorted-drop from (take (to + 1) ks) (sorted-take (to + 1) ks h)
-sorted-in_range (Last count) ks h = sorted-drop (length ks - count) ks h
-
-all-in_range : {A : Type 0} (P : A → Type 0) (r : Range) (xs : List A) → All P xs → All P (in_range r xs)
-all-in_range P whole_range xs h = h
-all-in_range P (One place) xs h = All-take P 1 (drop place xs) (All-drop P place xs h)
-all-in_range P (From place) xs h = All-drop P place xs h
-all-in_range P (Span from to) xs h = All-drop P from (take (to + 1) xs) (All-take P (to + 1) xs h)
-all-in_range P (Last count) xs h = All-drop P (length xs - count) xs h
-
-few-in_range : {A : Type 0} (r : Range) (xs : List A) → length (in_range r xs) ≤ length xs
-few-in_range whole_range xs = omega arith
-few-in_range (One place) xs = omega (arith, length-take 1 (drop place xs), length-drop place xs)
-few-in_range (From place) xs = omega (arith, length-drop place xs)
-few-in_range (Span from to) xs = omega (arith, length-drop from (take (to + 1) xs), length-take (to + 1) xs)
-few-in_range (Last count) xs = omega (arith, length-drop (length xs - count) xs)
-
--- the rows that were found are no more than the edits
-pub few_found : (es : List Edit) (q : Option Query) (ids : List ℕ) (found : List PlanRow) → AreCandidates es q ids
-    → keyed found ≡ pairs_at (row_at es Items q) ids → length found ≤ length es
-few_found es q ids found start is =
-    let count : length (keyed found) ≡ length found = length-map found (λ (row : PlanRow). (key_of row, row.row)) in
-    omega (arith, count, ap length (is ∙ rows_from es q ids start), length-rows es Items q)
-
--- those of a range can be planned
-pub full_fit : (es : List Edit) (q : Option Query) (ids : List ℕ) (found listed : List PlanRow) (r : Range) → AreCandidates es q ids
-    → keyed found ≡ pairs_at (row_at es Items q) ids → All (λ row. row.member ≡ None) found → listed ≡ in_range r found → length es ≤ 262144 → AreRowsOf Items listed
-full_fit es q ids found listed r start is members cut few =
-    let sorted : AreAscending (keys_of_rows found) = subst AreAscending (sym (keys_keyed found ∙ ap keys_of is)) (ascending-pairs_at (row_at es Items q) ids start.ascending) in
-    subst (AreRowsOf Items) (sym cut)
-    (record {
-      members = all-in_range (λ (row : PlanRow). row.member ≡ None) r found members;
-      ascending = subst AreAscending (in_range-map key_of r found) (sorted-in_range r (keys_of_rows found) sorted);
-      few = omega (arith, few-in_range r found, few_found es q ids found start is, few);
-    })
-
-pub delta_fit : (bs : List (List Edit)) (q : Option Query) (base : ℕ) (ids : List ℕ) (found : List PlanRow) → ids ≡ touched bs Items base
-    → keyed found ≡ pairs_at (row_at (edits bs) Items q) ids → All (λ row. row.member ≡ None) found → length (edits bs) ≤ 262144 → AreRowsOf Items found
-delta_fit bs q base ids found all is members few =
-    fit_at (row_at (edits bs) Items q) ids found is members (subst AreAscending (sym all) (sorted-touched bs base)) (omega (arith, ap length all, few_touched bs base, few))
-
-pub gone_fit : (bs : List (List Edit)) (p : ℕ → Bool) (base : ℕ) (ids gone : List ℕ) → ids ≡ touched bs Items base → gone ≡ filter p ids → length (edits bs) ≤ 262144 → AreGone gone
-gone_fit bs p base ids gone all is few =
-    record {
-      ascending = subst AreAscending (sym (is ∙ ap (filter p) all)) (sorted-filter p (touched bs Items base) (sorted-touched bs base));
-      few = omega (arith, ap length is, few_filtered p ids, ap length all, few_touched bs base, few);
-    }
+pub gone_fit : (bs : List (List Edit)) (t : Target) (p : ℕ → Bool) (base : ℕ) (keys gone : List ℕ) → keys ≡ touched bs t base → gone ≡ filter p keys
+    → length (edits bs) ≤ 262144 → AreGone gone
+gone_fit bs t p base keys gone all is few = record {
+  ascending = subst AreAscending (sym (is ∙ ap (filter p) all)) (sorted-filter p (touched bs t base) (sorted-touched bs t base));
+  few = omega (arith, ap length is, few_filtered p keys, ap length all, few_touched bs t base, few);
+}
 
 -- ---- the listings
 
-pub full_is : (bs : List (List Edit)) (look : Look) (q : Option Query) (v total : ℕ) (ids : List ℕ) (found listed : List PlanRow) → q ≡ look.query → v ≡ revision bs → total ≡ length found
-    → AreCandidates (edits bs) q ids → keyed found ≡ pairs_at (row_at (edits bs) Items q) ids → listed ≡ in_range look.range found
-    → full_plan Items v total listed look.meta ≡ full_listing bs Items look
-full_is bs look q v total ids found listed asked now count start is cut =
-    let all : keyed found ≡ rows (edits bs) Items look.query = is ∙ rows_from (edits bs) q ids start ∙ ap (rows (edits bs) Items) asked in
-    let counted : length (keyed found) ≡ length found = length-map found (λ (row : PlanRow). (key_of row, row.row)) in
-    let part : keyed listed ≡ in_range look.range (rows (edits bs) Items look.query) =
-    ap keyed cut ∙ sym (in_range-map (λ (row : PlanRow). (key_of row, row.row)) look.range found) ∙ ap (in_range look.range) all in
-    λ i. record {
-      is_delta = false;
-      revision = now i;
-      total = (count ∙ sym counted ∙ ap length all) i;
-      rows = shown_rows Items look.meta (part i);
-      gone = [];
-    }
+pub full_is : (bs : List (List Edit)) (t : Target) (look : Look) (q : Option Query) (v : ℕ) (keys : List ℕ) (found : List PlanRow) → q ≡ look.query → v ≡ revision bs
+    → Starts (edits bs) t q keys → keyed found ≡ pairs_at (row_at (edits bs) t q) keys → full_of v t look (keyed found) ≡ full_listing bs t look
+full_is bs t look q v keys found asked now start is =
+    let all : keyed found ≡ rows (edits bs) t look.query = is ∙ rows_from (edits bs) t q keys start ∙ ap (rows (edits bs) t) asked in
+    λ i. full_of (now i) t look (all i)
 
 -- the pairs at those keys that pass a test are the pairs whose keys pass it
 pairs-filter : {A : Type 0} (f : ℕ → Option A) (p : ℕ → Bool) (ks : List ℕ) → pairs_at f (filter p ks) ≡ filter (λ pair. p pair.0) (pairs_at f ks)
@@ -272,28 +323,22 @@ pairs-filter {A = A} f p (k ∷ ks) = by_test (p k) refl (f k) refl (pairs-filte
     by_test false test (Some x) found more =
         more ∙ sym (ap (λ b. cond b ((k, x) ∷ filter (λ pair. p pair.0) (pairs_at f ks)) (filter (λ pair. p pair.0) (pairs_at f ks))) test)
 
-pub delta_is : (bs : List (List Edit)) (look : Look) (q : Option Query) (v base : ℕ) (ids gone : List ℕ) (found : List PlanRow) → q ≡ look.query → v ≡ revision bs
-    → ids ≡ touched bs Items base → keyed found ≡ pairs_at (row_at (edits bs) Items q) ids → gone ≡ filter (λ key. is_none (row_at (edits bs) Items q key)) ids
-    → delta_plan Items v found gone look.meta ≡ delta_listing bs Items look base
-delta_is bs look q v base ids gone found asked now all is left =
-    let counted : length (keyed found) ≡ length found = length-map found (λ (row : PlanRow). (key_of row, row.row)) in
-    ap (λ n. listed v n (keyed found) gone) (sym counted)
-    ∙ (λ i. listed v (length (listed_are i)) (listed_are i) (left i))
-    ∙ ap (λ n. listed n (length listed_now) listed_now (filter (λ key. is_none (row_at (edits bs) Items q key)) ids)) now
-    ∙ ap (λ ks. listed (revision bs) (length listed_now) listed_now (filter (λ key. is_none (row_at (edits bs) Items q key)) ks)) all
-    ∙ ap (λ o. listed (revision bs) (length (filter touches_row (rows (edits bs) Items o))) (filter touches_row (rows (edits bs) Items o)) (filter (λ key. is_none (row_at (edits bs) Items o key)) (touched bs Items base))) asked
+pub delta_is : (bs : List (List Edit)) (t : Target) (look : Look) (q : Option Query) (v base : ℕ) (keys gone : List ℕ) (found : List PlanRow) → q ≡ look.query → v ≡ revision bs
+    → keys ≡ touched bs t base → keyed found ≡ pairs_at (row_at (edits bs) t q) keys → gone ≡ filter (λ key. is_none (row_at (edits bs) t q key)) keys
+    → delta_of v t look (keyed found) gone ≡ delta_listing bs t look base
+delta_is bs t look q v base keys gone found asked now all is left =
+    (λ i. delta_of v t look (listed_are i) (left i))
+    ∙ ap (λ n. delta_of n t look listed_now (filter (λ key. is_none (row_at (edits bs) t q key)) keys)) now
+    ∙ ap (λ ks. delta_of (revision bs) t look listed_now (filter (λ key. is_none (row_at (edits bs) t q key)) ks)) all
+    ∙ ap (λ o. delta_of (revision bs) t look (filter touches_row (rows (edits bs) t o)) (filter (λ key. is_none (row_at (edits bs) t o key)) (touched bs t base))) asked
   where
     touches_row : ℕ × Row → Bool
-    touches_row row = touches (edits bs) Items (later bs base) row.0
-
-    listed : ℕ → ℕ → List (ℕ × Row) → List ℕ → Listing
-    listed n count all gone =
-        record { is_delta = true; revision = n; total = count; rows = shown_rows Items look.meta all; gone = gone }
+    touches_row row = touches (edits bs) t (later bs base) row.0
 
     listed_now : List (ℕ × Row)
-    listed_now = filter touches_row (rows (edits bs) Items q)
+    listed_now = filter touches_row (rows (edits bs) t q)
 
     listed_are : keyed found ≡ listed_now
     listed_are =
-        is ∙ ap (pairs_at (row_at (edits bs) Items q)) all
-        ∙ pairs-filter (row_at (edits bs) Items q) (touches (edits bs) Items (later bs base)) (ascending (named_keys (edits bs)))
+        is ∙ ap (pairs_at (row_at (edits bs) t q)) all
+        ∙ pairs-filter (row_at (edits bs) t q) (touches (edits bs) t (later bs base)) (ascending (named_keys (edits bs)))

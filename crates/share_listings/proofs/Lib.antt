@@ -1,2 +1,5 @@
+pub mod OnSuccess
+pub mod MembershipFacts
+pub mod PlanFacts
 pub mod AnswerFacts
 pub mod Samples

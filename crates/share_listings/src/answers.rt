@@ -1,127 +1,122 @@
-//! What a store of items answers to a look.
+//! What the stores of a share answer to a look.
 
-ghost use Rattle.std.specs.Prelude.{◌≡◌, ◌≤◌, ◌+◌, ◌*◌, List, true, None, option_copied, length, IfOk};
+ghost use Rattle.std.specs.Prelude.{◌≡◌, ◌≤◌, ◌+◌, ◌*◌, List, length, option_copied, IfOk};
 ghost use Rattle.item_model.specs.declared.changes.Edit.{Edit};
-ghost use Rattle.item_model.specs.declared.request.Target.TheVariants.{Items};
 ghost use Rattle.item_store.specs.Stands.{StandsFor, floor_of};
 ghost use Rattle.listing_plan.specs.declared.plan.Plan.TheVariants.{Rows};
+ghost use Rattle.playlist_store.specs.Stands as lists_stand;
 ghost use Rattle.share_history.specs.Histories.{edits};
-ghost use Rattle.share_history.specs.Kept.{is_kept, touched};
+ghost use Rattle.share_history.specs.Kept.{touched};
 ghost use Rattle.share_history.specs.Listings.{listing, full_listing, delta_listing};
-ghost use Rattle.share_listings.specs.Answers.{HasFew, AreCandidates, StartFrom, looked_at, most_ticks};
+ghost use Rattle.share_listings.specs.Answers.{HaveFew, StartFrom, looked_at, most_ticks};
+ghost use Rattle.share_listings.specs.Memberships.{Tells, TellsFew};
 
 use crate::asked::{gone_at, rows_at};
-use crate::ranges::in_range;
+use crate::membership::{Membership, is_kept, membership_of, touched_keys};
+use crate::plans::delta_plan;
+use crate::whole::full;
 use item_model::{Look, Target};
 use item_store::ItemStore;
 use listing_plan::Plan;
+use playlist_store::PlaylistStore;
 use song_query::Steps;
 use std::alloc::{AllocError, Global};
 use std::sync::ledger::Ledger;
 
-/// The listing of items that answers a look: the change since its base where the store tells it, else the whole, which
-/// may start from candidates.
+/// The listing of a target that answers a look: the change since its base where the stores tell it, else the whole. The
+/// whole of all items, which container 1 has too, may start from candidates. A container that is not there has no rows.
 pub fn listing<L: Ledger>(
     alloc: Global,
-    store: &ItemStore,
+    items: &ItemStore,
+    lists: &PlaylistStore,
+    target: Target,
     look: Look,
     candidates: Option<&[u32]>,
     steps: &mut Steps<L>,
 ) -> Result<Plan, AllocError>
-    requires few { HasFew store.now }
-    requires start { (bs : List (List Edit)) → StandsFor bs store.now → StartFrom (edits bs) look.query (option_copied candidates) }
-    ensures listing { IfOk result (λ plan. (bs : List (List Edit)) → StandsFor bs store.now
-        → plan ≡ Rows (record { target = Items; listing = listing store.now.keep bs Items look })) }
-    ensures cost { (bs : List (List Edit)) → StandsFor bs store.now → steps.new ≤ steps.old + most_ticks store.now.keep bs look.base (option_copied candidates.entry) }
+    requires few { HaveFew items.now lists.now }
+    requires start { (bs : List (List Edit)) → StandsFor bs items.now → StartFrom (edits bs) look.query (option_copied candidates) }
+    ensures listing { IfOk result (λ plan. (bs : List (List Edit)) → StandsFor bs items.now → lists_stand.StandsFor bs lists.now
+        → plan ≡ Rows (record { target = target; listing = listing items.now.keep bs target look })) }
+    ensures cost { (bs : List (List Edit)) → StandsFor bs items.now → lists_stand.StandsFor bs lists.now
+        → steps.new ≤ steps.old + most_ticks items.now.keep bs target look.base (option_copied candidates.entry) }
 {
-    if is_kept(store, look.base) {
-        delta_items(alloc, store, look, steps)
-    } else {
-        full_listing(alloc, store, look, candidates, steps)
-    }
+    let membership = membership_of(target, lists);
+    answer(alloc, items, membership, target, look, candidates, steps)
 }
 
-fn is_kept(store: &ItemStore, base: u32) -> bool
-    ensures kept { (bs : List (List Edit)) → StandsFor bs store.now → result ≡ is_kept store.now.keep bs Items base }
-    ensures from { result ≡ true → floor_of store.now.keep store.now.revision ≤ base }
-    ensures to { result ≡ true → base ≤ store.now.revision }
-{
-    store.floor() <= base && base <= store.revision()
-}
-
-/// All items that a look asks for, cut to its range. It may start from candidates.
+/// All rows of a target that a look asks for, cut to its range. Those of all items may start from candidates.
 pub fn full_listing<L: Ledger>(
     alloc: Global,
-    store: &ItemStore,
+    items: &ItemStore,
+    lists: &PlaylistStore,
+    target: Target,
     look: Look,
     candidates: Option<&[u32]>,
     steps: &mut Steps<L>,
 ) -> Result<Plan, AllocError>
-    requires few { HasFew store.now }
-    requires start { (bs : List (List Edit)) → StandsFor bs store.now → StartFrom (edits bs) look.query (option_copied candidates) }
-    ensures listing { IfOk result (λ plan. (bs : List (List Edit)) → StandsFor bs store.now
-        → plan ≡ Rows (record { target = Items; listing = full_listing bs Items look })) }
-    ensures cost { (bs : List (List Edit)) → StandsFor bs store.now → steps.new ≤ steps.old + looked_at (edits bs) (option_copied candidates.entry) }
+    requires few { HaveFew items.now lists.now }
+    requires start { (bs : List (List Edit)) → StandsFor bs items.now → StartFrom (edits bs) look.query (option_copied candidates) }
+    ensures listing { IfOk result (λ plan. (bs : List (List Edit)) → StandsFor bs items.now → lists_stand.StandsFor bs lists.now
+        → plan ≡ Rows (record { target = target; listing = full_listing bs target look })) }
+    ensures cost { (bs : List (List Edit)) → StandsFor bs items.now → lists_stand.StandsFor bs lists.now
+        → steps.new ≤ steps.old + looked_at (edits bs) target (option_copied candidates.entry) }
 {
-    match candidates {
-        Some(ids) => full_from(alloc, store, look, ids, steps),
-        None => full_of_all(alloc, store, look, steps),
+    let membership = membership_of(target, lists);
+    full(alloc, items, membership, target, look, candidates, steps)
+}
+
+/// The listing of a target with these members.
+pub(crate) fn answer<L: Ledger>(
+    alloc: Global,
+    items: &ItemStore,
+    membership: Membership<'_>,
+    target: Target,
+    look: Look,
+    candidates: Option<&[u32]>,
+    steps: &mut Steps<L>,
+) -> Result<Plan, AllocError>
+    requires few { TellsFew items.now target membership }
+    requires start { (bs : List (List Edit)) → StandsFor bs items.now → StartFrom (edits bs) look.query (option_copied candidates) }
+    ensures listing { IfOk result (λ plan. (bs : List (List Edit)) → Tells bs items.now target membership.entry
+        → plan ≡ Rows (record { target = target; listing = listing items.now.keep bs target look })) }
+    ensures cost { (bs : List (List Edit)) → Tells bs items.now target membership.entry
+        → steps.new ≤ steps.old + most_ticks items.now.keep bs target look.base (option_copied candidates.entry) }
+{
+    if is_kept(items, membership, look.base) {
+        delta(alloc, items, membership, target, look, steps)
+    } else {
+        full(alloc, items, membership, target, look, candidates, steps)
     }
 }
 
-fn full_of_all<L: Ledger>(
+/// What changed since the base of the look.
+fn delta<L: Ledger>(
     alloc: Global,
-    store: &ItemStore,
+    items: &ItemStore,
+    membership: Membership<'_>,
+    target: Target,
     look: Look,
     steps: &mut Steps<L>,
 ) -> Result<Plan, AllocError>
-    requires few { HasFew store.now }
-    ensures listing { IfOk result (λ plan. (bs : List (List Edit)) → StandsFor bs store.now
-        → plan ≡ Rows (record { target = Items; listing = full_listing bs Items look })) }
-    ensures cost { (bs : List (List Edit)) → StandsFor bs store.now → steps.new ≤ steps.old + looked_at (edits bs) None }
+    requires few { TellsFew items.now target membership }
+    requires from { floor_of items.now.keep items.now.revision ≤ look.base }
+    requires to { look.base ≤ items.now.revision }
+    ensures listing { IfOk result (λ plan. (bs : List (List Edit)) → Tells bs items.now target membership.entry
+        → plan ≡ Rows (record { target = target; listing = delta_listing bs target look look.base })) }
+    ensures cost { (bs : List (List Edit)) → Tells bs items.now target membership.entry → steps.new ≤ steps.old + 4 * length (touched bs target look.base) }
 {
-    let ids = store.ids()?;
-    full_from(alloc, store, look, ids.as_slice(), steps)
-}
-
-/// Those of the candidates that a look asks for, cut to its range.
-fn full_from<L: Ledger>(
-    alloc: Global,
-    store: &ItemStore,
-    look: Look,
-    ids: &[u32],
-    steps: &mut Steps<L>,
-) -> Result<Plan, AllocError>
-    requires few { HasFew store.now }
-    requires start { (bs : List (List Edit)) → StandsFor bs store.now → AreCandidates (edits bs) look.query ids.now }
-    ensures listing { IfOk result (λ plan. (bs : List (List Edit)) → StandsFor bs store.now
-        → plan ≡ Rows (record { target = Items; listing = full_listing bs Items look })) }
-    ensures cost { steps.new ≤ steps.old + length ids.now }
-{
-    let rows = rows_at(alloc, store, ids, look.query.as_ref(), steps)?;
-    let total = rows.len() as u32;
-    let listed = in_range(look.range, rows);
-    let revision = store.revision();
-    Ok(Plan::full(Target::Items, revision, total, listed, look.meta))
-}
-
-/// What changed of them since the base of the look.
-fn delta_items<L: Ledger>(
-    alloc: Global,
-    store: &ItemStore,
-    look: Look,
-    steps: &mut Steps<L>,
-) -> Result<Plan, AllocError>
-    requires few { HasFew store.now }
-    requires from { floor_of store.now.keep store.now.revision ≤ look.base }
-    requires to { look.base ≤ store.now.revision }
-    ensures listing { IfOk result (λ plan. (bs : List (List Edit)) → StandsFor bs store.now
-        → plan ≡ Rows (record { target = Items; listing = delta_listing bs Items look look.base })) }
-    ensures cost { (bs : List (List Edit)) → StandsFor bs store.now → steps.new ≤ steps.old + 4 * length (touched bs Items look.base) }
-{
-    let ids = store.changed_since(look.base)?;
-    let rows = rows_at(alloc, store, ids.as_slice(), look.query.as_ref(), steps)?;
-    let gone = gone_at(alloc, store, ids.as_slice(), look.query.as_ref(), steps)?;
-    let revision = store.revision();
-    Ok(Plan::delta(Target::Items, revision, rows, gone, look.meta))
+    let keys = touched_keys(items, membership, look.base)?;
+    let query = look.query.as_ref();
+    let rows = rows_at(
+        alloc,
+        items,
+        membership,
+        target,
+        keys.as_slice(),
+        query,
+        steps,
+    )?;
+    let gone = gone_at(alloc, items, membership, keys.as_slice(), query, steps)?;
+    Ok(delta_plan(target, items.revision(), look, rows, gone))
 }

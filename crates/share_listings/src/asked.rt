@@ -1,92 +1,186 @@
-//! The items of ids that a look asks for, and what looking at them costs.
+//! The rows that a look asks for, and what looking at them costs.
 
-ghost use Rattle.std.specs.Prelude.{◌≡◌, ◌≤◌, ◌+◌, ◌++◌, ◌∷◌, [], List, All as AllOf, None, is_none, not, filter, length, option_copied, if◌then◌else◌, IfOk, OnOk};
+ghost use Rattle.std.specs.Prelude.{◌≡◌, ◌≤◌, ◌+◌, ◌++◌, ◌∷◌, [], List, All as AllOf, is_none, not, filter, length, map, option_copied, unwrap_or, if◌then◌else◌, IfOk, OnOk};
+ghost use Rattle.std.specs.Option.{option_and_then};
 ghost use Rattle.item_model.specs.declared.changes.Edit.{Edit};
-ghost use Rattle.item_model.specs.declared.request.Target.TheVariants.{Items};
+ghost use Rattle.item_model.specs.declared.request.Target.{Target};
 ghost use Rattle.item_store.specs.Stands.{StandsFor};
-ghost use Rattle.listing_plan.specs.Plans.{keyed};
+ghost use Rattle.listing_plan.specs.Plans.{key_of, keyed};
 ghost use Rattle.share_history.specs.Histories.{edits};
 ghost use Rattle.share_history.specs.Keyed.{pairs_at};
-ghost use Rattle.share_history.specs.Rows.{row_at, is_asked};
+ghost use Rattle.share_history.specs.LastSaid.{item_at};
+ghost use Rattle.share_history.specs.Listings.{member_of};
+ghost use Rattle.share_history.specs.Rows.{in_target, row_at, if_asked, is_asked};
+ghost use Rattle.share_listings.specs.Memberships.{IsBeside, Tells, AreMembersOf};
 
-use item_model::{Query, Row, SharedRow};
+use crate::membership::{Membership, item_under};
+use item_model::{Query, Row, SharedRow, Target};
 use item_store::ItemStore;
 use listing_plan::PlanRow;
+use playlist_store::Member;
 use song_query::{Steps, matches};
 use std::alloc::{AllocError, Global};
 use std::sync::ledger::Ledger;
 
-/// The items of ids that are there and asked for.
+/// The rows under keys that are there and asked for.
 pub(crate) fn rows_at<L: Ledger>(
     alloc: Global,
-    store: &ItemStore,
-    ids: &[u32],
+    items: &ItemStore,
+    membership: Membership<'_>,
+    target: Target,
+    keys: &[u32],
     query: Option<&Query>,
     steps: &mut Steps<L>,
 ) -> Result<Vec<PlanRow>, AllocError>
-    ensures rows { IfOk result (λ found. (bs : List (List Edit)) → StandsFor bs store.now
-        → keyed found.items ≡ pairs_at (row_at (edits bs) Items (option_copied query.entry)) ids.now) }
-    ensures members { IfOk result (λ found. AllOf (λ row. row.member ≡ None) found.items) }
-    ensures cost { steps.new ≤ steps.old + length ids.now }
+    requires { IsBeside membership }
+    ensures rows { IfOk result (λ found. (bs : List (List Edit)) → Tells bs items.now target membership.entry
+        → keyed found.items ≡ pairs_at (row_at (edits bs) target (option_copied query.entry)) keys.now) }
+    ensures members { IfOk result (λ found. AllOf (λ row. row.member ≡ member_of target (key_of row)) found.items) }
+    ensures cost { steps.new ≤ steps.old + length keys.now }
 {
     let mut rows = Vec::new(alloc);
-    for id in ids {
-        push_item(&mut rows, store, *id, query, steps)?;
+    for key in keys {
+        push_key(&mut rows, items, membership, target, *key, query, steps)?;
     }
     Ok(rows)
 }
 
-/// Those of the ids that are no rows.
+/// The rows of members that are there and asked for.
+pub(crate) fn rows_of<L: Ledger>(
+    alloc: Global,
+    items: &ItemStore,
+    target: Target,
+    members: &[Member],
+    query: Option<&Query>,
+    steps: &mut Steps<L>,
+) -> Result<Vec<PlanRow>, AllocError>
+    ensures rows { IfOk result (λ found. (bs : List (List Edit)) → StandsFor bs items.now → AreMembersOf (edits bs) target members.now
+        → keyed found.items ≡ pairs_at (row_at (edits bs) target (option_copied query.entry)) (map (λ member. member.key) members.now)) }
+    ensures members { IfOk result (λ found. AllOf (λ row. row.member ≡ member_of target (key_of row)) found.items) }
+    ensures cost { steps.new ≤ steps.old + length members.now }
+{
+    let mut rows = Vec::new(alloc);
+    for member in members {
+        push_member(&mut rows, items, target, *member, query, steps)?;
+    }
+    Ok(rows)
+}
+
+/// Those of the keys that are no rows.
 pub(crate) fn gone_at<L: Ledger>(
     alloc: Global,
-    store: &ItemStore,
-    ids: &[u32],
+    items: &ItemStore,
+    membership: Membership<'_>,
+    keys: &[u32],
     query: Option<&Query>,
     steps: &mut Steps<L>,
 ) -> Result<Vec<u32>, AllocError>
-    ensures gone { IfOk result (λ gone. (bs : List (List Edit)) → StandsFor bs store.now
-        → gone.items ≡ filter (λ key. is_none (row_at (edits bs) Items (option_copied query.entry) key)) ids.now) }
-    ensures cost { steps.new ≤ steps.old + length ids.now }
+    requires { IsBeside membership }
+    ensures gone { IfOk result (λ gone. (bs : List (List Edit)) (target : Target) → Tells bs items.now target membership.entry
+        → gone.items ≡ filter (λ key. is_none (row_at (edits bs) target (option_copied query.entry) key)) keys.now) }
+    ensures cost { steps.new ≤ steps.old + length keys.now }
 {
     let mut gone = Vec::new(alloc);
-    for id in ids {
-        if !is_row(store, *id, query, steps) {
-            gone.push(*id)?;
-        }
+    for key in keys {
+        push_gone(&mut gone, items, membership, *key, query, steps)?;
     }
     Ok(gone)
 }
 
+/// Adds a key that is no row.
+fn push_gone<L: Ledger>(
+    gone: &mut Vec<u32>,
+    items: &ItemStore,
+    membership: Membership<'_>,
+    key: u32,
+    query: Option<&Query>,
+    steps: &mut Steps<L>,
+) -> Result<(), AllocError>
+    requires { IsBeside membership }
+    ensures gone { OnOk result ((bs : List (List Edit)) (target : Target) → Tells bs items.now target membership.entry
+        → gone.new.items ≡ gone.old.items ++ filter (λ key. is_none (row_at (edits bs) target (option_copied query.entry) key)) (key ∷ [])) }
+    ensures cost { steps.new ≤ steps.old + 1 }
+{
+    if is_row(items, membership, key, query, steps) {
+        return Ok(());
+    }
+    gone.push(key)?;
+    Ok(())
+}
+
 fn is_row<L: Ledger>(
-    store: &ItemStore,
+    items: &ItemStore,
+    membership: Membership<'_>,
+    key: u32,
+    query: Option<&Query>,
+    steps: &mut Steps<L>,
+) -> bool
+    requires { IsBeside membership }
+    ensures row { (bs : List (List Edit)) (target : Target) → Tells bs items.now target membership.entry
+        → result ≡ not (is_none (row_at (edits bs) target (option_copied query.entry) key)) }
+    ensures cost { steps.new ≤ steps.old + 1 }
+{
+    match item_under(items, membership, key) {
+        Some(item) => is_there(items, item, query, steps),
+        None => false,
+    }
+}
+
+/// Whether an item is there and asked for.
+fn is_there<L: Ledger>(
+    items: &ItemStore,
     id: u32,
     query: Option<&Query>,
     steps: &mut Steps<L>,
 ) -> bool
-    ensures row { (bs : List (List Edit)) → StandsFor bs store.now → result ≡ not (is_none (row_at (edits bs) Items (option_copied query.entry) id)) }
+    ensures there { (bs : List (List Edit)) → StandsFor bs items.now
+        → result ≡ not (is_none (option_and_then (if_asked (option_copied query.entry)) (item_at (edits bs) id))) }
     ensures cost { steps.new ≤ steps.old + 1 }
 {
-    match store.get(id) {
+    match items.get(id) {
         Some(row) => is_asked(query, row, steps),
         None => false,
     }
 }
 
-/// Adds the item of an id, if it is there and asked for.
-fn push_item<L: Ledger>(
+/// Adds the row under a key, if it is there and asked for.
+fn push_key<L: Ledger>(
     rows: &mut Vec<PlanRow>,
-    store: &ItemStore,
-    id: u32,
+    items: &ItemStore,
+    membership: Membership<'_>,
+    target: Target,
+    key: u32,
     query: Option<&Query>,
     steps: &mut Steps<L>,
 ) -> Result<(), AllocError>
-    ensures rows { OnOk result ((bs : List (List Edit)) → StandsFor bs store.now
-        → keyed rows.new.items ≡ keyed rows.old.items ++ pairs_at (row_at (edits bs) Items (option_copied query.entry)) (id ∷ [])) }
-    ensures members { AllOf (λ row. row.member ≡ None) rows.old.items → AllOf (λ row. row.member ≡ None) rows.new.items }
+    requires { IsBeside membership }
+    ensures rows { OnOk result ((bs : List (List Edit)) → Tells bs items.now target membership.entry
+        → keyed rows.new.items ≡ keyed rows.old.items ++ pairs_at (row_at (edits bs) target (option_copied query.entry)) (key ∷ [])) }
+    ensures members { AllOf (λ row. row.member ≡ member_of target (key_of row)) rows.old.items → AllOf (λ row. row.member ≡ member_of target (key_of row)) rows.new.items }
     ensures cost { steps.new ≤ steps.old + 1 }
 {
-    match store.shared(id) {
-        Ok(Some(row)) => push_asked(rows, row, query, steps),
+    match item_under(items, membership, key) {
+        Some(item) => push_member(rows, items, target, Member { key, item }, query, steps),
+        None => Ok(()),
+    }
+}
+
+/// Adds the item of a member under its key, if it is there and asked for.
+fn push_member<L: Ledger>(
+    rows: &mut Vec<PlanRow>,
+    items: &ItemStore,
+    target: Target,
+    member: Member,
+    query: Option<&Query>,
+    steps: &mut Steps<L>,
+) -> Result<(), AllocError>
+    ensures rows { OnOk result ((bs : List (List Edit)) → StandsFor bs items.now → in_target (edits bs) target member.key ≡ item_at (edits bs) member.item
+        → keyed rows.new.items ≡ keyed rows.old.items ++ pairs_at (row_at (edits bs) target (option_copied query.entry)) (member.key ∷ [])) }
+    ensures members { AllOf (λ row. row.member ≡ member_of target (key_of row)) rows.old.items → AllOf (λ row. row.member ≡ member_of target (key_of row)) rows.new.items }
+    ensures cost { steps.new ≤ steps.old + 1 }
+{
+    match items.shared(member.item) {
+        Ok(Some(row)) => push_asked(rows, member_of(target, member.key), row, query, steps),
         Ok(None) => Ok(()),
         Err(error) => Err(error),
     }
@@ -95,19 +189,31 @@ fn push_item<L: Ledger>(
 /// Adds a row, if it is asked for.
 fn push_asked<L: Ledger>(
     rows: &mut Vec<PlanRow>,
+    member: Option<u32>,
     row: SharedRow,
     query: Option<&Query>,
     steps: &mut Steps<L>,
 ) -> Result<(), AllocError>
     ensures rows { OnOk result (keyed rows.new.items ≡ keyed rows.old.items
-        ++ (if is_asked (option_copied query.entry) row then (row.id, row) ∷ [] else [])) }
-    ensures members { AllOf (λ row. row.member ≡ None) rows.old.items → AllOf (λ row. row.member ≡ None) rows.new.items }
+        ++ (if is_asked (option_copied query.entry) row then (unwrap_or member row.id, row) ∷ [] else [])) }
+    ensures members { (target : Target) → member ≡ member_of target (unwrap_or member row.id)
+        → AllOf (λ row. row.member ≡ member_of target (key_of row)) rows.old.items → AllOf (λ row. row.member ≡ member_of target (key_of row)) rows.new.items }
     ensures cost { steps.new ≤ steps.old + 1 }
 {
     if is_asked(query, row.row(), steps) {
-        rows.push(PlanRow { member: None, row })?;
+        rows.push(PlanRow { member, row })?;
     }
     Ok(())
+}
+
+/// The key that a row tells: in a container its own as a member.
+fn member_of(target: Target, key: u32) -> Option<u32>
+    ensures { result ≡ member_of target key }
+{
+    match target {
+        Target::Items => None,
+        Target::Container(_) => Some(key),
+    }
 }
 
 /// Whether a look with that query asks for the row.

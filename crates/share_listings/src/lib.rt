@@ -4,10 +4,15 @@
 
 mod answers;
 mod asked;
+mod membership;
+mod plans;
 mod ranges;
+mod targets;
 #[cfg(test)]
 mod tests;
 mod uncounted;
+mod whole;
 
 pub use answers::{full_listing, listing};
-pub use uncounted::{full_items, items_listing};
+pub use targets::is_there;
+pub use uncounted::{full_items, full_target, items_listing};

@@ -7,7 +7,7 @@ ghost use Rattle.item_store.specs.Stands.{StandsFor};
 ghost use Rattle.listing_plan.specs.Plans.{IsWritable};
 ghost use Rattle.share_listings.specs.Answers.{HasEdits, HasFew};
 
-use crate::{full_items, items_listing, listing};
+use crate::{full_items, items_listing};
 use daap_outside::MemSink;
 use dmap_tags::Text;
 use item_model::{
@@ -16,14 +16,11 @@ use item_model::{
 };
 use item_store::ItemStore;
 use listing_plan::Plan;
-use song_query::Steps;
 use std::alloc::{AllocError, Global};
-use std::marker::Brand;
 use std::process::Abort;
-use std::sync::ledger::{Blank, Ledger};
 use std::test::Fail;
 
-fn look(query: Option<Query>, base: u32, range: Range) -> Look {
+pub(crate) fn look(query: Option<Query>, base: u32, range: Range) -> Look {
     Look {
         query,
         meta: Meta::Default,
@@ -32,7 +29,7 @@ fn look(query: Option<Query>, base: u32, range: Range) -> Look {
     }
 }
 
-fn written(alloc: Global, plan: &Plan) -> Result<Vec<u8>, AllocError>
+pub(crate) fn written(alloc: Global, plan: &Plan) -> Result<Vec<u8>, AllocError>
     requires { IsWritable plan.now }
 {
     let mut sink = MemSink::new(alloc, 1024, 1024, &[])?;
@@ -55,32 +52,6 @@ fn answer(alloc: Global, store: &ItemStore, look: Look) -> Result<Vec<u8>, Alloc
     requires { HasFew store.now }
 {
     written(alloc, &planned(alloc, store, look)?)
-}
-
-/// The same, where the listing starts from all ids.
-fn from_ids<L: Ledger>(
-    blank: Blank,
-    alloc: Global,
-    store: &ItemStore,
-    look: Look,
-) -> Result<Plan, AllocError>
-    requires name { blank.name ≡ L.name }
-    requires parts { blank.parts ≡ L.parts }
-    requires any { 0 < blank.parts }
-    requires few { HasFew store.now }
-    ensures { IfOk result (λ plan. IsWritable plan) }
-{
-    let ids = store.ids()?;
-    let mut steps = Steps::<L>::open(blank);
-    let plan = listing(alloc, store, look, Some(ids.as_slice()), &mut steps)?;
-    Ok(plan)
-}
-
-fn answer_from_ids(alloc: Global, store: &ItemStore, look: Look) -> Result<Vec<u8>, AllocError>
-    requires { HasFew store.now }
-{
-    let plan = from_ids::<Brand>(Blank::new(1), alloc, store, look)?;
-    written(alloc, &plan)
 }
 
 fn whole(alloc: Global, store: &ItemStore, look: Look) -> Result<Vec<u8>, AllocError>
@@ -118,9 +89,9 @@ fn a_kept_base_is_answered_by_the_change(rt: HostRuntime) -> Result<(), Fail> {
 }
 
 /// A song to put: its id, name, artist and album, and its media kind. An empty album and a kind of 0 are absent.
-type Song = (u32, &'static str, &'static str, &'static str, u64);
+pub(crate) type Song = (u32, &'static str, &'static str, &'static str, u64);
 
-const SIX_SONGS: [Song; 6] = [
+pub(crate) const SIX_SONGS: [Song; 6] = [
     (1, "Hey", "Ann", "One", 1),
     (2, "it's late", "Bob", "", 1),
     (3, "Talk", "Cy", "Pod", 4),
@@ -170,7 +141,7 @@ fn edit(alloc: Global, song: &Song) -> Result<Edit, Fail>
     })
 }
 
-fn batch(alloc: Global, songs: &[Song]) -> Result<Vec<Edit>, Fail>
+pub(crate) fn batch(alloc: Global, songs: &[Song]) -> Result<Vec<Edit>, Fail>
     ensures valid { IfOk result (λ edits. AreValid edits.items) }
     ensures few { IfOk result (λ edits. length edits.items ≡ length songs.now) }
 {
@@ -215,7 +186,7 @@ fn condition(alloc: Global, name: &str, op: Op, piece: &str) -> Result<Query, Al
 }
 
 /// Songs or films, with an album.
-fn media_kinds(alloc: Global) -> Result<Query, AllocError> {
+pub(crate) fn media_kinds(alloc: Global) -> Result<Query, AllocError> {
     let mut kinds = Queries::new(alloc);
     for kind in ["1", "32"] {
         kinds.push(condition(alloc, "com.apple.itunes.mediakind", Op::Is, kind)?)?;
@@ -241,24 +212,6 @@ const NINE_GONE: [u8; 93] =
 /// The fifth of the six songs at revision 3.
 const FIFTH_SONG: [u8; 127] =
     *b"adbs\0\0\0\x77mstt\0\0\0\x04\0\0\0\xc8muty\0\0\0\x01\0musr\0\0\0\x04\0\0\0\x03mtco\0\0\0\x04\0\0\0\x06mrco\0\0\0\x04\0\0\0\x01mlcl\0\0\0\x36mlit\0\0\0\x2emiid\0\0\0\x04\0\0\0\x05minm\0\0\0\x05Quietasar\0\0\0\x02Edasal\0\0\0\x03Two";
-
-/// The last two of the three songs and films of an album, at revision 3.
-const TWO_SONGS: [u8; 181] =
-    *b"adbs\0\0\0\xadmstt\0\0\0\x04\0\0\0\xc8muty\0\0\0\x01\0musr\0\0\0\x04\0\0\0\x03mtco\0\0\0\x04\0\0\0\x03mrco\0\0\0\x04\0\0\0\x02mlcl\0\0\0\x6cmlit\0\0\0\x2emiid\0\0\0\x04\0\0\0\x04minm\0\0\0\x04Moveasar\0\0\0\x02Diasal\0\0\0\x04Filmmlit\0\0\0\x2emiid\0\0\0\x04\0\0\0\x06minm\0\0\0\x04Lateasar\0\0\0\x03annasal\0\0\0\x03two";
-
-#[test]
-#[tactic(auto, using(crate::proofs::Samples::still_few))]
-fn a_listing_may_start_from_ids(rt: HostRuntime) -> Result<(), Fail> {
-    let store = six_songs(rt.alloc())?;
-    let two = look(
-        Some(media_kinds(rt.alloc())?),
-        0,
-        Range::Span { from: 1, to: 2 },
-    );
-    let listed = answer_from_ids(rt.alloc(), &store, two)?;
-    assert!(rt; listed.as_slice() == TWO_SONGS.as_slice());
-    Ok(())
-}
 
 #[test]
 #[tactic(auto, using(crate::proofs::Samples::still_few))]

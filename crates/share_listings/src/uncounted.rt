@@ -5,13 +5,17 @@ ghost use Rattle.item_model.specs.declared.changes.Edit.{Edit};
 ghost use Rattle.item_model.specs.declared.request.Target.TheVariants.{Items};
 ghost use Rattle.item_store.specs.Stands.{StandsFor};
 ghost use Rattle.listing_plan.specs.declared.plan.Plan.TheVariants.{Rows};
+ghost use Rattle.playlist_store.specs.Stands as lists_stand;
 ghost use Rattle.share_history.specs.Listings.{listing, full_listing};
-ghost use Rattle.share_listings.specs.Answers.{HasFew};
+ghost use Rattle.share_listings.specs.Answers.{HasFew, HaveFew};
 
-use crate::answers::{full_listing, listing};
-use item_model::Look;
+use crate::answers::{answer, full_listing};
+use crate::membership::Membership;
+use crate::whole::full;
+use item_model::{Look, Target};
 use item_store::ItemStore;
 use listing_plan::Plan;
+use playlist_store::PlaylistStore;
 use song_query::Steps;
 use std::alloc::{AllocError, Global};
 use std::marker::Brand;
@@ -39,7 +43,16 @@ fn items_by<L: Ledger>(
     ensures { IfOk result (λ plan. (bs : List (List Edit)) → StandsFor bs store.now
         → plan ≡ Rows (record { target = Items; listing = listing store.now.keep bs Items look })) }
 {
-    listing(alloc, store, look, None, &mut Steps::<L>::open(blank))
+    let mut steps = Steps::<L>::open(blank);
+    answer(
+        alloc,
+        store,
+        Membership::Library,
+        Target::Items,
+        look,
+        None,
+        &mut steps,
+    )
 }
 
 /// All items that a look asks for, cut to its range.
@@ -64,5 +77,48 @@ fn full_by<L: Ledger>(
     ensures { IfOk result (λ plan. (bs : List (List Edit)) → StandsFor bs store.now
         → plan ≡ Rows (record { target = Items; listing = full_listing bs Items look })) }
 {
-    full_listing(alloc, store, look, None, &mut Steps::<L>::open(blank))
+    let mut steps = Steps::<L>::open(blank);
+    full(
+        alloc,
+        store,
+        Membership::Library,
+        Target::Items,
+        look,
+        None,
+        &mut steps,
+    )
+}
+
+/// All rows of a target that a look asks for, cut to its range. A container that is not there has none.
+pub fn full_target(
+    alloc: Global,
+    items: &ItemStore,
+    lists: &PlaylistStore,
+    target: Target,
+    look: Look,
+) -> Result<Plan, AllocError>
+    requires few { HaveFew items.now lists.now }
+    ensures { IfOk result (λ plan. (bs : List (List Edit)) → StandsFor bs items.now → lists_stand.StandsFor bs lists.now
+        → plan ≡ Rows (record { target = target; listing = full_listing bs target look })) }
+{
+    target_by::<Brand>(Blank::new(1), alloc, items, lists, target, look)
+}
+
+fn target_by<L: Ledger>(
+    blank: Blank,
+    alloc: Global,
+    items: &ItemStore,
+    lists: &PlaylistStore,
+    target: Target,
+    look: Look,
+) -> Result<Plan, AllocError>
+    requires name { blank.name ≡ L.name }
+    requires parts { blank.parts ≡ L.parts }
+    requires any { 0 < blank.parts }
+    requires few { HaveFew items.now lists.now }
+    ensures { IfOk result (λ plan. (bs : List (List Edit)) → StandsFor bs items.now → lists_stand.StandsFor bs lists.now
+        → plan ≡ Rows (record { target = target; listing = full_listing bs target look })) }
+{
+    let mut steps = Steps::<L>::open(blank);
+    full_listing(alloc, items, lists, target, look, None, &mut steps)
 }
