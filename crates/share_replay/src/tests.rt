@@ -1,6 +1,6 @@
 //! Scripts and the lines at which they are refused.
 
-use crate::{Delivery, Script, ScriptError};
+use crate::{Delivery, Script, ScriptError, laws};
 use share_asks::Role;
 use std::alloc::{AllocError, Global};
 use std::process::Abort;
@@ -100,4 +100,12 @@ fn is_sample(script: &Script) -> bool {
         ] => { *role == Role::Edit && bytes.as_slice() == b"a ~\r\n\\\0\xff".as_slice() }
         _ => false,
     }
+}
+
+#[test]
+fn laws_can_be_cited() {
+    laws::nothing_is_played();
+    laws::histories_go_on();
+    laws::ended_connections_rest();
+    laws::lines_by_the_byte();
 }
