@@ -1,17 +1,16 @@
 -- A request that was written and a reply that was read are one exchange; and an exchange that stops.
-use Rattle.std.proofs.Common.{◌≡◌, ◌≤◌, ℕ, ◌+◌, List, [], ◌∷◌, ◌++◌, length, take, Option, None, Some, refl, sym, ap, ◌∙◌, inl, inr, subst, append_assoc, append-nil, length-append, arith}
+use Rattle.std.proofs.Common.{◌≡◌, ℕ, ◌+◌, List, [], ◌∷◌, ◌++◌, length, take, Option, refl, sym, ap, ◌∙◌, inl, inr, subst, append_assoc, append-nil, length-append, arith}
 use Rattle.std.proofs.lemmas.List.{take_all}
-use Rattle.std.specs.Prelude.{Result, Ok, Err, IfOk, IfErr, MatchResult}
+use Rattle.std.specs.Prelude.{Result, Ok, Err, IfErr}
 use Rattle.std.specs.Io.KnownBytes.{Appends, Consumes, prepend_known}
 use Rattle.std.proofs.KnownBytes.{Appends-nil, Appends-trans, Consumes-nil, Consumes-trans}
-use Rattle.daap_outside.specs.Told.{AppendsPrefix}
-use Rattle.http_heads.specs.Messages.{Message, print_message}
+use Rattle.http_heads.specs.Messages.{print_message}
 use Rattle.http_client.specs.Replies.{Reply}
 use Rattle.mirror_client.specs.declared.refusal.FollowError.{FollowError}
 use Rattle.mirror_client.specs.declared.refusal.FollowError.TheVariants.{Refused, BadReply, Ended, Listing, Codes, LinkFault, Memory}
 use Rattle.mirror_client.specs.Exchanges.{AreAnswered, Exchange, Exchanged, Replied, Went, messages, requests}
 use Rattle.mirror_client.specs.Points.{Point, point}
-use Rattle.mirror_client.specs.Stopping.{AnswersUndue, CountsFault, NoReply, Stops, StopsShort}
+use Rattle.mirror_client.specs.Stopping.{NoReply, Stops, StopsShort}
 
 pub exchanged : (request : List ℕ) (p mid q : Point) (answer : Reply) → Appends p.taken mid.taken request → mid.owed ≡ p.owed → mid.used ≡ p.used
     → Replied mid q answer → Exchanged request p q answer
@@ -76,27 +75,6 @@ undue_stops request Undue p q answer e x undue = inr (record {
   undue = undue;
 })
 
-pub short_stops : (request : List ℕ) (Undue : ℕ → Reply → FollowError → Type 0) (p : Point) (taken : Option (List ℕ)) (e : FollowError)
-    → StopsShort request p taken e → Stops request Undue p taken e
-short_stops request Undue p taken e s = inl s
-
-undue_more : (request : List ℕ) (F G : ℕ → Reply → FollowError → Type 0) (p : Point) (taken : Option (List ℕ)) (e : FollowError)
-    → ((used : ℕ) (answer : Reply) → F used answer e → G used answer e) → AnswersUndue request F p taken e → AnswersUndue request G p taken e
-undue_more request F G p taken e more a = record {
-  exchange = a.exchange;
-  there = a.there;
-  asked = a.asked;
-  went = a.went;
-  written = a.written;
-  undue = more a.there.used a.exchange.answer a.undue;
-}
-
--- what is undue in one way is so in another
-pub stops_more : (request : List ℕ) (F G : ℕ → Reply → FollowError → Type 0) (p : Point) (taken : Option (List ℕ)) (e : FollowError)
-    → ((used : ℕ) (answer : Reply) → F used answer e → G used answer e) → Stops request F p taken e → Stops request G p taken e
-stops_more request F G p taken e more (inl s) = inl s
-stops_more request F G p taken e more (inr a) = inr (undue_more request F G p taken e more a)
-
 -- ---- several exchanges
 
 pub went_nowhere : (p : Point) → Went p p []
@@ -129,48 +107,9 @@ went_on p q r xs ys h k = record {
 
 -- ---- what calls answer
 
-pub exchange_ok : (request : List ℕ) (taken0 taken1 taken2 left0 left1 left2 : Option (List ℕ)) (unused0 unused2 : List ℕ) (used0 used2 : ℕ)
-    (result : Result Reply FollowError) → Appends taken0 taken1 request → left1 ≡ left0
-    → IfOk result (λ a. Replied (point taken1 left1 unused0 used0) (point taken2 left2 unused2 used2) a)
-    → IfOk result (λ a. Exchanged request (point taken0 left0 unused0 used0) (point taken2 left2 unused2 used2) a)
-exchange_ok request taken0 taken1 taken2 left0 left1 left2 unused0 unused2 used0 used2 (Ok a) written same h =
-    exchanged request (point taken0 left0 unused0 used0) (point taken1 left1 unused0 used0) (point taken2 left2 unused2 used2) a written
-    (ap (prepend_known unused0) same) refl h
-exchange_ok request taken0 taken1 taken2 left0 left1 left2 unused0 unused2 used0 used2 (Err e) written same h = tt
-
 pub exchange_err : (request : List ℕ) (taken0 taken1 taken2 left0 left1 : Option (List ℕ)) (unused0 : List ℕ) (used0 : ℕ) (result : Result Reply FollowError)
     → Appends taken0 taken1 request → left1 ≡ left0 → taken2 ≡ taken1 → IfErr result (λ e. NoReply (point taken1 left1 unused0 used0) e)
     → IfErr result (λ e. StopsShort request (point taken0 left0 unused0 used0) taken2 e)
 exchange_err request taken0 taken1 taken2 left0 left1 unused0 used0 (Ok a) written same stays h = tt
 exchange_err request taken0 taken1 taken2 left0 left1 unused0 used0 (Err e) written same stays h =
     unanswered request (point taken0 left0 unused0 used0) (point taken1 left1 unused0 used0) taken2 e written (ap (prepend_known unused0) same) refl stays h
-
--- the count of a later part is that of the whole
-pub count_since : {T : Type 0} (before mid now : ℕ) (r : Result T FollowError) → mid ≡ before
-    → MatchResult r (λ _. now ≡ mid) (λ e. CountsFault mid now e) → MatchResult r (λ _. now ≡ before) (λ e. CountsFault before now e)
-count_since before mid now (Ok a) same h = h ∙ same
-count_since before mid now (Err e) same h = subst (λ (n : ℕ). CountsFault n now e) same h
-
--- an answer that was read as something or as an error
-pub answered_ok : {T : Type 0} (Told : Reply → T → Type 0) (Undue : ℕ → Reply → FollowError → Type 0) (request : List ℕ) (p q : Point) (answer : Reply) (used : ℕ)
-    (r : Result T FollowError) → Exchanged request p q answer → MatchResult r (λ t. Told answer t) (λ e. Undue used answer e)
-    → IfOk r (λ t. (a : Reply) × Exchanged request p q a × Told a t)
-answered_ok Told Undue request p q answer used (Ok t) x h = (answer, x, h)
-answered_ok Told Undue request p q answer used (Err e) x h = tt
-
-pub answered_err : {T : Type 0} (Told : Reply → T → Type 0) (Undue : ℕ → Reply → FollowError → Type 0) (request : List ℕ) (p q : Point) (answer : Reply) (used : ℕ)
-    (r : Result T FollowError) → used ≡ q.used → Exchanged request p q answer → MatchResult r (λ t. Told answer t) (λ e. Undue used answer e)
-    → IfErr r (λ e. Stops request Undue p q.taken e)
-answered_err Told Undue request p q answer used (Ok t) same x h = tt
-answered_err Told Undue request p q answer used (Err e) same x h =
-    undue_stops request Undue p q answer e x (subst (λ (n : ℕ). Undue n answer e) same h)
-
-pub answered_count : {T : Type 0} (Told : Reply → T → Type 0) (Undue : ℕ → Reply → FollowError → Type 0) (answer : Reply) (used before now : ℕ)
-    (r : Result T FollowError) → ((e : FollowError) → Undue used answer e → CountsFault before now e) → now ≡ before
-    → MatchResult r (λ t. Told answer t) (λ e. Undue used answer e) → MatchResult r (λ _. now ≡ before) (λ e. CountsFault before now e)
-answered_count Told Undue answer used before now (Ok t) counts same h = same
-answered_count Told Undue answer used before now (Err e) counts same h = counts e h
-
--- the request was written in part
-pub part_stops : (request : List ℕ) (p : Point) (taken : Option (List ℕ)) → AppendsPrefix p.taken taken request → StopsShort request p taken LinkFault
-part_stops request p taken part = record { written = part; cause = tt }

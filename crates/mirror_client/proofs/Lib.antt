@@ -1,5 +1,10 @@
 pub mod PointFacts
 pub mod ReaderFacts
+pub mod ResultFacts
 pub mod ExchangeFacts
 pub mod TellingFacts
+pub mod StageFacts
+pub mod StepFacts
+pub mod FilterFacts
+pub mod ServedFacts
 pub mod PushFacts

@@ -1,15 +1,6 @@
 -- What reads and replies do to the bytes that a peer owes.
-use Rattle.std.proofs.Common.{◌≡◌, ℕ, List, [], ◌∷◌, ◌++◌, length, take, drop, Option, None, Some, refl, sym, ap, ◌∙◌, append_assoc, append-nil, take-append-drop}
-use Rattle.std.specs.Io.KnownBytes.{Appends, Consumes, IsAtEnd, prepend_known}
-use Rattle.std.proofs.KnownBytes.{Appends-nil, Consumes-trans}
-
--- bytes that were read ahead are owed still
-pub refilled : (owed before now : Option (List ℕ)) (kept unused : List ℕ) → Consumes owed (prepend_known [] before) kept → Consumes before now unused
-    → Consumes owed (prepend_known unused now) kept
-refilled None before now kept unused h k = tt
-refilled (Some x) None now kept unused h k = absurd h
-refilled (Some x) (Some y) None kept unused h k = absurd k
-refilled (Some x) (Some y) (Some z) kept unused h k = h ∙ ap (λ bytes. kept ++ bytes) k
+use Rattle.std.proofs.Common.{◌≡◌, ℕ, List, [], ◌++◌, take, drop, Option, None, Some, refl, sym, ap, ◌∙◌, append_assoc, append-nil, take-append-drop}
+use Rattle.std.specs.Io.KnownBytes.{Consumes, IsAtEnd, prepend_known}
 
 -- the first of the bytes read ahead are used
 pub front_used : (left : Option (List ℕ)) (unused : List ℕ) (n : ℕ) → Consumes (prepend_known unused left) (prepend_known (drop n unused) left) (take n unused)

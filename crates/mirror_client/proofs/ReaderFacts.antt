@@ -1,5 +1,5 @@
 -- A reader of one reply: what it keeps, and what it hands out or refuses.
-use Rattle.std.proofs.Common.{◌≡◌, ◌≢◌, ℕ, ◌+◌, ◌<◌, ◌≤◌, ◌^◌, List, [], ◌∷◌, ◌++◌, length, take, drop, Option, None, Some, option_to_list, refl, sym, ap, ◌∙◌, inl, inr, subst, append_assoc, append-nil, length-append, arith}
+use Rattle.std.proofs.Common.{◌≡◌, ◌≢◌, ℕ, ◌+◌, ◌<◌, ◌≤◌, List, [], ◌∷◌, ◌++◌, length, take, drop, Option, None, Some, option_to_list, refl, sym, ap, ◌∙◌, inl, inr, subst, append_assoc, append-nil, length-append, arith}
 use Rattle.std.proofs.lemmas.Bool.{cases_lt}
 use Rattle.std.proofs.lemmas.List.{length-take-le, take_all, drop_all}
 use Rattle.std.specs.List.{flat_map, AllZip}
@@ -14,7 +14,7 @@ use Rattle.mirror_client.specs.declared.refusal.FollowError.TheVariants.{Refused
 use Rattle.mirror_client.specs.Exchanges.{Replied}
 use Rattle.mirror_client.specs.Points.{Point, ReadAhead, point}
 use Rattle.mirror_client.specs.Readers.{ComesWhole, GoesOn, IsBegun, refused_by}
-use Rattle.mirror_client.specs.Stopping.{BeginsBad, EndsEarly, NoReply}
+use Rattle.mirror_client.specs.Stopping.{EndsEarly, NoReply}
 use Rattle.mirror_client.proofs.PointFacts.{front_used, owed_all, owed_front}
 
 none_zip : (ms : List Message) → AllZip IsReply ms [] → flat_map print_message ms ≡ []
@@ -36,9 +36,6 @@ as_replies fed handed r fine h = (subst (λ (o : Option ReplyError). ReadAs fed 
 fed_kept : (fed : List ℕ) (r : Reader) → r.ready ≡ None → r.error ≡ None → HasRead fed [] r → fed ≡ r.kept
 fed_kept fed r none fine h =
     no_replies fed r.kept (subst (λ (xs : List Reply). AreReplies fed xs r.kept) (ap (λ (o : Option Reply). option_to_list o) none) (as_replies fed [] r fine h)).joins
-
-pub idle_begun : (r : Reader) → r.ready ≡ None → r.error ≡ None → r.kept ≡ [] → HasRead [] [] r → IsBegun r
-idle_begun r none fine empty h = record { ready = none; fine = fine; read = subst (λ (fed : List ℕ). HasRead fed [] r) (sym empty) h }
 
 all_taken : (unused : List ℕ) (n : ℕ) (o : Option Reply) → n ≤ length unused → (n < length unused → o ≢ None) → None ≡ o → n ≡ length unused
 all_taken unused n o within took none = elim (cases_lt n (length unused)) [

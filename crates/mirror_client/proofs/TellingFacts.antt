@@ -1,5 +1,5 @@
 -- What bodies tell: at most one tag, and so at most one number.
-use Rattle.std.proofs.Common.{◌≡◌, ◌≢◌, ◌≤◌, ℕ, List, [], ◌++◌, length, take, true, Option, None, Some, Result, Ok, Err, MatchResult, refl, sym, ap, ◌∙◌, subst, append-nil, arith}
+use Rattle.std.proofs.Common.{◌≡◌, ◌≢◌, ◌≤◌, ℕ, List, [], ◌++◌, length, take, true, Option, None, Some, sym, ap, ◌∙◌, subst, append-nil, arith}
 use Rattle.std.proofs.lemmas.List.{take_all}
 use Rattle.dmap_tags.specs.Codes.{Four}
 use Rattle.dmap_tags.specs.Tree.{Tree}
@@ -11,11 +11,7 @@ use Rattle.dmap_stream.specs.declared.refusal.StreamError.{StreamError}
 use Rattle.dmap_stream.specs.declared.refusal.StreamError.TheVariants as stream
 use Rattle.dmap_stream.specs.WholeTag.{is_accepted}
 use Rattle.dmap_stream.proofs.OneTag.{one_tag}
-use Rattle.http_client.specs.Replies.{Reply}
-use Rattle.mirror_client.specs.declared.refusal.FollowError.{FollowError}
-use Rattle.mirror_client.specs.declared.refusal.FollowError.TheVariants.{Refused, BadReply, Ended, Listing, Codes, LinkFault, Memory}
-use Rattle.mirror_client.specs.Stopping.{CountsFault}
-use Rattle.mirror_client.specs.Tellings.{HasNoNumber, HasNoTag, IsTag, UndueNumber, UndueTag, body_limit, number_told}
+use Rattle.mirror_client.specs.Tellings.{HasNoNumber, HasNoTag, IsTag, body_limit, number_told}
 
 pub tag_is : (rows : List CodeRow) (body : List ℕ) (tag : Tree) (n : ℕ) → n ≡ length body → take n body ≡ spelling tag → is_accepted rows body_limit tag ≡ true
     → IsProperTag tag → IsTag rows body tag
@@ -36,40 +32,6 @@ tags_once rows body t u a b =
 
 pub no_number : (c : Four) (rows : List CodeRow) (body : List ℕ) (tag : Tree) → IsTag rows body tag → number_told c tag ≡ None → HasNoNumber c rows body
 no_number c rows body tag is none = λ u too. ap (number_told c) (tags_once rows body u tag too is) ∙ none
-
--- an answer that tells no tag tells no number
-pub no_tag_no_number : (c : Four) (rows : List CodeRow) (used : ℕ) (answer : Reply) (e : FollowError) → UndueTag rows used answer e → UndueNumber c rows used answer e
-no_tag_no_number c rows used answer (Refused status) h = h
-no_tag_no_number c rows used answer (BadReply at) h = (h.0, λ tag is. absurd (h.1 tag is))
-no_tag_no_number c rows used answer (Ended at) h = h
-no_tag_no_number c rows used answer (Listing error) h = h
-no_tag_no_number c rows used answer (Codes error) h = h
-no_tag_no_number c rows used answer LinkFault h = h
-no_tag_no_number c rows used answer Memory h = h
-
--- an answer that is undue is no fault of the link
-pub tag_counts : (rows : List CodeRow) (used : ℕ) (answer : Reply) (e : FollowError) (before now : ℕ) → UndueTag rows used answer e → now ≡ before → CountsFault before now e
-tag_counts rows used answer (Refused status) before now h same = same
-tag_counts rows used answer (BadReply at) before now h same = same
-tag_counts rows used answer (Ended at) before now h same = same
-tag_counts rows used answer (Listing error) before now h same = same
-tag_counts rows used answer (Codes error) before now h same = same
-tag_counts rows used answer LinkFault before now h same = absurd h
-tag_counts rows used answer Memory before now h same = same
-
-pub number_counts : (c : Four) (rows : List CodeRow) (used : ℕ) (answer : Reply) (e : FollowError) (before now : ℕ) → UndueNumber c rows used answer e → now ≡ before
-    → CountsFault before now e
-number_counts c rows used answer (Refused status) before now h same = same
-number_counts c rows used answer (BadReply at) before now h same = same
-number_counts c rows used answer (Ended at) before now h same = same
-number_counts c rows used answer (Listing error) before now h same = same
-number_counts c rows used answer (Codes error) before now h same = same
-number_counts c rows used answer LinkFault before now h same = absurd h
-number_counts c rows used answer Memory before now h same = same
-
--- a count that was the same before may stand for it
-pub counts_since : (before mid now : ℕ) (e : FollowError) → mid ≡ before → CountsFault mid now e → CountsFault before now e
-counts_since before mid now e same h = subst (λ (n : ℕ). CountsFault n now e) same h
 
 -- the tag that was read off the front of a body, where it takes all of it
 pub whole : (rows : List CodeRow) (body bytes : List ℕ) (tag : Tree) (n total : ℕ) (o : Option Tree) → bytes ≡ body → total ≡ length bytes

@@ -3,4 +3,8 @@ pub mod Exchanges
 pub mod Stopping
 pub mod Readers
 pub mod Tellings
+pub mod Steps
+pub mod Stages
+pub mod Runs
 pub mod Pushes
+pub mod Laws

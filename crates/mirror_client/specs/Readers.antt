@@ -1,5 +1,5 @@
 -- A reader in the midst of a reply.
-use Rattle.std.specs.Prelude.{◌≡◌, ◌≤◌, ℕ, ◌+◌, List, [], ◌++◌, length, take, drop, Option, Some, None}
+use Rattle.std.specs.Prelude.{◌≡◌, ◌≤◌, ℕ, ◌+◌, [], ◌++◌, length, take, drop, Option, Some, None}
 use Rattle.http_heads.specs.Messages.{Message, print_message}
 use Rattle.http_client.specs.declared.refusal.ReplyError.{ReplyError}
 use Rattle.http_client.specs.declared.refusal.ReplyError.TheVariants as reply

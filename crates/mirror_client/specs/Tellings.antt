@@ -1,5 +1,5 @@
 -- What answers tell: tags by a table of content codes, and numbers in them; and which answers tell none.
-use Rattle.std.specs.Prelude.{◌≡◌, ◌≢◌, ⊤, ℕ, List, true, Option, Some, None, Ok, Err}
+use Rattle.std.specs.Prelude.{◌≡◌, ◌≢◌, ⊤, ℕ, List, true, Option, Some, None}
 use Rattle.dmap_tags.specs.Codes.{Four}
 use Rattle.dmap_tags.specs.Tree.{Tree, leaf, list}
 use Rattle.dmap_tags.specs.Proper.{IsProperTag}

@@ -1,18 +1,68 @@
-//! Answers that tell a tag, and numbers in it.
+//! Exchanges that are answered with a tag.
 
 ghost use Rattle.std.specs.Prelude.{◌≡◌, ◌≢◌, ◌≤◌, ◌<◌, ◌+◌, ◌^◌, Option, option_copied, IfOk, IfErr, MatchBool, MatchOption, MatchResult};
 ghost use Rattle.dmap_tags.specs.Tree.{trees_of};
 ghost use Rattle.code_table.specs.Reply.{first_in, number_in};
+ghost use Rattle.http_client.specs.Replies.{Reply};
+ghost use Rattle.mirror_client.specs.Exchanges.{Exchanged};
+ghost use Rattle.mirror_client.specs.Points.{point};
+ghost use Rattle.mirror_client.specs.Stopping.{CountsFault, Stops};
 ghost use Rattle.mirror_client.specs.Tellings.{HasNoTag, IsTag, Tells, TellsNumber, UndueNumber, UndueTag, number_told};
 
+use crate::exchanging::exchange;
+use crate::incoming::Incoming;
 use crate::refusal::FollowError;
 use code_table::CodeTable;
+use daap_outside::Link;
 use dmap_stream::{Limits, StreamError, read_tag};
 use dmap_tags::{Bytes, Code, Tag, Value};
 use std::alloc::{AllocError, Global};
 
 // How many bytes of payload the tag of a body has at most.
 const BODY_LIMIT: u32 = 1_073_741_824;
+
+/// Asks, and reads the tag with which the request succeeds.
+pub(crate) fn fetch<K: Link>(
+    alloc: Global,
+    link: &mut K,
+    incoming: &mut Incoming,
+    table: &CodeTable,
+    request: &[u8],
+) -> Result<Tag, FollowError>
+    requires few { incoming.old.used < 2 ^ 63 }
+    ensures told { IfOk result (λ tag. (answer : Reply) × Exchanged request.now (point (K.taken link.old) (K.left link.old) incoming.old.unused incoming.old.used)
+        (point (K.taken link.new) (K.left link.new) incoming.new.unused incoming.new.used) answer × Tells table.now answer tag) }
+    ensures stops { IfErr result (λ e. Stops request.now (UndueTag table.now) (point (K.taken link.old) (K.left link.old) incoming.old.unused incoming.old.used) (K.taken link.new) e) }
+    ensures grows { incoming.new.used ≤ incoming.old.used + 2 ^ 31 }
+    ensures count { MatchResult result (λ _. K.faults link.new ≡ K.faults link.old) (λ e. CountsFault (K.faults link.old) (K.faults link.new) e) }
+{
+    match exchange(alloc, link, incoming, request) {
+        Ok((status, body)) => told_tag(alloc, table, incoming.used(), status, &body),
+        Err(error) => Err(error),
+    }
+}
+
+/// Asks, and reads the number in the first member with the code of the tag with which the request succeeds.
+pub(crate) fn fetch_number<K: Link>(
+    alloc: Global,
+    link: &mut K,
+    incoming: &mut Incoming,
+    table: &CodeTable,
+    code: Code,
+    request: &[u8],
+) -> Result<u32, FollowError>
+    requires few { incoming.old.used < 2 ^ 63 }
+    ensures told { IfOk result (λ n. (answer : Reply) × Exchanged request.now (point (K.taken link.old) (K.left link.old) incoming.old.unused incoming.old.used)
+        (point (K.taken link.new) (K.left link.new) incoming.new.unused incoming.new.used) answer × TellsNumber code table.now answer n) }
+    ensures stops { IfErr result (λ e. Stops request.now (UndueNumber code table.now) (point (K.taken link.old) (K.left link.old) incoming.old.unused incoming.old.used) (K.taken link.new) e) }
+    ensures grows { incoming.new.used ≤ incoming.old.used + 2 ^ 31 }
+    ensures count { MatchResult result (λ _. K.faults link.new ≡ K.faults link.old) (λ e. CountsFault (K.faults link.old) (K.faults link.new) e) }
+{
+    match exchange(alloc, link, incoming, request) {
+        Ok((status, body)) => told_number(alloc, table, code, incoming.used(), status, &body),
+        Err(error) => Err(error),
+    }
+}
 
 /// The tag that an answer tells, which ends at the byte `used`.
 fn told_tag(

@@ -1,15 +1,21 @@
-//! A client that sends a share edits, or its stop, over a link: what it writes is one request, with the bytes that were
-//! handed in, and what the share's answer is comes back.
+//! A client that follows one listing of a share over a link, and one that sends it edits: what they write are the requests
+//! of `http_client`, and what the mirror holds are the listings that were read, applied one after another.
 #![tactic(auto)]
 
+mod asking;
 mod exchanging;
 mod fetching;
+mod follower;
+mod following;
 mod incoming;
+pub mod laws;
 mod pushing;
 mod receiving;
 mod refusal;
 #[cfg(test)]
 mod tests;
 
+pub use follower::Follower;
+pub use following::follow_link;
 pub use pushing::{Pushed, push_link};
 pub use refusal::FollowError;

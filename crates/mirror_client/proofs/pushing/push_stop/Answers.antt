@@ -1,5 +1,5 @@
 use Rattle.std.proofs.Common.{None, refl, ◌∙◌}
-use Rattle.mirror_client.specs.Points.{nothing_read, place}
+use Rattle.mirror_client.specs.Points.{place}
 use Rattle.mirror_client.specs.Pushes.{UnduePush, push_text}
 use Rattle.mirror_client.proofs.PushFacts.{asked_as, stopped_as}
 use Rattle.mirror_client.proofs.pushing.push_stop.Goals as goal

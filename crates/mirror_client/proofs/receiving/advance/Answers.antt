@@ -1,4 +1,4 @@
-use Rattle.std.proofs.Common.{◌≡◌, ◌+◌, ◌++◌, ℕ, List, [], length, Option, sym, ap, ◌∙◌, subst, arith, length-append}
+use Rattle.std.proofs.Common.{◌+◌, ◌++◌, ℕ, List, [], sym, ap, ◌∙◌, subst, arith, length-append}
 use Rattle.std.specs.Prelude.{Ok}
 use Rattle.http_client.specs.Replies.{HasRead, fed_with}
 use Rattle.mirror_client.specs.declared.refusal.FollowError.{FollowError}

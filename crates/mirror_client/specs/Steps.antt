@@ -1,0 +1,151 @@
+-- The steps of a client that follows a share, one exchange each: what they ask, which answers they take, and which are undue.
+use Rattle.std.specs.Prelude.{◌≡◌, ◌≢◌, ◌≤◌, ◌<◌, ◌⊎◌, ⊤, ℕ, List, [], ◌∷◌, length, fold, Option, Ok, Err}
+use Rattle.dmap_tags.specs.Codes.{code}
+use Rattle.dmap_tags.specs.Tree.{Tree}
+use Rattle.code_table.specs.declared.reply.CodeError.TheVariants as codes
+use Rattle.code_table.specs.declared.row.CodeRow.{CodeRow}
+use Rattle.code_table.specs.Reply.{table_of}
+use Rattle.code_table.specs.Standard.{standard_rows}
+use Rattle.share_asks.specs.declared.ask.Want.{Want}
+use Rattle.share_asks.specs.declared.ask.Want.TheVariants as want
+use Rattle.share_history.specs.Listings.{Listing}
+use Rattle.share_history.specs.Mirror.{Held, mirror_after, mirror_look}
+use Rattle.mirror_core.specs.declared.mirror.Applied.{Applied}
+use Rattle.mirror_core.specs.declared.mirror.MirrorError.{MirrorError}
+use Rattle.mirror_core.specs.declared.mirror.MirrorError.TheVariants as mirror
+use Rattle.mirror_core.specs.Bodies.{IsListing, IsNoListing}
+use Rattle.mirror_core.specs.Mirrored.{Mirrored}
+use Rattle.http_client.specs.Replies.{Reply}
+use Rattle.http_client.specs.Requests.{request_text}
+use Rattle.mirror_client.specs.declared.refusal.FollowError.{FollowError}
+use Rattle.mirror_client.specs.declared.refusal.FollowError.TheVariants.{Refused, BadReply, Ended, Listing as ListingFault, Codes, LinkFault, Memory}
+use Rattle.mirror_client.specs.Exchanges.{Exchanged}
+use Rattle.mirror_client.specs.Points.{Point, ReadAhead}
+use Rattle.mirror_client.specs.Stopping.{Stops}
+use Rattle.mirror_client.specs.Tellings.{HasNoTag, IsBadBody, IsOther, Tells, TellsNumber, UndueNumber}
+
+-- what a client knows once it is in: its session, and the table by which it reads bodies
+pub record Known : Type 0 where
+  pub session : ℕ
+  pub rows : List CodeRow
+
+-- a client in: the host that it names, what it knows, what it has read ahead, and how many listings and updates it has
+-- asked for
+pub record Following : Type 0 where
+  pub host : List ℕ
+  pub known : Known
+  pub ahead : ReadAhead
+  pub calls : ℕ
+
+-- ---- the table
+
+-- the answer to /content-codes is read by the standard table
+abbrev pub TellsTable : Reply → List CodeRow → Type 0
+TellsTable answer rows = (tag : Tree) × Tells standard_rows answer tag × (table_of tag ≡ Ok rows)
+
+abbrev pub UndueTable : ℕ → Reply → FollowError → Type 0
+UndueTable used answer (Refused status) = IsOther 200 answer status
+UndueTable used answer (BadReply at) = IsBadBody used answer at × HasNoTag standard_rows answer.1
+UndueTable used answer (Ended at) = ⊥
+UndueTable used answer (ListingFault error) = ⊥
+UndueTable used answer (Codes error) = (tag : Tree) × Tells standard_rows answer tag × ((error ≢ codes.Memory) × (table_of tag ≡ Err error))
+UndueTable used answer LinkFault = ⊥
+UndueTable used answer Memory = ⊤
+
+-- why a tag tells no table
+abbrev pub IsUntold : Tree → FollowError → Type 0
+IsUntold tag (Refused status) = ⊥
+IsUntold tag (BadReply at) = ⊥
+IsUntold tag (Ended at) = ⊥
+IsUntold tag (ListingFault error) = ⊥
+IsUntold tag (Codes error) = (error ≢ codes.Memory) × (table_of tag ≡ Err error)
+IsUntold tag LinkFault = ⊥
+IsUntold tag Memory = ⊤
+
+-- ---- a listing
+
+-- what a mirror asks with next
+abbrev pub rows_want : ℕ → Mirrored → Want
+rows_want session m = want.Rows session m.target (mirror_look m.query m.meta m.held.revision)
+
+-- the answer is a listing that the mirror takes
+pub record TellsListing (rows : List CodeRow) (m : Mirrored) (answer : Reply) (listing : Listing) : Type 0 where
+  pub tag : Tree
+  pub told : Tells rows answer tag
+  pub is : IsListing m.target m.held.revision listing tag
+  pub later : m.held.revision ≤ listing.revision
+
+-- why a mirror doesn't take a tag
+abbrev pub IsRefusedBy : Mirrored → Tree → MirrorError → Type 0
+IsRefusedBy m tag (mirror.NotListing index) = IsNoListing m.target m.held.revision tag index
+IsRefusedBy m tag (mirror.Backwards held told) =
+    (listing : Listing) × IsListing m.target m.held.revision listing tag × (held ≡ m.held.revision) × (told ≡ listing.revision) × (told < held)
+IsRefusedBy m tag mirror.Memory = ⊥
+
+abbrev pub IsNotTaken : Mirrored → Tree → FollowError → Type 0
+IsNotTaken m tag (Refused status) = ⊥
+IsNotTaken m tag (BadReply at) = ⊥
+IsNotTaken m tag (Ended at) = ⊥
+IsNotTaken m tag (ListingFault error) = IsRefusedBy m tag error
+IsNotTaken m tag (Codes error) = ⊥
+IsNotTaken m tag LinkFault = ⊥
+IsNotTaken m tag Memory = ⊤
+
+abbrev pub UndueListing : List CodeRow → Mirrored → ℕ → Reply → FollowError → Type 0
+UndueListing rows m used answer (Refused status) = IsOther 200 answer status
+UndueListing rows m used answer (BadReply at) = IsBadBody used answer at × HasNoTag rows answer.1
+UndueListing rows m used answer (Ended at) = ⊥
+UndueListing rows m used answer (ListingFault error) = (tag : Tree) × Tells rows answer tag × IsRefusedBy m tag error
+UndueListing rows m used answer (Codes error) = ⊥
+UndueListing rows m used answer LinkFault = ⊥
+UndueListing rows m used answer Memory = ⊤
+
+-- what a mirror holds after listings, one after another
+abbrev pub held_after : Held → List Listing → Held
+held_after held listings = fold mirror_after held listings
+
+abbrev pub with_listings : Mirrored → List Listing → Mirrored
+with_listings m listings = record { target = m.target; query = m.query; meta = m.meta; held = held_after m.held listings }
+
+-- what applying a listing tells
+abbrev pub applied_by : Held → Listing → Applied
+applied_by held l =
+    record { revision = l.revision; delta = l.is_delta; put = length l.rows; dropped = length l.gone; rows = length (mirror_after held l).rows }
+
+abbrev pub all_applied : Held → List Listing → List Applied
+all_applied held [] = []
+all_applied held (l ∷ ls) = applied_by held l ∷ all_applied (mirror_after held l) ls
+
+-- ---- the end
+
+abbrev pub UndueEnd : ℕ → Reply → FollowError → Type 0
+UndueEnd used answer (Refused status) = IsOther 204 answer status
+UndueEnd used answer (BadReply at) = ⊥
+UndueEnd used answer (Ended at) = ⊥
+UndueEnd used answer (ListingFault error) = ⊥
+UndueEnd used answer (Codes error) = ⊥
+UndueEnd used answer LinkFault = ⊥
+UndueEnd used answer Memory = ⊥
+
+-- ---- a client that comes in: it asks for the table, and logs in
+
+pub record Opened (host : List ℕ) (p q : Point) (known : Known) : Type 0 where
+  pub middle : Point
+  pub table : Reply
+  pub login : Reply
+  pub learned : Exchanged (request_text want.Codes host) p middle table
+  pub told : TellsTable table known.rows
+  pub entered : Exchanged (request_text want.Login host) middle q login
+  pub session : TellsNumber (code "mlid") known.rows login known.session
+
+-- it stops at the first of the two exchanges, or at the second
+pub record StopsBehind (host : List ℕ) (p : Point) (taken : Option (List ℕ)) (e : FollowError) : Type 0 where
+  pub middle : Point
+  pub table : Reply
+  pub rows : List CodeRow
+  pub learned : Exchanged (request_text want.Codes host) p middle table
+  pub told : TellsTable table rows
+  pub stops : Stops (request_text want.Login host) (UndueNumber (code "mlid") rows) middle taken e
+
+abbrev pub FailsToOpen : List ℕ → Point → Option (List ℕ) → FollowError → Type 0
+FailsToOpen host p taken e = Stops (request_text want.Codes host) UndueTable p taken e ⊎ StopsBehind host p taken e

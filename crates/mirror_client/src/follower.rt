@@ -1,0 +1,293 @@
+//! A client that is in: the steps of following a share.
+
+ghost use Rattle.std.specs.Prelude.{◌≡◌, ◌≤◌, ◌<◌, ◌+◌, ◌*◌, ◌^◌, ℕ, [], ◌∷◌, Ok, IfOk, IfErr, OnErr, MatchResult};
+ghost use Rattle.dmap_tags.specs.Codes.{code};
+ghost use Rattle.share_asks.specs.Valid.{MayAsk};
+ghost use Rattle.share_asks.specs.declared.ask.Want.TheVariants as want;
+ghost use Rattle.code_table.specs.Reply.{table_of};
+ghost use Rattle.mirror_core.specs.Bodies.{IsListing};
+ghost use Rattle.share_history.specs.Listings.{Listing};
+ghost use Rattle.http_client.specs.Replies.{Reply};
+ghost use Rattle.http_client.specs.Requests.{request_text};
+ghost use Rattle.mirror_client.specs.Exchanges.{Exchanged};
+ghost use Rattle.mirror_client.specs.Points.{Point, ReadAhead, nothing_read, place};
+ghost use Rattle.mirror_client.specs.Steps.{Opened, TellsListing, TellsTable, UndueEnd, UndueListing, UndueTable, applied_by, rows_want, with_listings, FailsToOpen, IsNotTaken, IsUntold};
+ghost use Rattle.mirror_client.specs.Stopping.{CountsFault, Stops};
+ghost use Rattle.mirror_client.specs.Tellings.{Tells, TellsNumber, UndueNumber};
+
+use crate::asking::{request_for, rows_request};
+use crate::exchanging::exchange;
+use crate::fetching::{fetch, fetch_number};
+use crate::incoming::Incoming;
+use crate::refusal::FollowError;
+use code_table::{CodeError, CodeTable};
+use daap_outside::Link;
+use dmap_tags::{Code, Tag, Text};
+use mirror_core::{Applied, Mirror, MirrorError};
+use share_asks::Want;
+use std::alloc::Global;
+use std::marker::Model;
+
+/// A client that has learned a share's table and is logged in. It keeps what it read of a link and did not use, so every
+/// call on it is made with the link that it was opened with.
+#[derive(Debug, Drop)]
+pub struct Follower {
+    alloc: Global,
+    host: Text,
+    session: u32,
+    table: CodeTable,
+    incoming: Incoming,
+    calls: u32,
+}
+
+impl Model for Follower {
+    ghost use Rattle.std.specs.Prelude.{◌≤◌, ◌+◌, ◌*◌, ◌^◌};
+    ghost use Rattle.mirror_client.specs.Steps.{Following};
+
+    ghost Value = { Following };
+
+    ghost view = { λ a. record { host = a.host; known = record { session = a.session; rows = a.table }; ahead = a.incoming; calls = a.calls } };
+
+    ghost invariant = { λ a. (a.calls ≤ 65536) × (a.incoming.used ≤ (a.calls + 2) * 2 ^ 31) };
+}
+
+impl Follower {
+    /// Asks for the table of content codes, and logs in.
+    pub fn open<K: Link>(alloc: Global, link: &mut K, host: &str) -> Result<Follower, FollowError>
+        ensures opened { IfOk result (λ f. Opened host.now (place (K.taken link.old) (K.left link.old) nothing_read) (place (K.taken link.new) (K.left link.new) f.ahead) f.known
+            × (f.host ≡ host.now) × (f.calls ≡ 0)) }
+        ensures stops { IfErr result (λ e. FailsToOpen host.now (place (K.taken link.old) (K.left link.old) nothing_read) (K.taken link.new) e) }
+        ensures count { MatchResult result (λ _. K.faults link.new ≡ K.faults link.old) (λ e. CountsFault (K.faults link.old) (K.faults link.new) e) }
+    {
+        let name = Text::of(alloc, host)?;
+        let mut incoming = Incoming::new(alloc);
+        let table = match learn_table(alloc, link, &mut incoming, host) {
+            Ok(table) => table,
+            Err(error) => return Err(error),
+        };
+        let session = match log_in(alloc, link, &mut incoming, &table, host) {
+            Ok(session) => session,
+            Err(error) => return Err(error),
+        };
+        Ok(Follower {
+            alloc,
+            host: name,
+            session,
+            table,
+            incoming,
+            calls: 0,
+        })
+    }
+
+    /// Asks for the mirror's listing with the revision that it holds, and applies it. After an `Err` the mirror is as before.
+    #[tactic(auto, using(crate::proofs::ExchangeFacts::unwritten))]
+    pub fn listing<K: Link>(
+        &mut self,
+        link: &mut K,
+        mirror: &mut Mirror,
+    ) -> Result<Applied, FollowError>
+        requires few { self.old.calls < 65536 }
+        requires asks { MayAsk mirror.old.query }
+        ensures exchanged { IfOk result (λ applied. (answer : Reply) × (l : Listing)
+            × Exchanged (request_text (rows_want self.old.known.session mirror.old) self.old.host) (place (K.taken link.old) (K.left link.old) self.old.ahead) (place (K.taken link.new) (K.left link.new) self.new.ahead) answer
+            × TellsListing self.old.known.rows mirror.old answer l × (mirror.new ≡ with_listings mirror.old (l ∷ [])) × (applied ≡ applied_by mirror.old.held l)) }
+        ensures stops { IfErr result (λ e. Stops (request_text (rows_want self.old.known.session mirror.old) self.old.host) (UndueListing self.old.known.rows mirror.old)
+            (place (K.taken link.old) (K.left link.old) self.old.ahead) (K.taken link.new) e) }
+        ensures unchanged { OnErr result (mirror.new ≡ mirror.old) }
+        ensures stays { (self.new.host ≡ self.old.host) × (self.new.known ≡ self.old.known) }
+        ensures calls { self.new.calls ≡ self.old.calls + 1 }
+        ensures count { MatchResult result (λ _. K.faults link.new ≡ K.faults link.old) (λ e. CountsFault (K.faults link.old) (K.faults link.new) e) }
+    {
+        self.calls += 1;
+        let request = rows_request(self.alloc, self.session, mirror, self.host.as_str())?;
+        fetch_listing(
+            self.alloc,
+            link,
+            &mut self.incoming,
+            &self.table,
+            request.as_slice(),
+            mirror,
+        )
+    }
+
+    /// Asks for a revision after this one, and answers it once the share tells it.
+    #[tactic(auto, using(crate::proofs::ExchangeFacts::unwritten))]
+    pub fn wait<K: Link>(&mut self, link: &mut K, revision: u32) -> Result<u32, FollowError>
+        requires few { self.old.calls < 65536 }
+        ensures exchanged { IfOk result (λ told. (answer : Reply)
+            × Exchanged (request_text (want.Update self.old.known.session revision) self.old.host) (place (K.taken link.old) (K.left link.old) self.old.ahead) (place (K.taken link.new) (K.left link.new) self.new.ahead) answer
+            × TellsNumber (code "musr") self.old.known.rows answer told) }
+        ensures stops { IfErr result (λ e. Stops (request_text (want.Update self.old.known.session revision) self.old.host) (UndueNumber (code "musr") self.old.known.rows)
+            (place (K.taken link.old) (K.left link.old) self.old.ahead) (K.taken link.new) e) }
+        ensures stays { (self.new.host ≡ self.old.host) × (self.new.known ≡ self.old.known) }
+        ensures calls { self.new.calls ≡ self.old.calls + 1 }
+        ensures count { MatchResult result (λ _. K.faults link.new ≡ K.faults link.old) (λ e. CountsFault (K.faults link.old) (K.faults link.new) e) }
+    {
+        self.calls += 1;
+        let want = Want::Update {
+            session: self.session,
+            revision,
+        };
+        let request = request_for(self.alloc, want, self.host.as_str())?;
+        fetch_number(
+            self.alloc,
+            link,
+            &mut self.incoming,
+            &self.table,
+            Code(*b"musr"),
+            request.as_slice(),
+        )
+    }
+
+    /// Logs out.
+    #[tactic(auto, using(crate::proofs::ExchangeFacts::unwritten))]
+    pub fn close<K: Link>(self, link: &mut K) -> Result<(), FollowError>
+        ensures exchanged { IfOk result (λ _. (answer : Reply) × (ahead : ReadAhead)
+            × Exchanged (request_text (want.Logout self.known.session) self.host) (place (K.taken link.old) (K.left link.old) self.ahead) (place (K.taken link.new) (K.left link.new) ahead) answer
+            × (answer.0 ≡ 204)) }
+        ensures stops { IfErr result (λ e. Stops (request_text (want.Logout self.known.session) self.host) UndueEnd
+            (place (K.taken link.old) (K.left link.old) self.ahead) (K.taken link.new) e) }
+        ensures count { MatchResult result (λ _. K.faults link.new ≡ K.faults link.old) (λ e. CountsFault (K.faults link.old) (K.faults link.new) e) }
+    {
+        let want = Want::Logout {
+            session: self.session,
+        };
+        let request = match request_for(self.alloc, want, self.host.as_str()) {
+            Ok(request) => request,
+            Err(_) => return Err(FollowError::Memory),
+        };
+        let mut incoming = self.incoming;
+        log_out(self.alloc, link, &mut incoming, request.as_slice())
+    }
+}
+
+// Asks for the table, and learns it.
+#[tactic(auto, using(crate::proofs::ExchangeFacts::unwritten))]
+fn learn_table<K: Link>(
+    alloc: Global,
+    link: &mut K,
+    incoming: &mut Incoming,
+    host: &str,
+) -> Result<CodeTable, FollowError>
+    requires few { incoming.old.used < 2 ^ 63 }
+    ensures exchanged { IfOk result (λ table. (answer : Reply)
+        × Exchanged (request_text want.Codes host.now) (place (K.taken link.old) (K.left link.old) incoming.old) (place (K.taken link.new) (K.left link.new) incoming.new) answer
+        × TellsTable answer table) }
+    ensures stops { IfErr result (λ e. Stops (request_text want.Codes host.now) UndueTable (place (K.taken link.old) (K.left link.old) incoming.old) (K.taken link.new) e) }
+    ensures grows { incoming.new.used ≤ incoming.old.used + 2 ^ 31 }
+    ensures count { MatchResult result (λ _. K.faults link.new ≡ K.faults link.old) (λ e. CountsFault (K.faults link.old) (K.faults link.new) e) }
+{
+    let request = request_for(alloc, Want::Codes, host)?;
+    let table = CodeTable::standard(alloc)?;
+    match fetch(alloc, link, incoming, &table, request.as_slice()) {
+        Ok(tag) => told_table(alloc, &tag),
+        Err(error) => Err(error),
+    }
+}
+
+// The table that a tag tells.
+fn told_table(alloc: Global, tag: &Tag) -> Result<CodeTable, FollowError>
+    ensures { MatchResult result (λ table. table_of tag.now ≡ Ok table) (λ e. IsUntold tag.now e) }
+{
+    match CodeTable::from_reply(alloc, tag) {
+        Ok(table) => Ok(table),
+        Err(CodeError::Memory) => Err(FollowError::Memory),
+        Err(CodeError::NotReply) => Err(FollowError::Codes(CodeError::NotReply)),
+        Err(CodeError::Entry { index }) => Err(FollowError::Codes(CodeError::Entry { index })),
+        Err(CodeError::Repeated { index }) => {
+            Err(FollowError::Codes(CodeError::Repeated { index }))
+        }
+    }
+}
+
+// Logs in, and tells the session.
+#[tactic(auto, using(crate::proofs::ExchangeFacts::unwritten))]
+fn log_in<K: Link>(
+    alloc: Global,
+    link: &mut K,
+    incoming: &mut Incoming,
+    table: &CodeTable,
+    host: &str,
+) -> Result<u32, FollowError>
+    requires few { incoming.old.used < 2 ^ 63 }
+    ensures exchanged { IfOk result (λ session. (answer : Reply)
+        × Exchanged (request_text want.Login host.now) (place (K.taken link.old) (K.left link.old) incoming.old) (place (K.taken link.new) (K.left link.new) incoming.new) answer
+        × TellsNumber (code "mlid") table.now answer session) }
+    ensures stops { IfErr result (λ e. Stops (request_text want.Login host.now) (UndueNumber (code "mlid") table.now) (place (K.taken link.old) (K.left link.old) incoming.old) (K.taken link.new) e) }
+    ensures grows { incoming.new.used ≤ incoming.old.used + 2 ^ 31 }
+    ensures count { MatchResult result (λ _. K.faults link.new ≡ K.faults link.old) (λ e. CountsFault (K.faults link.old) (K.faults link.new) e) }
+{
+    let request = request_for(alloc, Want::Login, host)?;
+    fetch_number(
+        alloc,
+        link,
+        incoming,
+        table,
+        Code(*b"mlid"),
+        request.as_slice(),
+    )
+}
+
+// Asks for a listing, and lets the mirror take it in.
+fn fetch_listing<K: Link>(
+    alloc: Global,
+    link: &mut K,
+    incoming: &mut Incoming,
+    table: &CodeTable,
+    request: &[u8],
+    mirror: &mut Mirror,
+) -> Result<Applied, FollowError>
+    requires few { incoming.old.used < 2 ^ 63 }
+    ensures exchanged { IfOk result (λ applied. (answer : Reply) × (l : Listing)
+        × Exchanged request.now (place (K.taken link.old) (K.left link.old) incoming.old) (place (K.taken link.new) (K.left link.new) incoming.new) answer
+        × TellsListing table.now mirror.old answer l × (mirror.new ≡ with_listings mirror.old (l ∷ [])) × (applied ≡ applied_by mirror.old.held l)) }
+    ensures stops { IfErr result (λ e. Stops request.now (UndueListing table.now mirror.old) (place (K.taken link.old) (K.left link.old) incoming.old) (K.taken link.new) e) }
+    ensures unchanged { OnErr result (mirror.new ≡ mirror.old) }
+    ensures grows { incoming.new.used ≤ incoming.old.used + 2 ^ 31 }
+    ensures count { MatchResult result (λ _. K.faults link.new ≡ K.faults link.old) (λ e. CountsFault (K.faults link.old) (K.faults link.new) e) }
+{
+    match fetch(alloc, link, incoming, table, request) {
+        Ok(tag) => apply(mirror, &tag),
+        Err(error) => Err(error),
+    }
+}
+
+// The mirror takes a listing in.
+fn apply(mirror: &mut Mirror, tag: &Tag) -> Result<Applied, FollowError>
+    ensures taken { IfOk result (λ applied. (l : Listing) × IsListing mirror.old.target mirror.old.held.revision l tag.now × (mirror.old.held.revision ≤ l.revision)
+        × (mirror.new ≡ with_listings mirror.old (l ∷ [])) × (applied ≡ applied_by mirror.old.held l)) }
+    ensures refused { IfErr result (λ e. IsNotTaken mirror.old tag.now e) }
+    ensures unchanged { OnErr result (mirror.new ≡ mirror.old) }
+{
+    match mirror.apply(tag) {
+        Ok(applied) => Ok(applied),
+        Err(MirrorError::Memory) => Err(FollowError::Memory),
+        Err(MirrorError::NotListing { index }) => {
+            Err(FollowError::Listing(MirrorError::NotListing { index }))
+        }
+        Err(MirrorError::Backwards { held, told }) => {
+            Err(FollowError::Listing(MirrorError::Backwards { held, told }))
+        }
+    }
+}
+
+// Asks for the end of a session.
+fn log_out<K: Link>(
+    alloc: Global,
+    link: &mut K,
+    incoming: &mut Incoming,
+    request: &[u8],
+) -> Result<(), FollowError>
+    requires few { incoming.old.used < 2 ^ 63 }
+    ensures exchanged { IfOk result (λ _. (answer : Reply)
+        × Exchanged request.now (place (K.taken link.old) (K.left link.old) incoming.old) (place (K.taken link.new) (K.left link.new) incoming.new) answer
+        × (answer.0 ≡ 204)) }
+    ensures stops { IfErr result (λ e. Stops request.now UndueEnd (place (K.taken link.old) (K.left link.old) incoming.old) (K.taken link.new) e) }
+    ensures count { MatchResult result (λ _. K.faults link.new ≡ K.faults link.old) (λ e. CountsFault (K.faults link.old) (K.faults link.new) e) }
+{
+    match exchange(alloc, link, incoming, request) {
+        Ok((204, _)) => Ok(()),
+        Ok((status, _)) => Err(FollowError::Refused { status }),
+        Err(error) => Err(error),
+    }
+}

@@ -1,0 +1,113 @@
+//! Following a listing for a number of rounds.
+
+ghost use Rattle.std.specs.Prelude.{◌≡◌, ◌≤◌, ◌<◌, ◌+◌, ℕ, List, [], ◌∷◌, ◌++◌, length, false, ◌==◌, IfErr, OnOk, IfOk, MatchResult};
+ghost use Rattle.share_asks.specs.Valid.{MayAsk};
+ghost use Rattle.share_history.specs.Listings.{Listing};
+ghost use Rattle.mirror_core.specs.Mirrored.{Mirrored};
+ghost use Rattle.mirror_client.specs.Points.{nothing_read, place};
+ghost use Rattle.mirror_client.specs.Runs.{Followed};
+ghost use Rattle.mirror_client.specs.Stages.{Asking, Begun, Holding, StopsFrom, Walks};
+ghost use Rattle.mirror_client.specs.Steps.{all_applied, with_listings};
+ghost use Rattle.mirror_client.specs.Stopping.{CountsFault};
+
+use crate::follower::Follower;
+use crate::refusal::FollowError;
+use daap_outside::Link;
+use mirror_core::{Applied, Mirror};
+use std::alloc::Global;
+
+/// Follows the mirror's listing for 1 to 16,384 rounds, and answers what each of them did.
+///
+/// It learns the share's table, logs in, asks for the listing once in each round with the revision that the mirror holds,
+/// waits for another revision between two rounds, and logs out. After an `Err` the mirror is as after the last listing that
+/// it took in.
+pub fn follow_link<K: Link>(
+    alloc: Global,
+    link: &mut K,
+    host: &str,
+    mirror: &mut Mirror,
+    rounds: u32,
+) -> Result<Vec<Applied>, FollowError>
+    requires some { 1 ≤ rounds }
+    requires few { rounds ≤ 16384 }
+    requires asks { MayAsk mirror.old.query }
+    ensures followed { IfOk result (λ applied. Followed host.now mirror.old rounds (place (K.taken link.old) (K.left link.old) nothing_read) (K.taken link.new) applied.items mirror.new) }
+    ensures stops { IfErr result (λ e. StopsFrom host.now mirror.old rounds Begun (place (K.taken link.old) (K.left link.old) nothing_read) (K.taken link.new) e mirror.new) }
+    ensures count { MatchResult result (λ _. K.faults link.new ≡ K.faults link.old) (λ e. CountsFault (K.faults link.old) (K.faults link.new) e) }
+{
+    let mut follower = match Follower::open(alloc, link, host) {
+        Ok(follower) => follower,
+        Err(error) => return Err(error),
+    };
+    let mut applied = Vec::new(alloc);
+    match listed(&mut follower, link, mirror, &mut applied) {
+        Ok(()) => {}
+        Err(error) => return Err(error),
+    }
+    for round in 1..rounds {
+        match next_round(&mut follower, link, mirror, &mut applied) {
+            Ok(()) => {}
+            Err(error) => return Err(error),
+        }
+    }
+    match follower.close(link) {
+        Ok(()) => Ok(applied),
+        Err(error) => Err(error),
+    }
+}
+
+// One listing more. `m` is the mirror as it began.
+fn listed<K: Link>(
+    follower: &mut Follower,
+    link: &mut K,
+    mirror: &mut Mirror,
+    applied: &mut Vec<Applied>,
+) -> Result<(), FollowError>
+    requires few { follower.old.calls < 65536 }
+    requires asks { MayAsk mirror.old.query }
+    ensures walks { OnOk result ((m : Mirrored) (rounds : ℕ) (ls : List Listing) → mirror.old ≡ with_listings m ls → applied.old.items ≡ all_applied m.held ls
+        → (l : Listing) × (mirror.new ≡ with_listings m (ls ++ l ∷ [])) × (applied.new.items ≡ all_applied m.held (ls ++ l ∷ []))
+        × Walks follower.old.host m rounds (Asking follower.old.known ls) (place (K.taken link.old) (K.left link.old) follower.old.ahead)
+        (Holding follower.old.known (ls ++ l ∷ [])) (place (K.taken link.new) (K.left link.new) follower.new.ahead)) }
+    ensures stops { IfErr result (λ e. (m : Mirrored) (rounds : ℕ) (ls : List Listing) → mirror.old ≡ with_listings m ls
+        → StopsFrom follower.old.host m rounds (Asking follower.old.known ls) (place (K.taken link.old) (K.left link.old) follower.old.ahead) (K.taken link.new) e mirror.new) }
+    ensures stays { (follower.new.host ≡ follower.old.host) × (follower.new.known ≡ follower.old.known) }
+    ensures calls { follower.new.calls ≡ follower.old.calls + 1 }
+    ensures query { mirror.new.query ≡ mirror.old.query }
+    ensures count { MatchResult result (λ _. K.faults link.new ≡ K.faults link.old) (λ e. CountsFault (K.faults link.old) (K.faults link.new) e) }
+{
+    match follower.listing(link, mirror) {
+        Ok(done) => match applied.push(done) {
+            Ok(()) => Ok(()),
+            Err(_) => Err(FollowError::Memory),
+        },
+        Err(error) => Err(error),
+    }
+}
+
+// Another revision, and then one listing more.
+fn next_round<K: Link>(
+    follower: &mut Follower,
+    link: &mut K,
+    mirror: &mut Mirror,
+    applied: &mut Vec<Applied>,
+) -> Result<(), FollowError>
+    requires few { follower.old.calls < 65535 }
+    requires asks { MayAsk mirror.old.query }
+    ensures walks { OnOk result ((m : Mirrored) (rounds : ℕ) (ls : List Listing) → mirror.old ≡ with_listings m ls → applied.old.items ≡ all_applied m.held ls
+        → (length ls == rounds) ≡ false
+        → (l : Listing) × (mirror.new ≡ with_listings m (ls ++ l ∷ [])) × (applied.new.items ≡ all_applied m.held (ls ++ l ∷ []))
+        × Walks follower.old.host m rounds (Holding follower.old.known ls) (place (K.taken link.old) (K.left link.old) follower.old.ahead)
+        (Holding follower.old.known (ls ++ l ∷ [])) (place (K.taken link.new) (K.left link.new) follower.new.ahead)) }
+    ensures stops { IfErr result (λ e. (m : Mirrored) (rounds : ℕ) (ls : List Listing) → mirror.old ≡ with_listings m ls → (length ls == rounds) ≡ false
+        → StopsFrom follower.old.host m rounds (Holding follower.old.known ls) (place (K.taken link.old) (K.left link.old) follower.old.ahead) (K.taken link.new) e mirror.new) }
+    ensures stays { (follower.new.host ≡ follower.old.host) × (follower.new.known ≡ follower.old.known) }
+    ensures calls { follower.new.calls ≤ follower.old.calls + 2 }
+    ensures query { mirror.new.query ≡ mirror.old.query }
+    ensures count { MatchResult result (λ _. K.faults link.new ≡ K.faults link.old) (λ e. CountsFault (K.faults link.old) (K.faults link.new) e) }
+{
+    match follower.wait(link, mirror.base()) {
+        Ok(_) => listed(follower, link, mirror, applied),
+        Err(error) => Err(error),
+    }
+}
