@@ -1,0 +1,11 @@
+pub mod Spellable
+pub mod ItemTexts
+pub mod Places
+pub mod Answered
+pub mod Turning
+pub mod ListNames
+pub mod ValuesAt
+pub mod Standing
+pub mod Sound
+pub mod Results
+pub mod Looked

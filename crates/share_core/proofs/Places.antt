@@ -1,0 +1,16 @@
+-- Each place of a history is a login's or a batch's.
+use Rattle.std.proofs.Common.{◌≡◌, ℕ, ◌+◌, List, [], ◌∷◌, length, cond, refl, arith}
+use Rattle.std.specs.Prelude.{count_by}
+use Rattle.std.proofs.lemmas.List.Sums.{sum_by-cons}
+use Rattle.item_model.specs.declared.changes.Entry.{Entry}
+use Rattle.item_model.specs.declared.changes.Entry.TheVariants.{Edits, Login, Logout, Stop}
+use Rattle.share_history.specs.Histories.{batches}
+use Rattle.share_history.specs.Limits.{takes_place}
+use Rattle.share_history.specs.Sessions.{is_login}
+
+pub places_are : (h : List Entry) → count_by takes_place h ≡ count_by is_login h + length (batches h)
+places_are [] = refl
+places_are (Edits by batch ∷ h) = omega (arith, places_are h, sum_by-cons (λ x. cond (is_login x) 1 0) (Edits by batch) h, sum_by-cons (λ x. cond (takes_place x) 1 0) (Edits by batch) h)
+places_are (Login by id ∷ h) = omega (arith, places_are h, sum_by-cons (λ x. cond (is_login x) 1 0) (Login by id) h, sum_by-cons (λ x. cond (takes_place x) 1 0) (Login by id) h)
+places_are (Logout by id ∷ h) = omega (arith, places_are h, sum_by-cons (λ x. cond (is_login x) 1 0) (Logout by id) h, sum_by-cons (λ x. cond (takes_place x) 1 0) (Logout by id) h)
+places_are (Stop by ∷ h) = omega (arith, places_are h, sum_by-cons (λ x. cond (is_login x) 1 0) (Stop by) h, sum_by-cons (λ x. cond (takes_place x) 1 0) (Stop by) h)

@@ -1,0 +1,18 @@
+use Rattle.std.proofs.Common.{◌∙◌, sym, ap, refl}
+use Rattle.item_model.specs.declared.changes.Entry.TheVariants.{Login}
+use Rattle.share_history.specs.Limits.{has_place}
+use Rattle.share_replies.specs.Answers.{Shared}
+use Rattle.share_replies.specs.Replies.{Nothing}
+use Rattle.share_core.proofs.Answered.{login_refused}
+use Rattle.share_core.proofs.Sound.{sound_quiet}
+use Rattle.share_core.proofs.share.Share.login.Goals as goal
+
+pub returns-then-not-has_place-clause-answered : goal.returns-then-not-has_place-clause-answered
+returns-then-not-has_place-clause-answered c =
+    login_refused _ _ c.args.by c.read.result c.requires.going
+    (sym (c.has_place.ensures ∙ ap (λ (s : Shared). has_place s.history) c.self.view_is) ∙ c.if-not-has_place.true) (c.read.ensures.read (507, Nothing) c.nothing.ensures)
+
+pub invariant_of-self-2 : goal.invariant_of-self-2
+invariant_of-self-2 c =
+    let a = c.self.inside in
+    sound_quiet a.settings a.register.history c.log_in.new.register.history (Login c.args.by c.next_session-id.result) a.stores c.in_ok-reply.ensures.history refl c.self.invariant

@@ -1,0 +1,12 @@
+pub mod Said
+pub mod Told
+pub mod Short
+pub mod Turned
+pub mod Held
+pub mod Followed
+pub mod Entries
+pub mod Listed
+pub mod ValuesAt
+pub mod Ticks
+pub mod Steps
+pub mod Wants

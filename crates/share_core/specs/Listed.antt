@@ -1,0 +1,12 @@
+-- What is said to a look: that the target is not there, or its listing.
+use Rattle.std.specs.Prelude.{ℕ, List, if◌then◌else◌}
+use Rattle.item_model.specs.declared.changes.Entry.{Entry}
+use Rattle.item_model.specs.declared.request.Look.{Look}
+use Rattle.item_model.specs.declared.request.Target.{Target}
+use Rattle.share_history.specs.Bodies.{listing_body}
+use Rattle.share_history.specs.Histories.{all_edits}
+use Rattle.share_history.specs.Rows.{is_there}
+use Rattle.share_replies.specs.Replies.{Body, Nothing, Tagged}
+
+abbrev pub rows_said : ℕ → List Entry → Target → Look → ℕ × Body
+rows_said keep h target look = if is_there (all_edits h) target then (200, Tagged (listing_body keep h target look)) else (404, Nothing)

@@ -1,0 +1,173 @@
+//! Listings of the database and of the containers.
+
+ghost use Rattle.std.specs.Prelude.{◌≡◌, ◌≤◌, ◌++◌, ◌==◌, [], ◌∷◌, ℕ, List, Option, false, true, None, is_some, length, option_map, option_to_list, IfOk, OnOk};
+ghost use Rattle.std.specs.Option.{option_map_or};
+ghost use Rattle.dmap_tags.specs.Codes.{code};
+ghost use Rattle.dmap_tags.specs.Tree as tree;
+ghost use Rattle.dmap_tags.specs.Tree.{Tree, leaf, U8, U32};
+ghost use Rattle.item_model.specs.Limits.{text_limit};
+ghost use Rattle.item_model.specs.declared.changes.Entry.{Entry};
+ghost use Rattle.item_model.specs.declared.request.Target.TheVariants.{Container};
+ghost use Rattle.share_history.specs.Databases.{databases_body, containers_body, container_tag, container_tags, database_tag, list_tag, entry_tag};
+ghost use Rattle.share_history.specs.Histories.{all_edits, batches, revision};
+ghost use Rattle.share_history.specs.LastSaid.{list_at};
+ghost use Rattle.share_history.specs.Numbers.{base_list};
+ghost use Rattle.share_history.specs.Rows.{rows, lists, library};
+ghost use Rattle.share_replies.specs.Replies.{Tagged};
+ghost use Rattle.share_core.specs.Said.{IsSaid};
+ghost use Rattle.share_core.specs.Held.{AreHeld};
+ghost use Rattle.share_core.specs.Entries.{entry_with, entry_at};
+
+use crate::answer::Said;
+use crate::stores::Stores;
+use crate::tags::{list, number, small_number, text, whole};
+use dmap_tags::{Code, Tag, Tags, Text};
+use playlist_store::{ListHead, Member};
+use share_history::BASE_LIST;
+use std::alloc::{AllocError, Global};
+
+/// The listing of the only database.
+pub(crate) fn databases(alloc: Global, name: &Text, stores: &Stores) -> Result<Said, AllocError>
+    requires name { length name.now ≤ text_limit }
+    requires held { (h : List Entry) × AreHeld h stores.now }
+    ensures { IfOk result (λ said. (h : List Entry) → AreHeld h stores.now → IsSaid (200, Tagged (databases_body name.now h)) said) }
+{
+    let containers = stores.lists.count();
+    let items = stores.items.count();
+    let entry = database_entry(alloc, name, items, containers + 1)?;
+    let mut entries = Tags::new(alloc);
+    entries.push(entry)?;
+    let revision = stores.items.revision();
+    whole(alloc, Code(*b"avdb"), Code(*b"mlcl"), revision, entries)
+}
+
+fn database_entry(
+    alloc: Global,
+    name: &Text,
+    items: u32,
+    containers: u32,
+) -> Result<Tag, AllocError>
+    ensures { IfOk result (λ tag. tag ≡ entry_tag (leaf (code "miid") (U32 1) ∷ leaf (code "minm") (tree.Text name.now) ∷ leaf (code "mimc") (U32 items) ∷ leaf (code "mctc") (U32 containers) ∷ [])) }
+{
+    let mut tags = Tags::new(alloc);
+    tags.push(number(Code(*b"miid"), 1))?;
+    tags.push(text(alloc, Code(*b"minm"), name.as_str())?)?;
+    tags.push(number(Code(*b"mimc"), items))?;
+    tags.push(number(Code(*b"mctc"), containers))?;
+    Ok(list(Code(*b"mlit"), tags))
+}
+
+/// The listing of the containers.
+pub(crate) fn containers(alloc: Global, name: &Text, stores: &Stores) -> Result<Said, AllocError>
+    requires name { length name.now ≤ text_limit }
+    requires held { (h : List Entry) × AreHeld h stores.now }
+    ensures { IfOk result (λ said. (h : List Entry) → AreHeld h stores.now → IsSaid (200, Tagged (containers_body name.now h)) said) }
+{
+    let entries = entries(alloc, name, stores)?;
+    let revision = stores.items.revision();
+    whole(alloc, Code(*b"aply"), Code(*b"mlcl"), revision, entries)
+}
+
+fn entries(alloc: Global, name: &Text, stores: &Stores) -> Result<Tags, AllocError>
+    requires held { (h : List Entry) × AreHeld h stores.now }
+    ensures { IfOk result (λ tags. (h : List Entry) → AreHeld h stores.now → tags ≡ container_tags name.now (all_edits h)) }
+{
+    let first = base_entry(alloc, name, stores)?;
+    let ids = stores.lists.lists()?;
+    let mut tags = Tags::new(alloc);
+    tags.push(first)?;
+    for id in &ids {
+        push_list(&mut tags, alloc, stores, *id)?;
+    }
+    Ok(tags)
+}
+
+// Container 1 has all items.
+fn base_entry(alloc: Global, name: &Text, stores: &Stores) -> Result<Tag, AllocError>
+    ensures { IfOk result (λ tag. (h : List Entry) → AreHeld h stores.now → tag ≡ container_tag base_list name.now (leaf (code "abpl") (U8 1) ∷ []) (all_edits h)) }
+{
+    let mark = Some(small_number(Code(*b"abpl"), 1));
+    let count = stores.items.count();
+    entry(alloc, BASE_LIST, name, mark, count)
+}
+
+// Adds the entry of a list, if it is there.
+fn push_list(tags: &mut Tags, alloc: Global, stores: &Stores, id: u32) -> Result<(), AllocError>
+    requires held { (h : List Entry) × AreHeld h stores.now }
+    ensures { OnOk result ((h : List Entry) → AreHeld h stores.now → tags.new ≡ tags.old ++ option_to_list (entry_at (all_edits h) id)) }
+{
+    if id == BASE_LIST {
+        return Ok(());
+    }
+    match stores.lists.head(id) {
+        Some(head) => {
+            let count = member_count(stores, id)?;
+            tags.push(list_entry(alloc, id, head, count)?)
+        }
+        None => Ok(()),
+    }
+}
+
+fn list_entry(alloc: Global, id: u32, head: &ListHead, count: u32) -> Result<Tag, AllocError>
+    ensures { IfOk result (λ tag. tag ≡ entry_with id head.now count) }
+{
+    entry(alloc, id, &head.name, mark_of(head), count)
+}
+
+// The mark of a list that has a rule.
+fn mark_of(head: &ListHead) -> Option<Tag>
+    ensures { result ≡ option_map (λ _. leaf (code "aeSP") (U8 1)) head.now.rule }
+{
+    match &head.rule {
+        Some(_) => Some(small_number(Code(*b"aeSP"), 1)),
+        None => None,
+    }
+}
+
+fn push_mark(tags: &mut Tags, mark: Option<Tag>) -> Result<(), AllocError>
+    ensures { OnOk result (tags.new ≡ tags.old ++ option_to_list mark) }
+{
+    match mark {
+        Some(tag) => tags.push(tag),
+        None => Ok(()),
+    }
+}
+
+// A container with the mark of its kind, if it has one, and the number of its rows.
+fn entry(
+    alloc: Global,
+    id: u32,
+    name: &Text,
+    mark: Option<Tag>,
+    count: u32,
+) -> Result<Tag, AllocError>
+    ensures { IfOk result (λ tag. tag ≡ entry_tag (leaf (code "miid") (U32 id) ∷ leaf (code "minm") (tree.Text name.now) ∷ (option_to_list mark ++ leaf (code "mimc") (U32 count) ∷ []))) }
+{
+    let mut tags = Tags::new(alloc);
+    tags.push(number(Code(*b"miid"), id))?;
+    tags.push(text(alloc, Code(*b"minm"), name.as_str())?)?;
+    push_mark(&mut tags, mark)?;
+    tags.push(number(Code(*b"mimc"), count))?;
+    Ok(list(Code(*b"mlit"), tags))
+}
+
+// How many rows the listing of a list has.
+fn member_count(stores: &Stores, id: u32) -> Result<u32, AllocError>
+    requires other { (id == base_list) ≡ false }
+    requires held { (h : List Entry) × AreHeld h stores.now }
+    ensures { IfOk result (λ count. (h : List Entry) → AreHeld h stores.now → is_some (list_at (all_edits h) id) ≡ true
+        → count ≡ length (rows (all_edits h) (Container id) None)) }
+{
+    let found = stores.lists.members(id, &stores.items)?;
+    let count = count_of(found);
+    Ok(count as u32)
+}
+
+fn count_of(found: Option<Vec<Member>>) -> usize
+    ensures { result ≡ option_map_or (λ members. length members.items) found 0 }
+{
+    match found {
+        Some(members) => members.len(),
+        None => 0,
+    }
+}

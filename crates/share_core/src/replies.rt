@@ -1,0 +1,135 @@
+//! Replies at a point of the history, and the marks that they move.
+
+ghost use Rattle.std.specs.Prelude.{◌≡◌, ◌≤◌, ◌+◌, ◌++◌, ◌∷◌, [], true, false, length, IfOk, OnOk, OnErr};
+ghost use Rattle.item_model.specs.declared.changes.Entry.TheVariants as entry;
+ghost use Rattle.share_history.specs.Limits.{has_place, has_room_for};
+ghost use Rattle.share_history.specs.Marks.{marks_after, until_login};
+ghost use Rattle.share_history.specs.Sessions.{is_live, is_stopped, next_session};
+ghost use Rattle.share_replies.specs.Answers.{mark_of};
+ghost use Rattle.share_core.specs.Steps.{IsBetween};
+
+use crate::answer::{Reply, Said};
+use item_model::Batch;
+use share_history::FIRST_REVISION;
+use share_register::Register;
+use std::alloc::AllocError;
+
+/// The mark of a session, 0 where it has none.
+fn mark_of(register: &Register, session: u32) -> u64
+    ensures mark { result ≡ mark_of register.now.marks session }
+    ensures until { result ≤ length register.now.history }
+    ensures since { is_live register.now.history session ≡ true → length (until_login session register.now.history) ≤ result }
+{
+    match register.seen(session) {
+        Some(mark) => mark,
+        None => 0,
+    }
+}
+
+/// A reply that adds nothing. It moves the mark of its session.
+pub(crate) fn read(register: &mut Register, said: Said, session: u32) -> Reply
+    ensures history { register.new.history ≡ register.old.history }
+    ensures marks { register.new.marks ≡ marks_after register.old.history session register.old.marks }
+    ensures reply { result ≡ record { said = said; point = length register.old.history; session = session; seen = mark_of register.old.marks session; added = false } }
+    ensures marked { IsBetween register.old.history result }
+{
+    let seen = mark_of(register, session);
+    register.touch(session);
+    Reply {
+        said,
+        point: register.len(),
+        session,
+        seen,
+        added: false,
+    }
+}
+
+/// A reply behind the entry that it added, with the mark of its session from before.
+fn grown(register: &Register, said: Said, session: u32, seen: u64) -> Reply
+    ensures { result ≡ record { said = said; point = length register.now.history; session = session; seen = seen; added = true } }
+{
+    Reply {
+        said,
+        point: register.len(),
+        session,
+        seen,
+        added: true,
+    }
+}
+
+/// The id of the next login: logins are the places that no batch takes, and each batch made a revision.
+#[tactic(auto, using(crate::proofs::Places::places_are))]
+pub(crate) fn next_session(register: &Register) -> u32
+    requires { has_place register.now.history ≡ true }
+    ensures { result ≡ next_session register.now.history }
+{
+    let batches = register.revision() - FIRST_REVISION;
+    register.places() - batches + 1
+}
+
+/// Logs a session in, whose id is given, and says so.
+pub(crate) fn log_in(
+    register: &mut Register,
+    by: u32,
+    said: Said,
+    id: u32,
+) -> Result<Reply, AllocError>
+    requires going { is_stopped register.old.history ≡ false }
+    requires place { has_place register.old.history ≡ true }
+    requires next { id ≡ next_session register.old.history }
+    ensures history { OnOk result (register.new.history ≡ register.old.history ++ entry.Login by id ∷ []) }
+    ensures marks { OnOk result (register.new.marks ≡ marks_after register.new.history id register.old.marks) }
+    ensures reply { IfOk result (λ reply. reply ≡ record { said = said; point = length register.new.history; session = id; seen = mark_of register.old.marks id; added = true }) }
+    ensures marked { IfOk result (IsBetween register.old.history) }
+    ensures same_history { OnErr result (register.new.history ≡ register.old.history) }
+    ensures same_marks { OnErr result (register.new.marks ≡ register.old.marks) }
+{
+    let seen = mark_of(register, id);
+    register.login(by)?;
+    Ok(grown(register, said, id, seen))
+}
+
+/// Logs a live session out, without memory.
+pub(crate) fn log_out(register: &mut Register, by: u32, id: u32, said: Said) -> Reply
+    requires going { is_stopped register.old.history ≡ false }
+    requires live { is_live register.old.history id ≡ true }
+    ensures history { register.new.history ≡ register.old.history ++ entry.Logout by id ∷ [] }
+    ensures marks { register.new.marks ≡ marks_after register.new.history id register.old.marks }
+    ensures reply { result ≡ record { said = said; point = length register.new.history; session = id; seen = mark_of register.old.marks id; added = true } }
+    ensures marked { IsBetween register.old.history result }
+{
+    let seen = mark_of(register, id);
+    register.logout(by, id);
+    grown(register, said, id, seen)
+}
+
+/// Stops the share, without memory.
+pub(crate) fn end(register: &mut Register, by: u32, said: Said) -> Reply
+    requires going { is_stopped register.old.history ≡ false }
+    ensures history { register.new.history ≡ register.old.history ++ entry.Stop by ∷ [] }
+    ensures marks { register.new.marks ≡ marks_after register.new.history 0 register.old.marks }
+    ensures reply { result ≡ record { said = said; point = length register.new.history; session = 0; seen = mark_of register.old.marks 0; added = true } }
+    ensures marked { IsBetween register.old.history result }
+{
+    let seen = mark_of(register, 0);
+    register.stop(by);
+    register.touch(0);
+    grown(register, said, 0, seen)
+}
+
+/// Adds a batch, in the room that was made.
+pub(crate) fn enter(register: &mut Register, by: u32, batch: Batch, said: Said) -> Reply
+    requires going { is_stopped register.old.history ≡ false }
+    requires place { has_place register.old.history ≡ true }
+    requires few { has_room_for register.old.history (length batch) ≡ true }
+    requires room { length register.old.marks + 2 ≤ register.old.spare }
+    ensures history { register.new.history ≡ register.old.history ++ entry.Edits by batch ∷ [] }
+    ensures marks { register.new.marks ≡ marks_after register.new.history 0 register.old.marks }
+    ensures reply { result ≡ record { said = said; point = length register.new.history; session = 0; seen = mark_of register.old.marks 0; added = true } }
+    ensures marked { IsBetween register.old.history result }
+{
+    let seen = mark_of(register, 0);
+    register.edit(by, batch);
+    register.touch(0);
+    grown(register, said, 0, seen)
+}

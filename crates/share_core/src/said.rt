@@ -1,0 +1,56 @@
+//! The forms of a reply.
+
+ghost use Rattle.std.specs.Prelude.{◌≡◌, true};
+ghost use Rattle.dmap_tags.specs.Spelling.{is_spellable};
+ghost use Rattle.share_replies.specs.Replies.{Nothing, Allowed, Line, Tagged};
+ghost use Rattle.share_core.specs.Said.{IsSaid};
+
+use crate::answer::Said;
+use dmap_tags::{Bytes, Tag};
+use listing_plan::Plan;
+use share_asks::{BodyForm, Verb};
+
+/// A status alone.
+pub(crate) fn nothing(status: u16) -> Said
+    ensures { IsSaid (status, Nothing) result }
+{
+    Said {
+        status,
+        form: BodyForm::NoBody,
+        plan: Plan::Empty,
+    }
+}
+
+/// That another method is allowed.
+pub(crate) fn allowed(verb: Verb) -> Said
+    ensures { IsSaid (405, Allowed verb) result }
+{
+    Said {
+        status: 405,
+        form: BodyForm::Allow(verb),
+        plan: Plan::Empty,
+    }
+}
+
+/// A line that tells what is wrong.
+pub(crate) fn line(text: Vec<u8>) -> Said
+    ensures { IsSaid (400, Line text.items) result }
+{
+    Said {
+        status: 400,
+        form: BodyForm::Plain,
+        plan: Plan::Plain(Bytes::from(text)),
+    }
+}
+
+/// A tag.
+pub(crate) fn tagged(tag: Tag) -> Said
+    requires { is_spellable tag ≡ true }
+    ensures { IsSaid (200, Tagged tag) result }
+{
+    Said {
+        status: 200,
+        form: BodyForm::Dmap,
+        plan: Plan::Tagged(tag),
+    }
+}

@@ -1,0 +1,502 @@
+//! The share.
+
+ghost use Rattle.std.specs.Prelude.{◌≡◌, ◌≤◌, ◌<◌, ◌+◌, ◌++◌, [], ◌∷◌, ℕ, List, true, false, Ok, Err, length, is_some, unwrap_or, option_copied, slice_get, IfOk, IfSome, OnOk, OnErr, IsOk};
+ghost use Rattle.item_model.specs.declared.changes.Entry.TheVariants as entry;
+ghost use Rattle.item_model.specs.Limits.{text_limit};
+ghost use Rattle.item_model.specs.Valid.{AreValid};
+ghost use Rattle.share_asks.specs.Valid.{IsValidWant};
+ghost use Rattle.share_asks.specs.declared.ask.Want.TheVariants as want;
+ghost use Rattle.share_history.specs.Histories.{batches, opening, revision};
+ghost use Rattle.share_history.specs.Keyed.{at};
+ghost use Rattle.share_history.specs.Limits.{has_few_lists, has_place, takes_batch};
+ghost use Rattle.share_history.specs.Marks.{until_login};
+ghost use Rattle.share_history.specs.Numbers.{most_edits};
+ghost use Rattle.share_history.specs.Sessions.{is_live, is_stopped};
+ghost use Rattle.playlist_store.specs.Tests.{tests_of};
+ghost use Rattle.share_history.specs.Histories.{all_edits};
+ghost use Rattle.share_replies.specs.Replies.{Body, Nothing, lacks_session, needed, refusal, success};
+ghost use Rattle.share_core.specs.Said.{IsSaid};
+ghost use Rattle.share_core.specs.Told.{IsAnswer};
+ghost use Rattle.share_core.specs.Steps.{IsRead, HasGrown, IsBetween, IsMarked};
+ghost use Rattle.share_core.specs.Wants.{is_free, is_read};
+ghost use Rattle.share_core.specs.Ticks.{want_ticks};
+ghost use Rattle.share_core.specs.Held.{StandFor};
+
+use crate::answer::{Answer, Reply, Said};
+use crate::browse::browse;
+use crate::containers::{containers, databases};
+use crate::faults::{fault, records};
+use crate::listings::rows;
+use crate::replies::{end, enter, log_in, log_out, next_session, read};
+use crate::said::nothing;
+use crate::settings::Settings;
+use crate::small::{codes, logged_in, revised, server_info};
+use crate::stores::Stores;
+use dmap_tags::Text;
+use item_model::{Batch, Edit, Entry};
+use records_import::RecordError;
+use share_asks::{Ask, Want};
+use share_history::{FIRST_REVISION, MAX_EDITS, MAX_LISTS};
+use share_lock::Recorded;
+use share_register::Register;
+use song_query::Steps;
+use std::alloc::{AllocError, Global};
+use std::marker::{Brand, Model};
+use std::sync::ledger::{Blank, Ledger};
+use thiserror::Error;
+
+/// Why a share is not opened.
+#[derive(Debug, Drop, PartialEq, Eq, Error)]
+pub enum OpenError {
+    /// The batch leaves more than 1,024 lists beside container 1.
+    #[error("too many lists")]
+    Lists,
+    #[error("memory")]
+    Memory,
+}
+
+impl From<AllocError> for OpenError {
+    ghost use Rattle.share_core.specs.declared.share.OpenError.TheVariants.{Memory};
+
+    ghost from_gives = { λ _ e. e ≡ Memory };
+
+    fn from(_error: AllocError) -> OpenError {
+        OpenError::Memory
+    }
+}
+
+/// A share of items and lists, with its history. Its name and how far back it answers with changes never change.
+#[derive(Drop)]
+pub struct Share {
+    alloc: Global,
+    settings: Settings,
+    register: Register,
+    stores: Stores,
+}
+
+impl Model for Share {
+    ghost use Rattle.std.specs.Coded.{codes};
+    ghost use Rattle.item_model.specs.QueryCells.{query_coded};
+    ghost use Rattle.share_replies.specs.Answers.{Shared};
+    ghost use Rattle.share_core.specs.Held.{IsSound};
+
+    ghost Value = { Shared };
+
+    ghost coded = { Prim.hlevel (codes, query_coded) };
+
+    ghost view = { λ a. record { settings = a.settings; history = a.register.history; marks = a.register.marks } };
+
+    ghost invariant = { λ a. IsSound a.settings a.register.history a.stores };
+}
+
+impl Share {
+    /// A share whose history begins with a batch, where it has edits. `keep` is for how many revisions back it answers
+    /// with changes.
+    pub fn open(alloc: Global, name: &str, keep: u32, first: Batch) -> Result<Share, OpenError>
+        requires name { length name.now ≤ text_limit }
+        requires some { 1 ≤ keep }
+        requires window { keep ≤ 65536 }
+        requires few { length first ≤ most_edits }
+        requires valid { AreValid first }
+        ensures opened { IfOk result (λ s. s ≡ record { settings = record { name = name.now; keep = keep }; history = opening first; marks = [] }) }
+        ensures fits { OnOk result (has_few_lists [] first ≡ true) }
+        ensures lists { result ≡ Err OpenError.Lists → has_few_lists [] first ≡ false }
+    {
+        let stores = Stores::open(alloc, keep);
+        if stores.lists.count_after(first.edits.as_slice())? > MAX_LISTS {
+            return Err(OpenError::Lists);
+        }
+        let name = Text::of(alloc, name)?;
+        let share = begun::<Brand>(Blank::new(1), alloc, name, keep, stores, first)?;
+        Ok(share)
+    }
+
+    /// Answers an ask of the pass of a number, and adds at most one entry. Everything that wants memory comes before the
+    /// first change: an `Err` leaves the share as it was. Each look of a query at an item, and of a rule, is a step.
+    pub fn answer<L: Ledger>(
+        &mut self,
+        by: u32,
+        ask: &Ask,
+        steps: &mut Steps<L>,
+    ) -> Result<Answer, AllocError>
+        requires valid { IsValidWant ask.now.want }
+        ensures answered { IfOk result (IsAnswer self.old self.new by ask.now.want) }
+        ensures unchanged { OnErr result (self.new ≡ self.old) }
+        // A logout and the stop always have room.
+        ensures free { is_stopped self.old.history ≡ false → is_free ask.now.want ≡ true → IsOk result }
+        ensures marked { IfOk result (IsMarked self.old.history) }
+        ensures cost { steps.new ≤ steps.old + want_ticks self.old.settings.keep self.old.history ask.now.want }
+    {
+        if self.register.stopped() {
+            return Ok(Answer::Reply(self.read(nothing(503), 0)));
+        }
+        if self.lacks_session(&ask.want) {
+            return Ok(Answer::Reply(self.read(nothing(403), 0)));
+        }
+        self.serve(by, &ask.want, steps)
+    }
+
+    /// What the share was opened with.
+    pub fn settings(&self) -> &Settings
+        ensures { result.now ≡ self.now.settings }
+    {
+        &self.settings
+    }
+
+    /// How many entries the history has.
+    pub fn len(&self) -> u64
+        ensures { result ≡ length self.now.history }
+    {
+        self.register.len()
+    }
+
+    /// The entry of a number, counted from 0.
+    pub fn entry(&self, n: u64) -> Option<&Entry>
+        ensures { option_copied result ≡ slice_get self.now.history n }
+    {
+        self.register.entry(n)
+    }
+
+    /// The revision of the library.
+    pub fn revision(&self) -> u32
+        ensures { result ≡ revision (batches self.now.history) }
+    {
+        self.register.revision()
+    }
+
+    /// The mark of a session, where it is live: how many entries the history had after its last answer.
+    pub fn seen(&self, id: u32) -> Option<u64>
+        ensures mark { result ≡ at id self.now.marks }
+        ensures live { is_some result ≡ is_live self.now.history id }
+        ensures since { IfSome result (λ p. length (until_login id self.now.history) ≤ p) }
+        ensures until { IfSome result (λ p. p ≤ length self.now.history) }
+    {
+        self.register.seen(id)
+    }
+
+    /// Whether the share was stopped.
+    pub fn stopped(&self) -> bool
+        ensures { result ≡ is_stopped self.now.history }
+    {
+        self.register.stopped()
+    }
+
+    /// The entries, oldest first, without memory.
+    pub fn into_history(self) -> Vec<Entry>
+        ensures { result.items ≡ self.history }
+    {
+        self.register.into_history()
+    }
+
+    // A reply that adds nothing.
+    fn read(&mut self, said: Said, session: u32) -> Reply
+        ensures read { (told : ℕ × Body) → IsSaid told said → IsRead told session self.old self.new result }
+        ensures marked { IsBetween self.old.history result }
+    {
+        read(&mut self.register, said, session)
+    }
+
+    // Whether a want needs a session that is not live.
+    fn lacks_session(&self, want: &Want) -> bool
+        ensures { result ≡ lacks_session self.now.history want.now }
+    {
+        match session_in(want) {
+            Some(session) => self.register.seen(session).is_none(),
+            None => false,
+        }
+    }
+
+    fn serve<L: Ledger>(
+        &mut self,
+        by: u32,
+        want: &Want,
+        steps: &mut Steps<L>,
+    ) -> Result<Answer, AllocError>
+        requires valid { IsValidWant want.now }
+        requires going { is_stopped self.old.history ≡ false }
+        requires live { lacks_session self.old.history want.now ≡ false }
+        ensures answered { IfOk result (IsAnswer self.old self.new by want.now) }
+        ensures unchanged { OnErr result (self.new ≡ self.old) }
+        ensures marked { IfOk result (IsMarked self.old.history) }
+        ensures free { is_free want.now ≡ true → IsOk result }
+        ensures cost { steps.new ≤ steps.old + want_ticks self.old.settings.keep self.old.history want.now }
+    {
+        match want {
+            Want::Login => self.login(by),
+            Want::Logout { session } => Ok(self.logout(by, *session)),
+            Want::Update { session, revision } => self.update(by, *session, *revision),
+            Want::Edit { body: Ok(batch) } => self.edit(by, batch, steps),
+            Want::Edit { body: Err(error) } => self.refuse_records(by, error),
+            Want::Stop => Ok(self.stop(by)),
+            _ => self.look_up(by, want, steps),
+        }
+    }
+
+    fn login(&mut self, by: u32) -> Result<Answer, AllocError>
+        requires going { is_stopped self.old.history ≡ false }
+        ensures answered { IfOk result (IsAnswer self.old self.new by want.Login) }
+        ensures unchanged { OnErr result (self.new ≡ self.old) }
+        ensures marked { IfOk result (IsMarked self.old.history) }
+    {
+        if !self.register.has_place() {
+            return Ok(Answer::Reply(self.read(nothing(507), 0)));
+        }
+        let id = next_session(&self.register);
+        let said = logged_in(self.alloc, id)?;
+        let reply = log_in(&mut self.register, by, said, id)?;
+        Ok(Answer::Reply(reply))
+    }
+
+    fn logout(&mut self, by: u32, session: u32) -> Answer
+        requires going { is_stopped self.old.history ≡ false }
+        requires live { is_live self.old.history session ≡ true }
+        ensures answered { IsAnswer self.old self.new by (want.Logout session) result }
+        ensures marked { IsMarked self.old.history result }
+    {
+        Answer::Reply(log_out(&mut self.register, by, session, nothing(204)))
+    }
+
+    fn update(&mut self, by: u32, session: u32, number: u32) -> Result<Answer, AllocError>
+        requires going { is_stopped self.old.history ≡ false }
+        requires live { is_live self.old.history session ≡ true }
+        ensures answered { IfOk result (IsAnswer self.old self.new by (want.Update session number)) }
+        ensures unchanged { OnErr result (self.new ≡ self.old) }
+        ensures marked { IfOk result (IsMarked self.old.history) }
+    {
+        let revision = self.register.revision();
+        if number == revision {
+            let point = self.register.len();
+            return Ok(Answer::Wait { revision, point });
+        }
+        let said = revised(self.alloc, revision)?;
+        Ok(Answer::Reply(self.read(said, session)))
+    }
+
+    fn refuse_records(&mut self, by: u32, error: &RecordError) -> Result<Answer, AllocError>
+        requires going { is_stopped self.old.history ≡ false }
+        ensures answered { IfOk result (IsAnswer self.old self.new by (want.Edit (Err error.now))) }
+        ensures unchanged { OnErr result (self.new ≡ self.old) }
+        ensures marked { IfOk result (IsMarked self.old.history) }
+    {
+        let said = records(self.alloc, error)?;
+        Ok(Answer::Reply(self.read(said, 0)))
+    }
+
+    fn stop(&mut self, by: u32) -> Answer
+        requires going { is_stopped self.old.history ≡ false }
+        ensures answered { IsAnswer self.old self.new by want.Stop result }
+        ensures marked { IsMarked self.old.history result }
+    {
+        Answer::Reply(end(&mut self.register, by, nothing(204)))
+    }
+
+    fn edit<L: Ledger>(
+        &mut self,
+        by: u32,
+        batch: &Batch,
+        steps: &mut Steps<L>,
+    ) -> Result<Answer, AllocError>
+        requires going { is_stopped self.old.history ≡ false }
+        requires valid { AreValid batch.now }
+        ensures answered { IfOk result (IsAnswer self.old self.new by (want.Edit (Ok batch.now))) }
+        ensures unchanged { OnErr result (self.new ≡ self.old) }
+        ensures marked { IfOk result (IsMarked self.old.history) }
+        ensures cost { steps.new ≤ steps.old + tests_of (all_edits self.old.history ++ batch.now) batch.now }
+    {
+        let count = count_of(batch);
+        if count == 0 {
+            return Ok(Answer::Reply(self.read(nothing(204), 0)));
+        }
+        let takes = self.takes(batch)?;
+        if !takes {
+            return Ok(Answer::Reply(self.read(nothing(507), 0)));
+        }
+        let revision = self.register.revision();
+        let next = revision + 1;
+        let said = revised(self.alloc, next)?;
+        let reply = self.add(by, batch, said, steps)?;
+        Ok(Answer::Reply(reply))
+    }
+
+    // Whether no limit is met by a batch that has edits.
+    fn takes(&self, batch: &Batch) -> Result<bool, AllocError>
+        ensures { IfOk result (λ takes. takes ≡ takes_batch self.now.history batch.now) }
+    {
+        let edits = batch.edits.as_slice();
+        if !self.register.has_place() || edits.len() > MAX_EDITS {
+            return Ok(false);
+        }
+        if !self.register.has_room_for(edits.len()) {
+            return Ok(false);
+        }
+        Ok(self.stores.lists.count_after(edits)? <= MAX_LISTS)
+    }
+
+    // Adds a batch that no limit stands against. All room is made first; a refusal leaves the share as it was.
+    fn add<L: Ledger>(
+        &mut self,
+        by: u32,
+        batch: &Batch,
+        said: Said,
+        steps: &mut Steps<L>,
+    ) -> Result<Reply, AllocError>
+        requires going { is_stopped self.old.history ≡ false }
+        requires valid { AreValid batch.now }
+        requires takes { takes_batch self.old.history batch.now ≡ true }
+        ensures grown { IfOk result (λ reply. (told : ℕ × Body) → IsSaid told said → HasGrown told 0 (entry.Edits by batch.now) self.old self.new reply) }
+        ensures unchanged { OnErr result (self.new ≡ self.old) }
+        ensures marked { IfOk result (IsBetween self.old.history) }
+        ensures cost { steps.new ≤ steps.old + tests_of (all_edits self.old.history ++ batch.now) batch.now }
+    {
+        let own = batch.copy()?;
+        let next = self.register.revision() + 1;
+        self.register.reserve()?;
+        let edits = batch.edits.as_slice();
+        self.stores.apply(self.alloc, edits, next, steps)?;
+        Ok(enter(&mut self.register, by, own, said))
+    }
+
+    fn look_up<L: Ledger>(
+        &mut self,
+        by: u32,
+        want: &Want,
+        steps: &mut Steps<L>,
+    ) -> Result<Answer, AllocError>
+        requires read { is_read want.now ≡ true }
+        requires going { is_stopped self.old.history ≡ false }
+        requires live { lacks_session self.old.history want.now ≡ false }
+        ensures answered { IfOk result (IsAnswer self.old self.new by want.now) }
+        ensures unchanged { OnErr result (self.new ≡ self.old) }
+        ensures marked { IfOk result (IsMarked self.old.history) }
+        ensures cost { steps.new ≤ steps.old + want_ticks self.old.settings.keep self.old.history want.now }
+    {
+        let said = self.said(want, steps)?;
+        let session = session_in(want).unwrap_or(0);
+        Ok(Answer::Reply(self.read(said, session)))
+    }
+
+    // What is said to a want that changes nothing.
+    fn said<L: Ledger>(&self, want: &Want, steps: &mut Steps<L>) -> Result<Said, AllocError>
+        requires read { is_read want.now ≡ true }
+        requires going { is_stopped self.now.history ≡ false }
+        requires live { lacks_session self.now.history want.now ≡ false }
+        ensures said { IfOk result (λ said. IsSaid (unwrap_or (refusal self.now.history want.now) (success self.now.settings self.now.history want.now)) said) }
+        ensures cost { steps.new ≤ steps.old + want_ticks self.now.settings.keep self.now.history want.now }
+    {
+        let name = self.settings.name();
+        match want {
+            Want::ServerInfo => server_info(self.alloc, name),
+            Want::Codes => codes(self.alloc),
+            Want::Databases { .. } => databases(self.alloc, name, &self.stores),
+            Want::Rows { target, look, .. } => {
+                rows(self.alloc, &self.stores, *target, look, steps)
+            }
+            Want::Lists { .. } => containers(self.alloc, name, &self.stores),
+            Want::Values {
+                browse: by,
+                query,
+                ..
+            } => { browse(self.alloc, &self.stores, *by, query.as_ref(), steps) }
+            Want::Bad(error) => fault(self.alloc, error),
+            _ => unreachable!(),
+        }
+    }
+}
+
+fn count_of(batch: &Batch) -> usize
+    ensures { result ≡ length batch.now }
+{
+    batch.edits.as_slice().len()
+}
+
+// The session that a want needs.
+fn session_in(want: &Want) -> Option<u32>
+    ensures { result ≡ needed want.now }
+{
+    match want {
+        Want::Logout { session }
+        | Want::Update { session, .. }
+        | Want::Databases { session }
+        | Want::Rows { session, .. }
+        | Want::Lists { session }
+        | Want::Values { session, .. } => Some(*session),
+        _ => None,
+    }
+}
+
+// The share that begins with a batch, where it has edits.
+fn begun<L: Ledger>(
+    blank: Blank,
+    alloc: Global,
+    name: Text,
+    keep: u32,
+    stores: Stores,
+    first: Batch,
+) -> Result<Share, AllocError>
+    requires name { blank.name ≡ L.name }
+    requires parts { blank.parts ≡ L.parts }
+    requires any { 0 < blank.parts }
+    requires short { length name ≤ text_limit }
+    requires few { length first ≤ most_edits }
+    requires valid { AreValid first }
+    requires lists { has_few_lists [] first ≡ true }
+    requires items_keep { stores.items.keep ≡ keep }
+    requires lists_keep { stores.lists.keep ≡ keep }
+    requires stand { StandFor [] stores }
+    ensures { IfOk result (λ s. s ≡ record { settings = record { name = name; keep = keep }; history = opening first; marks = [] }) }
+{
+    let stores = filled::<L>(blank, alloc, stores, first.edits.as_slice())?;
+    let register = Register::open(alloc, first)?;
+    Ok(Share {
+        alloc,
+        settings: Settings::new(name, keep),
+        register,
+        stores,
+    })
+}
+
+// The stores with the batch that a share begins with.
+fn filled<L: Ledger>(
+    blank: Blank,
+    alloc: Global,
+    mut stores: Stores,
+    first: &[Edit],
+) -> Result<Stores, AllocError>
+    requires name { blank.name ≡ L.name }
+    requires parts { blank.parts ≡ L.parts }
+    requires any { 0 < blank.parts }
+    requires valid { AreValid first.now }
+    requires stand { StandFor [] stores }
+    ensures stand { IfOk result (StandFor (batches (opening first.now))) }
+    ensures items_keep { IfOk result (λ s. s.items.keep ≡ stores.items.keep) }
+    ensures lists_keep { IfOk result (λ s. s.lists.keep ≡ stores.lists.keep) }
+{
+    let count = first.len();
+    if count == 0 {
+        return Ok(stores);
+    }
+    let mut steps = Steps::<L>::open(blank);
+    stores.apply(alloc, first, FIRST_REVISION + 1, &mut steps)?;
+    Ok(stores)
+}
+
+impl Recorded for Share {
+    ghost use Rattle.std.specs.Prelude.{[]};
+    ghost use Rattle.share_replies.specs.Laws.{maker};
+
+    type Entry = Entry;
+
+    type Settings = Settings;
+
+    ghost entries = { λ share. share.history };
+
+    ghost by = { maker };
+
+    ghost settings = { λ share. share.settings };
+
+    ghost unset = { record { name = []; keep = 0 } };
+
+    fn recorded(&self) -> u64 {
+        self.register.len()
+    }
+}

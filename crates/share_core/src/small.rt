@@ -1,0 +1,77 @@
+//! Replies that tell of no row.
+
+ghost use Rattle.std.specs.Prelude.{◌≡◌, ◌≤◌, length, IfOk};
+ghost use Rattle.dmap_tags.specs.Codes.{code};
+ghost use Rattle.dmap_tags.specs.Tree.{leaf, Version};
+ghost use Rattle.code_table.specs.Standard.{standard_rows};
+ghost use Rattle.code_table.specs.Reply.{table_reply};
+ghost use Rattle.item_model.specs.Limits.{text_limit};
+ghost use Rattle.share_replies.specs.Replies.{Tagged};
+ghost use Rattle.share_replies.specs.SmallBodies.{server_info_body, login_body, revision_body};
+ghost use Rattle.share_core.specs.Said.{IsSaid};
+
+use crate::answer::Said;
+use crate::said::tagged;
+use crate::tags::{list, number, small_number, text};
+use code_table::CodeTable;
+use dmap_tags::{Code, Tag, Tags, Text, Value};
+use std::alloc::{AllocError, Global};
+
+fn version(of: Code, n: u32) -> Tag
+    ensures { result ≡ leaf of (Version n) }
+{
+    Tag {
+        code: of,
+        value: Value::Version(n),
+    }
+}
+
+/// What the share tells of itself.
+#[tactic(auto, using(crate::proofs::Spellable::server_info_spellable))]
+pub(crate) fn server_info(alloc: Global, name: &Text) -> Result<Said, AllocError>
+    requires { length name.now ≤ text_limit }
+    ensures { IfOk result (λ said. IsSaid (200, Tagged (server_info_body name.now)) said) }
+{
+    let mut tags = Tags::new(alloc);
+    tags.push(number(Code(*b"mstt"), 200))?;
+    tags.push(version(Code(*b"mpro"), 0x0002_0000))?;
+    tags.push(version(Code(*b"apro"), 0x0003_0000))?;
+    tags.push(text(alloc, Code(*b"minm"), name.as_str())?)?;
+    tags.push(small_number(Code(*b"mslr"), 1))?;
+    tags.push(small_number(Code(*b"msau"), 0))?;
+    tags.push(number(Code(*b"mstm"), 1800))?;
+    tags.push(small_number(Code(*b"msup"), 1))?;
+    tags.push(small_number(Code(*b"msix"), 1))?;
+    tags.push(small_number(Code(*b"msbr"), 1))?;
+    tags.push(small_number(Code(*b"msqy"), 1))?;
+    tags.push(number(Code(*b"msdc"), 1))?;
+    Ok(tagged(list(Code(*b"msrv"), tags)))
+}
+
+/// The table of content codes.
+pub(crate) fn codes(alloc: Global) -> Result<Said, AllocError>
+    ensures { IfOk result (λ said. IsSaid (200, Tagged (table_reply standard_rows)) said) }
+{
+    let table = CodeTable::standard(alloc)?;
+    Ok(tagged(table.reply()?))
+}
+
+/// A new session's id.
+pub(crate) fn logged_in(alloc: Global, session: u32) -> Result<Said, AllocError>
+    ensures { IfOk result (λ said. IsSaid (200, Tagged (login_body session)) said) }
+{
+    let mut tags = Tags::new(alloc);
+    tags.push(number(Code(*b"mstt"), 200))?;
+    tags.push(number(Code(*b"mlid"), session))?;
+    Ok(tagged(list(Code(*b"mlog"), tags)))
+}
+
+/// A revision.
+pub(crate) fn revised(alloc: Global, revision: u32) -> Result<Said, AllocError>
+    ensures { IfOk result (λ said. IsSaid (200, Tagged (revision_body revision)) said) }
+{
+    let mut tags = Tags::new(alloc);
+    tags.push(number(Code(*b"mstt"), 200))?;
+    tags.push(number(Code(*b"musr"), revision))?;
+    Ok(tagged(list(Code(*b"mupd"), tags)))
+}

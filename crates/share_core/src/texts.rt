@@ -1,0 +1,60 @@
+//! The texts by which items are browsed.
+
+ghost use Rattle.std.specs.Prelude.{◌≡◌, ◌≤◌, length};
+ghost use Rattle.item_model.specs.Limits.{text_limit};
+ghost use Rattle.share_history.specs.BrowseListings.{browsed, browse_code, is_filled};
+ghost use Rattle.prop_index.specs.Forms.{browse_text};
+ghost use Rattle.share_core.specs.Short.{HasShortTexts};
+
+use dmap_tags::Code;
+use item_model::{Browse, PropValue, Property, Row};
+
+fn browsed(browse: Browse) -> Property
+    ensures { result ≡ browsed browse }
+{
+    match browse {
+        Browse::Artists => Property::Asar,
+        Browse::Albums => Property::Asal,
+        Browse::Genres => Property::Asgn,
+        Browse::Composers => Property::Ascp,
+    }
+}
+
+pub(crate) fn browse_code(browse: Browse) -> Code
+    ensures { result ≡ browse_code browse }
+{
+    match browse {
+        Browse::Artists => Code(*b"abar"),
+        Browse::Albums => Code(*b"abal"),
+        Browse::Genres => Code(*b"abgn"),
+        Browse::Composers => Code(*b"abcp"),
+    }
+}
+
+pub(crate) fn is_filled(text: &str) -> bool
+    ensures { result ≡ is_filled text.now }
+{
+    !text.is_empty()
+}
+
+/// The text of an item, empty where it has none.
+#[tactic(auto, using(crate::proofs::ItemTexts::short_value))]
+pub(crate) fn text_of(row: &Row, browse: Browse) -> &str
+    ensures text { result.now ≡ browse_text browse row.now }
+    ensures short { length (browse_text browse row.now) ≤ text_limit }
+{
+    match row.item.get(browsed(browse)) {
+        Some(PropValue::Text(text)) => text.as_str(),
+        _ => "",
+    }
+}
+
+/// No item has a long text, as its type has it.
+pub(crate) fn texts_are_short(row: &Row)
+    ensures { HasShortTexts row.now }
+{
+    let _artist = text_of(row, Browse::Artists);
+    let _album = text_of(row, Browse::Albums);
+    let _genre = text_of(row, Browse::Genres);
+    let _composer = text_of(row, Browse::Composers);
+}
