@@ -4,6 +4,8 @@
 
 mod answers;
 mod asked;
+#[cfg(test)]
+mod container_tests;
 mod membership;
 mod plans;
 mod ranges;
