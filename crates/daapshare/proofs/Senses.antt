@@ -11,7 +11,7 @@ use Rattle.daapshare_words.specs.declared.command.Command.{Command}
 use Rattle.daapshare_words.specs.declared.command.Command.TheVariants as command
 use Rattle.daapshare.specs.declared.usage.UsageFault.{UsageFault}
 use Rattle.daapshare.specs.Usage.{usage_meaning}
-use Rattle.daapshare.specs.Table.{shows, tells_codes, meaning_of}
+use Rattle.daapshare.specs.Table.{shows, tells_codes, target_of, meaning_of}
 
 -- words that are no command's leave the input as it was
 untouched : (before after : Seen) (fault : Fault UsageFault) → IsCause usage_meaning before after fault → IsUnread before.input after.input
@@ -47,7 +47,7 @@ codes_senses false = codes_sense.sensible
 
 pub sense_of : (asked : Option Command) → IsSensible (meaning_of asked)
 sense_of None = usage_sense.sensible
-sense_of (Some (command.List words)) = (list_sense words.query words.meta).sensible
+sense_of (Some (command.List words)) = (list_sense words.query words.meta (target_of words.list)).sensible
 sense_of (Some (command.Show words)) = show_senses words.back
 sense_of (Some command.Check) = check_sense.sensible
 sense_of (Some (command.Codes words)) = codes_senses words.learn

@@ -1,5 +1,7 @@
 -- What each command means, a line for each.
-use Rattle.std.specs.Prelude.{Bool, true, false, Option, Some, None}
+use Rattle.std.specs.Prelude.{ℕ, Bool, true, false, Option, Some, None}
+use Rattle.item_model.specs.declared.request.Target.{Target}
+use Rattle.item_model.specs.declared.request.Target.TheVariants.{Items, Container}
 use Rattle.command_core.specs.Meanings.{Meaning}
 use Rattle.tag_commands.specs.Check.{check_meaning}
 use Rattle.tag_commands.specs.Codes.{codes_meaning}
@@ -20,9 +22,14 @@ abbrev pub tells_codes : (learn : Bool) → Meaning
 tells_codes true = learn_meaning
 tells_codes false = codes_meaning
 
+-- what is listed: all items, or the rows of a container
+abbrev pub target_of : Option ℕ → Target
+target_of None = Items
+target_of (Some id) = Container id
+
 abbrev pub meaning_of : Option Command → Meaning
 meaning_of None = usage_meaning
-meaning_of (Some (command.List words)) = list_meaning words.query words.meta
+meaning_of (Some (command.List words)) = list_meaning words.query words.meta (target_of words.list)
 meaning_of (Some (command.Show words)) = shows words.back
 meaning_of (Some command.Check) = check_meaning
 meaning_of (Some (command.Codes words)) = tells_codes words.learn

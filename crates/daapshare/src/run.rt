@@ -5,13 +5,14 @@ ghost use Rattle.command_core.specs.Seen.{Around, input_seen, output_seen, told_
 ghost use Rattle.command_core.specs.Endings.{IsAnswered};
 ghost use Rattle.daapshare_words.specs.Grammar.{texts_of};
 ghost use Rattle.daapshare_words.specs.Words.{command_of, IsRanged};
-ghost use Rattle.daapshare.specs.Table.{meaning_of};
+ghost use Rattle.daapshare.specs.Table.{meaning_of, target_of};
 ghost use Rattle.daapshare.specs.Told.{files_seen, net_seen, seen, told_in};
 
 use crate::usage::UsageFault;
 use command_core::{Fault, Outcome, out_of_memory, refused};
 use daap_outside::{Files, Net, Sink, Source};
 use daapshare_words::{CodesWords, Command, ShowWords, WordsError, read_words};
+use item_model::Target;
 use share_commands::{list_share, rehearse_share};
 use std::alloc::Global;
 use tag_commands::{check_tags, learn_codes, list_codes, read_shown, show_tags};
@@ -19,8 +20,8 @@ use tag_commands::{check_tags, learn_codes, list_codes, read_shown, show_tags};
 /// Does what the words ask for.
 ///
 /// The statuses are 0 where all was done, 2 for words that are no command's, 3 for a query, names of properties,
-/// records, tags, shown text or a reply of content codes that are refused, 4 and 5 where the input or the output
-/// failed, 8 where the input or a rehearsal is too long, and 9 for want of memory. Each but 0 and 5 has its line on
+/// records, a container, tags, shown text or a reply of content codes that are refused, 4 and 5 where the input or the
+/// output failed, 8 where the input or a rehearsal is too long or there are too many lists, and 9 for want of memory. Each but 0 and 5 has its line on
 /// the output.
 pub fn run<I: Source, W: Sink, F: Files, N: Net>(
     alloc: Global,
@@ -74,6 +75,7 @@ fn obeyed<I: Source, W: Sink>(
             alloc,
             words.query.as_ref(),
             words.meta.as_ref(),
+            target_of(words.list),
             input,
             output,
         ),
@@ -90,5 +92,15 @@ fn obeyed<I: Source, W: Sink>(
             words.keep,
             output,
         ),
+    }
+}
+
+/// What is listed: all items, or the rows of a container.
+fn target_of(list: Option<u32>) -> Target
+    ensures { result ≡ target_of list }
+{
+    match list {
+        Some(id) => Target::Container(id),
+        None => Target::Items,
     }
 }

@@ -48,6 +48,19 @@ fn known(n: u32) -> (&'static [&'static str], &'static [u8], u8, &'static [u8]) 
             0,
             b"revision 3\nitems 2\nmirror 1 rows 2 full 1 delta 0\nmirror 2 rows 2 full 1 delta 0\nmirror 3 rows 1 full 1 delta 0\n",
         ),
+        // The last edit of list 3 drops it.
+        8 => (
+            &["list", "--list", "3"],
+            b"op,kind,id,dmap.itemname\nput,list,3,A\nput,list,2,B\ndrop,list,3,\n",
+            3,
+            b"list: none\n",
+        ),
+        9 => (
+            &["list", "--list=2"],
+            b"op,kind,id,dmap.itemname\nput,list,3,A\nput,list,2,B\ndrop,list,3,\n",
+            0,
+            b"apso\0\0\0\x41mstt\0\0\0\x04\0\0\0\xc8muty\0\0\0\x01\0musr\0\0\0\x04\0\0\0\x03mtco\0\0\0\x04\0\0\0\0mrco\0\0\0\x04\0\0\0\0mlcl\0\0\0\0",
+        ),
         _ => (
             &["rehearse", "1", "1025", "256"],
             b"",
@@ -83,7 +96,7 @@ fn ends(
 
 #[test]
 fn each_command_does_what_its_words_say(rt: HostRuntime) -> Result<(), Fail> {
-    for n in 0..9 {
+    for n in 0..11 {
         let (words, input, status, output) = known(n);
         ends(&rt, rt.alloc(), words, input, status, output)?;
     }

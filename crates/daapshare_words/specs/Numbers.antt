@@ -1,6 +1,6 @@
 -- A number that is given as a word: from one to ten decimal digits, zeros in front counted among
 -- them, and no other byte. It is at most 4,294,967,295.
-use Rattle.std.specs.Prelude.{◌&&◌, ℕ, Bool, Option, Some, None, if◌then◌else◌, length, nat_le, option_and_then}
+use Rattle.std.specs.Prelude.{◌&&◌, ℕ, Bool, Option, Some, None, if◌then◌else◌, length, nat_le, option_and_then, option_map}
 use Rattle.std.specs.Char.{is_ascii_digit}
 use Rattle.std.specs.List.{list_all}
 use Rattle.std.specs.Str.Parse.{digits_value}
@@ -25,3 +25,8 @@ number_within least most word =
 abbrev pub keep_of : Option Text → Option ℕ
 keep_of None = Some 256
 keep_of (Some word) = number_within 1 65536 (Some word)
+
+-- the id of a container, from 1: none where no word says one
+abbrev pub list_of : Option Text → Option (Option ℕ)
+list_of None = Some None
+list_of (Some word) = option_map (λ id. Some id) (number_within 1 4294967295 (Some word))

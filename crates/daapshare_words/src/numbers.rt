@@ -3,7 +3,7 @@
 ghost use Rattle.std.specs.Prelude.{◌≡◌, ◌≤◌, IfSome, option_map};
 ghost use Rattle.std.specs.Char.{is_ascii_digit};
 ghost use Rattle.std.specs.List.{list_all};
-ghost use Rattle.daapshare_words.specs.Numbers.{number_of_word, number_within, keep_of};
+ghost use Rattle.daapshare_words.specs.Numbers.{number_of_word, number_within, keep_of, list_of};
 
 /// The number that a word of 1 to 10 decimal digits writes, where it is at most 4,294,967,295.
 pub fn number_word(word: &str) -> Option<u32>
@@ -46,5 +46,15 @@ pub fn keep_of(word: Option<&str>) -> Option<u32>
     match word {
         Some(_) => number_of(word, 1, 65_536),
         None => Some(DEFAULT_KEEP),
+    }
+}
+
+/// The id of a container, where the word is that of `--list`: 1 to 4,294,967,295, or none where there is no word.
+pub fn list_of(word: Option<&str>) -> Option<Option<u32>>
+    ensures { result ≡ list_of (option_map (λ s. s.now) word.entry) }
+{
+    match word {
+        Some(_) => Some(Some(number_of(word, 1, u32::MAX)?)),
+        None => Some(None),
     }
 }

@@ -7,7 +7,7 @@ use std::test::Fail;
 /// What a command line is to be.
 #[derive(Clone, Copy, Debug)]
 enum Wanted {
-    List(Option<&'static str>, Option<&'static str>),
+    List(Option<&'static str>, Option<&'static str>, Option<u32>),
     Show(bool),
     Check,
     Codes(bool),
@@ -26,8 +26,8 @@ fn is_text(text: &Option<dmap_tags::Text>, wanted: Option<&str>) -> bool {
 
 fn is_wanted(answer: &Result<Command, WordsError>, wanted: Wanted) -> bool {
     match (answer, wanted) {
-        (Ok(Command::List(words)), Wanted::List(wanted_query, wanted_meta)) => {
-            is_text(&words.query, wanted_query) && is_text(&words.meta, wanted_meta)
+        (Ok(Command::List(words)), Wanted::List(query, meta, list)) => {
+            is_text(&words.query, query) && is_text(&words.meta, meta) && words.list == list
         }
         (Ok(Command::Show(words)), Wanted::Show(wanted)) => words.back == wanted,
         (Ok(Command::Check), Wanted::Check) => true,
@@ -48,23 +48,32 @@ fn words_of<'a>(alloc: Global, line: &'a str) -> Result<Vec<&'a str>, AllocError
 #[test]
 fn lines_that_are_commands(rt: HostRuntime) -> Result<(), Fail> {
     for (line, wanted) in [
-        ("list", Wanted::List(None, None)),
-        ("list --query=x", Wanted::List(Some("x"), None)),
+        ("list", Wanted::List(None, None, None)),
+        ("list --query=x", Wanted::List(Some("x"), None, None)),
         (
             "list --query x --meta y",
-            Wanted::List(Some("x"), Some("y")),
+            Wanted::List(Some("x"), Some("y"), None),
         ),
         (
             "list --meta=y --query x",
-            Wanted::List(Some("x"), Some("y")),
+            Wanted::List(Some("x"), Some("y"), None),
         ),
-        ("list --query ", Wanted::List(Some(""), None)),
-        ("list --meta=", Wanted::List(None, Some(""))),
-        ("list --query -", Wanted::List(Some("-"), None)),
-        ("list --query=-x", Wanted::List(Some("-x"), None)),
-        ("list --query=a=b", Wanted::List(Some("a=b"), None)),
-        ("list --query list", Wanted::List(Some("list"), None)),
-        ("list --", Wanted::List(None, None)),
+        ("list --query ", Wanted::List(Some(""), None, None)),
+        ("list --meta=", Wanted::List(None, Some(""), None)),
+        ("list --query -", Wanted::List(Some("-"), None, None)),
+        ("list --query=-x", Wanted::List(Some("-x"), None, None)),
+        ("list --query=a=b", Wanted::List(Some("a=b"), None, None)),
+        ("list --query list", Wanted::List(Some("list"), None, None)),
+        ("list --", Wanted::List(None, None, None)),
+        ("list --list 1", Wanted::List(None, None, Some(1))),
+        (
+            "list --list=4294967295 --meta y",
+            Wanted::List(None, Some("y"), Some(4294967295)),
+        ),
+        (
+            "list --query x --list 0007",
+            Wanted::List(Some("x"), None, Some(7)),
+        ),
         ("show", Wanted::Show(false)),
         ("show --back", Wanted::Show(true)),
         ("check", Wanted::Check),
@@ -111,7 +120,15 @@ fn lines_that_are_none(rt: HostRuntime) -> Result<(), Fail> {
         "list -- --query x",
         "list -",
         "list ",
-        "list --list 1",
+        "list --list",
+        "list --list ",
+        "list --list 0",
+        "list --list 4294967296",
+        "list --list x",
+        "list --list +1",
+        "list --list 00000000001",
+        "list --list 1 --list 1",
+        "list 1",
         "show --back --back",
         "show --back=",
         "show --back yes",

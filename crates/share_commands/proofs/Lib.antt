@@ -1,2 +1,3 @@
 pub mod Unopened
+pub mod LibraryFacts
 pub mod Senses

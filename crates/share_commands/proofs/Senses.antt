@@ -1,11 +1,16 @@
 -- What the meanings of the commands on a share owe: words and an input say one status, and no fault where the command is
 -- done.
-use Rattle.std.proofs.Common.{◌≡◌, ◌≢◌, ◌<◌, ◌≤◌, ◌*◌, ℕ, List, [], Option, Some, None, length, inl, inr, refl, sym, subst, arith}
+use Rattle.std.proofs.Common.{◌≡◌, ◌≢◌, ◌<◌, ◌≤◌, ◌*◌, ℕ, List, [], Option, Some, None, length, true, false, inl, inr, refl, sym, subst, ap, ◌∙◌, arith}
+use Rattle.std.proofs.lemmas.Bool.{false≢true}
+use Rattle.item_model.specs.declared.changes.Edit.{Edit}
 use Rattle.item_model.specs.declared.query.Query.{Query}
 use Rattle.item_model.specs.declared.refusal.QueryError.{QueryError}
 use Rattle.item_model.specs.declared.refusal.QueryError.TheVariants as query_error
+use Rattle.item_model.specs.declared.request.Target.{Target}
+use Rattle.share_history.specs.Limits.{has_few_lists}
+use Rattle.share_history.specs.Rows.{is_there}
 use Rattle.records_import.specs.Table.{table_of}
-use Rattle.records_import.proofs.Once.{batch_once}
+use Rattle.records_import.proofs.Once.{batch_same, batch_once}
 use Rattle.song_query.proofs.Once.{answers_once}
 use Rattle.command_core.specs.declared.fault.Fault.{Fault}
 use Rattle.command_core.specs.declared.fault.Fault.TheVariants.{Own, Read, Memory}
@@ -15,11 +20,11 @@ use Rattle.command_core.specs.Meanings.{IsCause}
 use Rattle.command_core.proofs.Reading.{read_whole}
 use Rattle.command_core.proofs.Sensible.{WritesOnce}
 use Rattle.share_commands.specs.declared.list.ListFault.{ListFault}
-use Rattle.share_commands.specs.declared.list.ListFault.TheVariants.{Query as query_fault, Meta, TooLong, Records}
+use Rattle.share_commands.specs.declared.list.ListFault.TheVariants.{Query as query_fault, Meta, TooLong, Records, TooManyLists, NoList}
 use Rattle.share_commands.specs.declared.rehearse.RehearseFault.{RehearseFault}
 use Rattle.share_commands.specs.declared.rehearse.RehearseFault.TheVariants.{TooMany}
 use Rattle.share_commands.specs.Looks.{AsksQuery, IsAsked, HasRefusal, IsMetaRefused}
-use Rattle.share_commands.specs.ListShare.{records_limit, ReadsAs, ListLeaves, IsListable, list_status, list_cause, list_meaning}
+use Rattle.share_commands.specs.ListShare.{records_limit, ReadsAs, LeavesMany, IsShare, ListLeaves, IsListable, list_status, list_cause, list_meaning}
 use Rattle.share_history.specs.Numbers.{most_edits}
 use Rattle.share_commands.specs.RehearseShare.{rehearse_status, rehearse_cause, rehearse_meaning}
 
@@ -39,68 +44,82 @@ meta_is_read : (query meta : Option (List ℕ)) → IsAsked query meta → IsMet
 meta_is_read query meta asked refused = let read = asked.1.meta in let many = refused.many in absurd (cc)
 
 -- an input that is too long has no other fault
-long_only : (query meta : Option (List ℕ)) (input : List ℕ) (own : ListFault) → IsAsked query meta → records_limit < length input
-    → Says (list_cause query meta own) input → list_status own ≡ 8
-long_only query meta input (query_fault error) asked long says = absurd (query_is_read query meta error asked says.0 says.1)
-long_only query meta input Meta asked long says = absurd (meta_is_read query meta asked says)
-long_only query meta input TooLong asked long says = refl
-long_only query meta input (Records error) asked long says = let within = says.1.within in absurd (omega arith)
+long_only : (query meta : Option (List ℕ)) (target : Target) (input : List ℕ) (own : ListFault) → IsAsked query meta → records_limit < length input
+    → Says (list_cause query meta target own) input → list_status own ≡ 8
+long_only query meta target input (query_fault error) asked long says = absurd (query_is_read query meta error asked says.0 says.1)
+long_only query meta target input Meta asked long says = absurd (meta_is_read query meta asked says)
+long_only query meta target input TooLong asked long says = refl
+long_only query meta target input (Records error) asked long says = let within = says.1.within in absurd (omega arith)
+long_only query meta target input TooManyLists asked long says = refl
+long_only query meta target input NoList asked long says = let within = says.1.reads.within in absurd (omega arith)
 
-one_list_status : (query meta : Option (List ℕ)) (input : List ℕ) (one other : ListFault) → Says (list_cause query meta one) input
-    → Says (list_cause query meta other) input → list_status one ≡ list_status other
-one_list_status query meta input TooLong other says said = sym (long_only query meta input other says.0 says.1 said)
-one_list_status query meta input (query_fault error) TooLong says said = long_only query meta input (query_fault error) said.0 said.1 says
-one_list_status query meta input Meta TooLong says said = long_only query meta input Meta said.0 said.1 says
-one_list_status query meta input (Records error) TooLong says said = long_only query meta input (Records error) said.0 said.1 says
-one_list_status query meta input (query_fault error) (query_fault more) says said = refl
-one_list_status query meta input (query_fault error) Meta says said = refl
-one_list_status query meta input (query_fault error) (Records more) says said = refl
-one_list_status query meta input Meta (query_fault more) says said = refl
-one_list_status query meta input Meta Meta says said = refl
-one_list_status query meta input Meta (Records more) says said = refl
-one_list_status query meta input (Records error) (query_fault more) says said = refl
-one_list_status query meta input (Records error) Meta says said = refl
-one_list_status query meta input (Records error) (Records more) says said = refl
+-- nor has one whose records leave too many lists
+few_or_many_lists : (input : List ℕ) (edits others : List Edit) → ReadsAs edits input → ReadsAs others input → has_few_lists [] edits ≡ true → has_few_lists [] others ≡ false → ⊥
+few_or_many_lists input edits others reads read few many =
+    false≢true (sym many ∙ ap (has_few_lists []) (batch_same (table_of input) others edits read.read reads.read) ∙ few)
 
-no_list_fault : (query meta : Option (List ℕ)) (input : List ℕ) (own : ListFault) → Says (list_cause query meta own) input → IsListable query meta input → ⊥
-no_list_fault query meta input (query_fault error) says listable = query_is_read query meta error listable.asked says.0 says.1
-no_list_fault query meta input Meta says listable = meta_is_read query meta listable.asked says
-no_list_fault query meta input TooLong says listable = let within = listable.reads.within in let long = says.1 in absurd (omega arith)
-no_list_fault query meta input (Records error) says listable = batch_once (table_of input) listable.edits error listable.reads.read says.1.refused
+many_only : (query meta : Option (List ℕ)) (target : Target) (input : List ℕ) (own : ListFault) → IsAsked query meta → LeavesMany input
+    → Says (list_cause query meta target own) input → list_status own ≡ 8
+many_only query meta target input (query_fault error) asked many says = absurd (query_is_read query meta error asked says.0 says.1)
+many_only query meta target input Meta asked many says = absurd (meta_is_read query meta asked says)
+many_only query meta target input TooLong asked many says = refl
+many_only query meta target input (Records error) asked many says = absurd (batch_once (table_of input) many.edits error many.reads.read says.1.refused)
+many_only query meta target input TooManyLists asked many says = refl
+many_only query meta target input NoList asked many says =
+    let lacks = says.1 in absurd (few_or_many_lists input lacks.edits many.edits lacks.reads many.reads lacks.few many.many)
+
+one_list_status : (query meta : Option (List ℕ)) (target : Target) (input : List ℕ) (one other : ListFault) → Says (list_cause query meta target one) input
+    → Says (list_cause query meta target other) input → list_status one ≡ list_status other
+one_list_status query meta target input TooLong other says said = sym (long_only query meta target input other says.0 says.1 said)
+one_list_status query meta target input TooManyLists other says said = sym (many_only query meta target input other says.0 says.1 said)
+one_list_status query meta target input one TooLong says said = long_only query meta target input one said.0 said.1 says
+one_list_status query meta target input one TooManyLists says said = many_only query meta target input one said.0 said.1 says
+one_list_status query meta target input one other _ _ = refl
+
+no_list_fault : (query meta : Option (List ℕ)) (target : Target) (input : List ℕ) (own : ListFault) → Says (list_cause query meta target own) input → IsListable query meta target input → ⊥
+no_list_fault query meta target input (query_fault error) says listable = query_is_read query meta error listable.asked says.0 says.1
+no_list_fault query meta target input Meta says listable = meta_is_read query meta listable.asked says
+no_list_fault query meta target input TooLong says listable = let within = listable.of.reads.within in let long = says.1 in absurd (omega arith)
+no_list_fault query meta target input (Records error) says listable = batch_once (table_of input) listable.edits error listable.of.reads.read says.1.refused
+no_list_fault query meta target input TooManyLists says listable =
+    let many = says.1 in few_or_many_lists input listable.edits many.edits listable.of.reads many.reads listable.of.few many.many
+no_list_fault query meta target input NoList says listable =
+    let lacks = says.1 in
+    false≢true (sym lacks.lacks ∙ ap (λ es. is_there es target) (batch_same (table_of input) lacks.edits listable.edits lacks.reads.read listable.of.reads.read) ∙ listable.of.there)
 
 -- what another fault leaves of a share, want of memory may leave
-leaves_less : (before after : Seen) (fault : Fault ListFault) (share : ShareSeen) → ListLeaves before after fault share → ListLeaves before after Memory share
-leaves_less before after (Own own) share h = inl h
-leaves_less before after Read share h = inl h
-leaves_less before after Memory share h = h
+leaves_less : (target : Target) (before after : Seen) (fault : Fault ListFault) (share : ShareSeen) → ListLeaves target before after fault share → ListLeaves target before after Memory share
+leaves_less target before after (Own own) share h = inl h
+leaves_less target before after Read share h = inl h
+leaves_less target before after Memory share h = h
 
-none_opened : (before after : Seen) (fault : Fault ListFault) → ListLeaves before after fault (record { history = None })
-none_opened before after (Own own) = refl
-none_opened before after Read = refl
-none_opened before after Memory = inl refl
+none_opened : (target : Target) (before after : Seen) (fault : Fault ListFault) → ListLeaves target before after fault (record { history = None })
+none_opened target before after (Own own) = refl
+none_opened target before after Read = refl
+none_opened target before after Memory = inl refl
 
-pub list_sense : (query meta : Option (List ℕ)) → WritesOnce (list_meaning query meta)
-list_sense query meta = record {
+pub list_sense : (query meta : Option (List ℕ)) (target : Target) → WritesOnce (list_meaning query meta target)
+list_sense query meta target = record {
   sensible = record {
     wants = λ before after fault cause. tt;
     wants_front = λ before after fault front h. h;
-    wants_share = leaves_less;
+    wants_share = leaves_less target;
     idle = λ seen. tt;
     idle_front = λ seen. refl;
     idle_share = λ seen. inl refl;
-    one_status = one_list_status query meta;
-    not_both = no_list_fault query meta;
+    one_status = one_list_status query meta target;
+    not_both = no_list_fault query meta target;
     given = λ input before after share output told done. record {
       asked = (done.look, done.asked);
       edits = done.edits;
-      reads =
-          subst (ReadsAs done.edits)
-          (sym (read_whole input done.opened.bytes before.input.left after.input.left told done.opened.read done.opened.end)) done.opened.reads;
+      of =
+          subst (IsShare done.edits target)
+          (sym (read_whole input done.opened.bytes before.input.left after.input.left told done.opened.read done.opened.end)) done.opened.of;
     };
   };
   begun = λ before after share output done. done;
   front = λ before after fault. refl;
-  unopened = none_opened;
+  unopened = none_opened target;
 }
 
 -- ---- rehearse

@@ -1,4 +1,5 @@
 pub mod Looks
 pub mod ListShare
 pub mod LookFaults
+pub mod Openings
 pub mod RehearseShare

@@ -7,7 +7,7 @@ use Rattle.item_model.specs.declared.refusal.QueryError.TheVariants as query
 use Rattle.command_core.specs.declared.fault.Fault.{Fault}
 use Rattle.command_core.specs.declared.fault.Fault.TheVariants.{Own, Read, Memory}
 use Rattle.share_commands.specs.declared.list.ListFault.{ListFault}
-use Rattle.share_commands.specs.declared.list.ListFault.TheVariants.{Query, Meta, TooLong, Records}
+use Rattle.share_commands.specs.declared.list.ListFault.TheVariants.{Query, Meta, TooLong, Records, TooManyLists, NoList}
 use Rattle.share_commands.specs.Looks.{IsQueryRefused, meta_asked}
 
 abbrev pub IsQueryFault : Option (List ℕ) → Fault ListFault → Type 0
@@ -15,6 +15,8 @@ IsQueryFault text (Own (Query error)) = IsQueryRefused text error
 IsQueryFault text (Own Meta) = ⊥
 IsQueryFault text (Own TooLong) = ⊥
 IsQueryFault text (Own (Records error)) = ⊥
+IsQueryFault text (Own TooManyLists) = ⊥
+IsQueryFault text (Own NoList) = ⊥
 IsQueryFault text Read = ⊥
 IsQueryFault text Memory = Unit {0}
 
@@ -23,6 +25,8 @@ IsMetaFault text (Own (Query error)) = ⊥
 IsMetaFault text (Own Meta) = meta_asked text ≡ None
 IsMetaFault text (Own TooLong) = ⊥
 IsMetaFault text (Own (Records error)) = ⊥
+IsMetaFault text (Own TooManyLists) = ⊥
+IsMetaFault text (Own NoList) = ⊥
 IsMetaFault text Read = ⊥
 IsMetaFault text Memory = Unit {0}
 

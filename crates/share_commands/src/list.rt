@@ -2,13 +2,12 @@
 
 ghost use Rattle.std.specs.Prelude.{◌≡◌, ◌≤◌, List, length, Some, option_copied, IfOk, IfErr};
 ghost use Rattle.item_model.specs.declared.changes.Edit.{Edit};
-ghost use Rattle.item_store.specs.Stands.{StandsFor};
 ghost use Rattle.listing_plan.specs.Plans.{plan_bytes, IsWritable};
-ghost use Rattle.share_history.specs.Histories.{opening, batches};
 ghost use Rattle.command_core.specs.Seen.{Around, input_seen, output_seen, told_beside, share_with};
 ghost use Rattle.command_core.specs.Answers.{TellsDone};
 ghost use Rattle.command_core.specs.Endings.{IsAnswered};
-ghost use Rattle.share_commands.specs.ListShare.{listing_bytes, IsOpened, StopsOpening, list_line, list_status, read_fault, record_fault, list_meaning};
+ghost use Rattle.share_commands.specs.ListShare.{listing_bytes, IsOpened, StopsOpening, list_line, list_status, read_fault, record_fault, library_fault, list_meaning};
+ghost use Rattle.share_commands.specs.Openings.{HasOpened};
 
 use crate::look::look_of;
 use crate::opening::{Opened, open};
@@ -16,11 +15,11 @@ use command_core::{Fault, Outcome, Refusal, out_of_memory, refused};
 use daap_outside::{Failed, ReadError, Sink, Source, read_within};
 use dmap_tags::Text;
 use fault_lines::{query_line, records_line};
-use item_model::{Entries, Look, QueryError};
-use item_store::ItemStore;
+use item_model::{Entries, Look, QueryError, Target};
 use listing_plan::Plan;
 use records_import::{RecordError, read_batch};
-use share_listings::full_items;
+use share_history::MAX_LISTS;
+use share_listings::{full_target, is_there};
 use std::alloc::{AllocError, Global};
 
 /// The most bytes of records that the input may have.
@@ -37,6 +36,10 @@ pub enum ListFault {
     TooLong,
     /// Its records don't read as a batch.
     Records(RecordError),
+    /// They leave more lists than a share has.
+    TooManyLists,
+    /// They leave no such container.
+    NoList,
 }
 
 impl Refusal for ListFault {
@@ -50,26 +53,29 @@ impl Refusal for ListFault {
             ListFault::Meta => Vec::from_slice(alloc, b"meta: too many names\n"),
             ListFault::TooLong => Vec::from_slice(alloc, b"limit: input\n"),
             ListFault::Records(error) => records_line(alloc, error),
+            ListFault::TooManyLists => Vec::from_slice(alloc, b"limit: library\n"),
+            ListFault::NoList => Vec::from_slice(alloc, b"list: none\n"),
         }
     }
 
     fn status(&self) -> u8 {
         match self {
-            ListFault::Query(_) | ListFault::Meta | ListFault::Records(_) => 3,
-            ListFault::TooLong => 8,
+            ListFault::Query(_) | ListFault::Meta | ListFault::Records(_) | ListFault::NoList => 3,
+            ListFault::TooLong | ListFault::TooManyLists => 8,
         }
     }
 }
 
-/// Does `list`: opens a share with the records of the input, and writes the listing of what the texts ask for.
+/// Does `list`: opens a share with the records of the input, and writes the listing of the target that the texts ask for.
 pub fn list_share<I: Source, W: Sink>(
     alloc: Global,
     query: Option<&Text>,
     meta: Option<&Text>,
+    target: Target,
     input: &mut I,
     output: &mut W,
 ) -> Outcome
-    ensures { (around : Around) → IsAnswered (list_meaning (option_copied query.entry) (option_copied meta.entry))
+    ensures { (around : Around) → IsAnswered (list_meaning (option_copied query.entry) (option_copied meta.entry) target)
         (told_beside around
         (input_seen (I.left input.old) (I.faults input.old))
         (input_seen (I.left input.new) (I.faults input.new))
@@ -81,22 +87,26 @@ pub fn list_share<I: Source, W: Sink>(
         Ok(look) => look,
         Err(fault) => return refused(alloc, output, &fault),
     };
-    let opened = match opened(alloc, input) {
+    let opened = match opened(alloc, target, input) {
         Ok(opened) => opened,
         Err(fault) => return refused(alloc, output, &fault),
     };
-    match planned(alloc, &opened.items, look) {
+    match planned(alloc, &opened, target, look) {
         Ok(listing) => written(output, &listing, opened.history),
         Err(AllocError) => out_of_memory(output, Some(opened.history)),
     }
 }
 
-/// Opens a share with the batch that the input's records are.
-fn opened<I: Source>(alloc: Global, input: &mut I) -> Result<Opened, Fault<ListFault>>
+/// Opens a share with the batch that the input's records are, where it has the target.
+fn opened<I: Source>(
+    alloc: Global,
+    target: Target,
+    input: &mut I,
+) -> Result<Opened, Fault<ListFault>>
     ensures opened { IfOk result (λ opened. (edits : List Edit)
-        × IsOpened edits (input_seen (I.left input.old) (I.faults input.old)) (input_seen (I.left input.new) (I.faults input.new)) (share_with opened.history)
-        × StandsFor (batches (opening edits)) opened.items × (length edits ≤ 65536)) }
-    ensures cause { IfErr result (λ fault. StopsOpening
+        × IsOpened edits target (input_seen (I.left input.old) (I.faults input.old)) (input_seen (I.left input.new) (I.faults input.new)) (share_with opened.history)
+        × HasOpened edits opened × (length edits ≤ 65536)) }
+    ensures cause { IfErr result (λ fault. StopsOpening target
         (input_seen (I.left input.old) (I.faults input.old))
         (input_seen (I.left input.new) (I.faults input.new))
         fault) }
@@ -109,7 +119,24 @@ fn opened<I: Source>(alloc: Global, input: &mut I) -> Result<Opened, Fault<ListF
         Ok(batch) => batch,
         Err(error) => return Err(record_fault(error)),
     };
-    Ok(open(alloc, batch)?)
+    let opened = open(alloc, batch)?;
+    match library_fault(&opened, target) {
+        Some(own) => Err(Fault::Own(own)),
+        None => Ok(opened),
+    }
+}
+
+/// Why the share is not listed: it has too many lists, or not the target.
+fn library_fault(opened: &Opened, target: Target) -> Option<ListFault>
+    ensures { (edits : List Edit) → HasOpened edits opened.now → result ≡ library_fault edits target }
+{
+    if opened.lists.count() as usize > MAX_LISTS {
+        return Some(ListFault::TooManyLists);
+    }
+    if is_there(&opened.lists, target) {
+        return None;
+    }
+    Some(ListFault::NoList)
 }
 
 /// What a refusal of the input is to `list`.
@@ -133,14 +160,13 @@ fn record_fault(error: RecordError) -> Fault<ListFault>
     }
 }
 
-/// The listing of the items that a look asks for.
-fn planned(alloc: Global, items: &ItemStore, look: Look) -> Result<Plan, AllocError>
-    requires { (edits : List Edit) × StandsFor (batches (opening edits)) items.now × (length edits ≤ 65536) }
-    ensures listing { IfOk result (λ plan. (edits : List Edit) → StandsFor (batches (opening edits)) items.now
-        → plan_bytes plan ≡ listing_bytes edits look) }
+/// The listing of the target that a look asks for.
+fn planned(alloc: Global, opened: &Opened, target: Target, look: Look) -> Result<Plan, AllocError>
+    requires { (edits : List Edit) × HasOpened edits opened.now × (length edits ≤ 65536) }
+    ensures listing { IfOk result (λ plan. (edits : List Edit) → HasOpened edits opened.now → plan_bytes plan ≡ listing_bytes edits target look) }
     ensures writable { IfOk result (λ plan. IsWritable plan) }
 {
-    full_items(alloc, items, look)
+    full_target(alloc, &opened.items, &opened.lists, target, look)
 }
 
 /// Writes the listing of a share.

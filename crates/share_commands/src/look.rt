@@ -2,6 +2,7 @@
 
 ghost use Rattle.std.specs.Prelude.{◌≡◌, Some, option_copied, IfOk, IfErr};
 ghost use Rattle.command_core.specs.Seen.{InputSeen};
+ghost use Rattle.item_model.specs.declared.request.Target.{Target};
 ghost use Rattle.share_commands.specs.Looks.{AsksQuery, AsksLook, meta_asked};
 ghost use Rattle.share_commands.specs.LookFaults.{IsQueryFault, IsMetaFault, query_fault, meta_fault};
 ghost use Rattle.share_commands.specs.ListShare.{StopsListing};
@@ -20,7 +21,7 @@ pub fn look_of(
     meta: Option<&Text>,
 ) -> Result<Look, Fault<ListFault>>
     ensures read { IfOk result (λ look. AsksLook (option_copied query.entry) (option_copied meta.entry) look) }
-    ensures refused { IfErr result (λ fault. (seen : InputSeen) → StopsListing (option_copied query.entry) (option_copied meta.entry) seen seen fault) }
+    ensures refused { IfErr result (λ fault. (target : Target) (seen : InputSeen) → StopsListing (option_copied query.entry) (option_copied meta.entry) target seen seen fault) }
 {
     Ok(Look {
         query: query_of(alloc, query)?,

@@ -1,46 +1,91 @@
 //! A share that is opened with one batch.
 
-ghost use Rattle.std.specs.Prelude.{◌≡◌, IfOk};
+ghost use Rattle.std.specs.Prelude.{◌≡◌, ◌<◌, IfOk};
 ghost use Rattle.item_model.specs.Valid.{AreValid};
 ghost use Rattle.item_store.specs.Stands.{StandsFor};
+ghost use Rattle.playlist_store.specs.Stands as lists_stand;
 ghost use Rattle.share_history.specs.Histories.{opening, batches};
+ghost use Rattle.share_commands.specs.Openings.{HasOpened};
 
 use edit_log::EditLog;
 use item_model::{Batch, Edit, Entries, Entry};
 use item_store::ItemStore;
+use playlist_store::PlaylistStore;
 use share_history::FIRST_REVISION;
+use song_query::Steps;
 use std::alloc::{AllocError, Global};
+use std::marker::Brand;
+use std::sync::ledger::{Blank, Ledger};
 
-/// For how many revisions the store of a share that is listed once keeps what changed. It takes one at least.
+/// For how many revisions the stores of a share that is listed once keep what changed. They take one at least.
 const KEEP: u32 = 1;
 
-/// An open share: its history, and the items that this leaves.
+/// An open share: its history, and the items and lists that this leaves.
 #[derive(Debug, Drop)]
 pub struct Opened {
     pub history: Entries,
     pub items: ItemStore,
+    pub lists: PlaylistStore,
 }
 
 /// Opens a share with a batch. An empty one is no entry of its history.
 pub fn open(alloc: Global, batch: Batch) -> Result<Opened, AllocError>
     requires { AreValid batch }
-    ensures history { IfOk result (λ opened. opened.history ≡ opening batch) }
-    ensures items { IfOk result (λ opened. StandsFor (batches (opening batch)) opened.items) }
+    ensures { IfOk result (HasOpened batch) }
 {
-    let items = store_of(alloc, batch.edits.as_slice())?;
+    let items = items_of(alloc, batch.edits.as_slice())?;
+    let lists = lists_of(alloc, batch.edits.as_slice(), &items)?;
     let history = history_of(alloc, batch)?;
-    Ok(Opened { history, items })
+    Ok(Opened {
+        history,
+        items,
+        lists,
+    })
 }
 
 /// The items of a share that is opened with the edits.
-fn store_of(alloc: Global, edits: &[Edit]) -> Result<ItemStore, AllocError>
+fn items_of(alloc: Global, edits: &[Edit]) -> Result<ItemStore, AllocError>
     requires { AreValid edits.now }
-    ensures { IfOk result (λ store. StandsFor (batches (opening edits.now)) store) }
+    ensures stands { IfOk result (λ store. StandsFor (batches (opening edits.now)) store) }
+    ensures keep { IfOk result (λ store. store.keep ≡ 1) }
 {
     let mut store = ItemStore::open(alloc, KEEP);
     if !edits.is_empty() {
         store.apply(edits, FIRST_REVISION + 1)?;
     }
+    Ok(store)
+}
+
+/// Its lists. How often a rule was looked at is told to nobody.
+fn lists_of(alloc: Global, edits: &[Edit], items: &ItemStore) -> Result<PlaylistStore, AllocError>
+    requires valid { AreValid edits.now }
+    requires items { StandsFor (batches (opening edits.now)) items.now }
+    ensures stands { IfOk result (λ store. lists_stand.StandsFor (batches (opening edits.now)) store) }
+    ensures keep { IfOk result (λ store. store.keep ≡ 1) }
+{
+    lists_by::<Brand>(Blank::new(1), alloc, edits, items)
+}
+
+fn lists_by<L: Ledger>(
+    blank: Blank,
+    alloc: Global,
+    edits: &[Edit],
+    items: &ItemStore,
+) -> Result<PlaylistStore, AllocError>
+    requires name { blank.name ≡ L.name }
+    requires parts { blank.parts ≡ L.parts }
+    requires any { 0 < blank.parts }
+    requires valid { AreValid edits.now }
+    requires items { StandsFor (batches (opening edits.now)) items.now }
+    ensures stands { IfOk result (λ store. lists_stand.StandsFor (batches (opening edits.now)) store) }
+    ensures keep { IfOk result (λ store. store.keep ≡ 1) }
+{
+    let mut store = PlaylistStore::open(alloc, KEEP);
+    if edits.len() < 1 {
+        return Ok(store);
+    }
+    let mut steps = Steps::<L>::open(blank);
+    store.apply(edits, FIRST_REVISION + 1, items, &mut steps)?;
     Ok(store)
 }
 

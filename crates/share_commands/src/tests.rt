@@ -5,6 +5,7 @@
 use crate::{list_share, rehearse_share};
 use daap_outside::{MemSink, MemSource};
 use dmap_tags::Text;
+use item_model::Target;
 use std::alloc::{AllocError, Global};
 use std::process::Abort;
 use std::str;
@@ -18,6 +19,11 @@ fn one_item() -> &'static [u8] {
 /// The listing of a share without items, at revision 2.
 fn no_items() -> &'static [u8] {
     b"adbs\0\0\0\x41mstt\0\0\0\x04\0\0\0\xc8muty\0\0\0\x01\0musr\0\0\0\x04\0\0\0\x02mtco\0\0\0\x04\0\0\0\0mrco\0\0\0\x04\0\0\0\0mlcl\0\0\0\0"
+}
+
+/// The same at revision 3.
+fn no_items_yet() -> &'static [u8] {
+    b"adbs\0\0\0\x41mstt\0\0\0\x04\0\0\0\xc8muty\0\0\0\x01\0musr\0\0\0\x04\0\0\0\x03mtco\0\0\0\x04\0\0\0\0mrco\0\0\0\x04\0\0\0\0mlcl\0\0\0\0"
 }
 
 /// Two items, ascending: 2 as it was put last, and 5 without a name.
@@ -49,6 +55,8 @@ fn records(name: &str) -> &'static [u8] {
             b"op,kind,id,daap.songtime,dmap.itemname,daap.songyear,daap.songartist,daap.songtracknumber,dmap.itemkind\nput,item,9,5,T,1983,S,3,2\n",
         "lists and members" =>
             b"op,kind,id,dmap.itemname,list,item,query\nput,item,7,A,,,\nput,list,2,Mix,,,\nput,member,1,,2,7,\nput,rule,3,All,,,'dmap.itemname:*'\nput,item,8,B,,,\ndrop,item,8,,,,\n",
+        "three lists" =>
+            b"op,kind,id,dmap.itemname,list,item,query\nput,item,7,First,,,\nput,item,8,Other,,,\nput,list,2,Mix,,,\nput,member,10,,2,7,\nput,member,11,,2,9,\nput,member,12,,2,7,\nput,list,3,Gone,,,\nput,member,1,,3,7,\nput,rule,4,Rule,,,'dmap.itemname:o*'\ndrop,list,3,,,,\n",
         "bad first" => b"op,kind,id,dmap.itemname\nput,item,0,A\nput,item,7,A\nput,item,8,B\n",
         "bad middle" => b"op,kind,id,dmap.itemname\nput,item,6,A\nput,item,x,A\nput,item,8,B\n",
         "bad last" => b"op,kind,id,dmap.itemname\nput,item,6,A\nput,item,7,A\nput,cover,8,B\n",
@@ -72,11 +80,12 @@ fn text_of(alloc: Global, text: Option<&str>) -> Result<Option<Text>, AllocError
     }
 }
 
-/// `list` of what the texts ask for.
+/// `list` of what the texts ask for of a target.
 fn list_over(
     alloc: Global,
     query: Option<&str>,
     meta: Option<&str>,
+    target: Target,
     mut input: MemSource,
     mut output: MemSink,
 ) -> Result<Ran, AllocError> {
@@ -86,6 +95,7 @@ fn list_over(
         alloc,
         query.as_ref(),
         meta.as_ref(),
+        target,
         &mut input,
         &mut output,
     );
@@ -108,7 +118,7 @@ fn lists_asked(
 ) -> Result<(), Fail> {
     let source = MemSource::new(alloc, records, 32_768, &[])?;
     let sink = MemSink::new(alloc, 4096, 4096, &[])?;
-    let ran = list_over(alloc, query, meta, source, sink)?;
+    let ran = list_over(alloc, query, meta, Target::Items, source, sink)?;
     assert_eq!(rt; ran.status, status);
     assert_eq!(rt; ran.opened, status == 0);
     assert_eq!(rt; ran.output.as_slice(), output);
@@ -246,7 +256,7 @@ fn is_refused(
 ) -> Result<(), Fail> {
     let source = MemSource::new(alloc, records("bad header"), 4096, &[1])?;
     let sink = MemSink::new(alloc, 4096, 4096, &[])?;
-    let ran = list_over(alloc, query, meta, source, sink)?;
+    let ran = list_over(alloc, query, meta, Target::Items, source, sink)?;
     assert_eq!(rt; ran.status, 3);
     assert_eq!(rt; ran.output.as_slice(), line.as_bytes());
     Ok(())
@@ -265,6 +275,69 @@ fn a_query_is_refused_at_its_place(rt: HostRuntime) -> Result<(), Fail> {
     is_refused(&rt, alloc, Some("'a:1''b:2'"), None, "query: at 5 byte\n")?;
     is_refused(&rt, alloc, Some("'a;1'"), None, "query: at 2 byte\n")?;
     is_refused(&rt, alloc, Some(""), None, "query: at 0 end\n")
+}
+
+/// The rows of a container of three lists: one plain, one of a rule, and one that is dropped.
+fn lists_container(
+    rt: &impl Abort,
+    alloc: Global,
+    list: u32,
+    status: u8,
+    output: &[u8],
+) -> Result<(), Fail> {
+    let source = MemSource::new(alloc, records("three lists"), 32_768, &[])?;
+    let sink = MemSink::new(alloc, 4096, 4096, &[])?;
+    let target = Target::Container(list);
+    let ran = list_over(alloc, None, Some("dmap.itemname"), target, source, sink)?;
+    assert_eq!(rt; ran.status, status);
+    assert_eq!(rt; ran.opened, status == 0);
+    assert_eq!(rt; ran.output.as_slice(), output);
+    Ok(())
+}
+
+/// The listings of containers: 1 with all items, 2 with the members 10 and 12 of one item, and 4 with the item of which
+/// its rule holds.
+fn container(list: u32) -> &'static [u8] {
+    match list {
+        1 =>
+            b"apso\0\0\0\x9bmstt\0\0\0\x04\0\0\0\xc8muty\0\0\0\x01\0musr\0\0\0\x04\0\0\0\x03mtco\0\0\0\x04\0\0\0\x02mrco\0\0\0\x04\0\0\0\x02mlcl\0\0\0Zmlit\0\0\0%mcti\0\0\0\x04\0\0\0\x07miid\0\0\0\x04\0\0\0\x07minm\0\0\0\x05Firstmlit\0\0\0%mcti\0\0\0\x04\0\0\0\x08miid\0\0\0\x04\0\0\0\x08minm\0\0\0\x05Other",
+        2 =>
+            b"apso\0\0\0\x9bmstt\0\0\0\x04\0\0\0\xc8muty\0\0\0\x01\0musr\0\0\0\x04\0\0\0\x03mtco\0\0\0\x04\0\0\0\x02mrco\0\0\0\x04\0\0\0\x02mlcl\0\0\0Zmlit\0\0\0%mcti\0\0\0\x04\0\0\0\x0amiid\0\0\0\x04\0\0\0\x07minm\0\0\0\x05Firstmlit\0\0\0%mcti\0\0\0\x04\0\0\0\x0cmiid\0\0\0\x04\0\0\0\x07minm\0\0\0\x05First",
+        _ =>
+            b"apso\0\0\0nmstt\0\0\0\x04\0\0\0\xc8muty\0\0\0\x01\0musr\0\0\0\x04\0\0\0\x03mtco\0\0\0\x04\0\0\0\x01mrco\0\0\0\x04\0\0\0\x01mlcl\0\0\0-mlit\0\0\0%mcti\0\0\0\x04\0\0\0\x08miid\0\0\0\x04\0\0\0\x08minm\0\0\0\x05Other",
+    }
+}
+
+#[test]
+fn a_container_is_listed_that_the_batch_leaves(rt: HostRuntime) -> Result<(), Fail> {
+    let alloc = rt.alloc();
+    lists_container(&rt, alloc, 1, 0, container(1))?;
+    lists_container(&rt, alloc, 2, 0, container(2))?;
+    lists_container(&rt, alloc, 4, 0, container(4))?;
+    lists_container(&rt, alloc, 3, 3, b"list: none\n")?;
+    lists_container(&rt, alloc, 5, 3, b"list: none\n")
+}
+
+/// Records that put so many lists.
+fn many_lists(alloc: Global, count: u32) -> Result<Vec<u8>, Fail> {
+    let mut text = Vec::from_slice(alloc, b"op,kind,id\n")?;
+    for list in 0..count {
+        text.extend_from_slice(b"put,list,1")?;
+        for place in [1000, 100, 10, 1] {
+            text.push(b'0' + (list / place % 10) as u8)?;
+        }
+        text.push(b'\n')?;
+    }
+    Ok(text)
+}
+
+#[test]
+fn a_share_has_at_most_1024_lists(rt: HostRuntime) -> Result<(), Fail> {
+    let alloc = rt.alloc();
+    let most = many_lists(alloc, 1024)?;
+    lists(&rt, alloc, most.as_slice(), 0, no_items_yet())?;
+    let many = many_lists(alloc, 1025)?;
+    lists(&rt, alloc, many.as_slice(), 8, b"limit: library\n")
 }
 
 /// That many of a byte.
@@ -291,7 +364,7 @@ fn an_output_that_fails_has_a_front_of_the_listing(rt: HostRuntime) -> Result<()
     let alloc = rt.alloc();
     let source = MemSource::new(alloc, records("one"), 4096, &[])?;
     let sink = MemSink::new(alloc, 4096, 40, &[2])?;
-    let ran = list_over(alloc, None, None, source, sink)?;
+    let ran = list_over(alloc, None, None, Target::Items, source, sink)?;
     assert_eq!(rt; ran.status, 5);
     assert!(rt; ran.opened);
     assert_eq!(rt; ran.output.len(), 40);
@@ -304,7 +377,7 @@ fn an_input_that_fails_is_told(rt: HostRuntime) -> Result<(), Fail> {
     let alloc = rt.alloc();
     let source = MemSource::new(alloc, records("one"), 10, &[2])?;
     let sink = MemSink::new(alloc, 4096, 4096, &[])?;
-    let ran = list_over(alloc, None, None, source, sink)?;
+    let ran = list_over(alloc, None, None, Target::Items, source, sink)?;
     assert_eq!(rt; ran.status, 4);
     assert_eq!(rt; ran.output.as_slice(), b"read failed\n".as_slice());
     Ok(())
@@ -315,7 +388,7 @@ fn bytes_one_by_one_make_no_difference(rt: HostRuntime) -> Result<(), Fail> {
     let alloc = rt.alloc();
     let source = MemSource::new(alloc, records("one"), 1, &[])?;
     let sink = MemSink::new(alloc, 4096, 1, &[])?;
-    let ran = list_over(alloc, None, None, source, sink)?;
+    let ran = list_over(alloc, None, None, Target::Items, source, sink)?;
     assert_eq!(rt; ran.status, 0);
     assert_eq!(rt; ran.output.as_slice(), one_item());
     Ok(())

@@ -16,7 +16,7 @@ returns-in-Err g c =
     λ around.
     let told : Told = told_beside around input input
     (output_seen (g.W.Sink.taken c.args.output.now) (g.W.Faulted.faults c.args.output.now)) (output_seen (g.W.Sink.taken c.refused.new.output) (g.W.Faulted.faults c.refused.new.output)) in
-    by_refusal (list_meaning query meta) (list_sense query meta) told c.refused.result c.in-Err.fault (c.in-Err.ensures.refused input) c.refused.ensures
+    by_refusal (list_meaning query meta c.args.target) (list_sense query meta c.args.target) told c.refused.result c.in-Err.fault (c.in-Err.ensures.refused c.args.target input) c.refused.ensures
 
 pub returns-in-Err-opened : goal.returns-in-Err-opened
 returns-in-Err-opened g c =
@@ -27,7 +27,7 @@ returns-in-Err-opened g c =
     let told : Told = told_beside around
     (input_seen (g.I.Source.left c.args.input.now) (g.I.Faulted.faults c.args.input.now)) (input_seen (g.I.Source.left c.opened.new.input) (g.I.Faulted.faults c.opened.new.input))
     (output_seen (g.W.Sink.taken c.args.output.now) (g.W.Faulted.faults c.args.output.now)) (output_seen (g.W.Sink.taken refused.new.output) (g.W.Faulted.faults refused.new.output)) in
-    by_refusal (list_meaning query meta) (list_sense query meta) told refused.result c.in-Err-opened.fault
+    by_refusal (list_meaning query meta c.args.target) (list_sense query meta c.args.target) told refused.result c.in-Err-opened.fault
     (c.in-Err-opened.ensures.cause query meta (c.in-Ok.look, c.in-Ok.ensures.read)) refused.ensures
 
 pub returns-in-Ok-planned : goal.returns-in-Ok-planned
@@ -39,7 +39,7 @@ returns-in-Ok-planned g c =
     let told : Told = told_beside around
     (input_seen (g.I.Source.left c.args.input.now) (g.I.Faulted.faults c.args.input.now)) (input_seen (g.I.Source.left c.opened.new.input) (g.I.Faulted.faults c.opened.new.input))
     (output_seen (g.W.Sink.taken c.args.output.now) (g.W.Faulted.faults c.args.output.now)) (output_seen (g.W.Sink.taken c.written.new.output) (g.W.Faulted.faults c.written.new.output)) in
-    by_output (list_meaning query meta) (list_sense query meta) told c.written.result (Some c.in-Ok-opened.opened.history) (plan_bytes c.in-Ok-planned.listing) (record {
+    by_output (list_meaning query meta c.args.target) (list_sense query meta c.args.target) told c.written.result (Some c.in-Ok-opened.opened.history) (plan_bytes c.in-Ok-planned.listing) (record {
       look = c.in-Ok.look;
       edits = opened.0;
       asked = c.in-Ok.ensures.read;
@@ -57,5 +57,5 @@ returns g c =
     let told : Told = told_beside around
     (input_seen (g.I.Source.left c.args.input.now) (g.I.Faulted.faults c.args.input.now)) (input_seen (g.I.Source.left c.opened.new.input) (g.I.Faulted.faults c.opened.new.input))
     (output_seen (g.W.Sink.taken c.args.output.now) (g.W.Faulted.faults c.args.output.now)) (output_seen (g.W.Sink.taken c.out_of_memory.new.output) (g.W.Faulted.faults c.out_of_memory.new.output)) in
-    by_memory (list_meaning query meta) (list_sense query meta).sensible told told.output_before c.out_of_memory.result [] (Some c.in-Ok-opened.opened.history) tt
+    by_memory (list_meaning query meta c.args.target) (list_sense query meta c.args.target).sensible told told.output_before c.out_of_memory.result [] (Some c.in-Ok-opened.opened.history) tt
     (inr (opened.0, opened.1)) refl (none_written told.output_before) c.out_of_memory.ensures

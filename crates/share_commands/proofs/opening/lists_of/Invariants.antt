@@ -1,0 +1,5 @@
+-- The counter of the call is the one that is made for it.
+use Rattle.share_commands.proofs.opening.lists_of.Given as goal
+
+abbrev pub ghosts-lists_by : goal.ghosts-lists_by
+ghosts-lists_by a = record { name = a.blank.name; parts = a.blank.parts }
