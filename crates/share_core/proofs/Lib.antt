@@ -9,3 +9,4 @@ pub mod Standing
 pub mod Sound
 pub mod Results
 pub mod Looked
+pub mod Growing

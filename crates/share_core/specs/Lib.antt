@@ -10,3 +10,4 @@ pub mod ValuesAt
 pub mod Ticks
 pub mod Steps
 pub mod Wants
+pub mod Laws

@@ -7,6 +7,7 @@ mod browse;
 mod changes;
 mod containers;
 mod faults;
+pub mod laws;
 mod listings;
 mod replies;
 mod said;
