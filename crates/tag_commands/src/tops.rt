@@ -21,6 +21,7 @@ impl Tops {
     }
 
     /// One event more.
+    #[inline(always)]
     pub fn count(&mut self, event: Event)
         requires { self.old.depth + self.old.ended < 2 ^ 63 }
         ensures { self.new ≡ after_event self.old event }
@@ -36,6 +37,7 @@ impl Tops {
     }
 
     /// A tag ended, in the lists that are open.
+    #[inline(always)]
     fn end_tag(&mut self)
         requires { self.old.ended < 2 ^ 63 }
         ensures { self.new ≡ with_tag self.old.depth self.old.ended }
