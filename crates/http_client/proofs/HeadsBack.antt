@@ -16,7 +16,7 @@ use Rattle.http_front.specs.ReplyHeads.{ended, field}
 
 -- ---- the head as a tree, and as a text
 
-sent_field : List ℕ → List ℕ → Field
+unfoldable pub sent_field : List ℕ → List ℕ → Field
 sent_field name value = record { name = name; raw = 32 ∷ value; end = crlf }
 
 length_fields : Option ℕ → List Field
@@ -98,7 +98,7 @@ not_empty : (b : ℕ) (bs : List ℕ) → is_empty_line ((b ∷ bs) ++ 13 ∷ []
 not_empty b [] = and_right (b == 13) false refl
 not_empty b (c ∷ bs) = and_right (b == 13) false refl
 
-abbrev AreLines : List (List ℕ) → Type 0
+abbrev pub AreLines : List (List ℕ) → Type 0
 AreLines [] = Unit {0}
 AreLines (line ∷ lines) = (is_shown line ≡ true) × (0 < length line) × AreLines lines
 
@@ -124,7 +124,7 @@ counted [] = refl
 counted (line ∷ lines) = ap suc (counted lines)
 
 -- lines and an empty one are a framed head
-framed_lines : (line : List ℕ) (lines : List (List ℕ)) → AreLines (line ∷ lines) → IsFramed (flat_map ended (line ∷ lines) ++ codes "\r\n") (length (line ∷ lines))
+pub framed_lines : (line : List ℕ) (lines : List (List ℕ)) → AreLines (line ∷ lines) → IsFramed (flat_map ended (line ∷ lines) ++ codes "\r\n") (length (line ∷ lines))
 framed_lines line lines h =
     let full = map with_return (line ∷ lines) in
     let frame : Frame = record { blank = []; full = full; last = 13 ∷ [] } in (
@@ -183,7 +183,7 @@ shown_host (b ∷ bs) h =
     let P = λ (c : ℕ). (33 ≤ c) × (c ≤ 126) in
     and_from _ _ (le-leb 32 b (omega (arith, (All-head P b bs h).0))) (shown_host bs (All-tail P b bs h))
 
-shown_digits : (digits : List ℕ) → All IsDigit digits → is_shown digits ≡ true
+pub shown_digits : (digits : List ℕ) → All IsDigit digits → is_shown digits ≡ true
 shown_digits [] h = refl
 shown_digits (b ∷ bs) h = and_from _ _ (le-leb 32 b (omega (arith, (All-head IsDigit b bs h).0))) (shown_digits bs (All-tail IsDigit b bs h))
 
@@ -217,7 +217,7 @@ head_framed method target host len h =
 
 -- ---- it is a head of the grammar
 
-passes : (test : ℕ → Bool) (bytes : List ℕ) → list_all test bytes ≡ true → AllPass test bytes
+pub passes : (test : ℕ → Bool) (bytes : List ℕ) → list_all test bytes ≡ true → AllPass test bytes
 passes test [] h = All-nil (λ b. test b ≡ true)
 passes test (b ∷ bs) h =
     let parts = and_parts (test b) (list_all test bs) h in All-cons (λ b. test b ≡ true) b bs parts.0 (passes test bs parts.1)
@@ -228,10 +228,10 @@ value_byte b low high = or_right (b == 9) _ (and_from _ _ (le-leb 32 b low) (not
 host_byte : (b : ℕ) → (33 ≤ b) × (b ≤ 126) → is_value_byte b ≡ true
 host_byte b h = value_byte b (omega (arith, h.0)) h.1
 
-digit_byte : (b : ℕ) → IsDigit b → is_value_byte b ≡ true
+pub digit_byte : (b : ℕ) → IsDigit b → is_value_byte b ≡ true
 digit_byte b h = value_byte b (omega (arith, h.0)) (omega (arith, h.1))
 
-field_is : (name value : List ℕ) → 0 < length name → list_all is_token_byte name ≡ true → AllPass is_value_byte value → IsField (sent_field name value)
+pub field_is : (name value : List ℕ) → 0 < length name → list_all is_token_byte name ≡ true → AllPass is_value_byte value → IsField (sent_field name value)
 unfolding sent_field
 field_is name value some token h =
     record { name = (some, passes is_token_byte name token); raw = All-cons (λ b. is_value_byte b ≡ true) 32 value refl h }
@@ -295,17 +295,16 @@ plain_stays (b ∷ bs) h = cond-false _ _ _ (not_is (is_ows b) (All-head (λ b. 
 digit_plain : (b : ℕ) → IsDigit b → is_plain b ≡ true
 digit_plain b h = not_from_false (is_ows b) (not_ows b h)
 
-trimmed : (n : ℕ) → n < 2 ^ 64 → trim_ows (32 ∷ decimal n) ≡ decimal n
+pub trimmed : (n : ℕ) → n < 2 ^ 64 → trim_ows (32 ∷ decimal n) ≡ decimal n
 trimmed n h =
     let plain = All-weaker IsDigit (λ b. is_plain b ≡ true) digit_plain (decimal n) (decimal_digits n h) in
     trim_ows_space (decimal n) (plain_stays (decimal n) plain) (plain_stays (reverse (decimal n)) (AllPass-reverse is_plain (decimal n) plain))
 
-length_back : (n : ℕ) → n ≤ body_limit → number_of (decimal n) ≡ Some n
+pub length_back : (n : ℕ) → n < 2 ^ 64 → number_of (decimal n) ≡ Some n
 unfolding number_of
-length_back n h =
-    let wide : n < 2 ^ 64 = omega (arith, h) in
+length_back n wide =
     let some : nat_le 1 (length (decimal n)) ≡ true = le-leb 1 (length (decimal n)) (decimal_some n wide) in
-    let few : nat_le (length (decimal n)) digit_limit ≡ true = le-leb (length (decimal n)) digit_limit (length-decimal-le 20 n (omega arith) (omega (arith, h)) wide) in
+    let few : nat_le (length (decimal n)) digit_limit ≡ true = le-leb (length (decimal n)) digit_limit (length-decimal-le 20 n (omega arith) (omega (arith, wide)) wide) in
     rw (and_from _ _ (and_from _ _ some few) (decimal_test n wide), decimal_value n wide) refl
 
 -- the length of the body
@@ -317,7 +316,7 @@ pub length_told : (method target host : List ℕ) (len : Option ℕ) → told_le
 unfolding sent_head sent_fields sent_field length_fields
 length_told method target host None h = refl
 length_told method target host (Some len) h =
-    rw (trimmed len (omega (arith, h)), length_back len h, le-leb len body_limit h) refl
+    rw (trimmed len (omega (arith, h)), length_back len (omega (arith, h)), le-leb len body_limit h) refl
 
 pub stays_open : (method target host : List ℕ) (len : Option ℕ) → asks_to_close (sent_head method target host len).minor (fields_of (sent_head method target host len).fields) ≡ false
 unfolding sent_head sent_fields sent_field length_fields

@@ -1,8 +1,8 @@
 pub mod ReplyLaws
 pub mod Fed
-mod Numerals
+pub mod Numerals
 mod FormsBack
-mod HeadsBack
+pub mod HeadsBack
 mod NamesBack
 mod TargetsBack
 mod PathsBack
