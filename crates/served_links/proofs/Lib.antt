@@ -3,3 +3,4 @@ pub mod Turns
 pub mod Endings
 pub mod Counting
 pub mod Listening
+pub mod Sessions

@@ -4,7 +4,7 @@ use Rattle.std.proofs.lemmas.List.{take-append-le, length-append}
 use Rattle.item_model.specs.declared.changes.Entry.{Entry}
 use Rattle.share_asks.specs.declared.ask.Ask.{Ask}
 use Rattle.share_asks.specs.declared.ask.Want.{Want}
-use Rattle.share_history.specs.Sessions.{after_login}
+use Rattle.share_history.specs.Sessions.{is_live}
 use Rattle.share_history.specs.Marks.{until_login}
 use Rattle.share_replies.specs.Settings.{Settings}
 use Rattle.share_replies.specs.Replies.{answer_to}
@@ -53,7 +53,7 @@ later_entries_change_nothing = stays
 pub marked_longer : (h more : List Entry) (s : Served) → s.point ≤ length h → IsMarked h s → IsMarked (h ++ more) s
 marked_longer h more s within is = record {
   within = is.within;
-  late = subst (λ p. 0 < s.session → is_some (after_login s.session (answered_on s.added p)) ≡ true → length (until_login s.session (answered_on s.added p)) ≤ s.seen) (sym (same_point h more s within)) is.late;
+  late = subst (λ p. 0 < s.session → is_live (answered_on s.added p) s.session ≡ true → length (until_login s.session (answered_on s.added p)) ≤ s.seen) (sym (same_point h more s within)) is.late;
 }
 
 pub are_marked_longer : (settings : Settings) (by : ℕ) (h more : List Entry) (asks : List Ask) (served : List Served) → AreServed settings by h asks served → AreMarked h served

@@ -1,11 +1,13 @@
 -- What follows from the definitions, for all histories and requests.
-use Rattle.std.specs.Prelude.{◌≡◌, ◌⊎◌, ◌≤◌, ℕ, List, [], ◌∷◌, ◌++◌, length, Bool, false, ◌==◌, Option}
+use Rattle.std.specs.Prelude.{◌≡◌, ◌⊎◌, ◌≤◌, ◌<◌, ℕ, List, [], ◌∷◌, ◌++◌, length, Bool, true, false, ◌==◌, Option}
 use Rattle.std.specs.List.{list_any}
 use Rattle.item_model.specs.declared.changes.Entry.{Entry}
 use Rattle.share_asks.specs.declared.ask.Ask.{Ask}
 use Rattle.share_asks.specs.declared.ask.Role.{Role}
 use Rattle.share_asks.specs.declared.ask.Role.TheVariants.{Listen}
-use Rattle.share_history.specs.Sessions.{is_stop}
+use Rattle.share_asks.specs.declared.ask.Want.{Want}
+use Rattle.share_asks.specs.declared.ask.Want.TheVariants.{Login}
+use Rattle.share_history.specs.Sessions.{is_stop, is_live}
 use Rattle.http_front.specs.Readings.{Joins}
 use Rattle.share_lock.specs.Histories.{NoneOf}
 use Rattle.share_lock.specs.Known.{after_turn}
@@ -50,6 +52,12 @@ ServedBytesAreReplies =
     (settings : Settings) (by : ℕ) (h : List Entry) (ask : Ask) (s : Served) (last : Bool) → IsServed settings by h ask.want s → (s.status == 500) ≡ false
     → (reply : Reply) × (answer_to settings (answered_on s.added (at_point h s)) ask.want ≡ Replies reply)
     × (served_bytes settings (at_point h s) ask s last ≡ reply_bytes reply last)
+
+-- a session that was answered was live before, but for one that logged in by this request
+abbrev pub SessionsAreLive : Type 0
+SessionsAreLive =
+    (settings : Settings) (by : ℕ) (h : List Entry) (want : Want) (s : Served) → IsServed settings by h want s → 0 < s.session
+    → (want ≡ Login) ⊎ (is_live (answered_on s.added (at_point h s)) s.session ≡ true)
 
 -- an end inside the bytes of a connection is one of whatever follows, and of any longer history
 abbrev pub EndsStay : Type 0

@@ -1,8 +1,8 @@
 -- What a pass has seen more, after it served requests.
-use Rattle.std.specs.Prelude.{◌≡◌, ◌⊎◌, ◌≤◌, ◌<◌, ℕ, List, [], ◌∷◌, ◌++◌, length, true, is_some}
+use Rattle.std.specs.Prelude.{◌≡◌, ◌⊎◌, ◌≤◌, ◌<◌, ℕ, List, [], ◌∷◌, ◌++◌, length, true}
 use Rattle.item_model.specs.declared.changes.Entry.{Entry}
 use Rattle.share_asks.specs.declared.ask.Ask.{Ask}
-use Rattle.share_history.specs.Sessions.{after_login}
+use Rattle.share_history.specs.Sessions.{is_live}
 use Rattle.share_history.specs.Marks.{until_login}
 use Rattle.share_lock.specs.Histories.{entries_of}
 use Rattle.share_lock.specs.Known.{Known}
@@ -26,10 +26,10 @@ StandAmong [] looks = Unit {0}
 StandAmong (s ∷ served) [] = ⊥
 StandAmong (s ∷ served) (look ∷ looks) = ((s.point ≡ look) × StandAmong served looks) ⊎ StandAmong (s ∷ served) looks
 
--- its session was answered before at a point that is none behind its own, and from its login on
+-- its session was answered before at a point that is none behind its own and, where it was live, from its login on
 pub record IsMarked (h : List Entry) (s : Served) : Type 0 where
   pub within : s.seen ≤ s.point
-  pub late : 0 < s.session → is_some (after_login s.session (answered_on s.added (at_point h s))) ≡ true
+  pub late : 0 < s.session → is_live (answered_on s.added (at_point h s)) s.session ≡ true
       → length (until_login s.session (answered_on s.added (at_point h s))) ≤ s.seen
 
 abbrev pub AreMarked : List Entry → List Served → Type 0

@@ -1,6 +1,6 @@
 //! What holds of all connections. Each function does nothing; its contract is a fact that follows from the definitions.
 
-ghost use Rattle.served_links.specs.Laws.{LaterEntriesChangeNothing, ServesInTurn, QuietTurnsServeNothing, ServedBytesAreReplies, EndsStay, EndsAreDecided, NoneBeyondTheLimit, PlayersChangeNothing};
+ghost use Rattle.served_links.specs.Laws.{LaterEntriesChangeNothing, ServesInTurn, QuietTurnsServeNothing, ServedBytesAreReplies, SessionsAreLive, EndsStay, EndsAreDecided, NoneBeyondTheLimit, PlayersChangeNothing};
 
 /// What was told and written of requests stays right, however the history goes on.
 pub fn later_entries_change_nothing()
@@ -20,6 +20,11 @@ pub fn quiet_turns_serve_nothing()
 /// Each reply that was written is the share's, at a point of its history.
 pub fn served_bytes_are_replies()
     ensures { ServedBytesAreReplies }
+{}
+
+/// Each session that was answered was live before, or logged in by the request.
+pub fn sessions_are_live()
+    ensures { SessionsAreLive }
 {}
 
 /// How a connection ended inside its bytes stays right, whatever bytes and entries follow.

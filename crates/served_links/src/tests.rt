@@ -9,6 +9,7 @@ fn laws_can_be_cited() {
     laws::serves_in_turn();
     laws::quiet_turns_serve_nothing();
     laws::served_bytes_are_replies();
+    laws::sessions_are_live();
     laws::ends_stay();
     laws::ends_are_decided();
     laws::none_beyond_the_limit();
