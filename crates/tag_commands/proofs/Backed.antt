@@ -12,7 +12,6 @@ use Rattle.dmap_show.specs.Readable.{Shows}
 use Rattle.dmap_show.specs.TextLines.{Explains}
 use Rattle.dmap_show.specs.declared.reading.ShowError.{ShowError}
 use Rattle.dmap_show.specs.declared.reading.ShowError.TheVariants as show
-use Rattle.daap_outside.specs.Counts.{Rose}
 use Rattle.daap_outside.specs.Reading.{ConsumesUpTo, CountsReadFaults}
 use Rattle.daap_outside.specs.declared.reading.ReadError.{ReadError}
 use Rattle.daap_outside.specs.declared.reading.ReadError.TheVariants as reads

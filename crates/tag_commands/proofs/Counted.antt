@@ -1,5 +1,5 @@
 -- What a counter has counted, before and after a call.
-use Rattle.std.proofs.Common.{◌≡◌, ◌≢◌, inl, inr, ℕ, ◌+◌, ◌-◌, ◌<◌, ◌≤◌, ◌^◌, List, [], ◌∷◌, ◌++◌, length, take, Bool, true, false, if◌then◌else◌, Option, Some, None, Ok, Err, IfSome, codes, decimal, refl, sym, ap, subst, ◌∙◌, arith, length-append, append_assoc}
+use Rattle.std.proofs.Common.{◌≡◌, ◌≢◌, inl, inr, ℕ, zero, suc, ◌*◌, ◌+◌, ◌-◌, ◌<◌, ◌≤◌, ◌^◌, List, [], ◌∷◌, ◌++◌, length, take, Bool, true, false, if◌then◌else◌, Some, None, Ok, Err, codes, decimal, refl, sym, ap, subst, ◌∙◌, arith, length-append, append_assoc}
 use Rattle.std.specs.Io.KnownBytes.{Consumes, IsAtEnd}
 use Rattle.std.proofs.lemmas.List.{append-nil, take-append-le, take_at}
 use Rattle.std.proofs.Math.Seq.{take-append-add}
@@ -8,7 +8,7 @@ use Rattle.daap_outside.specs.Counts.{Rose}
 use Rattle.dmap_stream.specs.declared.event.Event.{Event}
 use Rattle.dmap_stream.specs.declared.refusal.StreamError.{StreamError}
 use Rattle.dmap_stream.specs.declared.refusal.StreamError.TheVariants as stream
-use Rattle.dmap_stream.specs.Walk.{between, inside, broken, walk_of}
+use Rattle.dmap_stream.specs.Walk.{is_empty, between, inside, broken, walk_of}
 use Rattle.dmap_stream.specs.Reading.{is_between}
 use Rattle.dmap_stream.specs.Reader.{Reader, ready, taken, ReadAs, HasRead, TellsAs}
 use Rattle.dmap_stream.proofs.Readings.{told, count_told}
@@ -22,7 +22,7 @@ use Rattle.tag_commands.specs.declared.tops.Tops.{Tops}
 use Rattle.command_core.specs.Seen.{InputSeen, no_share}
 use Rattle.command_core.specs.Causes.{piece_limit, HasReadOn}
 use Rattle.command_core.proofs.Reading.{all_read_on, of_input, of_front}
-use Rattle.tag_commands.specs.TopTags.{walked, IsTooLong, HasTagFault, IsCutShort, IsSoundSoFar, StopsReading, tags_fault}
+use Rattle.tag_commands.specs.TopTags.{walked, IsTooLong, HasTagFault, IsSoundSoFar, StopsReading, tags_fault}
 use Rattle.tag_commands.specs.Check.{IsChecked}
 use Rattle.tag_commands.specs.Counting.{after_event, no_tops, top_tags, HasCounted, IsCounted, IsShown, StopsAt, EndsCounted}
 use Rattle.tag_commands.proofs.FewEvents.{total, few_tops, counted_more, takes_some}
@@ -75,6 +75,17 @@ pub counted_takes : (fed piece : List ℕ) (old new : Reader) (tops : Tops) (n :
     → (n < length piece → ready new ≢ []) → 0 < length piece → 0 < n
 counted_takes fed piece old new tops n h quiet same going read more some =
     takes_some fed piece h.handed old new n h.read h.going quiet (read fed h.handed h.read) going same.0 same.1 more some
+
+at_most_one : (es : List Event) → (if is_empty es then 0 else 1) ≤ 1
+at_most_one [] = omega arith
+at_most_one (e ∷ es) = omega arith
+
+-- a step takes a byte, or it hands out all that was ready
+pub fewer_left : (before after : List Event) (left behind n : ℕ) → 0 < left → n ≤ left → behind ≡ left - n
+    → (before ≡ [] → 0 < n) → (n ≡ 0 → after ≡ []) → 2 * behind + (if is_empty after then 0 else 1) < 2 * left + (if is_empty before then 0 else 1)
+fewer_left before after left behind (suc n) some within is takes none = omega (arith, is, within, some, at_most_one after)
+fewer_left [] after left behind zero some within is takes none = absurd (let n : 0 < zero = takes refl in omega (arith, n))
+fewer_left (e ∷ before) after left behind zero some within is takes none = subst (λ es. 2 * behind + (if is_empty es then 0 else 1) < 2 * left + 1) (sym (none refl)) (omega (arith, is))
 
 pub walked_by : (bytes : List ℕ) (r : Reader) → r.rows ≡ standard_rows → r.limit ≡ tag_limit → walk_of r.rows r.limit bytes ≡ walked bytes
 walked_by bytes r rows limit = ap (λ rs. walk_of rs r.limit bytes) rows ∙ ap (λ l. walk_of standard_rows l bytes) limit

@@ -1,5 +1,5 @@
 -- What the bytes of a reply, read so far, tell of the whole input.
-use Rattle.std.proofs.Common.{◌≡◌, ◌≢◌, ◌<◌, ◌≤◌, ◌⊎◌, ◌++◌, nat_le, ℕ, List, [], ◌∷◌, length, take, drop, true, false, Option, Some, None, IfSome, IfOk, IfErr, MatchOption, Result, Ok, Err, inl, inr, refl, sym, ap, subst, ◌∙◌, arith, length-append, append_assoc, append-nil}
+use Rattle.std.proofs.Common.{◌≡◌, ◌≢◌, ◌<◌, ◌≤◌, ◌⊎◌, ◌++◌, nat_le, ℕ, List, [], ◌∷◌, length, take, drop, true, false, Option, Some, None, IfOk, IfErr, MatchOption, Result, Ok, Err, inl, inr, refl, sym, ap, subst, ◌∙◌, arith, length-append, append_assoc, append-nil}
 use Rattle.std.specs.Io.KnownBytes.{Consumes, IsAtEnd}
 use Rattle.std.proofs.Math.Seq.{take-append_seam}
 use Rattle.std.proofs.lemmas.List.{take-append-drop, length-take, length-drop, take-append-le}

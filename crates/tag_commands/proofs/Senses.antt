@@ -1,7 +1,6 @@
 -- What the meanings of the commands on tags owe: words and an input say one status, and no fault where the command is
 -- done.
-use Rattle.std.proofs.Common.{◌≡◌, ◌<◌, ◌≤◌, ℕ, List, [], Option, Some, Ok, Err, true, false, length, inl, inr, refl, sym, subst, ap, ◌∙◌, arith}
-use Rattle.std.proofs.KnownBytes.{Consumes-nil}
+use Rattle.std.proofs.Common.{◌≡◌, ℕ, List, [], Ok, Err, true, false, inl, inr, refl, sym, subst, ap, ◌∙◌, arith}
 use Rattle.std.proofs.lemmas.List.{take_all}
 use Rattle.dmap_tags.specs.Tree.{Tree}
 use Rattle.code_table.specs.declared.reply.CodeError.{CodeError}
@@ -14,7 +13,7 @@ use Rattle.dmap_stream.specs.Walk.{Walk, between, inside, broken}
 use Rattle.dmap_stream.specs.declared.refusal.StreamError.{StreamError}
 use Rattle.command_core.specs.declared.fault.Fault.{Fault}
 use Rattle.command_core.specs.declared.fault.Fault.TheVariants.{Own, Read, Memory}
-use Rattle.command_core.specs.Seen.{InputSeen, Seen, IsUnread}
+use Rattle.command_core.specs.Seen.{Seen, IsUnread}
 use Rattle.command_core.specs.Causes.{Says}
 use Rattle.command_core.specs.Meanings.{IsCause}
 use Rattle.command_core.proofs.Reading.{read_whole}

@@ -1,9 +1,8 @@
 -- What a shower has shown, before and after a call.
-use Rattle.std.proofs.Common.{◌≡◌, ◌≢◌, ℕ, zero, suc, pred, ◌+◌, ◌-◌, ◌<◌, ◌≤◌, List, [], ◌∷◌, ◌++◌, length, take, fold, Option, Some, None, Result, Ok, Err, IfSome, IfErr, false, refl, sym, ap, subst, ◌∙◌, arith, length-append, append_assoc}
-use Rattle.std.specs.Io.KnownBytes.{Consumes, Appends, IsAtEnd}
-use Rattle.std.proofs.KnownBytes.{Appends-trans, Appends-nil, Consumes-nil}
+use Rattle.std.proofs.Common.{◌≡◌, ◌≢◌, ℕ, zero, suc, pred, ◌+◌, ◌-◌, ◌<◌, ◌≤◌, List, [], ◌∷◌, ◌++◌, length, take, fold, Option, Some, None, Result, Ok, Err, IfErr, refl, sym, ap, subst, ◌∙◌, arith, length-append, append_assoc}
+use Rattle.std.specs.Io.KnownBytes.{Consumes, IsAtEnd}
+use Rattle.std.proofs.KnownBytes.{Consumes-nil}
 use Rattle.std.proofs.lemmas.List.{append-nil, take-append-le, take_at, take_all}
-use Rattle.std.proofs.Math.Seq.{take-append-add}
 use Rattle.daap_outside.specs.Counts.{Rose}
 use Rattle.dmap_show.specs.Events.{shown_event, level_after, shown_events}
 use Rattle.dmap_stream.specs.declared.event.Event.{Event}
@@ -26,12 +25,12 @@ use Rattle.tag_commands.specs.declared.show.Stop.{Stop}
 use Rattle.tag_commands.specs.declared.show.Stop.TheVariants.{Input, Output}
 use Rattle.command_core.specs.Seen.{InputSeen, OutputSeen, no_share}
 use Rattle.command_core.specs.Causes.{piece_limit, HasReadOn}
-use Rattle.command_core.proofs.Appending.{written_more, cut_more, none_written}
+use Rattle.command_core.proofs.Appending.{written_more, cut_more}
 use Rattle.command_core.proofs.Reading.{of_input, of_front}
 use Rattle.tag_commands.specs.TopTags.{walked, IsSoundSoFar, StopsReading, tags_fault}
-use Rattle.tag_commands.specs.Show.{read_events, shown_text, BeginsShown, IsShownWhole, IsShownCut, ShowsAll, IsShownBefore}
+use Rattle.tag_commands.specs.Show.{read_events, shown_text, BeginsShown, IsShownWhole, ShowsAll, IsShownBefore}
 use Rattle.tag_commands.specs.Counting.{after_event, no_tops, HasCounted, IsCounted, StopsAt, EndsCounted}
-use Rattle.command_core.specs.Endings.{IsWritten, IsCut}
+use Rattle.command_core.specs.Endings.{IsWritten}
 use Rattle.tag_commands.specs.Showing.{HasShown, IsShowing, ShowsSome, ShowsBroken, IsLast, StopsShowing, StepStops, ShowStops}
 use Rattle.tag_commands.proofs.FewEvents.{total, few_handed, few_counted}
 use Rattle.tag_commands.proofs.Counted.{walked_by, within_limit, on_piece, stopped_cause, failed_cause, cut_cause, too_long}

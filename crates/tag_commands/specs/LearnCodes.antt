@@ -9,7 +9,6 @@ use Rattle.code_table.specs.declared.reply.CodeError.TheVariants as table
 use Rattle.code_table.specs.declared.row.CodeRow.{CodeRow}
 use Rattle.code_table.specs.Reply.{table_of}
 use Rattle.code_table.specs.Standard.{standard_rows}
-use Rattle.dmap_stream.specs.Walk.{broken}
 use Rattle.dmap_stream.specs.WholeTag.{is_accepted, refusal}
 use Rattle.dmap_stream.specs.declared.refusal.StreamError.{StreamError}
 use Rattle.dmap_stream.specs.declared.refusal.StreamError.TheVariants as stream

@@ -1,6 +1,6 @@
 //! What was read and counted of an input of tags, as its bytes come.
 
-ghost use Rattle.std.specs.Prelude.{◌≡◌, ◌+◌, ◌<◌, ◌≤◌, ◌^◌, ◌++◌, [], ℕ, List, length, IfOk, IfErr};
+ghost use Rattle.std.specs.Prelude.{◌≡◌, ◌+◌, ◌<◌, ◌≤◌, ◌^◌, ◌++◌, [], ℕ, List, length, take, true, IfOk, IfErr};
 ghost use Rattle.dmap_stream.specs.Reader.{ready};
 ghost use Rattle.tag_commands.specs.TopTags.{tags_limit};
 ghost use Rattle.tag_commands.specs.Counting.{HasCounted, IsCounted, IsShown, StopsAt, EndsCounted};
@@ -9,7 +9,7 @@ use crate::tags_fault::{TagsFault, tags_fault};
 use crate::tops::Tops;
 use code_table::CodeTable;
 use command_core::Fault;
-use dmap_stream::{DmapReader, Limits, StreamError};
+use dmap_stream::{DmapReader, Event, Limits, StreamError};
 use std::alloc::{AllocError, Global};
 
 /// The most bytes of tags that the input may have.
@@ -68,20 +68,82 @@ impl Counter {
             → IfErr result (λ error. IsShown (fed ++ piece.now) error) }
     {
         let mut rest = piece;
+        // until a list opens, any tag may be the last one in its list
+        let mut list_end = usize::MAX;
         while !rest.is_empty() {
-            let taken = match self.reader.feed(rest) {
+            let taken = match self.step(rest, &mut list_end) {
                 Ok(taken) => taken,
                 Err(error) => return Err(error),
             };
-            self.count_ready();
             let (_, behind) = rest.split_at(taken);
             rest = behind;
         }
+        self.count_ready();
         self.bytes += piece.len() as u64;
         Ok(())
     }
 
+    /// Feeds bytes up to an event and counts it, and counts what is ready behind it where a list may end. Answers how many
+    /// bytes were taken. `list_end` is how many bytes stand behind the list that was opened last: before it nothing ends.
+    #[inline(always)]
+    fn step(&mut self, piece: &[u8], list_end: &mut usize) -> Result<usize, StreamError>
+        requires { (fed : List ℕ) × HasCounted fed self.old.reader self.old.tops × (length fed + length piece.now < 2 ^ 63) }
+        ensures took { IfOk result (λ n. n ≤ length piece.now) }
+        ensures takes { ready self.old.reader ≡ [] → 0 < length piece.now → IfOk result (λ n. 0 < n) }
+        ensures hands_out { IfOk result (λ n. n ≡ 0 → ready self.new.reader ≡ []) }
+        ensures counted { (fed : List ℕ) → HasCounted fed self.old.reader self.old.tops
+            → IfOk result (λ n. HasCounted (fed ++ take n piece.now) self.new.reader self.new.tops) }
+        ensures stopped { (fed : List ℕ) → HasCounted fed self.old.reader self.old.tops
+            → IfErr result (λ error. IsShown (fed ++ piece.now) error) }
+        ensures bytes { self.new.bytes ≡ self.old.bytes }
+    {
+        let taken = match self.reader.feed(piece) {
+            Ok(taken) => taken,
+            Err(error) => return Err(error),
+        };
+        let left = piece.len() - taken;
+        if let Some(len) = self.count_next() {
+            *list_end = left.saturating_sub(len);
+        }
+        let may_end = taken == 0 || left <= *list_end;
+        self.count_more(may_end);
+        Ok(taken)
+    }
+
+    /// Counts the next event, if one is ready. Answers the length of the list that it opens.
+    #[inline(always)]
+    fn count_next(&mut self) -> Option<usize>
+        requires { (fed : List ℕ) × HasCounted fed self.old.reader self.old.tops × (length fed < 2 ^ 63) }
+        ensures counted { (fed : List ℕ) → HasCounted fed self.old.reader self.old.tops
+            → HasCounted fed self.new.reader self.new.tops }
+        ensures bytes { self.new.bytes ≡ self.old.bytes }
+    {
+        match self.reader.next() {
+            Some(event) => {
+                let opened = opened_len(&event);
+                self.tops.count(event);
+                opened
+            }
+            None => None,
+        }
+    }
+
+    /// Counts all events that are ready, where there may be one.
+    #[inline(always)]
+    fn count_more(&mut self, may_be_ready: bool)
+        requires { (fed : List ℕ) × HasCounted fed self.old.reader self.old.tops × (length fed < 2 ^ 63) }
+        ensures counted { (fed : List ℕ) → HasCounted fed self.old.reader self.old.tops
+            → HasCounted fed self.new.reader self.new.tops }
+        ensures quiet { may_be_ready ≡ true → ready self.new.reader ≡ [] }
+        ensures bytes { self.new.bytes ≡ self.old.bytes }
+    {
+        if may_be_ready {
+            self.count_ready();
+        }
+    }
+
     /// Counts all events that are ready.
+    #[inline(always)]
     fn count_ready(&mut self)
         requires { (fed : List ℕ) × HasCounted fed self.old.reader self.old.tops × (length fed < 2 ^ 63) }
         ensures counted { (fed : List ℕ) → HasCounted fed self.old.reader self.old.tops
@@ -103,5 +165,14 @@ impl Counter {
             Ok(()) => Ok(ended),
             Err(error) => Err(error),
         }
+    }
+}
+
+/// The length of a list that is opened.
+#[inline(always)]
+fn opened_len(event: &Event) -> Option<usize> {
+    match event {
+        Event::Open { len, .. } => Some(*len as usize),
+        _ => None,
     }
 }

@@ -1,4 +1,4 @@
-use Rattle.std.proofs.Common.{rules, ◌≤◌, ◌++◌, [], ℕ, List, length, inl, Option, Some, MatchOption, true, sym, subst, ◌∙◌, append-nil}
+use Rattle.std.proofs.Common.{rules, ◌≤◌, ◌++◌, [], ℕ, List, length, inl, Option, MatchOption, sym, subst, ◌∙◌, append-nil}
 use Rattle.std.specs.Io.KnownBytes.{Consumes, IsAtEnd}
 use Rattle.std.proofs.KnownBytes.{Consumes-trans, Consumes-kept}
 use Rattle.daap_outside.specs.Counts.{Rose}

@@ -1,17 +1,18 @@
-use Rattle.std.proofs.Common.{◌≡◌, ◌++◌, [], ℕ, List, length}
+use Rattle.std.proofs.Common.{◌≡◌, ◌+◌, ◌*◌, ◌++◌, ℕ, List, length, if◌then◌else◌}
 use Rattle.dmap_stream.specs.Reader.{ready}
+use Rattle.dmap_stream.specs.Walk.{is_empty}
 use Rattle.tag_commands.specs.Counting.{HasCounted, IsCounted}
 use Rattle.tag_commands.proofs.counting.Counter.feed.Given as goal
 
--- the front of the piece was fed behind any bytes before, and no event is left
+-- the front of the piece was fed behind any bytes before
 abbrev pub invariant-loop-rest : goal.invariant-loop-rest
 invariant-loop-rest l = record {
   front : List ℕ;
   split : l.piece ≡ front ++ l.rest;
   counted : (fed : List ℕ) → IsCounted fed l.initial.self → HasCounted (fed ++ front) l.self.reader l.self.tops;
-  quiet : ready l.self.reader ≡ [];
   bytes : l.self.bytes ≡ l.initial.self.bytes;
 }
 
+-- a step that takes no byte leaves nothing ready
 abbrev pub decreases-loop-rest : goal.decreases-loop-rest
-decreases-loop-rest l = length l.rest
+decreases-loop-rest l = 2 * length l.rest + (if is_empty (ready l.self.reader) then 0 else 1)
