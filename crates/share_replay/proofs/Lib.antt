@@ -1,2 +1,14 @@
 pub mod Texts
 pub mod PlayFacts
+pub mod IntakeFacts
+pub mod ConnectionFacts
+pub mod ResultFacts
+pub mod Written
+pub mod AskFacts
+pub mod TurnFacts
+pub mod MachineFacts
+pub mod OutputFacts
+pub mod EndFacts
+pub mod StepFacts
+pub mod LoopFacts
+pub mod ScriptFacts

@@ -5,8 +5,8 @@ use Rattle.std.specs.Option.{option_to_list}
 use Rattle.item_model.specs.declared.changes.Entry.{Entry}
 use Rattle.share_replies.specs.Settings.{Settings}
 use Rattle.share_replies.specs.Added.{adds}
-use Rattle.share_replay.specs.Connections.{Connection, reading_on, next_ask, gets, closes, end_at_close, end_of_input, ended_by, shut}
-use Rattle.share_replay.specs.Machine.{Desk, connection_at, turn_place, with_turn, turn_of, stepped_at, stepped, answers, most_left, settled, line_place, begun, played, begin, script_run}
+use Rattle.share_replay.specs.Connections.{Connection, reading_on, next_ask, end_of_input, ended_by, shut}
+use Rattle.share_replay.specs.Machine.{Desk, connection_at, turn_place, with_turn, turn_of, stepped_at, stepped, answers, most_left, line_place, begun, played, begin}
 use Rattle.share_replay.specs.Turns.{Due, Answers, Refuses, due_next, due_on, turn_for}
 use Rattle.share_replay.specs.declared.delivery.Delivery.{Delivery}
 use Rattle.share_replay.specs.Laws.{NothingIsPlayed, HistoriesGoOn, EndedConnectionsRest}

@@ -2,6 +2,7 @@
 -- read as, however many lines brought them.
 use Rattle.std.specs.Prelude.{ℕ, List, [], ◌++◌, length, Bool, true, false, ◌==◌, ◌&&◌, ◌||◌, not, is_some, unwrap_or, Option, Some, None, if◌then◌else◌}
 use Rattle.std.specs.List.{slice_get}
+use Rattle.http_heads.specs.declared.refusal.HeadError.{HeadError}
 use Rattle.http_front.specs.Readings.{Reading}
 use Rattle.http_front.proofs.Decided.{reading_of}
 use Rattle.share_asks.specs.declared.ask.Ask.{Ask}
@@ -29,6 +30,13 @@ reading_on c = reading_of c.role c.bytes
 -- the first ask that was not answered
 abbrev pub next_ask : Connection → Option Ask
 next_ask c = slice_get (reading_on c).asks c.served
+
+-- the same, and why what came behind all asks is refused, unless the connection has ended
+abbrev pub asked_on : Connection → Option Ask
+asked_on c = if c.is_ended then None else next_ask c
+
+abbrev pub fault_on : Connection → Option HeadError
+fault_on c = if c.is_ended then None else (reading_on c).fault
 
 -- nothing that came waits for an answer
 abbrev pub is_idle : Connection → Bool

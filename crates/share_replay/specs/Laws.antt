@@ -1,11 +1,12 @@
 -- What follows from the definition of the machine, for all settings, histories and scripts.
-use Rattle.std.specs.Prelude.{◌≡◌, ℕ, List, [], ◌∷◌, ◌++◌, codes, true, false, Some, None}
+use Rattle.std.specs.Prelude.{◌≡◌, ◌≤◌, ℕ, List, [], ◌++◌, take, codes, true, Some, None}
+use Rattle.std.specs.List.{slice_get}
 use Rattle.item_model.specs.declared.changes.Entry.{Entry}
-use Rattle.share_asks.specs.declared.ask.Role.{Role}
 use Rattle.share_replies.specs.Settings.{Settings}
-use Rattle.share_replay.specs.Connections.{Connection, is_idle, opened, closes, gets, end_at_close}
+use Rattle.share_replay.specs.Connections.{Connection, closes, gets, end_at_close}
 use Rattle.share_replay.specs.Ends.{end_line, reply_lines}
-use Rattle.share_replay.specs.Machine.{script_bytes, script_history}
+use Rattle.share_replay.specs.Machine.{script_bytes, script_history, script_run}
+use Rattle.share_replay.specs.Played.{broken_at, most_answers}
 use Rattle.share_replay.specs.Turns.{due_on}
 use Rattle.share_replay.specs.declared.delivery.Delivery.{Delivery}
 use Rattle.share_replay.specs.declared.ends.End.TheVariants.{Cut, Refused, Held}
@@ -29,3 +30,9 @@ abbrev pub LinesByTheByte : Type 0
 LinesByTheByte =
     (end_line 2 (Some (Cut 17)) ≡ codes "# 2 cut 17\n") × (end_line 64 (Some (Refused 413)) ≡ codes "# 64 refused 413\n")
     × (end_line 1 (Some Held) ≡ codes "# 1 held\n") × (end_line 1 None ≡ []) × (reply_lines 3 (codes "abc") ≡ codes "> 3 3\nabc\n")
+
+-- what was written when a replay broke off is a front of what the script writes
+abbrev pub OutputsGoOn : Type 0
+OutputsGoOn =
+    (s : Settings) (h : List Entry) (lines : List Delivery) (line answered : ℕ) → answered ≤ most_answers (script_run s h (take line lines)) (slice_get lines line)
+    → (more : List ℕ) × (script_bytes s h lines ≡ (broken_at s h lines line answered).output ++ more)

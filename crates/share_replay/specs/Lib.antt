@@ -5,4 +5,9 @@ pub mod Connections
 pub mod Ends
 pub mod Turns
 pub mod Machine
+pub mod Asked
+pub mod Told
+pub mod Played
+pub mod Intakes
+pub mod Stops
 pub mod Laws

@@ -1,9 +1,8 @@
 -- The lines of a script. `open N listen` and `open N edit` open a connection, `text N T` delivers what the text T
 -- writes, and `close N` ends what comes over a connection. One space stands between two words.
-use Rattle.std.specs.Prelude.{ℕ, ◌+◌, ◌-◌, ◌*◌, List, [], ◌∷◌, codes, Bool, true, false, ◌==◌, ◌&&◌, ◌||◌, not, Option, Some, None, option_map, if◌then◌else◌}
+use Rattle.std.specs.Prelude.{ℕ, ◌+◌, ◌-◌, ◌*◌, List, [], ◌∷◌, codes, ◌==◌, ◌&&◌, Option, Some, None, option_map, if◌then◌else◌}
 use Rattle.std.specs.Char.{is_ascii_digit}
 use Rattle.std.specs.Int.{is_in_range}
-use Rattle.std.specs.List.{list_all}
 use Rattle.std.specs.Option.{option_and_then}
 use Rattle.std.specs.Str.{bytes_eq}
 use Rattle.share_asks.specs.declared.ask.Role.{Role}

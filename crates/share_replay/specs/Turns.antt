@@ -1,5 +1,5 @@
 -- What is due on a connection, and what is done then.
-use Rattle.std.specs.Prelude.{ℕ, ◌+◌, ◌-◌, List, ◌++◌, Bool, true, ◌==◌, is_some, Option, Some, None, option_map, if◌then◌else◌}
+use Rattle.std.specs.Prelude.{ℕ, ◌+◌, ◌-◌, List, [], ◌++◌, Bool, true, ◌==◌, is_some, Option, Some, None, option_map, if◌then◌else◌}
 use Rattle.std.specs.Option.{option_or}
 use Rattle.http_heads.specs.declared.refusal.HeadError.{HeadError}
 use Rattle.item_model.specs.declared.changes.Entry.{Entry}
@@ -8,7 +8,8 @@ use Rattle.share_history.specs.Sessions.{is_stopped}
 use Rattle.share_replies.specs.Settings.{Settings}
 use Rattle.share_replies.specs.Replies.{Reply, Answer, Replies, Holds, answer_to}
 use Rattle.share_replies.specs.Added.{after}
-use Rattle.reply_bytes.specs.ReplyBytes.{reply_bytes, refusal_bytes, status_of}
+use Rattle.reply_bytes.specs.ReplyBytes.{reply_bytes, refusal_bytes, status_of, with_head}
+use Rattle.share_asks.specs.declared.form.BodyForm.TheVariants.{NoBody}
 use Rattle.share_replay.specs.Connections.{Connection, reading_on, next_ask, end_of_input, ended_by}
 use Rattle.share_replay.specs.Ends.{end_line, reply_lines}
 use Rattle.share_replay.specs.declared.ends.End.{End}
@@ -74,3 +75,17 @@ turn_for number h c (Refuses error) = record {
 -- how many answers there may still be: those to a connection's requests, and a refusal
 abbrev pub left_on : Connection → ℕ
 left_on c = if c.is_ended then 0 else most_requests + 1 - c.served
+
+-- the same of a reply that is known by its bytes, which `last` decides, where the history is the one after it
+abbrev pub turn_with : ℕ → List Entry → Connection → (bytes : Bool → List ℕ) → (close : Bool) → Turn
+turn_with number h c bytes close =
+    let left = one_more c in let last = last_by h left.served close in let end = option_or last (end_of_input left) in
+    record { history = h; connection = ended_by end left; written = reply_lines number (bytes (is_some last)) ++ end_line number end }
+
+-- and of a refusal with a status
+abbrev pub refused_with : ℕ → List Entry → Connection → (status : ℕ) → Turn
+refused_with number h c status = record {
+  history = h;
+  connection = record c { is_ended = true };
+  written = reply_lines number (with_head status NoBody [] true) ++ end_line number (Some (Refused status));
+}

@@ -1,6 +1,6 @@
 //! What holds of all replays. Each function does nothing; its contract is a fact that follows from the definitions.
 
-ghost use Rattle.share_replay.specs.Laws.{NothingIsPlayed, HistoriesGoOn, EndedConnectionsRest, LinesByTheByte};
+ghost use Rattle.share_replay.specs.Laws.{NothingIsPlayed, HistoriesGoOn, OutputsGoOn, EndedConnectionsRest, LinesByTheByte};
 
 /// A script without lines writes nothing.
 pub fn nothing_is_played()
@@ -10,6 +10,11 @@ pub fn nothing_is_played()
 /// A script only adds to the share's history.
 pub fn histories_go_on()
     ensures { HistoriesGoOn }
+{}
+
+/// What was written when a replay broke off is a front of what the script writes.
+pub fn outputs_go_on()
+    ensures { OutputsGoOn }
 {}
 
 /// A connection that has ended is answered nothing, and told nothing more.

@@ -1,14 +1,28 @@
 //! Scripts of what comes over many connections, and what a share answers to them, one answer at a time.
 #![tactic(auto)]
 
+mod answering;
+mod asking;
+mod connection;
 mod delivery;
+mod ending;
 mod ends;
+mod intake;
 pub mod laws;
 mod line;
+#[cfg(test)]
+mod play_tests;
+mod playing;
+mod reaching;
+mod replay_error;
+mod replaying;
 mod script;
+mod telling;
 #[cfg(test)]
 mod tests;
 
 pub use delivery::Delivery;
 pub use ends::End;
+pub use replay_error::ReplayError;
+pub use replaying::replay;
 pub use script::{Script, ScriptError};

@@ -106,6 +106,7 @@ fn is_sample(script: &Script) -> bool {
 fn laws_can_be_cited() {
     laws::nothing_is_played();
     laws::histories_go_on();
+    laws::outputs_go_on();
     laws::ended_connections_rest();
     laws::lines_by_the_byte();
 }

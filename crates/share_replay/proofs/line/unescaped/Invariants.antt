@@ -1,4 +1,4 @@
-use Rattle.std.proofs.Common.{◌≡◌, ◌++◌, length}
+use Rattle.std.proofs.Common.{◌≡◌, length}
 use Rattle.share_replay.specs.Lines.{written_by}
 use Rattle.share_replay.proofs.Texts.{behind_bytes}
 use Rattle.share_replay.proofs.line.unescaped.Given as goal

@@ -1,0 +1,41 @@
+-- What is to be told on a connection, as the code has it.
+use Rattle.std.specs.Prelude.{◌≡◌, ◌<◌, ℕ, Bool, Some, None}
+use Rattle.http_front.specs.ReplyHeads.{HasReason}
+use Rattle.http_heads.specs.declared.refusal.HeadError.{HeadError}
+use Rattle.reply_bytes.specs.ReplyBytes.{status_of}
+use Rattle.share_asks.specs.declared.ask.Ask.{Ask}
+use Rattle.share_core.specs.declared.answer.Said.{Said}
+use Rattle.share_replies.specs.Answers.{Shared}
+use Rattle.share_replay.specs.Asked.{IsReplied}
+use Rattle.share_replay.specs.Connections.{Connection, asked_on, fault_on}
+use Rattle.share_replay.specs.Turns.{due_on, most_requests}
+use Rattle.share_replay.specs.declared.asking.Told.{Told}
+use Rattle.share_replay.specs.declared.asking.Told.TheVariants.{Reply, Refusal, Nothing}
+
+-- a reply to the next ask is due
+pub record IsDueReply (old new : Shared) (number : ℕ) (c : Connection) (said : Said) (close : Bool) : Type 0 where
+  pub ask : Ask
+  pub asked : asked_on c ≡ Some ask
+  pub few : c.served < most_requests
+  pub closes : close ≡ ask.close
+  pub says : IsReplied old new number ask.want said
+
+-- a refusal is
+pub record IsDueRefusal (old new : Shared) (c : Connection) (status : ℕ) : Type 0 where
+  pub error : HeadError
+  pub asked : asked_on c ≡ None
+  pub fault : fault_on c ≡ Some error
+  pub few : c.served < most_requests
+  pub by : status ≡ status_of error
+  pub reason : HasReason status
+  pub stays : new ≡ old
+
+-- nothing is
+pub record IsNotDue (old new : Shared) (c : Connection) : Type 0 where
+  pub none : due_on old.settings old.history c ≡ None
+  pub stays : new ≡ old
+
+abbrev pub IsDue : Shared → Shared → ℕ → Connection → Told → Type 0
+IsDue old new number c (Reply said close) = IsDueReply old new number c said close
+IsDue old new number c (Refusal status) = IsDueRefusal old new c status
+IsDue old new number c Nothing = IsNotDue old new c

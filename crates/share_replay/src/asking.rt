@@ -1,0 +1,82 @@
+//! What is due on a connection.
+
+ghost use Rattle.std.specs.Prelude.{◌≡◌, ◌<◌, IfOk, OnErr};
+ghost use Rattle.share_asks.specs.Valid.{IsValidWant};
+ghost use Rattle.share_replay.specs.Asked.{IsSaidTo};
+ghost use Rattle.share_replay.specs.Told.{IsDue};
+
+use crate::connection::Connection;
+use reply_bytes::status_of;
+use share_asks::Ask;
+use share_core::{Answer, Said, Share};
+use song_query::Steps;
+use std::alloc::AllocError;
+use std::marker::Brand;
+use std::sync::ledger::{Blank, Ledger};
+
+/// What is to be told on a connection.
+#[derive(Drop)]
+pub(crate) enum Told {
+    /// The reply to its next request, behind which the connection ends where the request asks for it.
+    Reply { said: Said, close: bool },
+    /// That what came is refused, by a status.
+    Refusal { status: u16 },
+    Nothing,
+}
+
+/// What is to be told on the connection of a number. The share answers its next request.
+pub(crate) fn told_on(
+    number: u32,
+    connection: &Connection,
+    share: &mut Share,
+) -> Result<Told, AllocError>
+    ensures told { IfOk result (IsDue share.old share.new number connection.now) }
+    ensures unchanged { OnErr result (share.new ≡ share.old) }
+{
+    match connection.next() {
+        Some(ask) => match said_to(share, number, ask) {
+            Ok(Some(said)) => Ok(Told::Reply {
+                said,
+                close: ask.close,
+            }),
+            Ok(None) => Ok(Told::Nothing),
+            Err(error) => Err(error),
+        },
+        None => match connection.fault() {
+            Some(error) => Ok(Told::Refusal {
+                status: status_of(error),
+            }),
+            None => Ok(Told::Nothing),
+        },
+    }
+}
+
+// What the share says to an ask of the connection of a number; `None` where the ask is held.
+fn said_to(share: &mut Share, number: u32, ask: &Ask) -> Result<Option<Said>, AllocError>
+    requires valid { IsValidWant ask.now.want }
+    ensures said { IfOk result (IsSaidTo share.old share.new number ask.now.want) }
+    ensures unchanged { OnErr result (share.new ≡ share.old) }
+{
+    said_by::<Brand>(Blank::new(1), share, number, ask)
+}
+
+fn said_by<L: Ledger>(
+    blank: Blank,
+    share: &mut Share,
+    number: u32,
+    ask: &Ask,
+) -> Result<Option<Said>, AllocError>
+    requires name { blank.name ≡ L.name }
+    requires parts { blank.parts ≡ L.parts }
+    requires any { 0 < blank.parts }
+    requires valid { IsValidWant ask.now.want }
+    ensures said { IfOk result (IsSaidTo share.old share.new number ask.now.want) }
+    ensures unchanged { OnErr result (share.new ≡ share.old) }
+{
+    let mut steps = Steps::<L>::open(blank);
+    match share.answer(number, ask, &mut steps) {
+        Ok(Answer::Reply(reply)) => Ok(Some(reply.said)),
+        Ok(Answer::Wait { .. }) => Ok(None),
+        Err(error) => Err(error),
+    }
+}

@@ -1,0 +1,123 @@
+//! What a line of a script does to the connection of its number.
+
+ghost use Rattle.std.specs.Prelude.{◌≡◌, IfOk, OnOk, OnErr, MatchResult, Some, option_map, slice_set};
+ghost use Rattle.share_replay.specs.Connections.{gets};
+ghost use Rattle.std.specs.Io.KnownBytes.{Appends};
+ghost use Rattle.daap_outside.specs.Told.{AppendsPrefix};
+ghost use Rattle.share_replay.specs.Ends.{end_line};
+ghost use Rattle.share_replay.specs.Machine.{connection_at, line_place, nobody, number_of, reached, told_at_once};
+ghost use Rattle.share_replay.specs.Stops.{CountsFault};
+ghost use Rattle.share_replay.specs.declared.delivery.Delivery.TheVariants.{Close};
+
+use crate::connection::Connection;
+use crate::delivery::Delivery;
+use crate::replay_error::ReplayError;
+use crate::telling::tell_end;
+use daap_outside::Sink;
+use std::alloc::{AllocError, Global};
+
+/// How many connections there may be.
+const MOST_CONNECTIONS: usize = 64;
+
+/// The places of all numbers, none of which is opened.
+pub(crate) fn nobody(alloc: Global) -> Result<Vec<Option<Connection>>, AllocError>
+    ensures { IfOk result (λ cs. cs.items ≡ nobody) }
+{
+    let mut connections = Vec::new(alloc);
+    for place in 0..MOST_CONNECTIONS {
+        connections.push(None)?;
+    }
+    Ok(connections)
+}
+
+/// The place of the connection of a line.
+pub(crate) fn place_of(line: &Delivery) -> usize
+    ensures { result ≡ line_place line.now }
+{
+    match line {
+        Delivery::Open { number, .. }
+        | Delivery::Text { number, .. }
+        | Delivery::Close { number } => number.saturating_sub(1) as usize,
+    }
+}
+
+/// Does to the connection of a line what the line says, and tells how it ends, where it ends at once.
+pub(crate) fn reach<W: Sink>(
+    alloc: Global,
+    line: &Delivery,
+    connections: &mut [Option<Connection>],
+    sink: &mut W,
+) -> Result<(), ReplayError>
+    ensures reached { OnOk result (connections.new ≡ slice_set connections.old (line_place line.now) (reached line.now (connection_at connections.old (line_place line.now)))) }
+    ensures told { OnOk result (Appends (W.taken sink.old) (W.taken sink.new) (end_line (number_of line.now) (told_at_once line.now (connection_at connections.old (line_place line.now))))) }
+    ensures part { OnErr result (AppendsPrefix (W.taken sink.old) (W.taken sink.new) (end_line (number_of line.now) (told_at_once line.now (connection_at connections.old (line_place line.now))))) }
+    ensures count { MatchResult result (λ _. W.faults sink.new ≡ W.faults sink.old) (λ e. CountsFault (W.faults sink.old) (W.faults sink.new) e) }
+{
+    let place = place_of(line);
+    if place >= connections.len() {
+        return Ok(());
+    }
+    reach_one(alloc, line, &mut connections[place], sink)
+}
+
+fn reach_one<W: Sink>(
+    alloc: Global,
+    line: &Delivery,
+    slot: &mut Option<Connection>,
+    sink: &mut W,
+) -> Result<(), ReplayError>
+    ensures reached { OnOk result (slot.new ≡ reached line.now slot.old) }
+    ensures told { OnOk result (Appends (W.taken sink.old) (W.taken sink.new) (end_line (number_of line.now) (told_at_once line.now slot.old))) }
+    ensures part { OnErr result (AppendsPrefix (W.taken sink.old) (W.taken sink.new) (end_line (number_of line.now) (told_at_once line.now slot.old))) }
+    ensures count { MatchResult result (λ _. W.faults sink.new ≡ W.faults sink.old) (λ e. CountsFault (W.faults sink.old) (W.faults sink.new) e) }
+{
+    match line {
+        Delivery::Open { role, .. } => match Connection::open(alloc, *role) {
+            Ok(connection) => {
+                put(slot, connection);
+                Ok(())
+            }
+            Err(AllocError) => Err(ReplayError::Memory),
+        },
+        Delivery::Text { bytes, .. } => match deliver_to(slot, bytes.as_slice()) {
+            Ok(()) => Ok(()),
+            Err(AllocError) => Err(ReplayError::Memory),
+        },
+        Delivery::Close { number } => close_one(alloc, *number, slot, sink),
+    }
+}
+
+fn put(slot: &mut Option<Connection>, connection: Connection)
+    ensures { slot.new ≡ Some connection }
+{
+    *slot = Some(connection);
+}
+
+fn deliver_to(slot: &mut Option<Connection>, bytes: &[u8]) -> Result<(), AllocError>
+    ensures { OnOk result (slot.new ≡ option_map (gets bytes.now) slot.old) }
+{
+    match slot {
+        Some(connection) => connection.deliver(bytes),
+        None => Ok(()),
+    }
+}
+
+fn close_one<W: Sink>(
+    alloc: Global,
+    number: u32,
+    slot: &mut Option<Connection>,
+    sink: &mut W,
+) -> Result<(), ReplayError>
+    ensures reached { OnOk result (slot.new ≡ reached (Close number) slot.old) }
+    ensures told { OnOk result (Appends (W.taken sink.old) (W.taken sink.new) (end_line number (told_at_once (Close number) slot.old))) }
+    ensures part { OnErr result (AppendsPrefix (W.taken sink.old) (W.taken sink.new) (end_line number (told_at_once (Close number) slot.old))) }
+    ensures count { MatchResult result (λ _. W.faults sink.new ≡ W.faults sink.old) (λ e. CountsFault (W.faults sink.old) (W.faults sink.new) e) }
+{
+    match slot {
+        Some(connection) => {
+            let end = connection.close();
+            tell_end(alloc, number, end, sink)
+        }
+        None => Ok(()),
+    }
+}
