@@ -1,0 +1,12 @@
+//! One request of a connection, answered by a share that many connections take turns at. A turn is held for the answer
+//! alone: what is written of it is written later. A request that is held waits at the bell, outside any turn.
+#![tactic(auto)]
+
+mod answers;
+mod outcome;
+#[cfg(test)]
+mod tests;
+mod turns;
+
+pub use answers::answer_request;
+pub use outcome::Answered;
