@@ -1,0 +1,78 @@
+//! One request and its reply.
+
+ghost use Rattle.std.specs.Prelude.{◌≡◌, ℕ, List, Option};
+ghost use Rattle.share_asks.specs.Valid.{IsValidWant};
+ghost use Rattle.share_asks.specs.declared.ask.Ask.{Ask as AskSeen};
+ghost use Rattle.share_lock.specs.Passes.{lock_id, known, IsReady};
+ghost use Rattle.served_links.specs.Passes.{Pass as PassSeen};
+ghost use Rattle.served_links.specs.Replies.{end_behind};
+ghost use Rattle.share_server.specs.Written.{CountsMaybe, IsCalm};
+ghost use Rattle.share_server.specs.Steps.{Goes, Exchanges};
+
+use crate::ending::given_up;
+use crate::writing::reply;
+use daap_outside::Link;
+use link_answers::{Answered, answer_request};
+use served_links::{LinkEnd, Served};
+use share_asks::Ask;
+use share_core::Share;
+use share_lock::{Bell, Pass, ShareLock};
+use std::alloc::Global;
+use std::sync::Wait;
+
+/// What a connection is served with, for at most `limit` requests.
+#[derive(Drop)]
+pub(crate) struct Service<'a, R> {
+    pub rt: &'a R,
+    pub alloc: Global,
+    pub lock: &'a ShareLock<Share>,
+    pub bell: &'a Bell,
+    pub limit: u32,
+}
+
+/// Answers a request, and writes the reply. The room for its report is taken first, so that what was answered is
+/// reported.
+pub(crate) fn exchange<K: Link, R: Wait>(
+    service: &Service<'_, R>,
+    pass: &mut Pass<Share>,
+    link: &mut K,
+    served: &mut Vec<Served>,
+    ask: &Ask,
+) -> Option<LinkEnd>
+    requires ready { IsReady (lock_id service.now.lock.now) pass.old }
+    requires valid { IsValidWant ask.now.want }
+    ensures ready { IsReady (lock_id service.now.lock.now) pass.new }
+    ensures exchanges { (k : PassSeen) (taken : Option (List ℕ)) (asks : List AskSeen) → Goes service.now.limit k (known pass.old) taken (K.taken link.old) asks served.old.items
+        → Exchanges service.now.limit k (known pass.new) taken (K.taken link.new) asks ask.now served.new.items result }
+    ensures beside { K.beside_taken link.new ≡ K.beside_taken link.old }
+    ensures count { CountsMaybe (K.faults link.old) (K.faults link.new) result }
+{
+    if served.reserve(1).is_err() {
+        return Some(given_up(link));
+    }
+    let Answered {
+        served: request,
+        said,
+        stopped,
+    } = answer_request(service.rt, service.lock, service.bell, pass, ask);
+    served.push_reserved(request);
+    let due = end_behind(service.limit, served.len(), ask.close, stopped);
+    reply(service.alloc, link, said, request.added, due)
+}
+
+// The end that comes behind the `n`-th reply, if one does.
+fn end_behind(limit: u32, n: usize, close: bool, stopped: bool) -> Option<LinkEnd>
+    ensures end { result ≡ end_behind limit n close stopped }
+    ensures calm { IsCalm result }
+{
+    if stopped {
+        return Some(LinkEnd::Stopped);
+    }
+    if n == limit as usize {
+        return Some(LinkEnd::Spent);
+    }
+    if close {
+        return Some(LinkEnd::Closed);
+    }
+    None
+}
