@@ -1,0 +1,337 @@
+-- A worker's links, one more behind the others.
+use Rattle.std.proofs.Common.{◌≡◌, ◌≢◌, ◌⊎◌, ℕ, ◌+◌, ◌-◌, ◌≤◌, ◌<◌, min, List, [], ◌∷◌, ◌++◌, length, get_or, refl, sym, ap, ◌∙◌, subst, inl, inr, true, false, nat_lt, Option, Some, None, MatchOption, append_assoc, append-nil, length-append, arith}
+use Rattle.std.proofs.lemmas.List.Concat.{flat_map-append}
+use Rattle.std.proofs.lemmas.List.Elements.{Contains-append_left}
+use Rattle.item_model.specs.declared.changes.Entry.{Entry}
+use Rattle.daap_outside.specs.Places.{Accepts, Returned, returned}
+use Rattle.daap_outside.specs.Told.{BeginsEmpty, Grows, GrowsByTold}
+use Rattle.share_asks.specs.declared.ask.Role.{Role}
+use Rattle.share_history.specs.Sessions.{is_stopped}
+use Rattle.share_lock.specs.Histories.{entries_of, Continues}
+use Rattle.share_lock.specs.Known.{numbers_of, after_turn}
+use Rattle.share_replies.specs.Laws.{maker}
+use Rattle.share_replies.specs.Settings.{Settings}
+use Rattle.served_links.specs.declared.report.LinkReport.{LinkReport}
+use Rattle.served_links.specs.Links.{LinkEnded}
+use Rattle.served_links.specs.Passes.{Pass, Serves}
+use Rattle.served_links.proofs.Counting.{none_beyond_the_limit}
+use Rattle.served_links.proofs.Turns.{serves_in_turn, quiet_turns_serve_nothing}
+use Rattle.share_server.specs.Serving.{limit_of, LinkServed, CountsEnd}
+use Rattle.share_workers.specs.declared.worker.WorkerEnd.{WorkerEnd}
+use Rattle.share_workers.specs.declared.worker.WorkerEnd.TheVariants.{Stopped, Spent, NoMoreLinks, AcceptFault, Memory}
+use Rattle.share_workers.specs.Works.{all_served, LinkAt, LinksAt, ServesThenLooks, LooksBehind, Looks, Came, Works}
+use Rattle.share_workers.specs.Ends.{GoesOnToLast, CountsAccepts, IsWithin, WorkerServed}
+use Rattle.share_workers.specs.Steps.{LinkDone, Underway, GoesOnOrEnds}
+use Rattle.share_workers.proofs.Later.{link_later, links_later}
+use Rattle.share_workers.proofs.Telling.{came_more, grown_more, is_over, counted}
+
+-- ---- one link
+
+pub link_within : (role : Role) (budget : ℕ) (k k' : Pass) (left taken taken' : Option (List ℕ)) (report : LinkReport) → LinkServed role budget k k' left taken taken' report → length report.served ≤ budget
+link_within role budget k k' left taken taken' report served =
+    let most : length report.served ≤ min budget 65536 = none_beyond_the_limit role (limit_of budget) k k' left taken taken' report.served report.end served.ended in omega arith
+
+pub looked : (k j k' : Pass) (h : List Entry) → j ≡ k → Continues maker (numbers_of k) k.seen h → k' ≡ after_turn j h → Looks k k'
+looked k j k' h same on after = record {
+  more = on.more;
+  none = λ i d less has. on.later i d less (Contains-append_left (k.number ∷ []) k.taken_in (maker (get_or on.more i d)) has);
+  after = after ∙ (ap {A = Pass} {B = Pass} (λ p. after_turn p h) same ∙ ap {A = List Entry} {B = Pass} (λ l. after_turn k l) on.begins);
+}
+
+pub link_done : (role : Role) (budget : ℕ) (k j k' : Pass) (left taken taken' : Option (List ℕ)) (written written' : Option (List Returned)) (faults faults' : ℕ) (report : LinkReport)
+    → LinkServed role budget k j left taken taken' report → faults ≡ 0 → CountsEnd faults faults' report.end → GrowsByTold written written' (returned taken' faults') → Looks j k'
+    → LinkDone role budget k k' left taken written written' report
+link_done role budget k j k' left taken taken' written written' faults faults' report served fresh counts given looks = record {
+  before = j;
+  taken' = taken';
+  faults = faults';
+  served = served;
+  counted = subst (λ n. CountsEnd n faults' report.end) fresh counts;
+  given_back = given;
+  looks = looks;
+}
+
+-- ---- lists of links
+
+links_more : (settings : Settings) (by : ℕ) (role : Role) (budget : ℕ) (h : List Entry) (inputs : List (List ℕ)) (reports : List LinkReport) (returns : List Returned) (input : List ℕ) (report : LinkReport) (returned : Returned)
+    → LinksAt settings by role budget h inputs reports returns → LinkAt settings by (limit_of (budget - length (all_served reports))) role h input report returned
+    → LinksAt settings by role budget h (inputs ++ input ∷ []) (reports ++ report ∷ []) (returns ++ returned ∷ [])
+links_more settings by role budget h [] [] [] input report returned links link =
+    let all : budget - 0 ≡ budget = omega arith in
+    (subst (λ b. LinkAt settings by (limit_of b) role h input report returned) all link, tt)
+links_more settings by role budget h [] [] (b ∷ returns) input report returned links link = absurd links
+links_more settings by role budget h [] (r ∷ reports) returns input report returned links link = absurd links
+links_more settings by role budget h (i ∷ inputs) [] returns input report returned links link = absurd links
+links_more settings by role budget h (i ∷ inputs) (r ∷ reports) [] input report returned links link = absurd links
+links_more settings by role budget h (i ∷ inputs) (r ∷ reports) (b ∷ returns) input report returned links link = (
+  links.0,
+  links_more settings by role (budget - length r.served) h inputs reports returns input report returned links.1
+      (subst (λ left. LinkAt settings by (limit_of left) role h input report returned) (rest (length r.served) (length (all_served reports)) (length-append r.served (all_served reports))) link),
+)
+  where
+    rest : (first others : ℕ) → length (r.served ++ all_served reports) ≡ first + others → budget - length (r.served ++ all_served reports) ≡ (budget - first) - others
+    rest first others is = omega arith
+
+all_served_more : (reports : List LinkReport) (report : LinkReport) → all_served (reports ++ report ∷ []) ≡ all_served reports ++ (report.served ++ [])
+all_served_more reports report = flat_map-append (λ (r : LinkReport). r.served) reports (report ∷ [])
+
+count_more : (reports : List LinkReport) (report : LinkReport) → length (all_served (reports ++ report ∷ [])) ≡ length (all_served reports) + length report.served
+count_more reports report =
+    ap length (all_served_more reports report)
+    ∙ (length-append (all_served reports) (report.served ++ []) ∙ ap (λ l. length (all_served reports) + length l) (append-nil report.served))
+
+behind : (k k' : Pass) (reports : List LinkReport) (report : LinkReport) → ServesThenLooks k k' (all_served (reports ++ report ∷ [])) → LooksBehind k k' (reports ++ report ∷ [])
+behind k k' [] report serves = serves
+behind k k' (r ∷ reports) report serves = serves
+
+-- ---- one link more
+
+-- what one link more leaves of a worker
+pub record HasOneMore (role : Role) (k k' : Pass) (coming coming' : Option (List (List ℕ))) (written written' : Option (List Returned)) (reports : List LinkReport) (budget : ℕ) : Type 0 where
+  pub works : Works role k k' coming coming' written written' reports
+  pub to_last : GoesOnToLast k k' reports
+  pub within : IsWithin reports
+  pub left : budget + length (all_served reports) ≡ 262144
+
+module _ {L : Type 0} (left taken : L → Option (List ℕ)) (link : L) (role : Role) (k j k' : Pass) (coming before now : Option (List (List ℕ))) (written wrote written' : Option (List Returned))
+    (reports : List LinkReport) (report : LinkReport) (budget : ℕ) (under : Underway role k j coming before written wrote reports budget)
+    (done : LinkDone role budget j k' (left link) (taken link) wrote written' report) where
+  ended : LinkEnded role (limit_of budget) j done.before (left link) (taken link) done.taken' report.served report.end
+  ended = done.served.ended
+
+  settings_stay : j.settings ≡ k.settings
+  settings_stay = ap (λ (p : Pass). p.settings) under.works.serves.stays
+
+  number_stays : j.number ≡ k.number
+  number_stays = ap (λ (p : Pass). p.number) under.works.serves.stays
+
+  seen_last : k'.seen ≡ done.before.seen ++ done.looks.more
+  seen_last = ap (λ (p : Pass). p.seen) done.looks.after
+
+  seen_more : k'.seen ≡ j.seen ++ (ended.serves.fresh.more ++ done.looks.more)
+  seen_more = seen_last ∙ (ap (λ h. h ++ done.looks.more) ended.serves.fresh.grows ∙ append_assoc j.seen ended.serves.fresh.more done.looks.more)
+
+  link_at : LinkAt k.settings k.number (limit_of (262144 - length (all_served reports))) role k'.seen ended.input report (ended.output, nat_lt 0 done.faults)
+  link_at =
+      let left_is : budget ≡ 262144 - length (all_served reports) = let all : budget + length (all_served reports) ≡ 262144 = under.left in omega arith in
+      subst (λ b. LinkAt k.settings k.number (limit_of b) role k'.seen ended.input report (ended.output, nat_lt 0 done.faults)) left_is
+      (subst (λ n. LinkAt k.settings n (limit_of budget) role k'.seen ended.input report (ended.output, nat_lt 0 done.faults)) number_stays
+      (subst (λ s. LinkAt s j.number (limit_of budget) role k'.seen ended.input report (ended.output, nat_lt 0 done.faults)) settings_stay
+      (subst (λ h. LinkAt j.settings j.number (limit_of budget) role h ended.input report (ended.output, nat_lt 0 done.faults)) (sym seen_last)
+      (link_later j.settings j.number (limit_of budget) done.before.seen done.looks.more role ended.input report (ended.output, nat_lt 0 done.faults)
+      (record {
+        at_once = ended.at_once;
+        number = done.served.number;
+        asks = ended.asks;
+        rest = ended.rest;
+        joins = ended.joins;
+        are_served = ended.serves.are_served;
+        how = ended.how;
+        faulted = counted done.faults report.end done.counted;
+      })))))
+
+  links : LinksAt k.settings k.number role 262144 k'.seen (under.works.inputs ++ ended.input ∷ []) (reports ++ report ∷ []) (under.works.returns ++ (ended.output, nat_lt 0 done.faults) ∷ [])
+  links =
+      links_more k.settings k.number role 262144 k'.seen under.works.inputs reports under.works.returns ended.input report (ended.output, nat_lt 0 done.faults)
+      (subst (λ h. LinksAt k.settings k.number role 262144 h under.works.inputs reports under.works.returns) (sym seen_more)
+      (links_later k.settings k.number role 262144 j.seen (ended.serves.fresh.more ++ done.looks.more) under.works.inputs reports under.works.returns under.works.links))
+      link_at
+
+  quiet : Serves done.before k' [] []
+  quiet = subst (λ p. Serves done.before p [] []) (sym done.looks.after) (quiet_turns_serve_nothing done.before done.looks.more done.looks.none)
+
+  serves : Serves k k' (under.works.asks ++ (ended.asks ++ [])) (all_served (reports ++ report ∷ []))
+  serves =
+      subst (λ l. Serves k k' (under.works.asks ++ (ended.asks ++ [])) l) (sym (all_served_more reports report))
+      (serves_in_turn k j k' under.works.asks (ended.asks ++ []) (all_served reports) (report.served ++ []) under.works.serves
+      (serves_in_turn j done.before k' ended.asks [] report.served [] ended.serves quiet))
+
+  looks : LooksBehind k k' (reports ++ report ∷ [])
+  looks = behind k k' reports report record {
+    asks = under.works.asks ++ ended.asks;
+    before = done.before;
+    serves = subst (λ l. Serves k done.before (under.works.asks ++ ended.asks) l) (sym (all_served_more reports report ∙ ap (λ l. all_served reports ++ l) (append-nil report.served)))
+        (serves_in_turn k j done.before under.works.asks ended.asks (all_served reports) report.served under.works.serves ended.serves);
+    looks = done.looks;
+  }
+
+  to_last : GoesOnToLast k k' (reports ++ report ∷ [])
+  to_last = record {
+    earlier = reports;
+    last = report;
+    are = refl;
+    before = j;
+    looks = under.works.looks;
+    may = under.may;
+    serves = record { asks = ended.asks; before = done.before; serves = ended.serves; looks = done.looks };
+  }
+
+  served_within : length report.served ≤ limit_of budget
+  served_within = none_beyond_the_limit role (limit_of budget) j done.before (left link) (taken link) done.taken' report.served report.end ended
+
+  both_within : (length (reports ++ report ∷ []) ≤ 65536) × (length (all_served (reports ++ report ∷ [])) ≤ 262144)
+  both_within =
+      let links : length (reports ++ report ∷ []) ≡ length reports + 1 = length-append reports (report ∷ []) in
+      let few : length reports < 65536 = under.may.links in
+      let all : length (all_served (reports ++ report ∷ [])) ≡ length (all_served reports) + length report.served = count_more reports report in
+      let sum : budget + length (all_served reports) ≡ 262144 = under.left in
+      let most : length report.served ≤ min budget 65536 = served_within in
+      (omega arith, omega arith)
+
+  pub one_more : (budget' : ℕ) → Accepts left taken before now (Some link) → BeginsEmpty wrote (taken link) → budget' + length report.served ≡ budget
+      → HasOneMore role k k' coming now written written' (reports ++ report ∷ []) budget'
+  one_more budget' accepts begins rest = record {
+    works = record {
+      inputs = under.works.inputs ++ ended.input ∷ [];
+      came = came_more left taken link coming before now under.works.inputs ended.input under.works.came accepts ended.told;
+      returns = under.works.returns ++ (ended.output, nat_lt 0 done.faults) ∷ [];
+      given_back = grown_more written wrote written' (taken link) done.taken' under.works.returns ended.output done.faults under.works.given_back begins ended.written done.given_back;
+      links = links;
+      asks = under.works.asks ++ (ended.asks ++ []);
+      serves = serves;
+      looks = looks;
+    };
+    to_last = to_last;
+    within = both_within;
+    left =
+        let all : length (all_served (reports ++ report ∷ [])) ≡ length (all_served reports) + length report.served = count_more reports report in
+        let sum : budget + length (all_served reports) ≡ 262144 = under.left in
+        omega arith;
+  }
+
+-- ---- how it goes on
+
+pub more_at : {L : Type 0} (left taken : L → Option (List ℕ)) (link : L) (role : Role) (k j k' : Pass) (coming before now now' : Option (List (List ℕ))) (written wrote written' written'' : Option (List Returned))
+    (reports reports' : List LinkReport) (report : LinkReport) (budget budget' : ℕ) → Underway role k j coming before written wrote reports budget
+    → LinkDone role budget j k' (left link) (taken link) wrote written' report → Accepts left taken before now (Some link) → BeginsEmpty wrote (taken link) → budget' + length report.served ≡ budget
+    → reports' ≡ reports ++ report ∷ [] → now' ≡ now → written'' ≡ written' → HasOneMore role k k' coming now' written written'' reports' budget'
+more_at left taken link role k j k' coming before now now' written wrote written' written'' reports reports' report budget budget' under done accepts begins rest are links bytes =
+    subst (λ l. HasOneMore role k k' coming now' written written'' l budget') (sym are)
+    (subst (λ l. HasOneMore role k k' coming l written written'' (reports ++ report ∷ []) budget') (sym links)
+    (subst (λ l. HasOneMore role k k' coming now written l (reports ++ report ∷ []) budget') (sym bytes)
+    (one_more left taken link role k j k' coming before now written wrote written' reports report budget under done budget' accepts begins rest)))
+
+module _ (role : Role) (k k' : Pass) (coming now : Option (List (List ℕ))) (written written' : Option (List Returned)) (reports : List LinkReport) (budget : ℕ)
+    (more : HasOneMore role k k' coming now written written' reports budget) where
+  pub stops : is_stopped k'.seen ≡ true → GoesOnOrEnds role k k' coming now written written' reports budget (Some Stopped)
+  stops stopped = (more.works, (more.to_last, stopped), more.within)
+
+  pub spends : is_stopped k'.seen ≡ false → (length reports ≡ 65536) ⊎ (budget ≡ 0) → GoesOnOrEnds role k k' coming now written written' reports budget (Some Spent)
+  spends going (inl links) = (more.works, (more.to_last, going, inl links), more.within)
+  spends going (inr nothing) =
+      let sum : budget + length (all_served reports) ≡ 262144 = more.left in
+      (more.works, (more.to_last, going, inr (omega arith)), more.within)
+
+  pub goes_on : is_stopped k'.seen ≡ false → length reports ≢ 65536 → budget ≢ 0 → GoesOnOrEnds role k k' coming now written written' reports budget None
+  goes_on going links some =
+      let sum : budget + length (all_served reports) ≡ 262144 = more.left in
+      let few : length reports ≤ 65536 = more.within.0 in
+      record {
+        works = more.works;
+        may = record { links = below (length reports) 65536 few links; requests = less budget (length (all_served reports)) sum some; going = λ any. going };
+        left = more.left;
+      }
+    where
+      below : (n most : ℕ) → n ≤ most → n ≢ most → n < most
+      below n most le other = omega arith
+
+      less : (a n : ℕ) → a + n ≡ 262144 → a ≢ 0 → n < 262144
+      less a n is some = omega arith
+
+-- ---- where no link came
+
+module _ (role : Role) (k j : Pass) (coming before now : Option (List (List ℕ))) (written wrote : Option (List Returned)) (reports : List LinkReport) (budget : ℕ)
+    (under : Underway role k j coming before written wrote reports budget) where
+  may_within : IsWithin reports
+  may_within = let few : length reports < 65536 = under.may.links in let some : length (all_served reports) < 262144 = under.may.requests in (omega arith, omega arith)
+
+  pub none_came : {L : Type 0} (left taken : L → Option (List ℕ)) → Accepts left taken before now None → GoesOnOrEnds role k j coming now written wrote reports budget (Some NoMoreLinks)
+  none_came left taken accepts =
+      let over = is_over left taken coming before now under.works.inputs under.works.came accepts in (
+        record {
+          inputs = under.works.inputs;
+          came = over.1;
+          returns = under.works.returns;
+          given_back = under.works.given_back;
+          links = under.works.links;
+          asks = under.works.asks;
+          serves = under.works.serves;
+          looks = under.works.looks;
+        },
+        (under.may, over.0),
+        may_within,
+      )
+
+  pub faulted : now ≡ before → GoesOnOrEnds role k j coming now written wrote reports budget (Some AcceptFault)
+  faulted same = subst (λ l. GoesOnOrEnds role k j coming l written wrote reports budget (Some AcceptFault)) (sym same) (under.works, under.may, may_within)
+
+  pub wants_memory : GoesOnOrEnds role k j coming before written wrote reports budget (Some Memory)
+  wants_memory = (under.works, under.may, may_within)
+
+-- ---- the begin and the end
+
+begins_work : (role : Role) (k : Pass) (coming : Option (List (List ℕ))) (written : Option (List Returned)) → Underway role k k coming coming written written [] 262144
+begins_work role k coming written = record {
+  works = record {
+    inputs = [];
+    came = all_left coming;
+    returns = [];
+    given_back = none_back written;
+    links = tt;
+    asks = [];
+    serves = serves_nothing k;
+    looks = refl;
+  };
+  may = record { links = omega arith; requests = omega arith; going = λ some. absurd (some refl) };
+  left = omega arith;
+}
+  where
+    all_left : (coming : Option (List (List ℕ))) → Came coming coming []
+    all_left None = tt
+    all_left (Some all) = refl
+
+    none_back : (written : Option (List Returned)) → Grows written written []
+    none_back None = tt
+    none_back (Some all) = sym (append-nil all)
+
+    serves_nothing : (k : Pass) → Serves k k [] []
+    serves_nothing k = record {
+      fresh = record { more = []; grows = sym (append-nil k.seen); looks = []; looked = sym (append-nil k.looks); rises = omega arith; among = tt; marked = tt };
+      stays = refl;
+      are_served = tt;
+      own = sym (append-nil (entries_of maker k.number k.seen));
+    }
+
+pub begins : (role : Role) (k : Pass) (coming : Option (List (List ℕ))) (written : Option (List Returned)) (reports : List LinkReport) → reports ≡ []
+    → Underway role k k coming coming written written reports 262144
+begins role k coming written reports none = subst (λ l. Underway role k k coming coming written written l 262144) (sym none) (begins_work role k coming written)
+
+pub moved : (role : Role) (k j : Pass) (coming before : Option (List (List ℕ))) (written wrote wrote' : Option (List Returned)) (reports reports' : List LinkReport) (budget : ℕ) → reports' ≡ reports → wrote' ≡ wrote
+    → Underway role k j coming before written wrote reports budget → Underway role k j coming before written wrote' reports' budget
+moved role k j coming before written wrote wrote' reports reports' budget are bytes under =
+    subst (λ l. Underway role k j coming before written wrote' l budget) (sym are) (subst (λ l. Underway role k j coming before written l reports budget) (sym bytes) under)
+
+pub goes : (role : Role) (k j : Pass) (coming before : Option (List (List ℕ))) (written wrote : Option (List Returned)) (reports : List LinkReport) (budget : ℕ) (end : Option WorkerEnd) → end ≡ None
+    → GoesOnOrEnds role k j coming before written wrote reports budget end → Underway role k j coming before written wrote reports budget
+goes role k j coming before written wrote reports budget end none on = subst (GoesOnOrEnds role k j coming before written wrote reports budget) none on
+
+pub ends : (role : Role) (k j : Pass) (coming before : Option (List (List ℕ))) (written wrote : Option (List Returned)) (faults faults' faults'' : ℕ) (reports : List LinkReport) (budget : ℕ) (end : Option WorkerEnd) (at : WorkerEnd)
+    → end ≡ Some at → faults' ≡ faults → MatchOption end (faults'' ≡ faults') (CountsAccepts faults' faults'') → GoesOnOrEnds role k j coming before written wrote reports budget end
+    → WorkerServed role k j coming before written wrote faults faults'' reports at
+ends role k j coming before written wrote faults faults' faults'' reports budget end at is same counts on =
+    let all : GoesOnOrEnds role k j coming before written wrote reports budget (Some at) = subst (GoesOnOrEnds role k j coming before written wrote reports budget) is on in
+    record {
+      works = all.0;
+      ends = all.1;
+      counts = subst (λ n. CountsAccepts n faults'' at) same (subst (λ e. MatchOption e (faults'' ≡ faults') (CountsAccepts faults' faults'')) is counts);
+      within = all.2;
+    }
+
+pub next_on : (role role' : Role) (k j j' : Pass) (coming before now : Option (List (List ℕ))) (written wrote written' : Option (List Returned)) (reports reports' : List LinkReport) (budget budget' : ℕ) (end : Option WorkerEnd) → role' ≡ role
+    → (Underway role' k j coming before written wrote reports budget → GoesOnOrEnds role' k j' coming now written written' reports' budget' end) → Underway role k j coming before written wrote reports budget
+    → GoesOnOrEnds role k j' coming now written written' reports' budget' end
+next_on role role' k j j' coming before now written wrote written' reports reports' budget budget' end same step under =
+    subst (λ r. Underway r k j coming before written wrote reports budget → GoesOnOrEnds r k j' coming now written written' reports' budget' end) same step under
+
+pub count_stays : (faults faults' : ℕ) (end : Option WorkerEnd) → end ≡ None → MatchOption end (faults' ≡ faults) (CountsAccepts faults faults') → faults' ≡ faults
+count_stays faults faults' end none counts = subst (λ e. MatchOption e (faults' ≡ faults) (CountsAccepts faults faults')) none counts

@@ -1,0 +1,30 @@
+use Rattle.std.proofs.Common.{refl, ◌∙◌}
+use Rattle.share_lock.specs.Passes.{known}
+use Rattle.share_workers.proofs.OneMore.{begins, goes, ends, next_on, count_stays}
+use Rattle.share_workers.proofs.working.work.Goals as goal
+
+pub loop-end-init : goal.loop-end-init
+loop-end-init g c = record {
+  ready = c.requires.ready;
+  role = refl;
+  count = refl;
+  under = begins c.args.worker.now.role (known c.args.worker.now.pass) (g.D.Door.coming c.args.worker.now.door) (g.D.Door.written c.args.worker.now.door) c.args.worker.now.reports.items c.requires.unreported;
+}
+
+pub returns-in-Some-clause-served : goal.returns-in-Some-clause-served
+returns-in-Some-clause-served g c =
+    let inv = c.loop-end.invariant in
+    ends _ _ _ _ _ _ _ _ _ _ _ _ _ c.in-Some.end c.in-Some.is inv.count c.serve_next.ensures.count
+    (next_on _ _ _ _ _ _ _ _ _ _ _ _ _ _ _ _ inv.role
+    (c.serve_next.ensures.served (known c.args.worker.now.pass) (g.D.Door.coming c.args.worker.now.door) (g.D.Door.written c.args.worker.now.door)) inv.under)
+
+pub loop-end-preserved : goal.loop-end-preserved
+loop-end-preserved g c =
+    let inv = c.loop-end.invariant in record {
+      ready = c.serve_next.ensures.ready;
+      role = c.serve_next.ensures.role ∙ inv.role;
+      count = count_stays _ _ _ c.in_default.is c.serve_next.ensures.count ∙ inv.count;
+      under = goes _ _ _ _ _ _ _ _ _ _ c.in_default.is
+          (next_on _ _ _ _ _ _ _ _ _ _ _ _ _ _ _ _ inv.role
+          (c.serve_next.ensures.served (known c.args.worker.now.pass) (g.D.Door.coming c.args.worker.now.door) (g.D.Door.written c.args.worker.now.door)) inv.under);
+    }

@@ -1,0 +1,57 @@
+-- How a worker ends: exactly one end fits what its links left, but for faults of its door and want of memory.
+use Rattle.std.specs.Prelude.{◌≡◌, ◌≢◌, ◌⊎◌, ℕ, ◌<◌, ◌≤◌, List, [], ◌∷◌, ◌++◌, length, true, false, Option}
+use Rattle.daap_outside.specs.Counts.{Rose}
+use Rattle.daap_outside.specs.Places.{Returned}
+use Rattle.share_asks.specs.declared.ask.Role.{Role}
+use Rattle.share_history.specs.Sessions.{is_stopped}
+use Rattle.served_links.specs.declared.report.LinkReport.{LinkReport}
+use Rattle.served_links.specs.Passes.{Pass}
+use Rattle.share_workers.specs.declared.worker.WorkerEnd.{WorkerEnd}
+use Rattle.share_workers.specs.declared.worker.WorkerEnd.TheVariants.{Running, Stopped, NoMoreLinks, Spent, AcceptFault, Memory}
+use Rattle.share_workers.specs.Works.{all_served, IsOver, ServesThenLooks, LooksBehind, Works}
+
+-- a worker may go on behind these links: it may serve one more link and one more request, and saw no stop behind the last
+pub record MayGoOn (k : Pass) (reports : List LinkReport) : Type 0 where
+  pub links : length reports < 65536
+  pub requests : length (all_served reports) < 262144
+  pub going : reports ≢ [] → is_stopped k.seen ≡ false
+
+-- it might go on behind all links but the last, and served the last
+pub record GoesOnToLast (k k' : Pass) (reports : List LinkReport) : Type 0 where
+  pub earlier : List LinkReport
+  pub last : LinkReport
+  pub are : reports ≡ earlier ++ last ∷ []
+  pub before : Pass
+  pub looks : LooksBehind k before earlier
+  pub may : MayGoOn before earlier
+  pub serves : ServesThenLooks before k' last.served
+
+abbrev pub EndsWorker : Pass → Pass → Option (List (List ℕ)) → Option (List (List ℕ)) → List LinkReport → WorkerEnd → Type 0
+EndsWorker k k' coming coming' reports Running = ⊥
+EndsWorker k k' coming coming' reports Stopped = GoesOnToLast k k' reports × (is_stopped k'.seen ≡ true)
+EndsWorker k k' coming coming' reports NoMoreLinks = MayGoOn k' reports × IsOver coming coming'
+EndsWorker k k' coming coming' reports Spent =
+    GoesOnToLast k k' reports × (is_stopped k'.seen ≡ false)
+    × ((length reports ≡ 65536) ⊎ (length (all_served reports) ≡ 262144))
+EndsWorker k k' coming coming' reports AcceptFault = MayGoOn k' reports
+EndsWorker k k' coming coming' reports Memory = MayGoOn k' reports
+
+-- the count of the door's faults, by the worker's end
+abbrev pub CountsAccepts : ℕ → ℕ → WorkerEnd → Type 0
+CountsAccepts before now AcceptFault = Rose before now
+CountsAccepts before now Running = now ≡ before
+CountsAccepts before now Stopped = now ≡ before
+CountsAccepts before now NoMoreLinks = now ≡ before
+CountsAccepts before now Spent = now ≡ before
+CountsAccepts before now Memory = now ≡ before
+
+-- how much a worker serves at most
+abbrev pub IsWithin : List LinkReport → Type 0
+IsWithin reports = (length reports ≤ 65536) × (length (all_served reports) ≤ 262144)
+
+-- a worker that served to its end, from what its pass and its door tell before and after
+pub record WorkerServed (role : Role) (k k' : Pass) (coming coming' : Option (List (List ℕ))) (written written' : Option (List Returned)) (faults faults' : ℕ) (reports : List LinkReport) (end : WorkerEnd) : Type 0 where
+  pub works : Works role k k' coming coming' written written' reports
+  pub ends : EndsWorker k k' coming coming' reports end
+  pub counts : CountsAccepts faults faults' end
+  pub within : IsWithin reports

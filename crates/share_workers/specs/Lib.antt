@@ -1,0 +1,3 @@
+pub mod Works
+pub mod Ends
+pub mod Steps

@@ -1,0 +1,88 @@
+-- The links that a worker served, and what stands on each of them, by the history that its pass has seen.
+use Rattle.std.specs.Prelude.{◌≡◌, ◌⊎◌, ℕ, ◌-◌, List, [], ◌∷◌, ◌++◌, length, ⊤, Option, Some, None}
+use Rattle.std.specs.List.{flat_map}
+use Rattle.item_model.specs.declared.changes.Entry.{Entry}
+use Rattle.daap_outside.specs.Places.{Returned}
+use Rattle.daap_outside.specs.Told.{Grows}
+use Rattle.share_asks.specs.declared.ask.Ask.{Ask}
+use Rattle.share_asks.specs.declared.ask.Role.{Role}
+use Rattle.http_front.specs.Readings.{Joins}
+use Rattle.share_lock.specs.Histories.{NoneOf}
+use Rattle.share_lock.specs.Known.{after_turn}
+use Rattle.share_replies.specs.Settings.{Settings}
+use Rattle.share_replies.specs.Laws.{maker}
+use Rattle.served_links.specs.declared.report.Served.{Served}
+use Rattle.served_links.specs.declared.report.LinkReport.{LinkReport}
+use Rattle.served_links.specs.declared.report.LinkEnd.TheVariants.{Spent}
+use Rattle.served_links.specs.Served.{AreServed}
+use Rattle.served_links.specs.Passes.{Pass, Serves}
+use Rattle.served_links.specs.Ends.{EndsInside, EndsAtEnd}
+use Rattle.share_server.specs.Serving.{is_fault, limit_of}
+
+-- the requests of all links, in order
+abbrev pub all_served : List LinkReport → List Served
+all_served reports = flat_map (λ report. report.served) reports
+
+-- one link, by its input, its report, and what its door tells of it: the bytes written on it, and whether it failed. The
+-- first asks of the input were served, in order, the bytes are theirs, and the link ended so
+pub record LinkAt (settings : Settings) (by limit : ℕ) (role : Role) (h : List Entry) (input : List ℕ) (report : LinkReport) (returned : Returned) : Type 0 where
+  pub at_once : limit ≡ 0 → (report.served ≡ []) × (report.end ≡ Spent)
+  pub number : report.number ≡ by
+  pub asks : List Ask
+  pub rest : List ℕ
+  pub joins : Joins role input asks rest
+  pub are_served : AreServed settings by h asks report.served
+  pub how : EndsInside role input settings limit h asks report.served rest returned.0 report.end
+      ⊎ EndsAtEnd role input settings limit h asks report.served rest returned.0 report.end
+  pub faulted : returned.1 ≡ is_fault report.end
+
+-- link after link, each with what the earlier ones left of the budget
+abbrev pub LinksAt : Settings → ℕ → Role → ℕ → List Entry → List (List ℕ) → List LinkReport → List Returned → Type 0
+LinksAt settings by role budget h [] [] [] = Unit {0}
+LinksAt settings by role budget h [] [] (returned ∷ returns) = ⊥
+LinksAt settings by role budget h [] (report ∷ reports) returns = ⊥
+LinksAt settings by role budget h (input ∷ inputs) [] returns = ⊥
+LinksAt settings by role budget h (input ∷ inputs) (report ∷ reports) [] = ⊥
+LinksAt settings by role budget h (input ∷ inputs) (report ∷ reports) (returned ∷ returns) =
+    LinkAt settings by (limit_of budget) role h input report returned
+    × LinksAt settings by role (budget - length report.served) h inputs reports returns
+
+-- the links that came are the first of those that were to come, where these are told
+abbrev pub Came : Option (List (List ℕ)) → Option (List (List ℕ)) → List (List ℕ) → Type 0
+Came None now inputs = ⊤
+Came (Some before) None inputs = ⊥
+Came (Some before) (Some now) inputs = before ≡ inputs ++ now
+
+-- no further link is to come, where these are told
+abbrev pub IsOver : Option (List (List ℕ)) → Option (List (List ℕ)) → Type 0
+IsOver None now = ⊤
+IsOver (Some before) now = now ≡ Some []
+
+-- a turn of a pass that added nothing of its own
+pub record Looks (k k' : Pass) : Type 0 where
+  pub more : List Entry
+  pub none : NoneOf maker (k.number ∷ []) more
+  pub after : k' ≡ after_turn k (k.seen ++ more)
+
+-- requests were served, and then such a turn was taken
+pub record ServesThenLooks (k k' : Pass) (served : List Served) : Type 0 where
+  pub asks : List Ask
+  pub before : Pass
+  pub serves : Serves k before asks served
+  pub looks : Looks before k'
+
+-- the pass after these links: it took such a turn behind the last of them
+abbrev pub LooksBehind : Pass → Pass → List LinkReport → Type 0
+LooksBehind k k' [] = k' ≡ k
+LooksBehind k k' (report ∷ reports) = ServesThenLooks k k' (all_served (report ∷ reports))
+
+-- what a worker did: the links that it accepted, what stands on them, and what its pass has seen
+pub record Works (role : Role) (k k' : Pass) (coming coming' : Option (List (List ℕ))) (written written' : Option (List Returned)) (reports : List LinkReport) : Type 0 where
+  pub inputs : List (List ℕ)
+  pub came : Came coming coming' inputs
+  pub returns : List Returned
+  pub given_back : Grows written written' returns
+  pub links : LinksAt k.settings k.number role 262144 k'.seen inputs reports returns
+  pub asks : List Ask
+  pub serves : Serves k k' asks (all_served reports)
+  pub looks : LooksBehind k k' reports

@@ -1,0 +1,177 @@
+//! The work of one worker.
+ghost use Rattle.std.specs.Prelude.{◌≡◌, ◌+◌, ◌<◌, ◌++◌, [], ◌∷◌, List, ℕ, Some, Option, MatchOption, IsNone, length, vec_len, vec_capacity};
+ghost use Rattle.daap_outside.specs.Places.{Accepts, Returned};
+ghost use Rattle.daap_outside.specs.Told.{BeginsEmpty};
+ghost use Rattle.share_history.specs.Sessions.{is_stopped};
+ghost use Rattle.share_lock.specs.Passes.{lock_id, known, IsReady};
+ghost use Rattle.served_links.specs.declared.report.LinkReport.{LinkReport as Report};
+ghost use Rattle.served_links.specs.Passes.{Pass as Seen};
+ghost use Rattle.share_workers.specs.Works.{Looks};
+ghost use Rattle.share_workers.specs.Ends.{CountsAccepts, WorkerServed};
+ghost use Rattle.share_workers.specs.Steps.{LinkDone, Underway, GoesOnOrEnds};
+
+use crate::worker::{Worker, WorkerEnd};
+use daap_outside::{Door, Failed};
+use share_core::Share;
+use share_lock::{Bell, Pass, ShareLock};
+use share_server::serve_link;
+use std::alloc::Global;
+use std::sync::Wait;
+
+// How many links a worker serves at most.
+const MOST_LINKS: usize = 65_536;
+
+// How many requests a worker serves at most, on all of its links.
+const MOST_REQUESTS: u32 = 262_144;
+
+/// Serves links until the share is stopped, no more will come, the worker has served as many as it may, its door fails, or
+/// there is no memory. Behind each link it takes one turn that adds nothing.
+pub fn serve_worker<D: Door, R: Wait>(
+    rt: &R,
+    alloc: Global,
+    lock: &ShareLock<Share>,
+    bell: &Bell,
+    worker: &mut Worker<D>,
+)
+    requires ready { IsReady (lock_id lock.now) worker.old.pass }
+    requires running { worker.old.end ≡ WorkerEnd.Running }
+    requires unreported { worker.old.reports.items ≡ [] }
+    ensures ready { IsReady (lock_id lock.now) worker.new.pass }
+    ensures role { worker.new.role ≡ worker.old.role }
+    ensures served { WorkerServed worker.old.role (known worker.old.pass) (known worker.new.pass) (D.coming worker.old.door) (D.coming worker.new.door) (D.written worker.old.door) (D.written worker.new.door) (D.faults worker.old.door) (D.faults worker.new.door) worker.new.reports.items worker.new.end }
+{
+    let end = work(rt, alloc, lock, bell, worker);
+    worker.end = end;
+}
+
+// Serves links to the worker's end.
+fn work<D: Door, R: Wait>(
+    rt: &R,
+    alloc: Global,
+    lock: &ShareLock<Share>,
+    bell: &Bell,
+    worker: &mut Worker<D>,
+) -> WorkerEnd
+    requires ready { IsReady (lock_id lock.now) worker.old.pass }
+    requires unreported { worker.old.reports.items ≡ [] }
+    ensures ready { IsReady (lock_id lock.now) worker.new.pass }
+    ensures role { worker.new.role ≡ worker.old.role }
+    ensures served { WorkerServed worker.old.role (known worker.old.pass) (known worker.new.pass) (D.coming worker.old.door) (D.coming worker.new.door) (D.written worker.old.door) (D.written worker.new.door) (D.faults worker.old.door) (D.faults worker.new.door) worker.new.reports.items result }
+{
+    let mut budget = MOST_REQUESTS;
+    loop {
+        if let Some(end) = serve_next(rt, alloc, lock, bell, worker, &mut budget) {
+            return end;
+        }
+    }
+}
+
+// Waits for a link and serves it. Tells the worker's end, if it has come. Room for the report is taken before the link is.
+fn serve_next<D: Door, R: Wait>(
+    rt: &R,
+    alloc: Global,
+    lock: &ShareLock<Share>,
+    bell: &Bell,
+    worker: &mut Worker<D>,
+    budget: &mut u32,
+) -> Option<WorkerEnd>
+    requires ready { IsReady (lock_id lock.now) worker.old.pass }
+    ensures ready { IsReady (lock_id lock.now) worker.new.pass }
+    ensures role { worker.new.role ≡ worker.old.role }
+    ensures grows { IsNone result → vec_len worker.new.reports ≡ vec_len worker.old.reports + 1 }
+    ensures served { (k : Seen) (coming : Option (List (List ℕ))) (written : Option (List Returned))
+        → Underway worker.old.role k (known worker.old.pass) coming (D.coming worker.old.door) written (D.written worker.old.door) worker.old.reports.items budget.old
+        → GoesOnOrEnds worker.old.role k (known worker.new.pass) coming (D.coming worker.new.door) written (D.written worker.new.door) worker.new.reports.items budget.new result }
+    ensures count { MatchOption result (D.faults worker.new.door ≡ D.faults worker.old.door) (CountsAccepts (D.faults worker.old.door) (D.faults worker.new.door)) }
+{
+    if worker.reports.reserve(1).is_err() {
+        return Some(WorkerEnd::Memory);
+    }
+    match worker.door.accept() {
+        Err(Failed) => Some(WorkerEnd::AcceptFault),
+        Ok(None) => Some(WorkerEnd::NoMoreLinks),
+        Ok(Some(link)) => serve_accepted(rt, alloc, lock, bell, worker, link, budget),
+    }
+}
+
+// Serves a link that was accepted. A worker that sees a stop lets others stop waiting.
+fn serve_accepted<D: Door, R: Wait>(
+    rt: &R,
+    alloc: Global,
+    lock: &ShareLock<Share>,
+    bell: &Bell,
+    worker: &mut Worker<D>,
+    link: D::L,
+    budget: &mut u32,
+) -> Option<WorkerEnd>
+    requires ready { IsReady (lock_id lock.now) worker.old.pass }
+    requires room { vec_len worker.old.reports < vec_capacity worker.old.reports }
+    requires fresh { D.L.faults link ≡ 0 }
+    ensures ready { IsReady (lock_id lock.now) worker.new.pass }
+    ensures role { worker.new.role ≡ worker.old.role }
+    ensures grows { vec_len worker.new.reports ≡ vec_len worker.old.reports + 1 }
+    ensures served { (k : Seen) (coming before : Option (List (List ℕ))) (written : Option (List Returned))
+        → Underway worker.old.role k (known worker.old.pass) coming before written (D.written worker.old.door) worker.old.reports.items budget.old
+        → Accepts D.L.left D.L.taken before (D.coming worker.old.door) (Some link) → BeginsEmpty (D.written worker.old.door) (D.L.taken link)
+        → GoesOnOrEnds worker.old.role k (known worker.new.pass) coming (D.coming worker.new.door) written (D.written worker.new.door) worker.new.reports.items budget.new result }
+    ensures count { MatchOption result (D.faults worker.new.door ≡ D.faults worker.old.door) (CountsAccepts (D.faults worker.old.door) (D.faults worker.new.door)) }
+{
+    if serve_one(rt, alloc, lock, bell, worker, link, budget) {
+        worker.door.nudge();
+        return Some(WorkerEnd::Stopped);
+    }
+    if *budget == 0 || worker.reports.len() == MOST_LINKS {
+        return Some(WorkerEnd::Spent);
+    }
+    None
+}
+
+// Serves a link, gives it back, and takes a turn. Tells whether the share was stopped by then.
+fn serve_one<D: Door, R: Wait>(
+    rt: &R,
+    alloc: Global,
+    lock: &ShareLock<Share>,
+    bell: &Bell,
+    worker: &mut Worker<D>,
+    mut link: D::L,
+    budget: &mut u32,
+) -> bool
+    requires ready { IsReady (lock_id lock.now) worker.old.pass }
+    requires room { vec_len worker.old.reports < vec_capacity worker.old.reports }
+    requires fresh { D.L.faults link ≡ 0 }
+    ensures ready { IsReady (lock_id lock.now) worker.new.pass }
+    ensures role { worker.new.role ≡ worker.old.role }
+    ensures coming { D.coming worker.new.door ≡ D.coming worker.old.door }
+    ensures count { D.faults worker.new.door ≡ D.faults worker.old.door }
+    ensures stopped { result ≡ is_stopped (known worker.new.pass).seen }
+    ensures done { (report : Report) × (worker.new.reports.items ≡ worker.old.reports.items ++ report ∷ []) × (budget.new + length report.served ≡ budget.old)
+        × LinkDone worker.old.role budget.old (known worker.old.pass) (known worker.new.pass) (D.L.left link) (D.L.taken link) (D.written worker.old.door) (D.written worker.new.door) report }
+{
+    let report = serve_link(
+        rt,
+        alloc,
+        lock,
+        bell,
+        &mut worker.pass,
+        &mut link,
+        worker.role,
+        *budget,
+    );
+    worker.door.done(link);
+    *budget -= report.served.as_slice().len() as u32;
+    worker.reports.push_reserved(report);
+    look(rt, lock, &mut worker.pass)
+}
+
+// Takes a turn that adds nothing. Tells whether the share was stopped by then.
+fn look<R: Wait>(rt: &R, lock: &ShareLock<Share>, pass: &mut Pass<Share>) -> bool
+    requires ready { IsReady (lock_id lock.now) pass.old }
+    ensures ready { IsReady (lock_id lock.now) pass.new }
+    ensures looks { Looks (known pass.old) (known pass.new) }
+    ensures stopped { result ≡ is_stopped (known pass.new).seen }
+{
+    let mut turn = lock.take(rt, pass);
+    let stopped = turn.state().stopped();
+    lock.give(turn);
+    stopped
+}
