@@ -1,0 +1,52 @@
+-- What is told at the end, piece by piece.
+use Rattle.std.specs.declared.alloc.AllocError.{AllocError}
+use Rattle.std.proofs.Common.{Vec, Global, MatchResult, ◌≡◌, ◌++◌, ℕ, List, Ok, Err, Result, IfOk, refl, sym, subst, inl, inr, arith, length-append}
+use Rattle.std.proofs.lemmas.List.{take-append-le}
+use Rattle.std.specs.Io.KnownBytes.{Appends}
+use Rattle.command_core.specs.Seen.{OutputSeen}
+use Rattle.command_core.specs.Endings.{IsWritten, IsCut}
+use Rattle.command_core.specs.Answers.{Tells}
+use Rattle.command_core.proofs.Appending.{written_more, cut_more}
+use Rattle.serve_command.specs.declared.verdict.Verdict.{Verdict}
+use Rattle.serve_command.specs.Runs.{TellsEnd}
+use Rattle.serve_command.specs.Verdicts.{verdict_line, verdict_status, with_memory}
+
+-- behind a front
+pub told_behind : (start mid after : OutputSeen) (front bytes : List ℕ) (wanted status : ℕ) → IsWritten start mid front → Tells wanted bytes mid after status → Tells wanted (front ++ bytes) start after status
+told_behind start mid after front bytes wanted status w (inl h) = inl (h.0, written_more start mid after front bytes w h.1)
+told_behind start mid after front bytes wanted status w (inr h) = inr (h.0, cut_more start mid after front bytes w h.1)
+
+-- an output that failed in some bytes failed in more
+pub cut_wider : (before after : OutputSeen) (bytes more : List ℕ) → IsCut before after bytes → IsCut before after (bytes ++ more)
+cut_wider before after bytes more h = record {
+  taken = (
+    h.taken.0,
+    (let few = h.taken.1 in omega (arith, length-append bytes more)),
+    subst (Appends before.taken after.taken) (sym (take-append-le h.taken.0 bytes more h.taken.1)) h.taken.2,
+  );
+  rose = h.rose;
+}
+
+-- the line was written, and that of the verdict behind it
+pub told_line : (start old mid after : OutputSeen) (front line : List ℕ) (verdict : Verdict) (status : ℕ) → IsWritten start old front → IsWritten old mid line
+    → Tells (verdict_status verdict) (verdict_line verdict) mid after status → Tells (verdict_status verdict) (front ++ (line ++ verdict_line verdict)) start after status
+told_line start old mid after front line verdict status w l h =
+    told_behind start old after front (line ++ verdict_line verdict) (verdict_status verdict) status w
+    (told_behind old mid after line (verdict_line verdict) (verdict_status verdict) status l h)
+
+-- the output failed in the line
+pub told_cut : (start old after : OutputSeen) (front line more : List ℕ) (wanted : ℕ) → IsWritten start old front → IsCut old after line → Tells wanted (front ++ (line ++ more)) start after 5
+told_cut start old after front line more wanted w c = inr (refl, cut_more start old after front (line ++ more) w (cut_wider old after line more c))
+
+-- what is told by whether there is a line
+abbrev pub TellsLine : List ℕ → Verdict → OutputSeen → OutputSeen → ℕ → Result (Vec ℕ Global) AllocError → Type 0
+TellsLine front verdict start after status line =
+    MatchResult line (λ bytes. Tells (verdict_status verdict) (front ++ (bytes.items ++ verdict_line verdict)) start after status)
+    (λ _. Tells (verdict_status (with_memory verdict)) (front ++ verdict_line (with_memory verdict)) start after status)
+
+-- the end was told, with its line or for want of memory
+pub told_end : (line : Result (Vec ℕ Global) AllocError) (front ended : List ℕ) (verdict : Verdict) (start after : OutputSeen) (status : ℕ) → IfOk line (λ bytes. bytes.items ≡ ended)
+    → TellsLine front verdict start after status line
+    → TellsEnd front ended verdict start after status
+told_end (Ok bytes) front ended verdict start after status is h = inl (subst (λ l. Tells (verdict_status verdict) (front ++ (l ++ verdict_line verdict)) start after status) is h)
+told_end (Err error) front ended verdict start after status is h = inr h

@@ -1,0 +1,6 @@
+-- What an outcome of `serve` tells.
+use Rattle.serve_command.specs.declared.outcome.Outcome.{Outcome}
+use Rattle.serve_command.specs.Runs.{Left}
+
+abbrev pub left_of : Outcome → Left
+left_of outcome = record { status = outcome.status; history = outcome.history; links = outcome.links }

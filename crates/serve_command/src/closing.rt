@@ -1,0 +1,127 @@
+//! What stands behind the last link: the line that tells what was served, and the status.
+
+ghost use Rattle.std.specs.Prelude.{◌≡◌, ◌<◌, ◌^◌, ◌⊎◌, ◌++◌, List, ℕ, map, length, MatchResult, IfOk, Some};
+ghost use Rattle.command_core.specs.Seen.{OutputSeen, output_seen};
+ghost use Rattle.command_core.specs.Endings.{IsWritten};
+ghost use Rattle.command_core.specs.Answers.{Tells};
+ghost use Rattle.share_history.specs.Histories.{batches, revision};
+ghost use Rattle.share_workers.specs.Works.{all_served};
+ghost use Rattle.serve_command.specs.Lines.{ended_line, links_in, requests_in};
+ghost use Rattle.serve_command.specs.Runs.{TellsEnd};
+ghost use Rattle.serve_command.specs.Verdicts.{verdict_line, verdict_status, with_memory};
+
+use crate::outcome::{LinkReports, Outcome};
+use crate::verdict::Verdict;
+use daap_outside::{Sink, put_all};
+use fault_lines::push_number;
+use item_model::Entries;
+use served_links::LinkReport;
+use share_core::Share;
+use std::alloc::{AllocError, Global};
+
+/// Tells what was served, and how it ended.
+pub(crate) fn closed<W: Sink>(
+    alloc: Global,
+    output: &mut W,
+    share: Share,
+    links: LinkReports,
+    verdict: Verdict,
+) -> Outcome
+    requires links { links_in links < 2 ^ 64 }
+    requires requests { requests_in links < 2 ^ 64 }
+    ensures history { result.history ≡ Some share.history }
+    ensures links { result.links ≡ links }
+    ensures told { (start : OutputSeen) (front : List ℕ) → IsWritten start (output_seen (W.taken output.old) (W.faults output.old)) front
+        → TellsEnd front (ended_line (revision (batches share.history)) links) verdict start (output_seen (W.taken output.new) (W.faults output.new)) result.status }
+{
+    let line = ended_line_of(alloc, share.revision(), links.as_slice());
+    let status = told(output, line, verdict);
+    Outcome {
+        status,
+        history: Some(Entries::of(share.into_history())),
+        links,
+    }
+}
+
+// Writes the line, and behind it that of the verdict.
+fn told<W: Sink>(output: &mut W, line: Result<Vec<u8>, AllocError>, verdict: Verdict) -> u8
+    ensures { (start : OutputSeen) (front : List ℕ) → IsWritten start (output_seen (W.taken output.old) (W.faults output.old)) front
+        → MatchResult line
+        (λ bytes. Tells (verdict_status verdict) (front ++ (bytes.items ++ verdict_line verdict)) start (output_seen (W.taken output.new) (W.faults output.new)) result)
+        (λ _. Tells (verdict_status (with_memory verdict)) (front ++ verdict_line (with_memory verdict)) start (output_seen (W.taken output.new) (W.faults output.new)) result) }
+{
+    match line {
+        Ok(line) => match put_all(output, line.as_slice()) {
+            Ok(()) => ruled(output, verdict),
+            Err(_) => 5,
+        },
+        Err(AllocError) => ruled(output, verdict.with_memory()),
+    }
+}
+
+// Writes the line of a verdict.
+fn ruled<W: Sink>(output: &mut W, verdict: Verdict) -> u8
+    ensures { Tells (verdict_status verdict) (verdict_line verdict)
+        (output_seen (W.taken output.old) (W.faults output.old))
+        (output_seen (W.taken output.new) (W.faults output.new))
+        result }
+{
+    match put_all(output, verdict.line()) {
+        Ok(()) => verdict.status(),
+        Err(_) => 5,
+    }
+}
+
+// The line that tells that all workers have ended.
+fn ended_line_of(
+    alloc: Global,
+    revision: u32,
+    workers: &[Vec<LinkReport>],
+) -> Result<Vec<u8>, AllocError>
+    requires links { links_in (map (λ l. l.items) workers.now) < 2 ^ 64 }
+    requires requests { requests_in (map (λ l. l.items) workers.now) < 2 ^ 64 }
+    ensures { IfOk result (λ line. line.items ≡ ended_line revision (map (λ l. l.items) workers.now)) }
+{
+    let mut line = Vec::new(alloc);
+    push_number(&mut line, b"ended at revision ", u64::from(revision))?;
+    push_number(&mut line, b", links ", links_in(workers))?;
+    push_number(&mut line, b", requests ", requests_in(workers))?;
+    line.push(b'\n')?;
+    Ok(line)
+}
+
+// How many links all workers served.
+fn links_in(workers: &[Vec<LinkReport>]) -> u64
+    requires { links_in (map (λ l. l.items) workers.now) < 2 ^ 64 }
+    ensures { result ≡ links_in (map (λ l. l.items) workers.now) }
+{
+    let mut count = 0;
+    for links in workers {
+        count += links.len() as u64;
+    }
+    count
+}
+
+// How many requests were served on all links.
+fn requests_in(workers: &[Vec<LinkReport>]) -> u64
+    requires { requests_in (map (λ l. l.items) workers.now) < 2 ^ 64 }
+    ensures { result ≡ requests_in (map (λ l. l.items) workers.now) }
+{
+    let mut count = 0;
+    for links in workers {
+        count += requests_of(links.as_slice());
+    }
+    count
+}
+
+// How many requests were served on the links of a worker.
+fn requests_of(links: &[LinkReport]) -> u64
+    requires { length (all_served links.now) < 2 ^ 64 }
+    ensures { result ≡ length (all_served links.now) }
+{
+    let mut count = 0;
+    for link in links {
+        count += link.served.as_slice().len() as u64;
+    }
+    count
+}

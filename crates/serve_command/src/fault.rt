@@ -1,0 +1,88 @@
+//! Why a share is not served.
+
+ghost use Rattle.std.specs.Prelude.{◌≡◌};
+ghost use Rattle.serve_command.specs.Faults.{serve_line, serve_status, net_fault, read_fault, record_fault, open_fault};
+
+use command_core::{Fault, Refusal};
+use daap_outside::{NetError, ReadError};
+use fault_lines::records_line;
+use records_import::RecordError;
+use share_core::OpenError;
+use std::alloc::{AllocError, Global};
+
+/// Why a share is not served. Want of memory, and an input that cannot be read, are none of these.
+#[derive(Debug, Drop)]
+pub enum ServeFault {
+    /// A place could not be listened at.
+    Network,
+    /// The input has more bytes than are read.
+    TooLong,
+    /// Its records don't read as a batch.
+    Records(RecordError),
+    /// They leave more lists than a share has.
+    TooManyLists,
+}
+
+impl Refusal for ServeFault {
+    ghost told_line = { serve_line };
+
+    ghost told_status = { serve_status };
+
+    fn line(&self, alloc: Global) -> Result<Vec<u8>, AllocError> {
+        match self {
+            ServeFault::Network => Vec::from_slice(alloc, b"network failed\n"),
+            ServeFault::TooLong => Vec::from_slice(alloc, b"limit: input\n"),
+            ServeFault::Records(error) => records_line(alloc, error),
+            ServeFault::TooManyLists => Vec::from_slice(alloc, b"limit: library\n"),
+        }
+    }
+
+    fn status(&self) -> u8 {
+        match self {
+            ServeFault::Network => 6,
+            ServeFault::Records(_) => 3,
+            ServeFault::TooLong | ServeFault::TooManyLists => 8,
+        }
+    }
+}
+
+/// What a place that was not opened is to `serve`.
+pub(crate) fn net_fault(error: NetError) -> Fault<ServeFault>
+    ensures { result ≡ net_fault error }
+{
+    match error {
+        NetError::Failed => Fault::Own(ServeFault::Network),
+        NetError::Memory => Fault::Memory,
+    }
+}
+
+/// What a refusal of the input is.
+pub(crate) fn read_fault(error: ReadError) -> Fault<ServeFault>
+    ensures { result ≡ read_fault error }
+{
+    match error {
+        ReadError::Failed => Fault::Read,
+        ReadError::TooLong => Fault::Own(ServeFault::TooLong),
+        ReadError::Memory => Fault::Memory,
+    }
+}
+
+/// What a refusal of its records is.
+pub(crate) fn record_fault(error: RecordError) -> Fault<ServeFault>
+    ensures { result ≡ record_fault error }
+{
+    match error {
+        RecordError::Memory => Fault::Memory,
+        refusal => Fault::Own(ServeFault::Records(refusal)),
+    }
+}
+
+/// What a share that is not opened is.
+pub(crate) fn open_fault(error: OpenError) -> Fault<ServeFault>
+    ensures { result ≡ open_fault error }
+{
+    match error {
+        OpenError::Lists => Fault::Own(ServeFault::TooManyLists),
+        OpenError::Memory => Fault::Memory,
+    }
+}

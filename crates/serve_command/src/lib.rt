@@ -1,0 +1,24 @@
+//! The command `serve`: a share at two places, one for its players and one for those who change it, from the records that it
+//! begins with to the history that it leaves. Every link is served by a worker in a thread of its own.
+#![tactic(auto)]
+
+mod closing;
+mod command;
+mod crew;
+mod fault;
+mod gathering;
+pub mod laws;
+mod library;
+mod opening;
+mod outcome;
+mod places;
+mod terms;
+#[cfg(test)]
+mod tests;
+mod verdict;
+
+pub use command::serve;
+pub use fault::ServeFault;
+pub use outcome::{LinkReports, Outcome};
+pub use terms::Serving;
+pub use verdict::Verdict;

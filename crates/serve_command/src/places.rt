@@ -1,0 +1,61 @@
+//! The doors of the two places.
+
+ghost use Rattle.std.specs.Prelude.{◌≡◌, ◌++◌, [], List, Option, map, length, IfOk, IfErr};
+ghost use Rattle.daap_outside.specs.Places.{Returned};
+ghost use Rattle.daap_outside.specs.Told.{Grows};
+ghost use Rattle.serve_command.specs.Places.{net_seen, AreNew, HasOpened, FailsToOpen};
+
+use crate::fault::{ServeFault, net_fault};
+use crate::terms::Serving;
+use command_core::Fault;
+use daap_outside::Net;
+
+/// The doors of both places, before anybody waits at them.
+#[derive(Drop)]
+pub(crate) struct Doors<D> {
+    pub(crate) listen: Vec<D>,
+    pub(crate) edit: Vec<D>,
+}
+
+/// Opens the place of the players and then that of those who change the share. Where the second is not opened, the doors of
+/// the first are given back.
+pub(crate) fn opened<N: Net>(
+    net: &mut N,
+    serving: &Serving,
+) -> Result<Doors<N::D>, Fault<ServeFault>>
+    ensures opened { IfOk result (λ doors. HasOpened serving.now
+        (net_seen (N.asked net.old) (N.written net.old) (N.door_links net.old) (N.next_input net.old) (N.faults net.old))
+        (net_seen (N.asked net.new) (N.written net.new) (N.door_links net.new) (N.next_input net.new) (N.faults net.new))
+        (length doors.listen.items) (length doors.edit.items) (map N.D.coming (doors.listen.items ++ doors.edit.items))) }
+    ensures listen { IfOk result (λ doors. AreNew N.D.written N.D.faults (N.written net.old) doors.listen.items) }
+    ensures edit { IfOk result (λ doors. AreNew N.D.written N.D.faults (N.written net.old) doors.edit.items) }
+    ensures failed { IfErr result (λ stop. FailsToOpen serving.now
+        (net_seen (N.asked net.old) (N.written net.old) (N.door_links net.old) (N.next_input net.old) (N.faults net.old))
+        (net_seen (N.asked net.new) (N.written net.new) (N.door_links net.new) (N.next_input net.new) (N.faults net.new))
+        stop) }
+{
+    let listen = match net.listen(serving.listen.as_str(), serving.workers) {
+        Ok(doors) => doors,
+        Err(error) => return Err(net_fault(error)),
+    };
+    match net.listen(serving.edit.as_str(), serving.editors) {
+        Ok(edit) => Ok(Doors { listen, edit }),
+        Err(error) => {
+            shut_all(net, listen);
+            Err(net_fault(error))
+        }
+    }
+}
+
+/// Gives doors back at which nobody waited.
+pub(crate) fn shut_all<N: Net>(net: &mut N, doors: Vec<N::D>)
+    ensures asked { N.asked net.new ≡ N.asked net.old }
+    ensures written { (kept : Option (List Returned)) → AreNew N.D.written N.D.faults kept doors.items
+        → Grows kept (N.written net.old) [] → Grows kept (N.written net.new) [] }
+    ensures count { (kept : Option (List Returned)) → AreNew N.D.written N.D.faults kept doors.items
+        → N.faults net.new ≡ N.faults net.old }
+{
+    for door in doors {
+        net.shut(door);
+    }
+}
