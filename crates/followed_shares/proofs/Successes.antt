@@ -1,0 +1,162 @@
+-- What a client reads where a share answers with a success.
+use Rattle.std.proofs.Common.{◌≡◌, ◌≤◌, ◌++◌, [], ℕ, List, Bool, ◌⊎◌, inl, inr, true, false, cond, ◌&&◌, ◌==◌, not, length, refl, sym, ap, ◌∙◌, subst, true≢false, append_assoc, Option, Some, None, Ok, Err}
+use Rattle.std.specs.Option.{option_or, option_map_or}
+use Rattle.dmap_tags.specs.Spelling.{spelling}
+use Rattle.dmap_tags.specs.Tree.{Tree}
+use Rattle.item_model.specs.declared.changes.Entry.{Entry}
+use Rattle.share_history.specs.LastSaid.{only_if}
+use Rattle.share_history.specs.Sessions.{is_stopped}
+use Rattle.share_asks.specs.declared.ask.AskError.TheVariants.{Path, Method, Parameter, Query}
+use Rattle.share_asks.specs.declared.ask.Want.{Want}
+use Rattle.share_asks.specs.declared.ask.Want.TheVariants.{ServerInfo, Codes, Login, Logout, Update, Databases, Rows, Lists, Values, Edit, Stop, Bad}
+use Rattle.share_asks.specs.declared.form.BodyForm.TheVariants.{Dmap, NoBody}
+use Rattle.share_replies.specs.Settings.{Settings}
+use Rattle.share_replies.specs.Replies.{Answer, Body, Holds, Nothing, Replies, Reply, Tagged, answer_to, first_of, is_held, lacks_container, lacks_session, meets_limit, records_fault, refusal, reply_with, request_fault, success}
+use Rattle.http_front.specs.ReplyHeads.{reply_head_text}
+use Rattle.http_heads.specs.declared.kind.Kind.TheVariants as kind
+use Rattle.http_heads.specs.Limits.{reply_limit}
+use Rattle.http_heads.specs.Messages.{Message, print_message}
+use Rattle.http_heads.proofs.Messages.{message_once}
+use Rattle.http_client.specs.Replies.{IsReply, Reply as read_reply}
+use Rattle.http_client.proofs.ReplyLaws.{one_reply}
+use Rattle.reply_bytes.specs.ReplyBytes.{body_bytes, form_of, reply_bytes, with_head}
+use Rattle.followed_shares.specs.Served.{Serves, due_status}
+use Rattle.followed_shares.proofs.HeadsRead.{empty_read, tag_read}
+
+-- ---- refusals have other statuses
+
+pub is_bad : ℕ × Body → Bool
+is_bad told = not (told.0 == 200) && not (told.0 == 204)
+
+abbrev all_bad : Option (ℕ × Body) → Bool
+all_bad found = option_map_or (λ told. not (told.0 == 200) && not (told.0 == 204)) found true
+
+or_bad : (a b : Option (ℕ × Body)) → all_bad a ≡ true → all_bad b ≡ true → all_bad (option_or a b) ≡ true
+or_bad None b ha hb = hb
+or_bad (Some told) b ha hb = ha
+
+only_bad : (b : Bool) (told : ℕ × Body) → all_bad (Some told) ≡ true → all_bad (only_if b told) ≡ true
+only_bad true told h = h
+only_bad false told h = refl
+
+faulty_bad : (want : Want) → all_bad (request_fault want) ≡ true
+faulty_bad (Bad Path) = refl
+faulty_bad (Bad (Method allow)) = refl
+faulty_bad (Bad (Parameter name)) = refl
+faulty_bad (Bad (Query error)) = refl
+faulty_bad ServerInfo = refl
+faulty_bad Codes = refl
+faulty_bad Login = refl
+faulty_bad (Logout session) = refl
+faulty_bad (Update session number) = refl
+faulty_bad (Databases session) = refl
+faulty_bad (Rows session target look) = refl
+faulty_bad (Lists session) = refl
+faulty_bad (Values session browse query) = refl
+faulty_bad (Edit body) = refl
+faulty_bad Stop = refl
+
+records_bad : (want : Want) → all_bad (records_fault want) ≡ true
+records_bad (Edit (Err error)) = refl
+records_bad (Edit (Ok batch)) = refl
+records_bad ServerInfo = refl
+records_bad Codes = refl
+records_bad Login = refl
+records_bad (Logout session) = refl
+records_bad (Update session number) = refl
+records_bad (Databases session) = refl
+records_bad (Rows session target look) = refl
+records_bad (Lists session) = refl
+records_bad (Values session browse query) = refl
+records_bad Stop = refl
+records_bad (Bad fault) = refl
+
+refusal_bad : (h : List Entry) (want : Want) → all_bad (refusal h want) ≡ true
+refusal_bad h want =
+    or_bad (only_if (is_stopped h) (503, Nothing)) _ (only_bad (is_stopped h) (503, Nothing) refl)
+    (or_bad (request_fault want) _ (faulty_bad want)
+    (or_bad (only_if (lacks_session h want) (403, Nothing)) _ (only_bad (lacks_session h want) (403, Nothing) refl)
+    (or_bad (only_if (lacks_container h want) (404, Nothing)) _ (only_bad (lacks_container h want) (404, Nothing) refl)
+    (or_bad (records_fault want) _ (records_bad want)
+    (or_bad (only_if (meets_limit h want) (507, Nothing)) None (only_bad (meets_limit h want) (507, Nothing) refl) refl)))))
+
+told_in : Answer → ℕ × Body → ℕ × Body
+told_in (Replies reply) other = (reply.status, reply.body)
+told_in Holds other = other
+
+by_found : (h : List Entry) (want : Want) (found : Option (ℕ × Body)) (held : Bool) (told : ℕ × Body) (reply : Reply)
+    → option_map_or (reply_with h want) found (cond held Holds (reply_with h want told)) ≡ Replies reply → all_bad found ≡ true
+    → is_bad (reply.status, reply.body) ≡ false → (reply.status, reply.body) ≡ told
+unfolding told_in is_bad
+by_found h want (Some t) held told reply is bad good =
+    let same : t ≡ (reply.status, reply.body) = ap (λ (a : Answer). told_in a t) is in
+    absurd (true≢false (sym bad ∙ ap is_bad same ∙ good))
+by_found h want None true told reply is bad good = absurd (cc)
+by_found h want None false told reply is bad good = sym (ap (λ (a : Answer). told_in a told) is)
+
+success_is : (s : Settings) (h : List Entry) (want : Want) (reply : Reply) → answer_to s h want ≡ Replies reply → is_bad (reply.status, reply.body) ≡ false
+    → (reply.status, reply.body) ≡ success s h want
+success_is s h want reply is good = by_found h want (refusal h want) (is_held h want) (success s h want) reply is (refusal_bad h want) good
+
+due_good : (want : Want) (status : ℕ) (body : Body) → status ≡ due_status want → is_bad (status, body) ≡ false
+unfolding is_bad
+due_good ServerInfo status body e = rw e refl
+due_good Codes status body e = rw e refl
+due_good Login status body e = rw e refl
+due_good (Logout session) status body e = rw e refl
+due_good (Update session number) status body e = rw e refl
+due_good (Databases session) status body e = rw e refl
+due_good (Rows session target look) status body e = rw e refl
+due_good (Lists session) status body e = rw e refl
+due_good (Values session browse query) status body e = rw e refl
+due_good (Edit body') status body e = rw e refl
+due_good Stop status body e = rw e refl
+due_good (Bad fault) status body e = rw e refl
+
+-- a reply that is no refusal is the success, byte by byte
+pub success_bytes : (s : Settings) (h : List Entry) (want : Want) (reply : Reply) (last : Bool) (status : ℕ) (body : Body) → answer_to s h want ≡ Replies reply
+    → is_bad (reply.status, reply.body) ≡ false → success s h want ≡ (status, body) → reply_bytes reply last ≡ with_head status (form_of body) (body_bytes body) last
+success_bytes s h want reply last status body answers good is =
+    ap (λ (t : ℕ × Body). with_head t.0 (form_of t.1) (body_bytes t.1) last) (success_is s h want reply answers good ∙ is)
+
+pub good_status : (status : ℕ) (body : Body) → (status ≡ 200) ⊎ (status ≡ 204) → is_bad (status, body) ≡ false
+unfolding is_bad
+good_status status body (inl e) = rw e refl
+good_status status body (inr e) = rw e refl
+
+served_as : (s : Settings) (want : Want) (h : List Entry) (bytes rest : List ℕ) (status : ℕ) (body : Body) (x : Serves s want h bytes rest) → success s h want ≡ (status, body)
+    → bytes ≡ with_head status (form_of body) (body_bytes body) x.last ++ rest
+served_as s want h bytes rest status body x is =
+    x.spelled
+    ∙ ap (λ (text : List ℕ). text ++ rest)
+    (success_bytes s h want x.reply x.last status body x.answers (due_good want x.reply.status x.reply.body x.succeeds) is)
+
+-- ---- what is read
+
+-- the bytes begin with a message that is this answer
+pub record Begins (bytes rest : List ℕ) (answer : read_reply) : Type 0 where
+  pub message : Message
+  pub is : IsReply message answer
+  pub split : bytes ≡ print_message message ++ rest
+
+pub tag_served : (s : Settings) (want : Want) (h : List Entry) (bytes rest : List ℕ) (tag : Tree) → Serves s want h bytes rest → success s h want ≡ (200, Tagged tag)
+    → length (spelling tag) ≤ reply_limit → Begins bytes rest (200, spelling tag)
+tag_served s want h bytes rest tag x is few = record {
+  message = record { head = reply_head_text 200 Dmap (length (spelling tag)) x.last; body = spelling tag };
+  is = tag_read (spelling tag) x.last few;
+  split = served_as s want h bytes rest 200 (Tagged tag) x is;
+}
+
+pub empty_served : (s : Settings) (want : Want) (h : List Entry) (bytes rest : List ℕ) → Serves s want h bytes rest → success s h want ≡ (204, Nothing) → Begins bytes rest (204, [])
+empty_served s want h bytes rest x is = record {
+  message = record { head = reply_head_text 204 NoBody 0 x.last; body = [] };
+  is = empty_read x.last;
+  split = served_as s want h bytes rest 204 Nothing x is;
+}
+
+-- whatever message the bytes begin with, it is that one
+pub answer_is : (m : Message) (answer told : read_reply) (bytes more rest : List ℕ) → IsReply m answer → bytes ≡ print_message m ++ more → Begins bytes rest told
+    → (answer ≡ told) × (more ≡ rest)
+answer_is m answer told bytes more rest is split b =
+    let same = message_once kind.Reply m b.message more rest is.0 b.is.0 (sym split ∙ b.split) in
+    (one_reply b.message answer told (subst (λ (n : Message). IsReply n answer) same.0 is) b.is, same.1)

@@ -1,0 +1,72 @@
+-- What a share sends to a client that follows it: its replies, one behind the other, at points of its history that never fall.
+use Rattle.std.specs.Prelude.{◌≡◌, ⊤, ℕ, List, [], ◌∷◌, ◌++◌, Bool, Option}
+use Rattle.item_model.specs.declared.changes.Entry.{Entry}
+use Rattle.item_model.specs.declared.query.Query.{Query}
+use Rattle.item_model.specs.declared.request.Meta.{Meta}
+use Rattle.item_model.specs.declared.request.Target.{Target}
+use Rattle.share_asks.specs.declared.ask.Want.{Want}
+use Rattle.share_asks.specs.declared.ask.Want.TheVariants.{ServerInfo, Codes, Login, Logout, Update, Databases, Rows, Lists, Values, Edit, Stop, Bad}
+use Rattle.share_history.specs.Histories.{batches, revision}
+use Rattle.share_history.specs.Mirror.{mirror_look}
+use Rattle.share_history.specs.Sessions.{next_session}
+use Rattle.share_replies.specs.Settings.{Settings}
+use Rattle.share_replies.specs.Replies.{Reply, Replies, answer_to}
+use Rattle.reply_bytes.specs.ReplyBytes.{reply_bytes}
+
+-- the status of the success that a client waits for
+abbrev pub due_status : Want → ℕ
+due_status (Logout session) = 204
+due_status want = 200
+
+-- the bytes are the share's reply at a point of its history, with the status that is due, and then a rest; the reply may say that
+-- the connection ends behind it
+pub record Serves (s : Settings) (want : Want) (h : List Entry) (bytes rest : List ℕ) : Type 0 where
+  pub reply : Reply
+  pub last : Bool
+  pub answers : answer_to s h want ≡ Replies reply
+  pub succeeds : reply.status ≡ due_status want
+  pub spelled : bytes ≡ reply_bytes reply last ++ rest
+
+-- a round: the point at which the listing was answered, and the one at which what was asked behind it was
+abbrev pub Round : Type 0
+Round = List Entry × List Entry
+
+-- behind the last round that is the logout, and behind each other one the next revision
+abbrev pub asked_behind : ℕ → ℕ → List Round → Want
+asked_behind session base [] = Logout session
+asked_behind session base (r ∷ rs) = Update session base
+
+-- rounds of the target's listing, where the base of each is the revision that the one before told
+abbrev pub ServesRounds : Settings → ℕ → Target → Option Query → Meta → ℕ → List Round → List ℕ → Type 0
+ServesRounds s session target query meta base [] bytes = bytes ≡ []
+ServesRounds s session target query meta base (r ∷ rs) bytes =
+    (mid rest : List ℕ) × Serves s (Rows session target (mirror_look query meta base)) r.0 bytes mid
+    × Serves s (asked_behind session (revision (batches r.0)) rs) r.1 mid rest
+    × ServesRounds s session target query meta (revision (batches r.0)) rs rest
+
+abbrev pub points_of : List Round → List (List Entry)
+points_of [] = []
+points_of (r ∷ rs) = r.0 ∷ r.1 ∷ points_of rs
+
+-- each point begins the next one, and the last begins the history
+abbrev pub first_of : List (List Entry) → List Entry → List Entry
+first_of [] h = h
+first_of (p ∷ ps) h = p
+
+abbrev pub Rise : List (List Entry) → List Entry → Type 0
+Rise [] h = ⊤
+Rise (p ∷ ps) h = ((later : List Entry) × (first_of ps h ≡ p ++ later)) × Rise ps h
+
+-- the bytes are all that a share sends to a client that learns its table, logs in, follows a listing for one round or more, and
+-- logs out
+pub record ServesRun (s : Settings) (target : Target) (query : Option Query) (meta : Meta) (h : List Entry) (bytes : List ℕ) : Type 0 where
+  pub table : List Entry
+  pub login : List Entry
+  pub first : Round
+  pub others : List Round
+  pub behind_table : List ℕ
+  pub behind_login : List ℕ
+  pub told : Serves s Codes table bytes behind_table
+  pub entered : Serves s Login login behind_table behind_login
+  pub rounds : ServesRounds s (next_session login) target query meta 0 (first ∷ others) behind_login
+  pub rise : Rise (table ∷ login ∷ points_of (first ∷ others)) h

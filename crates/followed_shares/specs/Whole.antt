@@ -1,0 +1,43 @@
+-- Histories as a share has them: values are such as a program has, and no limit is passed.
+use Rattle.std.specs.Prelude.{◌≡◌, ◌≤◌, ℕ, List, Bool, true, length, count_by}
+use Rattle.std.specs.List.{AllByRecursion}
+use Rattle.std.specs.Str.{is_utf8}
+use Rattle.item_model.specs.declared.changes.Edit.{Edit}
+use Rattle.item_model.specs.declared.changes.Edit.TheVariants.{PutItem, DropItem, PutList, PutRule, DropList, PutMember, DropMember}
+use Rattle.item_model.specs.declared.changes.Entry.{Entry}
+use Rattle.item_model.specs.declared.item.PropValue.{PropValue}
+use Rattle.item_model.specs.declared.item.PropValue.TheVariants.{Number, Text}
+use Rattle.item_model.specs.declared.item.Row.{Row}
+use Rattle.item_model.specs.declared.property.Property.{Property}
+use Rattle.item_model.specs.Items.{is_item}
+use Rattle.item_model.specs.Valid.{is_valid}
+use Rattle.share_history.specs.Histories.{all_edits}
+use Rattle.share_history.specs.Limits.{takes_place}
+use Rattle.share_history.specs.Numbers.{most_edits, most_entries}
+
+-- a text is UTF-8
+abbrev pub IsText : PropValue → Type 0
+IsText (Number n) = Unit {0}
+IsText (Text bytes) = is_utf8 bytes ≡ true
+
+-- an item has each property once, with a value of its kind
+pub record IsWholeRow (row : Row) : Type 0 where
+  pub item : is_item row.item ≡ true
+  pub texts : AllByRecursion (λ e. IsText e.1) row.item
+
+abbrev pub PutsWhole : Edit → Type 0
+PutsWhole (PutItem row) = IsWholeRow row
+PutsWhole (DropItem id) = Unit {0}
+PutsWhole (PutList list name) = Unit {0}
+PutsWhole (PutRule list name rule) = Unit {0}
+PutsWhole (DropList list) = Unit {0}
+PutsWhole (PutMember list member item) = Unit {0}
+PutsWhole (DropMember list member) = Unit {0}
+
+abbrev pub AreWhole : List Edit → Type 0
+AreWhole edits = AllByRecursion (λ e. (is_valid e ≡ true) × PutsWhole e) edits
+
+pub record IsWhole (h : List Entry) : Type 0 where
+  pub edits : AreWhole (all_edits h)
+  pub few_edits : length (all_edits h) ≤ most_edits
+  pub few_entries : count_by takes_place h ≤ most_entries
