@@ -1,0 +1,56 @@
+-- What a net keeps of one link, and how its count of faults tells of the link's.
+use Rattle.std.proofs.Common.{◌≡◌, ℕ, Bool, List, [], ◌∷◌, ◌++◌, length, Option, Some, IfSome, sym, subst, ◌∙◌, inl, inr, arith, append-nil}
+use Rattle.std.specs.Io.KnownBytes.{Appends}
+use Rattle.std.proofs.lemmas.List.{take_all}
+use Rattle.daap_outside.specs.Counts.{Rose, RisesWith}
+use Rattle.daap_outside.specs.Places.{returned}
+use Rattle.daap_outside.specs.Told.{AppendsPrefix, BeginsEmpty, Grows, GrowsByTold}
+use Rattle.command_core.specs.Seen.{NetSeen}
+use Rattle.mirror_client.specs.declared.refusal.FollowError.{FollowError}
+use Rattle.mirror_client.specs.declared.refusal.FollowError.TheVariants.{LinkFault}
+use Rattle.mirror_client.specs.Exchanges.{Exchanged}
+use Rattle.mirror_client.specs.Points.{Point}
+use Rattle.http_client.specs.Replies.{Reply}
+use Rattle.mirror_client.specs.Stopping.{CountsFault, Stops}
+use Rattle.link_commands.specs.Linked.{HasLinked, LinkSeen, net_seen}
+
+-- the calls on the net, and the link between them
+pub linked : (host : List ℕ) (asked asked' asked'' : Option (List (List ℕ × ℕ))) (written written' written'' : Option (List (List ℕ × Bool)))
+    (doors doors' doors'' : Option (List (List (List ℕ)))) (next next'' : Option (List ℕ)) (faults faults' faults'' : ℕ) (link : LinkSeen)
+    → Grows asked asked' ((host, 0) ∷ []) → asked'' ≡ asked' → BeginsEmpty written link.begun → IfSome next (λ input. link.left ≡ Some input)
+    → written' ≡ written → GrowsByTold written' written'' (returned link.taken link.faults) → doors' ≡ doors → doors'' ≡ doors' → faults' ≡ faults
+    → RisesWith faults' faults'' link.faults
+    → HasLinked host (net_seen asked written doors next faults) (net_seen asked'' written'' doors'' next'' faults'') link
+linked host asked asked' asked'' written written' written'' doors doors' doors'' next next'' faults faults' faults'' link asks same empty input keeps grows stay stays steady rises = record {
+  asked = subst (λ (a : Option (List (List ℕ × ℕ))). Grows asked a ((host, 0) ∷ [])) (sym same) asks;
+  begun = empty;
+  input = input;
+  written = subst (λ (w : Option (List (List ℕ × Bool))). GrowsByTold w written'' (returned link.taken link.faults)) keeps grows;
+  doors = stays ∙ stay;
+  count = subst (λ (n : ℕ). RisesWith n faults'' link.faults) steady rises;
+}
+
+-- a fault of the link is one of the net
+pub link_rose : (host : List ℕ) (before after : NetSeen) (link : LinkSeen) → HasLinked host before after link → CountsFault 0 link.faults LinkFault
+    → Rose before.faults after.faults
+link_rose host before after link linked rose = let r = rose.1 in linked.count.faulty (omega (arith, r))
+
+-- all of it is a front
+pub whole_front : (before now : Option (List ℕ)) (bytes : List ℕ) → Appends before now bytes → AppendsPrefix before now bytes
+whole_front before now bytes h = (length bytes, omega arith, subst (Appends before now) (sym (take_all (length bytes) bytes (omega arith))) h)
+
+-- an answered request was written whole
+pub written_whole : (request : List ℕ) (p q : Point) (answer : Reply) (taken : Option (List ℕ)) → Exchanged request p q answer → q.taken ≡ taken → AppendsPrefix p.taken taken request
+written_whole request p q answer taken x same =
+    subst (λ (t : Option (List ℕ)). AppendsPrefix p.taken t request) same
+    (whole_front p.taken q.taken request (subst (Appends p.taken q.taken) (append-nil request) x.went.written))
+
+-- what stopped was written in part
+pub written_part : (request : List ℕ) (Undue : ℕ → Reply → FollowError → Type 0) (p : Point) (taken : Option (List ℕ)) (e : FollowError) → Stops request Undue p taken e
+    → AppendsPrefix p.taken taken request
+written_part request Undue p taken e (inl s) = s.written
+written_part request Undue p taken e (inr a) =
+    subst (λ (t : Option (List ℕ)). AppendsPrefix p.taken t request) a.written
+    (whole_front p.taken a.there.taken request
+    (subst (Appends p.taken a.there.taken) (append-nil request)
+    (subst (λ (r : List ℕ). Appends p.taken a.there.taken (r ++ [])) a.asked a.went.written)))

@@ -1,0 +1,26 @@
+use Rattle.std.proofs.Common.{◌≡◌, ◌≤◌, ◌*◌, List, length}
+use Rattle.share_history.specs.Listings.{Listing}
+use Rattle.command_core.specs.Endings.{IsWritten}
+use Rattle.command_core.specs.Seen.{output_seen}
+use Rattle.mirror_client.specs.Points.{nothing_read, place}
+use Rattle.mirror_client.specs.Stages.{Begun, Holding, Walks}
+use Rattle.mirror_client.specs.Steps.{with_listings}
+use Rattle.link_commands.specs.FollowShare.{lines_of}
+use Rattle.link_commands.proofs.rounds.follow_rounds.Given as goal
+
+-- so many listings were taken in and told, and the client holds them
+abbrev pub invariant-loop-round : goal.invariant-loop-round
+invariant-loop-round g l = record {
+  listings : List Listing;
+  count : length listings ≡ l.round;
+  within : l.round ≤ l.fn.rounds;
+  holds : l.mirror ≡ with_listings l.fn.mirror listings;
+  walks :
+      Walks l.fn.host l.fn.mirror l.fn.rounds Begun (place (g.K.Sink.taken l.fn.link) (g.K.Source.left l.fn.link) nothing_read) (Holding l.follower.known listings)
+      (place (g.K.Sink.taken l.link) (g.K.Source.left l.link) l.follower.ahead);
+  host : l.follower.host ≡ l.fn.host;
+  calls : l.follower.calls ≤ 2 * l.round;
+  query : l.mirror.query ≡ l.fn.mirror.query;
+  faultless : g.K.Faulted.faults l.link ≡ g.K.Faulted.faults l.fn.link;
+  told : IsWritten (output_seen (g.W.Sink.taken l.fn.output) (g.W.Faulted.faults l.fn.output)) (output_seen (g.W.Sink.taken l.output) (g.W.Faulted.faults l.output)) (lines_of l.fn.mirror listings);
+}

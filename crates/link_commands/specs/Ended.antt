@@ -1,0 +1,24 @@
+-- What is written behind the last round, or behind why there was none.
+use Rattle.std.specs.Prelude.{◌≡◌, ◌⊎◌, ℕ, List, None}
+use Rattle.dmap_tags.specs.Tree.{Tree}
+use Rattle.command_core.specs.declared.outcome.Outcome.{Outcome}
+use Rattle.command_core.specs.Answers.{TellsDone, TellsFault, TellsMemory}
+use Rattle.command_core.specs.Seen.{OutputSeen}
+use Rattle.link_commands.specs.declared.rounds.Stop.{Stop}
+use Rattle.link_commands.specs.declared.rounds.Stop.TheVariants.{Output, Link}
+use Rattle.link_commands.specs.FollowShare.{follow_line, follow_status, link_fault}
+use Rattle.link_commands.specs.RoundLines.{shown_rows}
+
+-- the rows, or that memory is wanted for them
+abbrev pub TellsRows : List (ℕ × Tree) → OutputSeen → OutputSeen → Outcome → Type 0
+TellsRows rows before after outcome = TellsDone None (shown_rows rows) before after outcome ⊎ TellsMemory None before after outcome
+
+-- a failed output gets no line
+pub record TellsNothing (before after : OutputSeen) (outcome : Outcome) : Type 0 where
+  pub unopened : outcome.history ≡ None
+  pub status : outcome.status ≡ 5
+  pub untold : after ≡ before
+
+abbrev pub TellsStop : Stop → OutputSeen → OutputSeen → Outcome → Type 0
+TellsStop Output before after outcome = TellsNothing before after outcome
+TellsStop (Link e) before after outcome = TellsFault follow_line follow_status (link_fault e) before after outcome

@@ -1,0 +1,11 @@
+pub mod Linked
+pub mod Links
+pub mod Meanings
+pub mod Looks
+pub mod LookFaults
+pub mod RoundLines
+pub mod Served
+pub mod EditShare
+pub mod FollowShare
+pub mod Rounds
+pub mod Ended

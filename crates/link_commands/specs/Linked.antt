@@ -1,0 +1,56 @@
+-- What a command leaves of a net that it asked for one link.
+use Rattle.std.specs.Prelude.{◌≡◌, ℕ, Bool, List, [], ◌∷◌, Option, Some, IfSome}
+use Rattle.daap_outside.specs.Counts.{Rose, RisesWith}
+use Rattle.daap_outside.specs.Places.{returned}
+use Rattle.daap_outside.specs.Told.{BeginsEmpty, Grows, GrowsByTold}
+use Rattle.command_core.specs.Seen.{FilesSeen, InputSeen, IsUnread, NetSeen, OutputSeen, Seen, Told}
+use Rattle.mirror_client.specs.Points.{Point, nothing_read, place}
+
+-- a link: what it had taken and had left to read when it was made, and what it had taken and how many faults were counted on it
+-- when it was given back
+pub record LinkSeen : Type 0 where
+  pub begun : Option (List ℕ)
+  pub left : Option (List ℕ)
+  pub taken : Option (List ℕ)
+  pub faults : ℕ
+
+abbrev pub link_seen : (begun left taken : Option (List ℕ)) → ℕ → LinkSeen
+link_seen begun left taken faults = record { begun = begun; left = left; taken = taken; faults = faults }
+
+-- where a client stands that was just linked
+abbrev pub start_of : LinkSeen → Point
+start_of link = place link.begun link.left nothing_read
+
+-- the place was asked for once, and the link was given back
+pub record HasLinked (host : List ℕ) (before after : NetSeen) (link : LinkSeen) : Type 0 where
+  pub asked : Grows before.asked after.asked ((host, 0) ∷ [])
+  pub begun : BeginsEmpty before.written link.begun
+  pub input : IfSome before.next_input (λ input. link.left ≡ Some input)
+  pub written : GrowsByTold before.written after.written (returned link.taken link.faults)
+  pub doors : after.door_links ≡ before.door_links
+  pub count : RisesWith before.faults after.faults link.faults
+
+-- nothing was read, and the net was left alone
+pub record IsUntouched (before after : Seen) : Type 0 where
+  pub unread : IsUnread before.input after.input
+  pub net : after.around.net ≡ before.around.net
+
+-- it was asked for once, and no link was made
+pub record IsUnreached (host : List ℕ) (before after : NetSeen) : Type 0 where
+  pub asked : Grows before.asked after.asked ((host, 0) ∷ [])
+  pub written : after.written ≡ before.written
+  pub doors : after.door_links ≡ before.door_links
+  pub rose : Rose before.faults after.faults
+
+abbrev pub net_seen : Option (List (List ℕ × ℕ)) → Option (List (List ℕ × Bool)) → Option (List (List (List ℕ))) → Option (List ℕ) → ℕ → NetSeen
+net_seen asked written door_links next_input faults =
+    record { asked = asked; written = written; door_links = door_links; next_input = next_input; faults = faults }
+
+-- a run that leaves the files alone
+abbrev pub told_over : FilesSeen → (input_before input_after : InputSeen) (net_before net_after : NetSeen) (output_before output_after : OutputSeen) → Told
+told_over files input_before input_after net_before net_after output_before output_after = record {
+  before = record { input = input_before; around = record { files = files; net = net_before } };
+  after = record { input = input_after; around = record { files = files; net = net_after } };
+  output_before = output_before;
+  output_after = output_after;
+}

@@ -1,0 +1,38 @@
+-- What the texts of `--query` and `--meta` ask for.
+use Rattle.std.specs.Prelude.{◌≡◌, ℕ, List, [], Option, Some, None, Ok, Err}
+use Rattle.item_model.specs.Names.{meta_of}
+use Rattle.item_model.specs.declared.query.Query.{Query}
+use Rattle.item_model.specs.declared.refusal.QueryError.{QueryError}
+use Rattle.item_model.specs.declared.request.Meta.{Meta}
+use Rattle.item_model.specs.declared.request.Meta.TheVariants.{Default}
+use Rattle.item_model.specs.declared.request.Target.{Target}
+use Rattle.mirror_core.specs.Mirrored.{Mirrored}
+use Rattle.song_query.specs.Answers.{Answers}
+
+-- the query of a text; without a text, none
+abbrev pub AsksQuery : Option (List ℕ) → Option Query → Type 0
+AsksQuery None None = Unit {0}
+AsksQuery None (Some query) = ⊥
+AsksQuery (Some text) None = ⊥
+AsksQuery (Some text) (Some query) = Answers text (Ok query)
+
+abbrev pub HasRefusal : Option (List ℕ) → QueryError → Type 0
+HasRefusal None error = ⊥
+HasRefusal (Some text) error = Answers text (Err error)
+
+-- the properties of a text; without a text, those that are shown by default
+abbrev pub meta_asked : Option (List ℕ) → Option Meta
+meta_asked None = Some Default
+meta_asked (Some text) = meta_of text
+
+-- a mirror that holds nothing yet
+abbrev pub mirror_of : Target → Option Query → Meta → Mirrored
+mirror_of target query meta = record { target = target; query = query; meta = meta; held = record { revision = 0; rows = [] } }
+
+-- the texts ask for this mirror
+pub record AsksMirror (query meta : Option (List ℕ)) (target : Target) (m : Mirrored) : Type 0 where
+  pub asked : Option Query
+  pub shown : Meta
+  pub query_is : AsksQuery query asked
+  pub meta_is : meta_asked meta ≡ Some shown
+  pub is : m ≡ mirror_of target asked shown

@@ -1,0 +1,177 @@
+//! The command `edit`: records or a stop for a share.
+
+ghost use Rattle.std.specs.Prelude.{◌≡◌, ◌++◌, Bool, Ok, IfOk, IfErr, MatchResult, option_copied};
+ghost use Rattle.command_core.specs.Seen.{FilesSeen, InputSeen, input_seen, output_seen};
+ghost use Rattle.mirror_client.specs.declared.pushing.Pushed.{Pushed};
+ghost use Rattle.link_commands.specs.EditShare.{HasBody, HasPushed, HasSent, IsToldFault, StopsSending, edit_line, edit_meaning, edit_status, push_fault, read_fault, shown_text, told_of};
+ghost use Rattle.link_commands.specs.Linked.{link_seen, net_seen, told_over};
+ghost use Rattle.link_commands.specs.Meanings.{IsLinkAnswered};
+
+use crate::answer::{link_line, link_status, number_line};
+use command_core::{Fault, Outcome, Refusal, refused, written};
+use daap_outside::{Failed, Link, Net, ReadError, Sink, Source, read_within};
+use dmap_tags::Bytes;
+use mirror_client::{FollowError, Pushed, push_link};
+use std::alloc::{AllocError, Global};
+
+/// The most bytes of records that are sent.
+const RECORDS_LIMIT: u64 = 4_194_304;
+
+/// The longest text of a share's refusal that is shown.
+const TEXT_LIMIT: usize = 4_096;
+
+/// Why nothing was edited or stopped.
+#[derive(Debug, Drop)]
+pub enum EditFault {
+    /// The input has more bytes than are sent.
+    TooLong,
+    /// No link to the place was made.
+    Unreached,
+    /// The share refused. `text` is what it says of that.
+    Refused { status: u16, text: Bytes },
+    /// The exchange with the share ended early.
+    Link(FollowError),
+}
+
+impl Refusal for EditFault {
+    ghost told_line = { edit_line };
+
+    ghost told_status = { edit_status };
+
+    fn line(&self, alloc: Global) -> Result<Vec<u8>, AllocError> {
+        match self {
+            EditFault::TooLong => Vec::from_slice(alloc, b"limit: input\n"),
+            EditFault::Unreached => Vec::from_slice(alloc, b"network failed\n"),
+            EditFault::Refused { status, text } => {
+                let mut line = number_line(alloc, b"peer: refused ", u64::from(*status))?;
+                line.extend_from_slice(shown_text(text))?;
+                Ok(line)
+            }
+            EditFault::Link(error) => link_line(alloc, error),
+        }
+    }
+
+    fn status(&self) -> u8 {
+        match self {
+            EditFault::TooLong => 8,
+            EditFault::Unreached => 6,
+            EditFault::Refused { .. } => 7,
+            EditFault::Link(error) => link_status(error),
+        }
+    }
+}
+
+/// What is shown of a share's text.
+fn shown_text(text: &Bytes) -> &[u8]
+    ensures { result.now ≡ shown_text text.now }
+{
+    if text.as_slice().len() <= TEXT_LIMIT {
+        text.as_slice()
+    } else {
+        b""
+    }
+}
+
+/// Does `edit`: sends the records of the input, or a stop, to the share at a place, and tells what it made of them.
+pub fn edit_share<I: Source, W: Sink, N: Net>(
+    alloc: Global,
+    place: &str,
+    stop: bool,
+    input: &mut I,
+    output: &mut W,
+    net: &mut N,
+) -> Outcome
+    ensures { (files : FilesSeen) → IsLinkAnswered (edit_meaning place.now stop)
+        (told_over files
+        (input_seen (I.left input.old) (I.faults input.old))
+        (input_seen (I.left input.new) (I.faults input.new))
+        (net_seen (N.asked net.old) (N.written net.old) (N.door_links net.old) (N.next_input net.old) (N.faults net.old))
+        (net_seen (N.asked net.new) (N.written net.new) (N.door_links net.new) (N.next_input net.new) (N.faults net.new))
+        (output_seen (W.taken output.old) (W.faults output.old))
+        (output_seen (W.taken output.new) (W.faults output.new)))
+        result }
+{
+    match net.connect(place) {
+        Ok(mut link) => {
+            let answer = sent(alloc, place, stop, input, &mut link);
+            net.hang_up(link);
+            written(alloc, output, answer)
+        }
+        Err(Failed) => refused(alloc, output, &Fault::Own(EditFault::Unreached)),
+    }
+}
+
+/// Sends what is to be sent over the link, and tells what came of it.
+fn sent<I: Source, K: Link>(
+    alloc: Global,
+    place: &str,
+    stop: bool,
+    input: &mut I,
+    link: &mut K,
+) -> Result<Vec<u8>, Fault<EditFault>>
+    requires { K.faults link.old ≡ 0 }
+    ensures sent { IfOk result (λ bytes. (made : Pushed) × HasSent place.now stop (input_seen (I.left input.old) (I.faults input.old)) (input_seen (I.left input.new) (I.faults input.new))
+        (link_seen (K.taken link.old) (K.left link.old) (K.taken link.new) (K.faults link.new)) made × (told_of made ≡ Ok bytes.items)) }
+    ensures stops { IfErr result (λ fault. StopsSending place.now stop (input_seen (I.left input.old) (I.faults input.old)) (input_seen (I.left input.new) (I.faults input.new))
+        (link_seen (K.taken link.old) (K.left link.old) (K.taken link.new) (K.faults link.new)) fault) }
+{
+    if stop {
+        return pushed(alloc, place, None, link);
+    }
+    match read_within(alloc, input, RECORDS_LIMIT) {
+        Ok(records) => pushed(alloc, place, Some(records.as_slice()), link),
+        Err(error) => Err(read_fault(error)),
+    }
+}
+
+/// Pushes a body, or a stop, and tells what the share made of it.
+fn pushed<K: Link>(
+    alloc: Global,
+    place: &str,
+    body: Option<&[u8]>,
+    link: &mut K,
+) -> Result<Vec<u8>, Fault<EditFault>>
+    requires { K.faults link.old ≡ 0 }
+    ensures pushed { IfOk result (λ bytes. (made : Pushed)
+        × HasPushed place.now (option_copied body.entry) (link_seen (K.taken link.old) (K.left link.old) (K.taken link.new) (K.faults link.new)) made × (told_of made ≡ Ok bytes.items)) }
+    ensures stops { IfErr result (λ fault. (stop : Bool) (before after : InputSeen) → HasBody stop before after (option_copied body.entry)
+        → StopsSending place.now stop before after (link_seen (K.taken link.old) (K.left link.old) (K.taken link.new) (K.faults link.new)) fault) }
+{
+    match push_link(alloc, link, place, body) {
+        Ok(made) => told(alloc, made),
+        Err(error) => Err(push_fault(error)),
+    }
+}
+
+/// What is told of what a share made of an edit or a stop.
+fn told(alloc: Global, made: Pushed) -> Result<Vec<u8>, Fault<EditFault>>
+    ensures { MatchResult result (λ bytes. told_of made ≡ Ok bytes.items) (λ fault. IsToldFault made fault) }
+{
+    match made {
+        Pushed::Revision(n) => Ok(number_line(alloc, b"revision ", u64::from(n))?),
+        Pushed::Unchanged => Ok(Vec::from_slice(alloc, b"unchanged\n")?),
+        Pushed::Stopped => Ok(Vec::from_slice(alloc, b"stopped\n")?),
+        Pushed::Refused { status, text } => Err(Fault::Own(EditFault::Refused { status, text })),
+    }
+}
+
+/// What a refusal of the input is to `edit`.
+fn read_fault(error: ReadError) -> Fault<EditFault>
+    ensures { result ≡ read_fault error }
+{
+    match error {
+        ReadError::Failed => Fault::Read,
+        ReadError::TooLong => Fault::Own(EditFault::TooLong),
+        ReadError::Memory => Fault::Memory,
+    }
+}
+
+/// What the early end of a push is.
+fn push_fault(error: FollowError) -> Fault<EditFault>
+    ensures { result ≡ push_fault error }
+{
+    match error {
+        FollowError::Memory => Fault::Memory,
+        ended => Fault::Own(EditFault::Link(ended)),
+    }
+}

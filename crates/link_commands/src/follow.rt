@@ -1,0 +1,122 @@
+//! The command `follow`: a mirror of one listing of a share.
+
+ghost use Rattle.std.specs.Prelude.{◌≡◌, ◌≤◌, option_copied, MatchResult};
+ghost use Rattle.command_core.specs.Seen.{FilesSeen, InputSeen, output_seen};
+ghost use Rattle.link_commands.specs.FollowShare.{follow_line, follow_meaning, follow_status, link_fault};
+ghost use Rattle.link_commands.specs.Linked.{net_seen, told_over};
+ghost use Rattle.link_commands.specs.Meanings.{IsLinkAnswered};
+ghost use Rattle.link_commands.specs.Ended.{TellsRows, TellsStop};
+
+use crate::answer::{link_line, link_status};
+use crate::look::mirror_for;
+use crate::rounds::{Stop, follow_rounds};
+use crate::shown::shown_rows;
+use command_core::{Fault, Outcome, Refusal, done, out_of_memory, refused};
+use daap_outside::{Failed, Net, Sink};
+use dmap_tags::Text;
+use fault_lines::query_line;
+use item_model::{QueryError, Target};
+use mirror_client::FollowError;
+use mirror_core::Mirror;
+use std::alloc::{AllocError, Global};
+
+/// Why a share is not followed, or not further.
+#[derive(Debug, Drop)]
+pub enum FollowFault {
+    /// The text of `--query` is refused.
+    Query(QueryError),
+    /// The text of `--meta` has too many names.
+    Meta,
+    /// No link to the place was made.
+    Unreached,
+    /// The exchange with the share ended early.
+    Link(FollowError),
+}
+
+impl Refusal for FollowFault {
+    ghost told_line = { follow_line };
+
+    ghost told_status = { follow_status };
+
+    fn line(&self, alloc: Global) -> Result<Vec<u8>, AllocError> {
+        match self {
+            FollowFault::Query(error) => query_line(alloc, error),
+            FollowFault::Meta => Vec::from_slice(alloc, b"meta: too many names\n"),
+            FollowFault::Unreached => Vec::from_slice(alloc, b"network failed\n"),
+            FollowFault::Link(error) => link_line(alloc, error),
+        }
+    }
+
+    fn status(&self) -> u8 {
+        match self {
+            FollowFault::Query(_) | FollowFault::Meta => 3,
+            FollowFault::Unreached => 6,
+            FollowFault::Link(error) => link_status(error),
+        }
+    }
+}
+
+/// Does `follow`: holds the listing of a target, which the texts narrow, of the share at a place for 1 to 16,384 rounds. It
+/// tells each round once it is done, and shows behind the last what is held. It reads no input.
+pub fn follow_share<W: Sink, N: Net>(
+    alloc: Global,
+    place: &str,
+    rounds: u32,
+    query: Option<&Text>,
+    meta: Option<&Text>,
+    target: Target,
+    output: &mut W,
+    net: &mut N,
+) -> Outcome
+    requires some { 1 ≤ rounds }
+    requires few { rounds ≤ 16384 }
+    ensures { (files : FilesSeen) (input : InputSeen) → IsLinkAnswered (follow_meaning place.now rounds (option_copied query.entry) (option_copied meta.entry) target)
+        (told_over files input input
+        (net_seen (N.asked net.old) (N.written net.old) (N.door_links net.old) (N.next_input net.old) (N.faults net.old))
+        (net_seen (N.asked net.new) (N.written net.new) (N.door_links net.new) (N.next_input net.new) (N.faults net.new))
+        (output_seen (W.taken output.old) (W.faults output.old))
+        (output_seen (W.taken output.new) (W.faults output.new)))
+        result }
+{
+    let mut mirror = match mirror_for(alloc, query, meta, target) {
+        Ok(mirror) => mirror,
+        Err(fault) => return refused(alloc, output, &fault),
+    };
+    match net.connect(place) {
+        Ok(mut link) => {
+            let end = follow_rounds(alloc, place, rounds, &mut mirror, &mut link, output);
+            net.hang_up(link);
+            ended(alloc, &mirror, end, output)
+        }
+        Err(Failed) => refused(alloc, output, &Fault::Own(FollowFault::Unreached)),
+    }
+}
+
+/// Shows what is held behind the last round, or tells why there was none.
+fn ended<W: Sink>(alloc: Global, mirror: &Mirror, end: Result<(), Stop>, output: &mut W) -> Outcome
+    ensures { MatchResult end
+        (λ _. TellsRows mirror.now.held.rows (output_seen (W.taken output.old) (W.faults output.old)) (output_seen (W.taken output.new) (W.faults output.new)) result)
+        (λ stop. TellsStop stop (output_seen (W.taken output.old) (W.faults output.old)) (output_seen (W.taken output.new) (W.faults output.new)) result) }
+{
+    match end {
+        Ok(()) => match shown_rows(alloc, mirror) {
+            Ok(rows) => done(output, rows.as_str().as_bytes(), None),
+            Err(AllocError) => out_of_memory(output, None),
+        },
+        Err(Stop::Output) => Outcome {
+            status: 5,
+            history: None,
+        },
+        Err(Stop::Link(error)) => refused(alloc, output, &link_fault(error)),
+    }
+}
+
+/// What the early end of an exchange is to `follow`.
+fn link_fault(error: FollowError) -> Fault<FollowFault>
+    ensures { result ≡ link_fault error }
+{
+    match error {
+        FollowError::Memory => Fault::Memory,
+        ended => Fault::Own(FollowFault::Link(ended)),
+    }
+}
