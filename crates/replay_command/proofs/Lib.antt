@@ -1,0 +1,3 @@
+pub mod Sense
+pub mod Endings
+pub mod Causes

@@ -1,0 +1,9 @@
+//! The command `replay` of the program: a script of what comes over many connections is played to a new share, and what it
+//! is answered is written.
+#![tactic(auto)]
+
+mod replaying;
+#[cfg(test)]
+mod tests;
+
+pub use replaying::{ReplayFault, replay_script};
