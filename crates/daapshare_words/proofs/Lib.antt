@@ -1,4 +1,5 @@
 pub mod Digits
+pub mod Named
 pub mod Parts
 pub mod Plain
 pub mod Taken

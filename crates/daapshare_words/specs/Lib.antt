@@ -1,9 +1,14 @@
 pub mod Grammar
 pub mod Numbers
+pub mod Texts
 pub mod List
 pub mod Show
 pub mod Check
 pub mod Codes
+pub mod Replay
 pub mod Rehearse
+pub mod Serve
+pub mod Edit
+pub mod Follow
 pub mod Usage
 pub mod Words

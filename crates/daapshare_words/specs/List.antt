@@ -5,7 +5,8 @@ use Rattle.daapshare_words.specs.Grammar.{Grammar, command_by}
 use Rattle.daapshare_words.specs.Numbers.{list_of}
 use Rattle.daapshare_words.specs.declared.grammar.Part.TheVariants.{Valued}
 use Rattle.daapshare_words.specs.declared.command.Command.{Command}
-use Rattle.daapshare_words.specs.declared.command.Command.TheVariants as command
+use Rattle.daapshare_words.specs.declared.command.Command.TheVariants.{Local}
+use Rattle.daapshare_words.specs.declared.command.LocalCommand.TheVariants as local
 
 abbrev pub list_usage : Text
 list_usage = codes "list [--query Q] [--meta M] [--list ID]"
@@ -15,7 +16,7 @@ list_grammar = record { name = codes "list"; parts = (codes "query", Valued) ∷
 
 -- the texts as they are given, and the container, where its id is in its range
 abbrev pub list_for : List Row → Option (Option ℕ) → Option Command
-list_for rows container = option_map (λ list. command.List (record { query = first_of (codes "query") rows; meta = first_of (codes "meta") rows; list = list })) container
+list_for rows container = option_map (λ list. Local (local.List (record { query = first_of (codes "query") rows; meta = first_of (codes "meta") rows; list = list }))) container
 
 abbrev pub list_words : List Row → Option Command
 list_words rows = list_for rows (list_of (first_of (codes "list") rows))

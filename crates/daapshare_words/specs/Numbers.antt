@@ -1,6 +1,6 @@
 -- A number that is given as a word: from one to ten decimal digits, zeros in front counted among
 -- them, and no other byte. It is at most 4,294,967,295.
-use Rattle.std.specs.Prelude.{◌&&◌, ℕ, Bool, Option, Some, None, if◌then◌else◌, length, nat_le, option_and_then, option_map}
+use Rattle.std.specs.Prelude.{◌≤◌, ◌&&◌, ℕ, Bool, Option, Some, None, if◌then◌else◌, length, nat_le, option_and_then, option_map}
 use Rattle.std.specs.Char.{is_ascii_digit}
 use Rattle.std.specs.List.{list_all}
 use Rattle.std.specs.Str.Parse.{digits_value}
@@ -21,10 +21,24 @@ abbrev pub number_within : (least most : ℕ) → Option Text → Option ℕ
 number_within least most word =
     option_and_then (λ n. if nat_le least n && nat_le n most then Some n else None) (option_and_then number_of_word word)
 
+-- it is between them, or one of them
+abbrev pub IsWithin : (least most n : ℕ) → Type 0
+IsWithin least most n = (least ≤ n) × (n ≤ most)
+
 -- for how many revisions a share keeps what changed: 256 where it is not said
 abbrev pub keep_of : Option Text → Option ℕ
 keep_of None = Some 256
 keep_of (Some word) = number_within 1 65536 (Some word)
+
+-- how many threads serve the links of players: 16 where it is not said
+abbrev pub workers_of : Option Text → Option ℕ
+workers_of None = Some 16
+workers_of (Some word) = number_within 1 64 (Some word)
+
+-- and how many those of editors: 2
+abbrev pub editors_of : Option Text → Option ℕ
+editors_of None = Some 2
+editors_of (Some word) = number_within 1 8 (Some word)
 
 -- the id of a container, from 1: none where no word says one
 abbrev pub list_of : Option Text → Option (Option ℕ)

@@ -1,11 +1,15 @@
--- How the program is called: the line of each command, also of those that are still to come.
+-- How the program is called: the line of each command.
 use Rattle.std.specs.Prelude.{ℕ, List, [], ◌∷◌, ◌++◌, codes}
 use Rattle.clap.specs.Words.{Text}
 use Rattle.daapshare_words.specs.List.{list_usage}
 use Rattle.daapshare_words.specs.Show.{show_usage}
 use Rattle.daapshare_words.specs.Check.{check_usage}
 use Rattle.daapshare_words.specs.Codes.{codes_usage}
+use Rattle.daapshare_words.specs.Replay.{replay_usage}
 use Rattle.daapshare_words.specs.Rehearse.{rehearse_usage}
+use Rattle.daapshare_words.specs.Serve.{serve_usage}
+use Rattle.daapshare_words.specs.Edit.{edit_usage}
+use Rattle.daapshare_words.specs.Follow.{follow_usage}
 
 abbrev pub usage_line : (margin words : Text) → List ℕ
 usage_line margin words = margin ++ codes "daapshare " ++ words ++ 10 ∷ []
@@ -20,8 +24,8 @@ usage_text =
     ++ under show_usage
     ++ under check_usage
     ++ under codes_usage
-    ++ under (codes "replay [--keep K] [--name N]")
+    ++ under replay_usage
     ++ under rehearse_usage
-    ++ under (codes "serve LISTEN EDIT [--name N] [--keep K] [--workers W] [--editors E]")
-    ++ under (codes "edit PLACE [--stop]")
-    ++ under (codes "follow PLACE ROUNDS [--query Q] [--meta M] [--list ID]")
+    ++ under serve_usage
+    ++ under edit_usage
+    ++ under follow_usage

@@ -6,11 +6,27 @@ use Rattle.daapshare_words.specs.List.{list_command}
 use Rattle.daapshare_words.specs.Show.{show_command}
 use Rattle.daapshare_words.specs.Check.{check_command}
 use Rattle.daapshare_words.specs.Codes.{codes_command}
-use Rattle.daapshare_words.specs.Rehearse.{rehearse_command, AreRanged}
+use Rattle.daapshare_words.specs.Replay.{replay_command, AreReplayWords}
+use Rattle.daapshare_words.specs.Rehearse.{rehearse_command, AreRehearseWords}
+use Rattle.daapshare_words.specs.Serve.{serve_command, AreServeWords}
+use Rattle.daapshare_words.specs.Edit.{edit_command, AreEditWords}
+use Rattle.daapshare_words.specs.Follow.{follow_command, AreFollowWords}
 use Rattle.daapshare_words.specs.declared.command.Command.{Command}
-use Rattle.daapshare_words.specs.declared.command.Command.TheVariants.{List as list_variant, Show, Check, Codes, Rehearse}
+use Rattle.daapshare_words.specs.declared.command.Command.TheVariants.{Local, Net}
+use Rattle.daapshare_words.specs.declared.command.LocalCommand.{LocalCommand}
+use Rattle.daapshare_words.specs.declared.command.LocalCommand.TheVariants.{Replay, Rehearse}
+use Rattle.daapshare_words.specs.declared.command.NetCommand.{NetCommand}
+use Rattle.daapshare_words.specs.declared.command.NetCommand.TheVariants.{Serve, Edit, Follow}
 use Rattle.daapshare_words.specs.declared.command.WordsError.{WordsError}
 use Rattle.daapshare_words.specs.declared.command.WordsError.TheVariants.{Usage, Memory}
+
+-- the command over the net of a name
+abbrev pub net_command_named : Text → List Text → Option Command
+net_command_named name words =
+    if bytes_eq name (codes "serve") then serve_command words
+    else (if bytes_eq name (codes "edit") then edit_command words
+    else (if bytes_eq name (codes "follow") then follow_command words
+    else None))
 
 -- the command of a name
 abbrev pub command_named : Text → List Text → Option Command
@@ -19,8 +35,9 @@ command_named name words =
     else (if bytes_eq name (codes "show") then show_command words
     else (if bytes_eq name (codes "check") then check_command words
     else (if bytes_eq name (codes "codes") then codes_command words
+    else (if bytes_eq name (codes "replay") then replay_command words
     else (if bytes_eq name (codes "rehearse") then rehearse_command words
-    else None))))
+    else net_command_named name words)))))
 
 -- the first word is the command's name, and the words are in that command's grammar
 abbrev pub command_of : List Text → Option Command
@@ -28,12 +45,22 @@ command_of [] = None
 command_of (name ∷ rest) = command_named name (name ∷ rest)
 
 -- the call answers what is told, but for want of memory
-abbrev pub Reads : Option Command → Result Command WordsError → Type 0
-Reads told (Ok c) = told ≡ Some c
+abbrev pub Reads : {T : Type 0} → Option T → Result T WordsError → Type 0
+Reads told (Ok read) = told ≡ Some read
 Reads told (Err Usage) = told ≡ None
 Reads told (Err Memory) = Unit {0}
 
--- the numbers of a command are in their ranges, where it has some
+-- the numbers, names and places of a command are in their ranges, where it has some
+abbrev pub IsLocalRanged : LocalCommand → Type 0
+IsLocalRanged (Replay words) = AreReplayWords words
+IsLocalRanged (Rehearse words) = AreRehearseWords words
+IsLocalRanged _ = Unit {0}
+
+abbrev pub IsNetRanged : NetCommand → Type 0
+IsNetRanged (Serve words) = AreServeWords words
+IsNetRanged (Edit words) = AreEditWords words
+IsNetRanged (Follow words) = AreFollowWords words
+
 abbrev pub IsRanged : Command → Type 0
-IsRanged (Rehearse words) = AreRanged words
-IsRanged _ = Unit {0}
+IsRanged (Local command) = IsLocalRanged command
+IsRanged (Net command) = IsNetRanged command

@@ -5,7 +5,7 @@ ghost use Rattle.daapshare_words.specs.Grammar.{texts_of};
 ghost use Rattle.daapshare_words.specs.Check.{check_command};
 ghost use Rattle.daapshare_words.specs.Words.{Reads, IsRanged};
 
-use crate::command::{Command, WordsError};
+use crate::command::{Command, LocalCommand, WordsError};
 use crate::grammar::{Part, matches_for};
 use std::alloc::Global;
 
@@ -18,5 +18,5 @@ pub fn read(alloc: Global, words: &[&str]) -> Result<Command, WordsError>
     ensures ranged { IfOk result IsRanged }
 {
     matches_for(alloc, "check", &PARTS, words)?;
-    Ok(Command::Check)
+    Ok(Command::Local(LocalCommand::Check))
 }

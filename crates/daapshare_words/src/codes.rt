@@ -5,7 +5,7 @@ ghost use Rattle.daapshare_words.specs.Grammar.{texts_of};
 ghost use Rattle.daapshare_words.specs.Codes.{codes_command};
 ghost use Rattle.daapshare_words.specs.Words.{Reads, IsRanged};
 
-use crate::command::{Command, WordsError};
+use crate::command::{Command, LocalCommand, WordsError};
 use crate::grammar::{Part, has_flag, matches_for};
 use std::alloc::Global;
 
@@ -24,7 +24,7 @@ pub fn read(alloc: Global, words: &[&str]) -> Result<Command, WordsError>
     ensures ranged { IfOk result IsRanged }
 {
     let matches = matches_for(alloc, "codes", &PARTS, words)?;
-    Ok(Command::Codes(CodesWords {
+    Ok(Command::Local(LocalCommand::Codes(CodesWords {
         learn: has_flag(&matches, "learn"),
-    }))
+    })))
 }

@@ -2,13 +2,17 @@
 
 ghost use Rattle.std.specs.Prelude.{◌≡◌, Some, None, IfOk, IfErr};
 ghost use Rattle.daapshare_words.specs.Grammar.{texts_of};
-ghost use Rattle.daapshare_words.specs.Words.{command_of, IsRanged};
+ghost use Rattle.daapshare_words.specs.Words.{command_named, command_of, net_command_named, Reads, IsRanged};
 
 use crate::codes::CodesWords;
+use crate::edit::EditWords;
+use crate::follow::FollowWords;
 use crate::list::ListWords;
 use crate::rehearse::RehearseWords;
+use crate::replay::ReplayWords;
+use crate::serve::ServeWords;
 use crate::show::ShowWords;
-use crate::{check, codes, list, rehearse, show};
+use crate::{check, codes, edit, follow, list, rehearse, replay, serve, show};
 use clap::error::ErrorKind;
 use std::alloc::{AllocError, Global};
 use thiserror::Error;
@@ -16,6 +20,15 @@ use thiserror::Error;
 /// What the program is asked for.
 #[derive(Debug, Drop)]
 pub enum Command {
+    /// What waits for nobody: the standard input and output suffice.
+    Local(LocalCommand),
+    /// What another program has to answer or to ask for, over the net.
+    Net(NetCommand),
+}
+
+/// A command over standard input and output alone.
+#[derive(Debug, Drop)]
+pub enum LocalCommand {
     /// The full listing of the records on the input.
     List(ListWords),
     /// Tags as shown text, or back from it.
@@ -24,8 +37,21 @@ pub enum Command {
     Check,
     /// The rows of the content code table, or those that the input tells.
     Codes(CodesWords),
+    /// What a share writes to a script.
+    Replay(ReplayWords),
     /// A rehearsal of made-up batches.
     Rehearse(RehearseWords),
+}
+
+/// A command over the net.
+#[derive(Debug, Drop)]
+pub enum NetCommand {
+    /// A share for players and editors.
+    Serve(ServeWords),
+    /// The records on the input for a share, or its stop.
+    Edit(EditWords),
+    /// A mirror of a share, for some rounds.
+    Follow(FollowWords),
 }
 
 /// Why no command was read.
@@ -72,19 +98,45 @@ pub fn read_words(alloc: Global, words: &[&str]) -> Result<Command, WordsError>
     ensures usage { IfErr result (λ e. e ≡ WordsError.Usage → command_of (texts_of words.now) ≡ None) }
     ensures ranged { IfOk result IsRanged }
 {
-    let Some(name) = words.first() else {
-        return Err(WordsError::Usage);
-    };
-    if *name == "list" {
+    match words.first() {
+        Some(name) => read_named_words(alloc, name, words),
+        None => Err(WordsError::Usage),
+    }
+}
+
+/// Reads the words where they are those of the command of this name.
+fn read_named_words(alloc: Global, name: &str, words: &[&str]) -> Result<Command, WordsError>
+    ensures read { Reads (command_named name.now (texts_of words.now)) result }
+    ensures ranged { IfOk result IsRanged }
+{
+    if name == "list" {
         list::read(alloc, words)
-    } else if *name == "show" {
+    } else if name == "show" {
         show::read(alloc, words)
-    } else if *name == "check" {
+    } else if name == "check" {
         check::read(alloc, words)
-    } else if *name == "codes" {
+    } else if name == "codes" {
         codes::read(alloc, words)
-    } else if *name == "rehearse" {
+    } else if name == "replay" {
+        replay::read(alloc, words)
+    } else if name == "rehearse" {
         rehearse::read(alloc, words)
+    } else {
+        read_net_words(alloc, name, words)
+    }
+}
+
+/// Reads the words where they name a command over the net.
+fn read_net_words(alloc: Global, name: &str, words: &[&str]) -> Result<Command, WordsError>
+    ensures read { Reads (net_command_named name.now (texts_of words.now)) result }
+    ensures ranged { IfOk result IsRanged }
+{
+    if name == "serve" {
+        serve::read(alloc, words)
+    } else if name == "edit" {
+        edit::read(alloc, words)
+    } else if name == "follow" {
+        follow::read(alloc, words)
     } else {
         Err(WordsError::Usage)
     }

@@ -6,19 +6,28 @@
 mod check;
 mod codes;
 mod command;
+mod edit;
+mod follow;
 mod grammar;
 mod list;
 mod numbers;
 mod rehearse;
+mod replay;
+mod serve;
 mod show;
 #[cfg(test)]
 mod tests;
+mod texts;
 mod usage;
 
 pub use codes::CodesWords;
-pub use command::{Command, WordsError, read_words};
+pub use command::{Command, LocalCommand, NetCommand, WordsError, read_words};
+pub use edit::EditWords;
+pub use follow::FollowWords;
 pub use list::ListWords;
 pub use numbers::number_word;
 pub use rehearse::RehearseWords;
+pub use replay::ReplayWords;
+pub use serve::ServeWords;
 pub use show::ShowWords;
 pub use usage::usage_text;

@@ -6,7 +6,7 @@ ghost use Rattle.daapshare_words.specs.Grammar.{texts_of};
 ghost use Rattle.daapshare_words.specs.List.{list_command, list_for};
 ghost use Rattle.daapshare_words.specs.Words.{Reads, IsRanged};
 
-use crate::command::{Command, WordsError};
+use crate::command::{Command, LocalCommand, WordsError};
 use crate::grammar::{Part, matches_for, text_of, value_of};
 use crate::numbers::list_of;
 use clap::ArgMatches;
@@ -49,9 +49,9 @@ fn words_of(
     ensures read { Reads (list_for (rows_of (found_of matches.now)) (Some list)) result }
     ensures ranged { IfOk result IsRanged }
 {
-    Ok(Command::List(ListWords {
+    Ok(Command::Local(LocalCommand::List(ListWords {
         query: text_of(alloc, matches, "query")?,
         meta: text_of(alloc, matches, "meta")?,
         list,
-    }))
+    })))
 }

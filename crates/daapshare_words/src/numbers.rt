@@ -1,9 +1,9 @@
 //! Numbers among the words of the command line.
 
-ghost use Rattle.std.specs.Prelude.{◌≡◌, ◌≤◌, IfSome, option_map};
+ghost use Rattle.std.specs.Prelude.{◌≡◌, IfSome, option_map};
 ghost use Rattle.std.specs.Char.{is_ascii_digit};
 ghost use Rattle.std.specs.List.{list_all};
-ghost use Rattle.daapshare_words.specs.Numbers.{number_of_word, number_within, keep_of, list_of};
+ghost use Rattle.daapshare_words.specs.Numbers.{IsWithin, number_of_word, number_within, keep_of, workers_of, editors_of, list_of};
 
 /// The number that a word of 1 to 10 decimal digits writes, where it is at most 4,294,967,295.
 pub fn number_word(word: &str) -> Option<u32>
@@ -25,10 +25,15 @@ fn are_digits(word: &[u8]) -> bool
 /// For how many revisions a share keeps what changed, where the words don't say it.
 const DEFAULT_KEEP: u32 = 256;
 
+/// How many threads serve the links of players, and of editors, where the words don't say it.
+const DEFAULT_WORKERS: u32 = 16;
+
+const DEFAULT_EDITORS: u32 = 2;
+
 /// The number that a word writes, where it is between two numbers or one of them.
 pub fn number_of(word: Option<&str>, least: u32, most: u32) -> Option<u32>
     ensures read { result ≡ number_within least most (option_map (λ s. s.now) word.entry) }
-    ensures within { IfSome result (λ n. (least ≤ n) × (n ≤ most)) }
+    ensures within { IfSome result (IsWithin least most) }
 {
     let number = number_word(word?)?;
     if least <= number && number <= most {
@@ -41,11 +46,33 @@ pub fn number_of(word: Option<&str>, least: u32, most: u32) -> Option<u32>
 /// For how many revisions a share keeps what changed, where the word is that of `--keep`.
 pub fn keep_of(word: Option<&str>) -> Option<u32>
     ensures read { result ≡ keep_of (option_map (λ s. s.now) word.entry) }
-    ensures within { IfSome result (λ n. (1 ≤ n) × (n ≤ 65536)) }
+    ensures within { IfSome result (IsWithin 1 65536) }
 {
     match word {
         Some(_) => number_of(word, 1, 65_536),
         None => Some(DEFAULT_KEEP),
+    }
+}
+
+/// How many threads serve the links of players, where the word is that of `--workers`.
+pub fn workers_of(word: Option<&str>) -> Option<u32>
+    ensures read { result ≡ workers_of (option_map (λ s. s.now) word.entry) }
+    ensures within { IfSome result (IsWithin 1 64) }
+{
+    match word {
+        Some(_) => number_of(word, 1, 64),
+        None => Some(DEFAULT_WORKERS),
+    }
+}
+
+/// How many threads serve the links of editors, where the word is that of `--editors`.
+pub fn editors_of(word: Option<&str>) -> Option<u32>
+    ensures read { result ≡ editors_of (option_map (λ s. s.now) word.entry) }
+    ensures within { IfSome result (IsWithin 1 8) }
+{
+    match word {
+        Some(_) => number_of(word, 1, 8),
+        None => Some(DEFAULT_EDITORS),
     }
 }
 

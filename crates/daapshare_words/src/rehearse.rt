@@ -6,7 +6,7 @@ ghost use Rattle.daapshare_words.specs.Grammar.{texts_of};
 ghost use Rattle.daapshare_words.specs.Rehearse.{rehearse_command, rehearse_of};
 ghost use Rattle.daapshare_words.specs.Words.{Reads, IsRanged};
 
-use crate::command::{Command, WordsError};
+use crate::command::{Command, LocalCommand, WordsError};
 use crate::grammar::{Part, matches_for, value_of};
 use crate::numbers::{keep_of, number_of};
 use clap::ArgMatches;
@@ -47,10 +47,10 @@ fn rehearsal(matches: &ArgMatches<'_>) -> Option<Command>
     ensures read { result ≡ rehearse_of (rows_of (found_of matches.now)) }
     ensures ranged { IfSome result IsRanged }
 {
-    Some(Command::Rehearse(RehearseWords {
+    Some(Command::Local(LocalCommand::Rehearse(RehearseWords {
         number: number_of(value_of(matches, "number"), 0, 2_147_483_647)?,
         batches: number_of(value_of(matches, "batches"), 1, 65_536)?,
         size: number_of(value_of(matches, "size"), 1, 256)?,
         keep: keep_of(value_of(matches, "keep"))?,
-    }))
+    })))
 }

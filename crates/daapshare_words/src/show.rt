@@ -5,7 +5,7 @@ ghost use Rattle.daapshare_words.specs.Grammar.{texts_of};
 ghost use Rattle.daapshare_words.specs.Show.{show_command};
 ghost use Rattle.daapshare_words.specs.Words.{Reads, IsRanged};
 
-use crate::command::{Command, WordsError};
+use crate::command::{Command, LocalCommand, WordsError};
 use crate::grammar::{Part, has_flag, matches_for};
 use std::alloc::Global;
 
@@ -24,7 +24,7 @@ pub fn read(alloc: Global, words: &[&str]) -> Result<Command, WordsError>
     ensures ranged { IfOk result IsRanged }
 {
     let matches = matches_for(alloc, "show", &PARTS, words)?;
-    Ok(Command::Show(ShowWords {
+    Ok(Command::Local(LocalCommand::Show(ShowWords {
         back: has_flag(&matches, "back"),
-    }))
+    })))
 }

@@ -1,6 +1,9 @@
 //! Whole command lines, and number words.
 
-use crate::{Command, WordsError, number_word, read_words, usage_text};
+use crate::{
+    Command, FollowWords, LocalCommand, NetCommand, ServeWords, WordsError, number_word,
+    read_words, usage_text,
+};
 use std::alloc::{AllocError, Global};
 use std::test::Fail;
 
@@ -11,8 +14,15 @@ enum Wanted {
     Show(bool),
     Check,
     Codes(bool),
+    /// The name, and how many revisions are kept.
+    Replay(&'static str, u32),
     /// The number, how many batches, how many edits in each, and how many revisions are kept.
     Rehearse([u32; 4]),
+    /// The places and the name, and how many revisions are kept, players and editors served at once.
+    Serve([&'static str; 3], [u32; 3]),
+    Edit(&'static str, bool),
+    /// The place, the rounds, the query, the names of properties and the container.
+    Follow(&'static str, u32, Option<&'static str>, Option<&'static str>, Option<u32>),
     Usage,
 }
 
@@ -24,15 +34,49 @@ fn is_text(text: &Option<dmap_tags::Text>, wanted: Option<&str>) -> bool {
     }
 }
 
+fn is_served(words: &ServeWords, texts: [&str; 3], numbers: [u32; 3]) -> bool {
+    [
+        words.listen.as_str(),
+        words.edit.as_str(),
+        words.name.as_str(),
+    ] == texts
+        && [words.keep, words.workers, words.editors] == numbers
+}
+
+fn is_followed(words: &FollowWords, wanted: Wanted) -> bool {
+    match wanted {
+        Wanted::Follow(place, rounds, query, meta, list) => {
+            words.place.as_str() == place
+                && words.rounds == rounds
+                && is_text(&words.query, query)
+                && is_text(&words.meta, meta)
+                && words.list == list
+        }
+        _ => false,
+    }
+}
+
 fn is_wanted(answer: &Result<Command, WordsError>, wanted: Wanted) -> bool {
     match (answer, wanted) {
-        (Ok(Command::List(words)), Wanted::List(query, meta, list)) => {
+        (Ok(Command::Local(LocalCommand::List(words))), Wanted::List(query, meta, list)) => {
             is_text(&words.query, query) && is_text(&words.meta, meta) && words.list == list
         }
-        (Ok(Command::Show(words)), Wanted::Show(wanted)) => words.back == wanted,
-        (Ok(Command::Check), Wanted::Check) => true,
-        (Ok(Command::Codes(words)), Wanted::Codes(wanted)) => words.learn == wanted,
-        (Ok(Command::Rehearse(words)), Wanted::Rehearse(wanted)) => {
+        (Ok(Command::Local(LocalCommand::Show(words))), Wanted::Show(wanted)) => words.back
+            == wanted,
+        (Ok(Command::Local(LocalCommand::Check)), Wanted::Check) => true,
+        (Ok(Command::Local(LocalCommand::Codes(words))), Wanted::Codes(wanted)) => words.learn
+            == wanted,
+        (Ok(Command::Local(LocalCommand::Replay(words))), Wanted::Replay(name, keep)) => {
+            words.name.as_str() == name && words.keep == keep
+        }
+        (Ok(Command::Net(NetCommand::Serve(words))), Wanted::Serve(texts, numbers)) => {
+            is_served(words, texts, numbers)
+        }
+        (Ok(Command::Net(NetCommand::Edit(words))), Wanted::Edit(place, stop)) => {
+            words.place.as_str() == place && words.stop == stop
+        }
+        (Ok(Command::Net(NetCommand::Follow(words))), _) => is_followed(words, wanted),
+        (Ok(Command::Local(LocalCommand::Rehearse(words))), Wanted::Rehearse(wanted)) => {
             [words.number, words.batches, words.size, words.keep] == wanted
         }
         (Err(WordsError::Usage), Wanted::Usage) => true,
@@ -85,6 +129,29 @@ fn lines_that_are_commands(rt: HostRuntime) -> Result<(), Fail> {
             Wanted::Rehearse([2147483647, 65536, 256, 65536]),
         ),
         ("rehearse --keep=1 07 2 003", Wanted::Rehearse([7, 2, 3, 1])),
+        ("replay", Wanted::Replay("daapshare", 256)),
+        ("replay --name=-- --keep 65536", Wanted::Replay("--", 65536)),
+        ("replay --keep=1 --name ", Wanted::Replay("", 1)),
+        (
+            "serve :3689 127.0.0.1:3688",
+            Wanted::Serve([":3689", "127.0.0.1:3688", "daapshare"], [256, 16, 2]),
+        ),
+        (
+            "serve --workers 64 a --editors=8 b --name Attic --keep 1",
+            Wanted::Serve(["a", "b", "Attic"], [1, 64, 8]),
+        ),
+        (
+            "serve a a --workers 1 --editors 1",
+            Wanted::Serve(["a", "a", "daapshare"], [256, 1, 1]),
+        ),
+        ("edit h:1", Wanted::Edit("h:1", false)),
+        ("edit --stop h:1", Wanted::Edit("h:1", true)),
+        ("edit !~", Wanted::Edit("!~", false)),
+        ("follow h 1", Wanted::Follow("h", 1, None, None, None)),
+        (
+            "follow h 16384 --query x --meta=y --list 2",
+            Wanted::Follow("h", 16384, Some("x"), Some("y"), Some(2)),
+        ),
     ] {
         let words = words_of(rt.alloc(), line)?;
         let answer = read_words(rt.alloc(), &words);
@@ -148,13 +215,63 @@ fn lines_that_are_none(rt: HostRuntime) -> Result<(), Fail> {
         "rehearse 1 1 1 --keep 65537",
         "rehearse 1 1 x",
         "rehearse 1 1 1 --keep",
-        "replay",
+        "replay script",
+        "replay --keep 0",
+        "replay --keep 65537",
+        "replay --name --keep 1",
+        "replay --name a --name b",
+        "serve a",
+        "serve a b c",
+        "serve a ",
+        "serve  b",
+        "serve a\tb c",
+        "serve a caf\u{e9}",
+        "serve a b --keep 0",
+        "serve a b --workers 0",
+        "serve a b --workers 65",
+        "serve a b --editors 0",
+        "serve a b --editors 9",
+        "serve a b --workers x",
+        "serve a b --query x",
+        "edit",
+        "edit ",
+        "edit a b",
+        "edit --stop",
+        "edit a --stop --stop",
+        "edit a\u{7f}",
+        "follow",
+        "follow a",
+        "follow a 0",
+        "follow a 16385",
+        "follow 1 a",
+        "follow a 1 --list 0",
+        "follow a 1 --keep 1",
+        "follow a 1 2",
     ] {
         let words = words_of(rt.alloc(), line)?;
         let answer = read_words(rt.alloc(), &words);
         assert!(rt; is_wanted(&answer, Wanted::Usage), "{line}");
     }
     let answer = read_words(rt.alloc(), &[]);
+    assert!(rt; is_wanted(&answer, Wanted::Usage));
+    Ok(())
+}
+
+#[test]
+fn names_and_places_have_at_most_255_bytes(rt: HostRuntime) -> Result<(), Fail> {
+    let alloc = rt.alloc();
+    let mut long = String::new(alloc);
+    for _ in 0..255 {
+        long.push('x')?;
+    }
+    let answer = read_words(alloc, &["replay", "--name", long.as_str()]);
+    assert!(rt; answer.is_ok());
+    let answer = read_words(alloc, &["edit", long.as_str()]);
+    assert!(rt; answer.is_ok());
+    long.push('x')?;
+    let answer = read_words(alloc, &["replay", "--name", long.as_str()]);
+    assert!(rt; is_wanted(&answer, Wanted::Usage));
+    let answer = read_words(alloc, &["edit", long.as_str()]);
     assert!(rt; is_wanted(&answer, Wanted::Usage));
     Ok(())
 }

@@ -3,11 +3,10 @@
 ghost use Rattle.std.specs.Prelude.{◌≡◌, ◌++◌, ◌∷◌, [], codes, IfOk, OnOk};
 ghost use Rattle.daapshare_words.specs.Usage.{usage_line, usage_text};
 
-use crate::{check, codes, list, rehearse, show};
+use crate::{check, codes, edit, follow, list, rehearse, replay, serve, show};
 use std::alloc::{AllocError, Global};
 
-/// The whole text, also for the commands that are still to come. It stands on the output where the words are no
-/// command's.
+/// The whole text. It stands on the output where the words are no command's.
 pub fn usage_text(alloc: Global) -> Result<Vec<u8>, AllocError>
     ensures { IfOk result (λ text. text.items ≡ usage_text) }
 {
@@ -16,19 +15,11 @@ pub fn usage_text(alloc: Global) -> Result<Vec<u8>, AllocError>
     push_line(&mut text, "       ", show::USAGE)?;
     push_line(&mut text, "       ", check::USAGE)?;
     push_line(&mut text, "       ", codes::USAGE)?;
-    push_line(&mut text, "       ", "replay [--keep K] [--name N]")?;
+    push_line(&mut text, "       ", replay::USAGE)?;
     push_line(&mut text, "       ", rehearse::USAGE)?;
-    push_line(
-        &mut text,
-        "       ",
-        "serve LISTEN EDIT [--name N] [--keep K] [--workers W] [--editors E]",
-    )?;
-    push_line(&mut text, "       ", "edit PLACE [--stop]")?;
-    push_line(
-        &mut text,
-        "       ",
-        "follow PLACE ROUNDS [--query Q] [--meta M] [--list ID]",
-    )?;
+    push_line(&mut text, "       ", serve::USAGE)?;
+    push_line(&mut text, "       ", edit::USAGE)?;
+    push_line(&mut text, "       ", follow::USAGE)?;
     Ok(text)
 }
 

@@ -1,0 +1,7 @@
+use Rattle.std.proofs.Common.{ap, sym, subst, option_and_then}
+use Rattle.daapshare_words.specs.Serve.{serve_of}
+use Rattle.daapshare_words.specs.Words.{Reads}
+use Rattle.daapshare_words.proofs.serve.read.Goals as goal
+
+pub returns-clause-read : goal.returns-clause-read
+returns-clause-read c = subst (λ told. Reads told c.words_of.result) (sym (ap (option_and_then serve_of) c.in_ok-matches.ensures)) c.words_of.ensures.read
