@@ -1,1 +1,3 @@
 pub mod Senses
+pub mod Idle
+pub mod Ranges

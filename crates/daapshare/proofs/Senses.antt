@@ -1,14 +1,15 @@
 -- What the meaning of each command owes, a line for each.
-use Rattle.std.proofs.Common.{Bool, true, false, Option, Some, None, refl}
+use Rattle.std.proofs.Common.{Bool, true, false, refl}
 use Rattle.command_core.specs.declared.fault.Fault.{Fault}
 use Rattle.command_core.specs.declared.fault.Fault.TheVariants.{Own, Read, Memory}
 use Rattle.command_core.specs.Seen.{Seen, IsUnread}
 use Rattle.command_core.specs.Meanings.{IsCause}
 use Rattle.command_core.proofs.Sensible.{IsSensible, WritesOnce}
+use Rattle.replay_command.proofs.Sense.{replay_sense}
 use Rattle.tag_commands.proofs.Senses.{check_sense, show_sense, show_back_sense, codes_sense, learn_sense}
 use Rattle.share_commands.proofs.Senses.{list_sense, rehearse_sense}
-use Rattle.daapshare_words.specs.declared.command.Command.{Command}
-use Rattle.daapshare_words.specs.declared.command.Command.TheVariants as command
+use Rattle.daapshare_words.specs.declared.command.LocalCommand.{LocalCommand}
+use Rattle.daapshare_words.specs.declared.command.LocalCommand.TheVariants as local
 use Rattle.daapshare.specs.declared.usage.UsageFault.{UsageFault}
 use Rattle.daapshare.specs.Usage.{usage_meaning}
 use Rattle.daapshare.specs.Table.{shows, tells_codes, target_of, meaning_of}
@@ -45,10 +46,10 @@ codes_senses : (learn : Bool) → IsSensible (tells_codes learn)
 codes_senses true = learn_sense.sensible
 codes_senses false = codes_sense.sensible
 
-pub sense_of : (asked : Option Command) → IsSensible (meaning_of asked)
-sense_of None = usage_sense.sensible
-sense_of (Some (command.List words)) = (list_sense words.query words.meta (target_of words.list)).sensible
-sense_of (Some (command.Show words)) = show_senses words.back
-sense_of (Some command.Check) = check_sense.sensible
-sense_of (Some (command.Codes words)) = codes_senses words.learn
-sense_of (Some (command.Rehearse words)) = (rehearse_sense words.number words.batches words.size words.keep).sensible
+pub sense_of : (command : LocalCommand) → IsSensible (meaning_of command)
+sense_of (local.List words) = (list_sense words.query words.meta (target_of words.list)).sensible
+sense_of (local.Show words) = show_senses words.back
+sense_of local.Check = check_sense.sensible
+sense_of (local.Codes words) = codes_senses words.learn
+sense_of (local.Replay words) = replay_sense words.keep words.name
+sense_of (local.Rehearse words) = (rehearse_sense words.number words.batches words.size words.keep).sensible

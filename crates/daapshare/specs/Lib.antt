@@ -1,3 +1,4 @@
+pub mod Left
 pub mod Usage
 pub mod Table
 pub mod Told

@@ -1,17 +1,32 @@
--- What each command means, a line for each.
+-- What each command means, a line for each, and how a run of it ends.
 use Rattle.std.specs.Prelude.{ℕ, Bool, true, false, Option, Some, None}
 use Rattle.item_model.specs.declared.request.Target.{Target}
 use Rattle.item_model.specs.declared.request.Target.TheVariants.{Items, Container}
+use Rattle.command_core.specs.Endings.{IsAnswered}
 use Rattle.command_core.specs.Meanings.{Meaning}
+use Rattle.command_core.specs.Seen.{Told}
+use Rattle.link_commands.specs.EditShare.{edit_meaning}
+use Rattle.link_commands.specs.FollowShare.{follow_meaning}
+use Rattle.link_commands.specs.Meanings.{IsLinkAnswered}
+use Rattle.serve_command.specs.declared.terms.Serving.{Serving}
+use Rattle.serve_command.specs.Runs.{ServeEnds}
 use Rattle.tag_commands.specs.Check.{check_meaning}
 use Rattle.tag_commands.specs.Codes.{codes_meaning}
 use Rattle.tag_commands.specs.LearnCodes.{learn_meaning}
 use Rattle.tag_commands.specs.Show.{show_meaning}
 use Rattle.tag_commands.specs.ShowBack.{show_back_meaning}
+use Rattle.replay_command.specs.ReplayShare.{replay_meaning}
 use Rattle.share_commands.specs.ListShare.{list_meaning}
 use Rattle.share_commands.specs.RehearseShare.{rehearse_meaning}
 use Rattle.daapshare_words.specs.declared.command.Command.{Command}
-use Rattle.daapshare_words.specs.declared.command.Command.TheVariants as command
+use Rattle.daapshare_words.specs.declared.command.Command.TheVariants.{Local, Net}
+use Rattle.daapshare_words.specs.declared.command.LocalCommand.{LocalCommand}
+use Rattle.daapshare_words.specs.declared.command.LocalCommand.TheVariants as local
+use Rattle.daapshare_words.specs.declared.command.NetCommand.{NetCommand}
+use Rattle.daapshare_words.specs.declared.command.NetCommand.TheVariants as net
+use Rattle.daapshare_words.specs.declared.serve.ServeWords.{ServeWords}
+use Rattle.daapshare.specs.declared.outcome.Outcome.{Outcome}
+use Rattle.daapshare.specs.Left.{Unlinked, left_by}
 use Rattle.daapshare.specs.Usage.{usage_meaning}
 
 abbrev pub shows : (back : Bool) → Meaning
@@ -27,10 +42,40 @@ abbrev pub target_of : Option ℕ → Target
 target_of None = Items
 target_of (Some id) = Container id
 
-abbrev pub meaning_of : Option Command → Meaning
-meaning_of None = usage_meaning
-meaning_of (Some (command.List words)) = list_meaning words.query words.meta (target_of words.list)
-meaning_of (Some (command.Show words)) = shows words.back
-meaning_of (Some command.Check) = check_meaning
-meaning_of (Some (command.Codes words)) = tells_codes words.learn
-meaning_of (Some (command.Rehearse words)) = rehearse_meaning words.number words.batches words.size words.keep
+-- of the commands that wait for nobody
+abbrev pub meaning_of : LocalCommand → Meaning
+meaning_of (local.List words) = list_meaning words.query words.meta (target_of words.list)
+meaning_of (local.Show words) = shows words.back
+meaning_of local.Check = check_meaning
+meaning_of (local.Codes words) = tells_codes words.learn
+meaning_of (local.Replay words) = replay_meaning words.keep words.name
+meaning_of (local.Rehearse words) = rehearse_meaning words.number words.batches words.size words.keep
+
+-- the share that is served
+abbrev pub serving_of : ServeWords → Serving
+serving_of words = record {
+  listen = words.listen;
+  edit = words.edit;
+  name = words.name;
+  keep = words.keep;
+  workers = words.workers;
+  editors = words.editors;
+}
+
+-- a run of a command over the net ends as it means
+abbrev pub IsRunOverNet : NetCommand → Told → Outcome → Type 0
+IsRunOverNet (net.Serve words) told outcome = ServeEnds (serving_of words) told (left_by outcome)
+IsRunOverNet (net.Edit words) told outcome = Unlinked (IsLinkAnswered (edit_meaning words.place words.stop) told) outcome
+IsRunOverNet (net.Follow words) told outcome =
+    Unlinked (IsLinkAnswered (follow_meaning words.place words.rounds words.query words.meta (target_of words.list)) told) outcome
+
+-- a run ends as the command of its words means
+abbrev pub IsRun : Option Command → Told → Outcome → Type 0
+IsRun None told outcome = Unlinked (IsAnswered usage_meaning told) outcome
+IsRun (Some (Local command)) told outcome = Unlinked (IsAnswered (meaning_of command) told) outcome
+IsRun (Some (Net command)) told outcome = IsRunOverNet command told outcome
+
+-- whether a run leaves the net alone
+abbrev pub leaves_net : Option Command → Bool
+leaves_net (Some (Net command)) = false
+leaves_net _ = true

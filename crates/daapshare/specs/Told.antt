@@ -1,7 +1,7 @@
 -- What is told of files and of the net of a run, beside its input and output.
 use Rattle.std.specs.Prelude.{ℕ, Bool, List, Option}
 use Rattle.daap_outside.specs.Places.{Contents}
-use Rattle.command_core.specs.Seen.{InputSeen, OutputSeen, FilesSeen, NetSeen, Seen, Around, Told}
+use Rattle.command_core.specs.Seen.{InputSeen, OutputSeen, FilesSeen, NetSeen, Seen, Told}
 
 abbrev pub files_seen : Option (List (List ℕ)) → Option Contents → ℕ → FilesSeen
 files_seen asked contents faults = record { asked = asked; contents = contents; faults = faults }

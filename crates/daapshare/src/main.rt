@@ -3,18 +3,25 @@
 #![tactic(auto)]
 
 pub mod laws;
+#[cfg(test)]
+mod loopback;
+mod outcome;
+mod over_net;
 mod run;
 #[cfg(test)]
 mod tests;
 mod usage;
 
+use crate::outcome::{Outcome, unlinked};
 use crate::run::run;
 use crate::usage::UsageFault;
-use command_core::{Fault, Outcome, out_of_memory, refused};
-use daap_outside::{MemFiles, MemNet, Reading, Writing};
+use command_core::{Fault, out_of_memory, refused};
+use daap_outside::{MemFiles, Net, Reading, TcpNet, Writing};
 use std::alloc::Global;
 use std::io::{ErrorKind, Read, Write};
 use std::process::ExitCode;
+use std::sync::Wait;
+use std::thread::Threads;
 use std::{env, io};
 
 /// The words after the program's name. One that is not UTF-8 is an error.
@@ -36,22 +43,25 @@ fn texts_of(alloc: Global, words: &[String]) -> io::Result<Vec<&str>> {
 }
 
 /// Runs the program over its standard input and output.
-fn run_on<R: Read, W: Write>(
+fn run_on<R: Threads + Wait + Sync, I: Read, W: Write, N: Net>(
+    rt: &R,
     alloc: Global,
     words: &[String],
-    input: &mut Reading<R>,
+    input: &mut Reading<I>,
     output: &mut Writing<W>,
+    net: &mut N,
 ) -> Outcome {
     match texts_of(alloc, words) {
         Ok(texts) => run(
+            rt,
             alloc,
             texts.as_slice(),
             input,
             output,
             &mut MemFiles::new(),
-            &mut MemNet::new(alloc),
+            net,
         ),
-        Err(_) => out_of_memory(output, None),
+        Err(_) => unlinked(alloc, out_of_memory(output, None)),
     }
 }
 
@@ -59,10 +69,23 @@ fn main(rt: HostRuntime) -> ExitCode {
     let alloc = rt.alloc();
     let mut input = Reading::new(rt.stdin());
     let mut output = Writing::new(rt.stdout());
-    let outcome = match words_of(&rt) {
-        Ok(words) => run_on(alloc, words.as_slice(), &mut input, &mut output),
-        Err(error) if error.kind() == ErrorKind::OutOfMemory => { out_of_memory(&mut output, None) }
-        Err(_) => refused(alloc, &mut output, &Fault::Own(UsageFault::NoCommand)),
+    let mut net = TcpNet::new(&rt, alloc);
+    let status = match words_of(&rt) {
+        Ok(words) => {
+            run_on(
+                &rt,
+                alloc,
+                words.as_slice(),
+                &mut input,
+                &mut output,
+                &mut net,
+            )
+            .status
+        }
+        Err(error) if error.kind() == ErrorKind::OutOfMemory => {
+            out_of_memory(&mut output, None).status
+        }
+        Err(_) => refused(alloc, &mut output, &Fault::Own(UsageFault::NoCommand)).status,
     };
-    ExitCode::from(outcome.status)
+    ExitCode::from(status)
 }

@@ -1,29 +1,35 @@
 //! A run of the program over any input, output, files and net.
 
-ghost use Rattle.std.specs.Prelude.{◌≡◌, Some, true};
+ghost use Rattle.std.specs.Prelude.{◌≡◌, true};
 ghost use Rattle.command_core.specs.Seen.{Around, input_seen, output_seen, told_beside};
 ghost use Rattle.command_core.specs.Endings.{IsAnswered};
 ghost use Rattle.daapshare_words.specs.Grammar.{texts_of};
-ghost use Rattle.daapshare_words.specs.Words.{command_of, IsRanged};
-ghost use Rattle.daapshare.specs.Table.{meaning_of, target_of};
+ghost use Rattle.daapshare_words.specs.Words.{command_of, IsLocalRanged};
+ghost use Rattle.daapshare.specs.Table.{meaning_of, leaves_net, target_of, IsRun};
 ghost use Rattle.daapshare.specs.Told.{files_seen, net_seen, seen, told_in};
 
+use crate::outcome::{Outcome, unlinked};
+use crate::over_net::obeyed_over_net;
 use crate::usage::UsageFault;
-use command_core::{Fault, Outcome, out_of_memory, refused};
+use command_core::{Fault, out_of_memory, refused};
 use daap_outside::{Files, Net, Sink, Source};
-use daapshare_words::{CodesWords, Command, ShowWords, WordsError, read_words};
+use daapshare_words::{CodesWords, Command, LocalCommand, ShowWords, WordsError, read_words};
 use item_model::Target;
+use replay_command::replay_script;
 use share_commands::{list_share, rehearse_share};
 use std::alloc::Global;
+use std::sync::Wait;
+use std::thread::Threads;
 use tag_commands::{check_tags, learn_codes, list_codes, read_shown, show_tags};
 
-/// Does what the words ask for.
+/// Does what the words ask for. Only `serve` starts threads, and waits for others beside the net.
 ///
-/// The statuses are 0 where all was done, 2 for words that are no command's, 3 for a query, names of properties,
-/// records, a container, tags, shown text or a reply of content codes that are refused, 4 and 5 where the input or the
-/// output failed, 8 where the input or a rehearsal is too long or there are too many lists, and 9 for want of memory. Each but 0 and 5 has its line on
-/// the output.
-pub fn run<I: Source, W: Sink, F: Files, N: Net>(
+/// The statuses are 0 where all was done, 2 for words that are no command's, 3 for a query, names of properties, records, a
+/// container, tags, shown text, a script or a reply of content codes that are refused, 4 and 5 where the input or the output
+/// failed, 6 where the net did, 7 where a peer answered otherwise than it should, 8 where a number passed its limit, and 9
+/// for want of memory. Each but 0 and 5 has its line on the output.
+pub fn run<R: Threads + Wait + Sync, I: Source, W: Sink, F: Files, N: Net>(
+    rt: &R,
     alloc: Global,
     words: &[&str],
     input: &mut I,
@@ -31,7 +37,7 @@ pub fn run<I: Source, W: Sink, F: Files, N: Net>(
     files: &mut F,
     net: &mut N,
 ) -> Outcome
-    ensures answered { IsAnswered (meaning_of (command_of (texts_of words.now)))
+    ensures answered { IsRun (command_of (texts_of words.now))
         (told_in
         (seen (input_seen (I.left input.old) (I.faults input.old))
         (files_seen (F.asked files.old) (F.contents files.old) (F.faults files.old))
@@ -43,26 +49,32 @@ pub fn run<I: Source, W: Sink, F: Files, N: Net>(
         (output_seen (W.taken output.new) (W.faults output.new)))
         result }
 
-    // A command leaves files and sockets alone where its meaning says so.
-    ensures files { (meaning_of (command_of (texts_of words.now))).leaves_files ≡ true → files.new ≡ files.old }
-    ensures net { (meaning_of (command_of (texts_of words.now))).leaves_net ≡ true → net.new ≡ net.old }
+    // Files are left alone, and the net is by all commands but those over it.
+    ensures files { files.new ≡ files.old }
+    ensures net { leaves_net (command_of (texts_of words.now)) ≡ true → net.new ≡ net.old }
 {
     match read_words(alloc, words) {
-        Ok(command) => obeyed(alloc, &command, input, output),
-        Err(WordsError::Usage) => refused(alloc, output, &Fault::Own(UsageFault::NoCommand)),
-        Err(WordsError::Memory) => out_of_memory(output, None),
+        Ok(Command::Local(command)) => unlinked(alloc, obeyed(alloc, &command, input, output)),
+        Ok(Command::Net(command)) => obeyed_over_net(rt, alloc, command, input, output, net),
+        Err(WordsError::Usage) => {
+            unlinked(
+                alloc,
+                refused(alloc, output, &Fault::Own(UsageFault::NoCommand)),
+            )
+        }
+        Err(WordsError::Memory) => unlinked(alloc, out_of_memory(output, None)),
     }
 }
 
 /// Does what a command asks for that waits for nobody.
 fn obeyed<I: Source, W: Sink>(
     alloc: Global,
-    command: &Command,
+    command: &LocalCommand,
     input: &mut I,
     output: &mut W,
-) -> Outcome
-    requires { IsRanged command.now }
-    ensures { (around : Around) → IsAnswered (meaning_of (Some command.now))
+) -> command_core::Outcome
+    requires { IsLocalRanged command.now }
+    ensures { (around : Around) → IsAnswered (meaning_of command.now)
         (told_beside around
         (input_seen (I.left input.old) (I.faults input.old))
         (input_seen (I.left input.new) (I.faults input.new))
@@ -71,7 +83,7 @@ fn obeyed<I: Source, W: Sink>(
         result }
 {
     match command {
-        Command::List(words) => list_share(
+        LocalCommand::List(words) => list_share(
             alloc,
             words.query.as_ref(),
             words.meta.as_ref(),
@@ -79,12 +91,15 @@ fn obeyed<I: Source, W: Sink>(
             input,
             output,
         ),
-        Command::Show(ShowWords { back: false }) => show_tags(alloc, input, output),
-        Command::Show(ShowWords { back: true }) => read_shown(alloc, input, output),
-        Command::Check => check_tags(alloc, input, output),
-        Command::Codes(CodesWords { learn: false }) => list_codes(alloc, output),
-        Command::Codes(CodesWords { learn: true }) => learn_codes(alloc, input, output),
-        Command::Rehearse(words) => rehearse_share(
+        LocalCommand::Show(ShowWords { back: false }) => show_tags(alloc, input, output),
+        LocalCommand::Show(ShowWords { back: true }) => read_shown(alloc, input, output),
+        LocalCommand::Check => check_tags(alloc, input, output),
+        LocalCommand::Codes(CodesWords { learn: false }) => list_codes(alloc, output),
+        LocalCommand::Codes(CodesWords { learn: true }) => learn_codes(alloc, input, output),
+        LocalCommand::Replay(words) => {
+            replay_script(alloc, words.keep, words.name.as_str(), input, output)
+        }
+        LocalCommand::Rehearse(words) => rehearse_share(
             alloc,
             words.number,
             words.batches,
@@ -96,7 +111,7 @@ fn obeyed<I: Source, W: Sink>(
 }
 
 /// What is listed: all items, or the rows of a container.
-fn target_of(list: Option<u32>) -> Target
+pub fn target_of(list: Option<u32>) -> Target
     ensures { result ≡ target_of list }
 {
     match list {

@@ -4,7 +4,9 @@ use crate::run::run;
 use daap_outside::{MemFiles, MemNet, MemSink, MemSource};
 use std::alloc::Global;
 use std::process::Abort;
+use std::sync::Wait;
 use std::test::Fail;
+use std::thread::Threads;
 
 /// Words, an input, and how the run ends: with a status and these bytes on the output.
 fn known(n: u32) -> (&'static [&'static str], &'static [u8], u8, &'static [u8]) {
@@ -70,8 +72,8 @@ fn known(n: u32) -> (&'static [&'static str], &'static [u8], u8, &'static [u8]) 
     }
 }
 
-fn ends(
-    rt: &impl Abort,
+fn ends<R: Abort + Threads + Wait + Sync>(
+    rt: &R,
     alloc: Global,
     words: &[&str],
     input: &[u8],
@@ -82,6 +84,7 @@ fn ends(
     let mut sink = MemSink::new(alloc, 4096, 4096, &[])?;
     let mut net = MemNet::new(alloc);
     let ran = run(
+        rt,
         alloc,
         words,
         &mut source,

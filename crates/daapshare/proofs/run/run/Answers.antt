@@ -1,25 +1,41 @@
-use Rattle.std.proofs.Common.{refl, sym, subst}
-use Rattle.command_core.proofs.Ended.{by_refusal, by_idle}
+use Rattle.std.proofs.Common.{Some, refl, sym, subst}
+use Rattle.command_core.proofs.Ended.{by_refusal}
 use Rattle.command_core.specs.declared.fault.Fault.TheVariants.{Own}
+use Rattle.command_core.specs.declared.outcome.Outcome.{Outcome as CoreOutcome}
 use Rattle.command_core.specs.Endings.{IsAnswered}
 use Rattle.command_core.specs.Seen.{FilesSeen, NetSeen, Told, input_seen, output_seen}
 use Rattle.daapshare_words.specs.Grammar.{texts_of}
 use Rattle.daapshare_words.specs.Words.{command_of}
+use Rattle.daapshare_words.specs.declared.command.Command.{Command}
 use Rattle.daapshare.specs.declared.usage.UsageFault.TheVariants.{NoCommand}
-use Rattle.daapshare.specs.Table.{meaning_of}
+use Rattle.daapshare.specs.Table.{meaning_of, IsRun}
 use Rattle.daapshare.specs.Told.{files_seen, net_seen, seen, told_in}
 use Rattle.daapshare.specs.Usage.{usage_meaning}
-use Rattle.daapshare.proofs.Senses.{usage_sense, sense_of}
+use Rattle.daapshare.proofs.Idle.{idle_run}
+use Rattle.daapshare.proofs.Senses.{usage_sense}
 use Rattle.daapshare.proofs.run.run.Goals as goal
 
-pub returns-in-Ok-clause-answered : goal.returns-in-Ok-clause-answered
-returns-in-Ok-clause-answered g c =
+pub returns-in-Ok-Local-clause-answered : goal.returns-in-Ok-Local-clause-answered
+returns-in-Ok-Local-clause-answered g c =
     let files : FilesSeen = files_seen (g.F.Files.asked c.args.files.now) (g.F.Files.contents c.args.files.now) (g.F.Faulted.faults c.args.files.now) in
     let net : NetSeen = net_seen (g.N.Net.asked c.args.net.now) (g.N.Net.written c.args.net.now) (g.N.Net.door_links c.args.net.now) (g.N.Net.next_input c.args.net.now) (g.N.Faulted.faults c.args.net.now) in
     let told : Told = told_in (seen (input_seen (g.I.Source.left c.args.input.now) (g.I.Faulted.faults c.args.input.now)) files net)
     (seen (input_seen (g.I.Source.left c.obeyed.new.input) (g.I.Faulted.faults c.obeyed.new.input)) files net)
     (output_seen (g.W.Sink.taken c.args.output.now) (g.W.Faulted.faults c.args.output.now)) (output_seen (g.W.Sink.taken c.obeyed.new.output) (g.W.Faulted.faults c.obeyed.new.output)) in
-    subst (λ asked. IsAnswered (meaning_of asked) told c.obeyed.result) (sym c.in-Ok.ensures.read) (c.obeyed.ensures (record { files = files; net = net }))
+    subst (λ asked. IsRun asked told c.unlinked.result) (sym c.in-Ok-Local.ensures.read)
+    (subst (λ (command : Command). IsRun (Some command) told c.unlinked.result) (sym c.in-Ok-Local.field-0-is)
+    (c.unlinked.ensures.unlinked, subst (λ (ended : CoreOutcome). IsAnswered (meaning_of c.in-Ok-Local.command) told ended) (sym c.unlinked.ensures.ended) (c.obeyed.ensures (record { files = files; net = net }))))
+
+pub returns-in-Ok-Net-clause-answered : goal.returns-in-Ok-Net-clause-answered
+returns-in-Ok-Net-clause-answered g c =
+    let files : FilesSeen = files_seen (g.F.Files.asked c.args.files.now) (g.F.Files.contents c.args.files.now) (g.F.Faulted.faults c.args.files.now) in
+    let net : NetSeen = net_seen (g.N.Net.asked c.args.net.now) (g.N.Net.written c.args.net.now) (g.N.Net.door_links c.args.net.now) (g.N.Net.next_input c.args.net.now) (g.N.Faulted.faults c.args.net.now) in
+    let net_after : NetSeen = net_seen (g.N.Net.asked c.obeyed_over_net.new.net) (g.N.Net.written c.obeyed_over_net.new.net) (g.N.Net.door_links c.obeyed_over_net.new.net) (g.N.Net.next_input c.obeyed_over_net.new.net) (g.N.Faulted.faults c.obeyed_over_net.new.net) in
+    let told : Told = told_in (seen (input_seen (g.I.Source.left c.args.input.now) (g.I.Faulted.faults c.args.input.now)) files net)
+    (seen (input_seen (g.I.Source.left c.obeyed_over_net.new.input) (g.I.Faulted.faults c.obeyed_over_net.new.input)) files net_after)
+    (output_seen (g.W.Sink.taken c.args.output.now) (g.W.Faulted.faults c.args.output.now)) (output_seen (g.W.Sink.taken c.obeyed_over_net.new.output) (g.W.Faulted.faults c.obeyed_over_net.new.output)) in
+    subst (λ asked. IsRun asked told c.obeyed_over_net.result) (sym c.in-Ok-Net.ensures.read)
+    (subst (λ (command : Command). IsRun (Some command) told c.obeyed_over_net.result) (sym c.in-Ok-Net.field-0-is) (c.obeyed_over_net.ensures files))
 
 pub returns-in-Err-Usage-clause-answered : goal.returns-in-Err-Usage-clause-answered
 returns-in-Err-Usage-clause-answered g c =
@@ -28,8 +44,11 @@ returns-in-Err-Usage-clause-answered g c =
     let told : Told = told_in (seen (input_seen (g.I.Source.left c.args.input.now) (g.I.Faulted.faults c.args.input.now)) files net)
     (seen (input_seen (g.I.Source.left c.args.input.now) (g.I.Faulted.faults c.args.input.now)) files net)
     (output_seen (g.W.Sink.taken c.args.output.now) (g.W.Faulted.faults c.args.output.now)) (output_seen (g.W.Sink.taken c.refused.new.output) (g.W.Faulted.faults c.refused.new.output)) in
-    subst (λ asked. IsAnswered (meaning_of asked) told c.refused.result) (sym (c.in-Err-Usage.ensures.usage c.in-Err-Usage.field-0-is))
-    (by_refusal usage_meaning usage_sense told c.refused.result (Own NoCommand) (tt, record { left = refl; faults = refl }) c.refused.ensures)
+    subst (λ asked. IsRun asked told c.unlinked-in-Err-Usage.result) (sym (c.in-Err-Usage.ensures.usage c.in-Err-Usage.field-0-is)) (
+      c.unlinked-in-Err-Usage.ensures.unlinked,
+      subst (λ (ended : CoreOutcome). IsAnswered usage_meaning told ended) (sym c.unlinked-in-Err-Usage.ensures.ended)
+          (by_refusal usage_meaning usage_sense told c.refused.result (Own NoCommand) (tt, record { left = refl; faults = refl }) c.refused.ensures),
+    )
 
 pub returns-in-Err-Memory-clause-answered : goal.returns-in-Err-Memory-clause-answered
 returns-in-Err-Memory-clause-answered g c =
@@ -39,4 +58,4 @@ returns-in-Err-Memory-clause-answered g c =
     let told : Told = told_in (seen (input_seen (g.I.Source.left c.args.input.now) (g.I.Faulted.faults c.args.input.now)) files net)
     (seen (input_seen (g.I.Source.left c.args.input.now) (g.I.Faulted.faults c.args.input.now)) files net)
     (output_seen (g.W.Sink.taken c.args.output.now) (g.W.Faulted.faults c.args.output.now)) (output_seen (g.W.Sink.taken c.out_of_memory.new.output) (g.W.Faulted.faults c.out_of_memory.new.output)) in
-    by_idle (meaning_of asked) (sense_of asked) told c.out_of_memory.result refl c.out_of_memory.ensures
+    idle_run asked told c.unlinked-in-Err-Memory.result c.out_of_memory.result refl c.unlinked-in-Err-Memory.ensures.ended c.unlinked-in-Err-Memory.ensures.unlinked c.out_of_memory.ensures

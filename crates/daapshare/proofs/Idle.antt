@@ -1,0 +1,40 @@
+-- Want of memory before anything was done is an end of every command.
+use Rattle.std.proofs.Common.{◌≡◌, Option, Some, None, [], sym, subst}
+use Rattle.command_core.proofs.Ended.{by_idle}
+use Rattle.command_core.proofs.Sensible.{IsSensible}
+use Rattle.command_core.specs.declared.outcome.Outcome.{Outcome as CoreOutcome}
+use Rattle.command_core.specs.Answers.{TellsMemory}
+use Rattle.command_core.specs.Endings.{IsAnswered}
+use Rattle.command_core.specs.Meanings.{Meaning}
+use Rattle.command_core.specs.Seen.{Told}
+use Rattle.link_commands.proofs.FollowFacts.{follow_idle}
+use Rattle.link_commands.proofs.PushFacts.{edit_idle}
+use Rattle.serve_command.proofs.Idle.{by_idle as serve_idle}
+use Rattle.daapshare_words.specs.declared.command.Command.{Command}
+use Rattle.daapshare_words.specs.declared.command.Command.TheVariants.{Local, Net}
+use Rattle.daapshare_words.specs.declared.command.NetCommand.{NetCommand}
+use Rattle.daapshare_words.specs.declared.command.NetCommand.TheVariants as net
+use Rattle.daapshare.specs.declared.outcome.Outcome.{Outcome}
+use Rattle.daapshare.specs.Left.{Unlinked, core_of, left_by}
+use Rattle.daapshare.specs.Table.{meaning_of, serving_of, target_of, IsRun, IsRunOverNet}
+use Rattle.daapshare.specs.Usage.{usage_meaning}
+use Rattle.daapshare.proofs.Senses.{usage_sense, sense_of}
+
+module _ (told : Told) (outcome : Outcome) (same : told.after ≡ told.before) (none : outcome.links ≡ []) (t : TellsMemory None told.output_before told.output_after (core_of outcome)) where
+  idle_alone : (m : Meaning) → IsSensible m → Unlinked (IsAnswered m told) outcome
+  idle_alone m sense = (none, by_idle m sense told (core_of outcome) same t)
+
+  idle_net : (command : NetCommand) → IsRunOverNet command told outcome
+  idle_net (net.Serve words) = serve_idle (serving_of words) told (left_by outcome) same t.told (record { history = t.history; links = none })
+  idle_net (net.Edit words) = (none, edit_idle words.place words.stop told (core_of outcome) same t)
+  idle_net (net.Follow words) = (none, follow_idle words.place words.rounds words.query words.meta (target_of words.list) told (core_of outcome) same t)
+
+  idle_ended : (asked : Option Command) → IsRun asked told outcome
+  idle_ended None = idle_alone usage_meaning usage_sense.sensible
+  idle_ended (Some (Local command)) = idle_alone (meaning_of command) (sense_of command)
+  idle_ended (Some (Net command)) = idle_net command
+
+pub idle_run : (asked : Option Command) (told : Told) (outcome : Outcome) (ended : CoreOutcome) → told.after ≡ told.before → core_of outcome ≡ ended → outcome.links ≡ []
+    → TellsMemory None told.output_before told.output_after ended → IsRun asked told outcome
+idle_run asked told outcome ended same is none t =
+    idle_ended told outcome same none (subst (λ (e : CoreOutcome). TellsMemory None told.output_before told.output_after e) (sym is) t) asked

@@ -1,0 +1,17 @@
+-- What is read of the words is in the ranges that the commands ask for.
+use Rattle.std.proofs.lemmas.Bool.{leb-true}
+use Rattle.serve_command.specs.Terms.{MayServe}
+use Rattle.daapshare_words.specs.Serve.{AreServeWords}
+use Rattle.daapshare_words.specs.declared.serve.ServeWords.{ServeWords}
+use Rattle.daapshare.specs.Table.{serving_of}
+
+pub may_serve : (words : ServeWords) → AreServeWords words → MayServe (serving_of words)
+may_serve words h = record {
+  name = leb-true _ _ h.name;
+  some_kept = h.keep.0;
+  few_kept = h.keep.1;
+  some_workers = h.workers.0;
+  few_workers = h.workers.1;
+  some_editors = h.editors.0;
+  few_editors = h.editors.1;
+}

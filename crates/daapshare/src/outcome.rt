@@ -1,0 +1,41 @@
+//! What a run of the program leaves.
+
+ghost use Rattle.std.specs.Prelude.{◌≡◌, []};
+ghost use Rattle.serve_command.specs.Outcomes.{left_of};
+ghost use Rattle.daapshare.specs.Left.{core_of, left_by};
+
+use item_model::Entries;
+use serve_command::LinkReports;
+use std::alloc::Global;
+
+/// The status of the program, the history of the share, where one was opened, and what is told of the links that were
+/// served, worker by worker.
+#[derive(Debug, Drop)]
+pub struct Outcome {
+    pub status: u8,
+    pub history: Option<Entries>,
+    pub links: LinkReports,
+}
+
+/// The outcome of a command that served no link.
+pub fn unlinked(alloc: Global, ended: command_core::Outcome) -> Outcome
+    ensures ended { core_of result ≡ ended }
+    ensures unlinked { result.links ≡ [] }
+{
+    Outcome {
+        status: ended.status,
+        history: ended.history,
+        links: LinkReports::none(alloc),
+    }
+}
+
+/// The outcome of a share that was served.
+pub fn linked(ended: serve_command::Outcome) -> Outcome
+    ensures { left_by result ≡ left_of ended }
+{
+    Outcome {
+        status: ended.status,
+        history: ended.history,
+        links: ended.links,
+    }
+}

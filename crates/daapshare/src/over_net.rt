@@ -1,0 +1,79 @@
+//! What the commands over the net do.
+
+ghost use Rattle.std.specs.Prelude.{◌≡◌};
+ghost use Rattle.command_core.specs.Seen.{FilesSeen, input_seen, output_seen};
+ghost use Rattle.daapshare_words.specs.Serve.{AreServeWords};
+ghost use Rattle.daapshare_words.specs.Words.{IsNetRanged};
+ghost use Rattle.serve_command.specs.Terms.{MayServe};
+ghost use Rattle.daapshare.specs.Table.{serving_of, IsRunOverNet};
+ghost use Rattle.daapshare.specs.Told.{net_seen, seen, told_in};
+
+use crate::outcome::{Outcome, linked, unlinked};
+use crate::run::target_of;
+use daap_outside::{Net, Sink, Source};
+use daapshare_words::{NetCommand, ServeWords};
+use link_commands::{edit_share, follow_share};
+use serve_command::{Serving, serve};
+use std::alloc::Global;
+use std::sync::Wait;
+use std::thread::Threads;
+
+/// Does what a command over the net asks for.
+pub fn obeyed_over_net<R: Threads + Wait + Sync, I: Source, W: Sink, N: Net>(
+    rt: &R,
+    alloc: Global,
+    command: NetCommand,
+    input: &mut I,
+    output: &mut W,
+    net: &mut N,
+) -> Outcome
+    requires { IsNetRanged command }
+    ensures { (files : FilesSeen) → IsRunOverNet command
+        (told_in
+        (seen (input_seen (I.left input.old) (I.faults input.old)) files
+        (net_seen (N.asked net.old) (N.written net.old) (N.door_links net.old) (N.next_input net.old) (N.faults net.old)))
+        (seen (input_seen (I.left input.new) (I.faults input.new)) files
+        (net_seen (N.asked net.new) (N.written net.new) (N.door_links net.new) (N.next_input net.new) (N.faults net.new)))
+        (output_seen (W.taken output.old) (W.faults output.old))
+        (output_seen (W.taken output.new) (W.faults output.new)))
+        result }
+{
+    match command {
+        NetCommand::Serve(words) => {
+            linked(serve(rt, alloc, &serving_of(words), input, output, net))
+        }
+        NetCommand::Edit(words) => {
+            let ended = edit_share(alloc, words.place.as_str(), words.stop, input, output, net);
+            unlinked(alloc, ended)
+        }
+        NetCommand::Follow(words) => {
+            let ended = follow_share(
+                alloc,
+                words.place.as_str(),
+                words.rounds,
+                words.query.as_ref(),
+                words.meta.as_ref(),
+                target_of(words.list),
+                output,
+                net,
+            );
+            unlinked(alloc, ended)
+        }
+    }
+}
+
+/// The share that the words of `serve` ask for.
+fn serving_of(words: ServeWords) -> Serving
+    requires { AreServeWords words }
+    ensures asked { result ≡ serving_of words }
+    ensures may { MayServe result }
+{
+    Serving {
+        listen: words.listen,
+        edit: words.edit,
+        name: words.name,
+        keep: words.keep,
+        workers: words.workers,
+        editors: words.editors,
+    }
+}
