@@ -8,7 +8,7 @@ use std::alloc::{AllocError, Global};
 use std::test::Fail;
 
 /// What a command line is to be.
-#[derive(Clone, Copy, Debug)]
+#[derive(Clone, Copy)]
 enum Wanted {
     List(Option<&'static str>, Option<&'static str>, Option<u32>),
     Show(bool),
@@ -18,8 +18,8 @@ enum Wanted {
     Replay(&'static str, u32),
     /// The number, how many batches, how many edits in each, and how many revisions are kept.
     Rehearse([u32; 4]),
-    /// The places and the name, and how many revisions are kept, players and editors served at once.
-    Serve([&'static str; 3], [u32; 3]),
+    /// Both places and the name, and how many revisions are kept, players and editors served at once.
+    Serve(&'static str, &'static str, &'static str, [u32; 3]),
     Edit(&'static str, bool),
     /// The place, the rounds, the query, the names of properties and the container.
     Follow(&'static str, u32, Option<&'static str>, Option<&'static str>, Option<u32>),
@@ -34,13 +34,16 @@ fn is_text(text: &Option<dmap_tags::Text>, wanted: Option<&str>) -> bool {
     }
 }
 
-fn is_served(words: &ServeWords, texts: [&str; 3], numbers: [u32; 3]) -> bool {
-    [
-        words.listen.as_str(),
-        words.edit.as_str(),
-        words.name.as_str(),
-    ] == texts
-        && [words.keep, words.workers, words.editors] == numbers
+fn is_served(words: &ServeWords, wanted: Wanted) -> bool {
+    match wanted {
+        Wanted::Serve(listen, edit, name, numbers) => {
+            words.listen.as_str() == listen
+                && words.edit.as_str() == edit
+                && words.name.as_str() == name
+                && [words.keep, words.workers, words.editors] == numbers
+        }
+        _ => false,
+    }
 }
 
 fn is_followed(words: &FollowWords, wanted: Wanted) -> bool {
@@ -69,9 +72,7 @@ fn is_wanted(answer: &Result<Command, WordsError>, wanted: Wanted) -> bool {
         (Ok(Command::Local(LocalCommand::Replay(words))), Wanted::Replay(name, keep)) => {
             words.name.as_str() == name && words.keep == keep
         }
-        (Ok(Command::Net(NetCommand::Serve(words))), Wanted::Serve(texts, numbers)) => {
-            is_served(words, texts, numbers)
-        }
+        (Ok(Command::Net(NetCommand::Serve(words))), _) => is_served(words, wanted),
         (Ok(Command::Net(NetCommand::Edit(words))), Wanted::Edit(place, stop)) => {
             words.place.as_str() == place && words.stop == stop
         }
@@ -134,15 +135,15 @@ fn lines_that_are_commands(rt: HostRuntime) -> Result<(), Fail> {
         ("replay --keep=1 --name ", Wanted::Replay("", 1)),
         (
             "serve :3689 127.0.0.1:3688",
-            Wanted::Serve([":3689", "127.0.0.1:3688", "daapshare"], [256, 16, 2]),
+            Wanted::Serve(":3689", "127.0.0.1:3688", "daapshare", [256, 16, 2]),
         ),
         (
             "serve --workers 64 a --editors=8 b --name Attic --keep 1",
-            Wanted::Serve(["a", "b", "Attic"], [1, 64, 8]),
+            Wanted::Serve("a", "b", "Attic", [1, 64, 8]),
         ),
         (
             "serve a a --workers 1 --editors 1",
-            Wanted::Serve(["a", "a", "daapshare"], [256, 1, 1]),
+            Wanted::Serve("a", "a", "daapshare", [256, 1, 1]),
         ),
         ("edit h:1", Wanted::Edit("h:1", false)),
         ("edit --stop h:1", Wanted::Edit("h:1", true)),
