@@ -355,7 +355,7 @@ fn other_answers_are_told(rt: HostRuntime) -> Result<(), Fail> {
 }
 
 #[test]
-fn a_share_may_end_anywhere(rt: HostRuntime) -> Result<(), Fail> {
+fn a_share_may_end_behind_any_byte(rt: HostRuntime) -> Result<(), Fail> {
     let alloc = rt.alloc();
     let input = two_rounds(alloc)?;
     let codes = ("200 OK", "codes");
@@ -364,8 +364,7 @@ fn a_share_may_end_anywhere(rt: HostRuntime) -> Result<(), Fail> {
     let first = replies(alloc, &[codes, login, full])?.len();
     let last = replies(alloc, &[("204 No Content", "")])?.len();
     let second = input.len().saturating_sub(last);
-    for part in 0..64 {
-        let at = part * input.len() / 64;
+    for at in 0..input.len() {
         let front = if at < first {
             ""
         } else if at < second {
@@ -407,7 +406,9 @@ fn a_failed_link_is_told(rt: HostRuntime) -> Result<(), Fail> {
         MemSink::new(alloc, 4096, 4096, &[])?,
     )?;
     assert!(rt; ran.has_told(6, "network failed\n"));
-    let (sent, _) = requests("two rounds").split_at(50);
+    let sent = requests("two rounds")
+        .get(..50)
+        .expect(&rt, "there are more");
     assert!(rt; ran.has_sent(sent));
     let output = MemSink::new(alloc, 4096, 4096, &[])?;
     let ran = follow_on(
