@@ -1,6 +1,6 @@
 -- What the meanings of the commands on tags owe: words and an input say one status, and no fault where the command is
 -- done.
-use Rattle.std.proofs.Common.{◌≡◌, ℕ, List, [], Ok, Err, true, false, inl, inr, refl, sym, subst, ap, ◌∙◌, arith}
+use Rattle.std.proofs.Common.{◌≡◌, ℕ, List, [], Some, Ok, Err, true, false, inl, inr, refl, sym, subst, ap, ◌∙◌, arith}
 use Rattle.std.proofs.lemmas.List.{take_all}
 use Rattle.dmap_tags.specs.Tree.{Tree}
 use Rattle.code_table.specs.declared.reply.CodeError.{CodeError}
@@ -13,9 +13,9 @@ use Rattle.dmap_stream.specs.Walk.{Walk, between, inside, broken}
 use Rattle.dmap_stream.specs.declared.refusal.StreamError.{StreamError}
 use Rattle.command_core.specs.declared.fault.Fault.{Fault}
 use Rattle.command_core.specs.declared.fault.Fault.TheVariants.{Own, Read, Memory}
-use Rattle.command_core.specs.Seen.{Seen, IsUnread}
+use Rattle.command_core.specs.Seen.{Seen, ShareSeen, IsUnread}
 use Rattle.command_core.specs.Causes.{Says}
-use Rattle.command_core.specs.Meanings.{IsCause}
+use Rattle.command_core.specs.Meanings.{Meaning, IsCause, leaves_no_share, may_read, writes_nothing_before}
 use Rattle.command_core.proofs.Reading.{read_whole}
 use Rattle.command_core.proofs.Sensible.{IsSensible, WritesOnce}
 use Rattle.tag_commands.specs.declared.tags_fault.TagsFault.{TagsFault}
@@ -32,6 +32,32 @@ use Rattle.tag_commands.specs.Codes.{codes_meaning}
 use Rattle.tag_commands.specs.LearnCodes.{IsReply, TellsNone, IsReplyRefused, learn_cause, learn_meaning}
 use Rattle.tag_commands.proofs.Showing.{show_nothing}
 use Rattle.tag_commands.proofs.Tagged.{tags_walked}
+
+-- ---- commands that read their input, write once, at its end, and open no share
+
+abbrev reading : Meaning → Meaning
+reading m = record m { is_begun = m.is_done; is_front = writes_nothing_before; leaves = leaves_no_share; may_want = may_read }
+
+reads_once : (m : Meaning) → ((input : List ℕ) (one other : m.fault) → Says (m.cause one) input → Says (m.cause other) input → m.status one ≡ m.status other)
+    → ((input : List ℕ) (own : m.fault) → Says (m.cause own) input → m.gives input → ⊥)
+    → ((input : List ℕ) (before after : Seen) (share : ShareSeen) (output : List ℕ) → before.input.left ≡ Some input → m.is_done before after share output → m.gives input)
+    → WritesOnce (reading m)
+reads_once m one_status not_both given = record {
+  sensible = record {
+    wants = λ before after fault cause. tt;
+    wants_front = λ before after fault front h. h;
+    wants_share = λ before after fault share h. h;
+    idle = λ seen. tt;
+    idle_front = λ seen. refl;
+    idle_share = λ seen. refl;
+    one_status = one_status;
+    not_both = not_both;
+    given = given;
+  };
+  begun = λ before after share output done. done;
+  front = λ before after fault. refl;
+  unopened = λ before after fault. refl;
+}
 
 -- ---- check and show
 
@@ -62,23 +88,8 @@ no_tags_fault input (tags.Broken error) says sound = sound_or_faulty input error
 no_tags_fault input tags.TooLong says sound = let within = sound.0 in let long = says.1.long in absurd (omega arith)
 
 pub check_sense : WritesOnce check_meaning
-check_sense = record {
-  sensible = record {
-    wants = λ before after fault cause. tt;
-    wants_front = λ before after fault front h. h;
-    wants_share = λ before after fault share h. h;
-    idle = λ seen. tt;
-    idle_front = λ seen. refl;
-    idle_share = λ seen. refl;
-    one_status = one_tags_status;
-    not_both = no_tags_fault;
-    given = λ input before after share output told done.
-        subst IsSound (sym (read_whole input done.bytes before.input.left after.input.left told done.read done.end)) (done.within, (done.tags, done.sound));
-  };
-  begun = λ before after share output done. done;
-  front = λ before after fault. refl;
-  unopened = λ before after fault. refl;
-}
+check_sense = reads_once check_meaning one_tags_status no_tags_fault (λ input before after share output told done.
+    subst IsSound (sym (read_whole input done.bytes before.input.left after.input.left told done.read done.end)) (done.within, (done.tags, done.sound)))
 
 pub show_sense : IsSensible show_meaning
 show_sense = record {
@@ -113,23 +124,8 @@ no_text_fault input (text.Line line) says back = stops_not input back.0 line bac
 no_text_fault input text.TooLong says back = let within = back.1.within in let long = says.1 in absurd (omega arith)
 
 pub show_back_sense : WritesOnce show_back_meaning
-show_back_sense = record {
-  sensible = record {
-    wants = λ before after fault cause. tt;
-    wants_front = λ before after fault front h. h;
-    wants_share = λ before after fault share h. h;
-    idle = λ seen. tt;
-    idle_front = λ seen. refl;
-    idle_share = λ seen. refl;
-    one_status = one_text_status;
-    not_both = no_text_fault;
-    given = λ input before after share output told done.
-        (done.tags, subst (ShowsBack done.tags) (sym (read_whole input done.bytes before.input.left after.input.left told done.read done.end)) done.back);
-  };
-  begun = λ before after share output done. done;
-  front = λ before after fault. refl;
-  unopened = λ before after fault. refl;
-}
+show_back_sense = reads_once show_back_meaning one_text_status no_text_fault (λ input before after share output told done.
+    (done.tags, subst (ShowsBack done.tags) (sym (read_whole input done.bytes before.input.left after.input.left told done.read done.end)) done.back))
 
 -- ---- codes
 
@@ -175,20 +171,5 @@ no_learn_fault input (learn.Broken error) says told = says.1.none told.1.tag [] 
 no_learn_fault input (learn.Table error) says told = reply_or_refused input told.0 error told.1 says.1
 
 pub learn_sense : WritesOnce learn_meaning
-learn_sense = record {
-  sensible = record {
-    wants = λ before after fault cause. tt;
-    wants_front = λ before after fault front h. h;
-    wants_share = λ before after fault share h. h;
-    idle = λ seen. tt;
-    idle_front = λ seen. refl;
-    idle_share = λ seen. refl;
-    one_status = λ input one other says said. refl;
-    not_both = no_learn_fault;
-    given = λ input before after share output told done.
-        (done.rows, subst (IsReply done.rows) (sym (read_whole input done.bytes before.input.left after.input.left told done.read done.end)) done.reply);
-  };
-  begun = λ before after share output done. done;
-  front = λ before after fault. refl;
-  unopened = λ before after fault. refl;
-}
+learn_sense = reads_once learn_meaning (λ input one other says said. refl) no_learn_fault (λ input before after share output told done.
+    (done.rows, subst (IsReply done.rows) (sym (read_whole input done.bytes before.input.left after.input.left told done.read done.end)) done.reply))

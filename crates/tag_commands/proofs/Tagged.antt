@@ -1,6 +1,7 @@
 -- Bytes that are tags: what the walk over them tells, and how many top tags it counts.
-use Rattle.std.proofs.Common.{◌≡◌, ◌+◌, ◌-◌, ◌<◌, ℕ, suc, List, [], ◌∷◌, ◌++◌, length, get_or, fold, if◌then◌else◌, refl, ap, ◌∙◌, arith, append-nil, add-one}
+use Rattle.std.proofs.Common.{◌≡◌, ◌+◌, ◌-◌, ◌<◌, ℕ, suc, List, [], ◌∷◌, ◌++◌, length, take, drop, get_or, fold, if◌then◌else◌, refl, sym, ap, ◌∙◌, arith, append-nil, append_assoc, add-one}
 use Rattle.std.proofs.lemmas.Bool.{ne_eqb}
+use Rattle.std.proofs.lemmas.List.{take-append-drop}
 use Rattle.dmap_tags.specs.Spelling.{payload}
 use Rattle.dmap_tags.specs.Tree.{Tree, leaf, list, Trees, none, more, trees_of}
 use Rattle.code_table.specs.Standard.{standard_rows}
@@ -23,6 +24,12 @@ use Rattle.tag_commands.specs.declared.tops.Tops.{Tops}
 pub each_small : (bytes : List ℕ) → ((i : ℕ) → get_or bytes i 0 < 256) → AreBytes bytes
 each_small [] h = tt
 each_small (b ∷ bytes) h = (h 0, each_small bytes (λ i. h (suc i)))
+
+-- more of a piece is behind its front, and less is left
+pub taken_more : (piece front rest left : List ℕ) (taken : ℕ) → piece ≡ front ++ rest → left ≡ drop taken rest → piece ≡ (front ++ take taken rest) ++ left
+taken_more piece front rest left taken split is =
+    split ∙ ap (λ l. front ++ l) (sym (take-append-drop taken rest)) ∙ sym (append_assoc front (take taken rest) (drop taken rest))
+    ∙ ap (λ l. (front ++ take taken rest) ++ l) (sym is)
 
 -- two runs of bytes, one behind the other
 pub both_small : (xs ys : List ℕ) → AreBytes xs → AreBytes ys → AreBytes (xs ++ ys)

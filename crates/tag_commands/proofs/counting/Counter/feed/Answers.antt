@@ -1,9 +1,9 @@
-use Rattle.std.proofs.Common.{rules, ◌≡◌, ◌<◌, ◌+◌, ◌^◌, ◌++◌, [], length, take, drop, refl, sym, subst, ap, ◌∙◌, arith, length-append, append_assoc}
-use Rattle.std.proofs.lemmas.List.{append-nil, length-drop, take-append-drop}
+use Rattle.std.proofs.Common.{rules, ◌≡◌, ◌<◌, ◌+◌, ◌^◌, ◌++◌, [], length, take, refl, sym, subst, ap, ◌∙◌, arith, length-append, append_assoc}
+use Rattle.std.proofs.lemmas.List.{append-nil, length-drop}
 use Rattle.dmap_stream.specs.Reader.{ready}
 use Rattle.tag_commands.specs.Counting.{HasCounted}
 use Rattle.tag_commands.proofs.Counted.{none_left, fewer_left}
-use Rattle.tag_commands.proofs.Tagged.{each_small, both_small}
+use Rattle.tag_commands.proofs.Tagged.{each_small, both_small, taken_more}
 use Rattle.tag_commands.proofs.counting.Counter.feed.Goals as goal
 
 pub loop-rest-init : goal.loop-rest-init
@@ -46,9 +46,7 @@ loop-rest-preserved c =
     let more = take c.in-Ok.taken rest in
     record {
       front = front ++ more;
-      split =
-          c.loop-rest.invariant.split ∙ ap (λ l. front ++ l) (sym (take-append-drop c.in-Ok.taken rest)) ∙ sym (append_assoc front more (drop c.in-Ok.taken rest))
-          ∙ ap (λ l. (front ++ more) ++ l) (sym c.split_at.ensures.back);
+      split = taken_more c.args.piece.now front rest c.split_at.result.1.now c.in-Ok.taken c.loop-rest.invariant.split c.split_at.ensures.back;
       counted = λ fed h. subst (λ l. HasCounted l c.step.new.self.reader c.step.new.self.tops) (append_assoc fed front more)
           (c.in-Ok.ensures.counted (fed ++ front) (c.loop-rest.invariant.counted fed h));
       bytes = c.step.ensures.bytes ∙ c.loop-rest.invariant.bytes;

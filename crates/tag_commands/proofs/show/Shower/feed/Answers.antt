@@ -5,7 +5,7 @@ use Rattle.tag_commands.specs.TopTags.{tags_limit}
 use Rattle.tag_commands.specs.Showing.{HasShown}
 use Rattle.tag_commands.proofs.Counted.{none_left, counted_taken, counted_takes}
 use Rattle.tag_commands.proofs.Showing.{shown_fed, counted_of, shows_some, shows_broken, stopped_memory, more_some}
-use Rattle.tag_commands.proofs.Tagged.{each_small, both_small}
+use Rattle.tag_commands.proofs.Tagged.{each_small, both_small, taken_more}
 use Rattle.tag_commands.proofs.show.Shower.feed.Goals as goal
 
 pub feed-requires : goal.feed-requires
@@ -128,9 +128,7 @@ loop-rest-preserved c =
     let more = take c.in-Ok.taken rest in
     record {
       front = front ++ more;
-      split =
-          c.loop-rest.invariant.split ∙ ap (λ l. front ++ l) (sym (take-append-drop c.in-Ok.taken rest)) ∙ sym (append_assoc front more (drop c.in-Ok.taken rest))
-          ∙ ap (λ l. (front ++ more) ++ l) (sym c.split_at.ensures.back);
+      split = taken_more c.args.piece.now front rest c.split_at.result.1.now c.in-Ok.taken c.loop-rest.invariant.split c.split_at.ensures.back;
       shown = λ fed written h.
           c.in_ok-show_ready.ensures.shown (fed ++ (front ++ more)) written
           (shown_fed (fed ++ front) more (fed ++ (front ++ more)) written c.loop-rest.self.lines.items c.loop-rest.self.counter.reader c.feed.new.self
