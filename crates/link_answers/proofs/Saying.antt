@@ -1,5 +1,5 @@
 -- What is said writes the bytes of the reply that it is.
-use Rattle.std.proofs.Common.{◌≡◌, ℕ, List, [], ◌∷◌, Bool, true, false, Option, Some, None, unwrap_or, refl, sym, ap, ◌∙◌, subst}
+use Rattle.std.proofs.Common.{◌≡◌, ℕ, List, Bool, Option, Some, None, refl, sym, ap, ◌∙◌, subst}
 use Rattle.dmap_tags.specs.Tree.{Tree}
 use Rattle.dmap_tags.specs.Spelling.{spelling}
 use Rattle.share_asks.specs.declared.form.BodyForm.{BodyForm}

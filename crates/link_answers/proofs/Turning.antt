@@ -16,7 +16,7 @@ use Rattle.share_replies.specs.Settings.{Settings}
 use Rattle.share_replies.specs.Replies as replies
 use Rattle.share_replies.specs.Replies.{Replies, Holds, answer_to}
 use Rattle.share_replies.specs.Added.{adds, after}
-use Rattle.share_replies.specs.Answers.{Shared, told, told_by, left}
+use Rattle.share_replies.specs.Answers.{Shared, told, left}
 use Rattle.share_replies.specs.Laws.{maker}
 use Rattle.share_replies.proofs.ReplyFacts.{no_reply_is_a_failure, entries_are_the_askers}
 use Rattle.share_core.specs.declared.answer.Answer.{Answer}
@@ -32,12 +32,11 @@ use Rattle.reply_bytes.proofs.ReasonFacts.{replies_have_reasons}
 use Rattle.served_links.specs.declared.report.Served.{Served}
 use Rattle.served_links.specs.Served.{at_point, answered_on, added_part, IsGivenUp, IsReplied, IsServed}
 use Rattle.served_links.specs.Replies.{answer_bytes, served_bytes}
-use Rattle.served_links.specs.Passes.{Pass, Serves, Fresh}
-use Rattle.link_answers.specs.declared.outcome.Answered.{Answered}
+use Rattle.served_links.specs.Passes.{Pass, Serves}
 use Rattle.link_answers.specs.declared.outcome.Look.{Look}
 use Rattle.link_answers.specs.declared.outcome.Look.TheVariants as look
-use Rattle.link_answers.specs.Answering.{Says, IsAnswered, IsLooked, Finds, served_of, given_up, look_of}
-use Rattle.link_answers.proofs.Saying.{Writes, writes, said_bytes}
+use Rattle.link_answers.specs.Answering.{Says, IsLooked, Finds, served_of, given_up, look_of}
+use Rattle.link_answers.proofs.Saying.{writes, said_bytes}
 
 -- ---- a history, and what was added to it
 

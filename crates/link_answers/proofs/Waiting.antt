@@ -1,10 +1,8 @@
 -- Turns that served nothing, and the one that answered.
-use Rattle.std.proofs.Common.{◌≡◌, List, [], ◌∷◌, refl, sym, ap, subst, append-nil, arith}
-use Rattle.item_model.specs.declared.changes.Entry.{Entry}
+use Rattle.std.proofs.Common.{◌≡◌, [], ◌∷◌, refl, sym, ap, subst, append-nil, arith}
 use Rattle.share_asks.specs.declared.ask.Ask.{Ask}
 use Rattle.share_lock.specs.Histories.{entries_of}
 use Rattle.share_replies.specs.Laws.{maker}
-use Rattle.share_replies.specs.Settings.{Settings}
 use Rattle.served_links.specs.Served.{at_point}
 use Rattle.served_links.specs.Passes.{Pass, Serves}
 use Rattle.served_links.proofs.Turns.{serves_in_turn}

@@ -15,13 +15,14 @@ use std::process::Abort;
 use std::sync::Wait;
 use std::test::Fail;
 
-/// What comes over a connection, in pieces of which size, and which of its writes fail.
+/// What comes over a connection, in pieces of which size, for how many bytes it has room, and which of its writes fail.
 #[derive(Drop)]
 struct Trial<'a> {
     role: Role,
     budget: u32,
     input: &'a [u8],
     piece: usize,
+    room: usize,
     failing: &'a [u64],
 }
 
@@ -33,6 +34,7 @@ fn edits<'a>(input: &'a str) -> Trial<'a>
         budget: 100,
         input: input.as_bytes(),
         piece: 1_000,
+        room: 10_000,
         failing: &[],
     }
 }
@@ -60,7 +62,7 @@ fn tried<R: Wait>(
 {
     let (lock, mut pass) = opened(alloc)?;
     let input = MemSource::new(alloc, trial.input, trial.piece, &[])?;
-    let output = MemSink::new(alloc, 10_000, 50, trial.failing)?;
+    let output = MemSink::new(alloc, trial.room, 50, trial.failing)?;
     let mut link = MemLink::new(input, output);
     let bell = Bell::new();
     let report = serve_link(
@@ -165,12 +167,64 @@ fn a_stop_ends_the_connection(rt: HostRuntime) -> Result<(), Fail> {
     Ok(())
 }
 
+/// What came before a connection ended, how it ended so, and how many requests were served on it.
+type Ending = (&'static str, LinkEnd, usize);
+
+const ENDINGS: [Ending; 9] = [
+    ("", LinkEnd::Closed, 0),
+    ("G", LinkEnd::Cut { at: 1 }, 0),
+    ("GET /login HTTP/1.1\r\n", LinkEnd::Cut { at: 21 }, 0),
+    (LOGIN, LinkEnd::Closed, 1),
+    (
+        "GET /login HTTP/1.1\r\n\r\nPOST /edit",
+        LinkEnd::Cut { at: 33 },
+        1,
+    ),
+    (
+        "POST /edit HTTP/1.1\r\nContent-Length: 3\r\n\r\n",
+        LinkEnd::Cut { at: 42 },
+        0,
+    ),
+    (
+        "POST /edit HTTP/1.1\r\nContent-Length: 3\r\n\r\nop",
+        LinkEnd::Cut { at: 44 },
+        0,
+    ),
+    (
+        "POST /edit HTTP/1.1\r\nContent-Length: 3\r\n\r\nop,",
+        LinkEnd::Closed,
+        1,
+    ),
+    // The last request closes: what comes behind it is not looked at.
+    (
+        "GET /login HTTP/1.1\r\nConnection: close\r\n\r\nGET",
+        LinkEnd::Closed,
+        1,
+    ),
+];
+
+#[test]
+fn a_connection_ends_where_its_input_does(rt: HostRuntime) -> Result<(), Fail> {
+    let alloc = rt.alloc();
+    for (input, end, count) in ENDINGS {
+        // From 45 bytes on a piece is all of it.
+        for piece in 1..50 {
+            let trial = Trial {
+                piece,
+                ..edits(input)
+            };
+            let (report, link) = tried(&rt, alloc, &trial)?;
+            assert!(rt; report.end == end, "{input}");
+            assert!(rt; report.served.as_slice().len() == count, "{input}");
+            assert!(rt; link.taken().is_empty() == (count == 0), "{input}");
+        }
+    }
+    Ok(())
+}
+
 #[test]
 fn what_is_no_request_ends_the_connection(rt: HostRuntime) -> Result<(), Fail> {
     let alloc = rt.alloc();
-    let (report, _) = tried(&rt, alloc, &edits("GET /login HTTP/1.1\r\n\r\nPOST /edit"))?;
-    assert!(rt; report.end == LinkEnd::Cut { at: 33 } && report.served.as_slice().len() == 1);
-
     let trial = edits("POST /edit HTTP/1.1\r\nContent-Length: 4194305\r\n\r\nop");
     tells(
         &rt,
@@ -213,18 +267,56 @@ fn a_budget_is_spent(rt: HostRuntime) -> Result<(), Fail> {
     Ok(())
 }
 
+/// So many requests for nothing that a share has.
+fn requests_for_nothing(alloc: Global, count: usize) -> Result<Vec<u8>, AllocError> {
+    let mut input = Vec::new(alloc);
+    for _ in 0..count {
+        input.extend_from_slice(b"GET / HTTP/1.1\r\n\r\n")?;
+    }
+    Ok(input)
+}
+
+const NOT_FOUND: &[u8] = b"HTTP/1.1 404 Not Found\r\nContent-Length: 0\r\n\r\n";
+
+const LAST_NOT_FOUND: &[u8] =
+    b"HTTP/1.1 404 Not Found\r\nContent-Length: 0\r\nConnection: close\r\n\r\n";
+
+#[test]
+fn no_connection_has_a_65537th_request(rt: HostRuntime) -> Result<(), Fail> {
+    let alloc = rt.alloc();
+    let input = requests_for_nothing(alloc, 65_537)?;
+    let trial = Trial {
+        budget: 262_144,
+        input: input.as_slice(),
+        piece: 8_192,
+        room: 3_000_000,
+        ..edits("")
+    };
+    let (report, link) = tried(&rt, alloc, &trial)?;
+    assert!(rt; report.end == LinkEnd::Spent);
+    let served = report.served.as_slice();
+    assert!(rt; served.len() == 65_536 && served.iter().all(|s| s.status == 404));
+    // Replies of 45 bytes, and a last one of 64.
+    let taken = link.taken();
+    assert!(rt; taken.len() == 2_949_139);
+    let (front, last) = taken.split_at(2_949_075);
+    assert!(rt; front.chunks(45).all(|reply| reply == NOT_FOUND));
+    assert!(rt; last == LAST_NOT_FOUND);
+    Ok(())
+}
+
 #[test]
 fn a_write_that_fails_leaves_a_front_of_the_replies(rt: HostRuntime) -> Result<(), Fail> {
     let alloc = rt.alloc();
-    // A reply is written in four pieces of 50 bytes at most: two of its head, two of which the last are its body.
-    for failing in 1..4 {
+    // A reply is written in three pieces: two of its head, of 50 bytes and of 30, and one of its body.
+    for (failing, stands) in [(1, 0), (2, 50), (3, 80)] {
         let trial = Trial {
             failing: &[failing],
             ..edits("GET /login HTTP/1.1\r\n\r\nGET /login HTTP/1.1\r\n\r\n")
         };
         let (report, link) = tried(&rt, alloc, &trial)?;
         assert!(rt; report.end == LinkEnd::LinkFault && report.served.as_slice().len() == 1);
-        assert!(rt; LOGGED_IN.starts_with(link.taken()));
+        assert!(rt; link.taken().len() == stands && LOGGED_IN.starts_with(link.taken()));
     }
     Ok(())
 }
