@@ -105,7 +105,7 @@ unless_ended false o is = refl
 pub goes : (c : Connection) → is_some (asked_on c) ≡ true → c.is_ended ≡ false
 goes c is = unless_ended c.is_ended (next_ask c) is
 
-pub passed : (i j : Intake) (served : ℕ) (closed ended : Bool) → StandsUntilEnd ended i served → is_some (asked_on (seen i served closed ended)) ≡ true
+passed : (i j : Intake) (served : ℕ) (closed ended : Bool) → StandsUntilEnd ended i served → is_some (asked_on (seen i served closed ended)) ≡ true
     → ((asks : List Ask) (ask : Ask) → i.next ≡ Some ask → IsReadOn asks i → IsReadOn (asks ++ ask ∷ []) j) → served + 1 < most_requests → j.fed ≤ length j.bytes.items
     → Stands j (served + 1)
 passed i j served closed ended stands asked reads few within =
@@ -119,6 +119,15 @@ passed i j served closed ended stands asked reads few within =
       within = within;
       read = reads s.asks next.0 next.1 s.read;
     }
+
+-- the same, of a request that is not the last
+pub passed_on : (i j : Intake) (now : Connection) (served : ℕ) (closed ended : Bool) (last : Option End) → seen i served closed ended ≡ now → StandsUntilEnd ended i served
+    → is_some (asked_on now) ≡ true → is_some last ≡ false → (last ≡ None → now.served + 1 < most_requests)
+    → ((asks : List Ask) (ask : Ask) → i.next ≡ Some ask → IsReadOn asks i → IsReadOn (asks ++ ask ∷ []) j) → j.fed ≤ length j.bytes.items → Stands j (served + 1)
+passed_on i j now served closed ended last is stands asked goes_on most reads within =
+    let few = most (some_is_some last goes_on) in
+    let same : served ≡ now.served = ap (λ (c : Connection). c.served) is in
+    passed i j served closed ended stands (ap (λ (c : Connection). is_some (asked_on c)) is ∙ asked) reads (omega (arith, few, same)) within
 
 pub within_of : (i : Intake) (served : ℕ) → Stands i served → i.fed ≤ length i.bytes.items
 within_of i served s = s.within

@@ -1,5 +1,5 @@
 -- Answers until nothing is due, behind a line.
-use Rattle.std.proofs.Common.{◌≡◌, ◌+◌, ◌<◌, ℕ, List, slice_set, Bool, true, false, Option, None, if◌then◌else◌, refl, sym, ap, ◌∙◌, subst, arith}
+use Rattle.std.proofs.Common.{◌≡◌, ◌+◌, ◌<◌, ◌≤◌, ℕ, List, slice_set, Bool, true, false, Option, None, Result, Ok, Err, OnOk, OnErr, if◌then◌else◌, refl, sym, ap, ◌∙◌, subst, arith}
 use Rattle.std.proofs.KnownBytes.{Appends-trans}
 use Rattle.std.specs.Io.KnownBytes.{Appends}
 use Rattle.daap_outside.specs.Told.{AppendsPrefix}
@@ -8,7 +8,7 @@ use Rattle.reply_bytes.proofs.Cut.{cut_behind}
 use Rattle.share_replies.specs.Settings.{Settings}
 use Rattle.share_replay.specs.Connections.{Connection}
 use Rattle.share_replay.specs.Ends.{end_line}
-use Rattle.share_replay.specs.Machine.{Desk, answers, begun, connection_at, line_place, most_left, number_of, reached, stepped, told_at_once, turn_place}
+use Rattle.share_replay.specs.Machine.{Desk, answers, begun, connection_at, line_place, most_left, number_of, played, reached, settled, stepped, told_at_once, turn_place}
 use Rattle.share_replay.specs.Played.{IsAt, IsPart}
 use Rattle.share_replay.specs.declared.delivery.Delivery.{Delivery}
 use Rattle.share_replay.proofs.MachineFacts.{Leads, leads_on}
@@ -46,9 +46,9 @@ pub settled_smaller : (was : Bool) (s : Settings) (place : ℕ) (h h' : List Ent
 settled_smaller true s place h h' cs cs' t t' rest fewer = let less = fewer refl in omega (arith, less)
 settled_smaller false s place h h' cs cs' t t' rest fewer = let r = rest refl in let left : most_left cs' ≡ most_left cs = ap most_left r.2 in omega (arith, left)
 
--- ---- a line
+-- ---- a line, and what is answered behind it
 
-pub begun_at : (line : Delivery) (d : Desk) (h : List Entry) (cs cs' : List (Option Connection)) (start t t' : Option (List ℕ)) → IsAt d h cs start t
+begun_at : (line : Delivery) (d : Desk) (h : List Entry) (cs cs' : List (Option Connection)) (start t t' : Option (List ℕ)) → IsAt d h cs start t
     → cs' ≡ slice_set cs (line_place line) (reached line (connection_at cs (line_place line)))
     → Appends t t' (end_line (number_of line) (told_at_once line (connection_at cs (line_place line))))
     → IsAt (begun line d) h cs' start t'
@@ -69,3 +69,29 @@ begun_part line d h cs start t t' at told = record {
       cut_behind d.output (end_line (number_of line) (told_at_once line (connection_at d.connections (line_place line)))) start t t' at.written
       (subst (λ (l : List (Option Connection)). AppendsPrefix t t' (end_line (number_of line) (told_at_once line (connection_at l (line_place line))))) at.connections told);
 }
+
+pub line_played : {A E : Type 0} (s : Settings) (line : Delivery) (place : ℕ) (h h' : List Entry) (cs cs1 cs' : List (Option Connection)) (t t1 t' : Option (List ℕ)) (result : Result A E)
+    → place ≡ line_place line → cs1 ≡ slice_set cs (line_place line) (reached line (connection_at cs (line_place line)))
+    → Appends t t1 (end_line (number_of line) (told_at_once line (connection_at cs (line_place line))))
+    → OnOk result ((d : Desk) (start : Option (List ℕ)) → IsAt d h cs1 start t1 → IsAt (settled s place d) h' cs' start t')
+    → OnOk result ((d : Desk) (start : Option (List ℕ)) → IsAt d h cs start t → IsAt (played s d line) h' cs' start t')
+line_played s line place h h' cs cs1 cs' t t1 t' (Ok a) is set told done =
+    λ d start at.
+    subst (λ (p : ℕ). IsAt (settled s p (begun line d)) h' cs' start t') is (done (begun line d) start (begun_at line d h cs cs1 start t t1 at set told))
+line_played s line place h h' cs cs1 cs' t t1 t' (Err e) is set told done = tt
+
+pub line_part : {A E : Type 0} (s : Settings) (line : Delivery) (place : ℕ) (h h' : List Entry) (cs cs1 : List (Option Connection)) (t t1 t' : Option (List ℕ)) (result : Result A E)
+    → place ≡ line_place line → cs1 ≡ slice_set cs (line_place line) (reached line (connection_at cs (line_place line)))
+    → Appends t t1 (end_line (number_of line) (told_at_once line (connection_at cs (line_place line))))
+    → OnErr result ((d : Desk) (start : Option (List ℕ)) → IsAt d h cs1 start t1 → (k : ℕ) × (k ≤ most_left cs1) × IsPart (answers s place k d) h' start t')
+    → OnErr result ((d : Desk) (start : Option (List ℕ)) → IsAt d h cs start t
+    → (k : ℕ) × (k ≤ most_left (begun line d).connections) × IsPart (answers s (line_place line) k (begun line d)) h' start t')
+line_part s line place h h' cs cs1 t t1 t' (Ok a) is set told broken = tt
+line_part s line place h h' cs cs1 t t1 t' (Err e) is set told broken =
+    λ d start at.
+    let begins = begun_at line d h cs cs1 start t t1 at set told in
+    let cut = broken (begun line d) start begins in (
+      cut.0,
+      subst (λ (l : List (Option Connection)). cut.0 ≤ most_left l) begins.connections cut.1,
+      subst (λ (p : ℕ). IsPart (answers s p cut.0 (begun line d)) h' start t') is cut.2,
+    )

@@ -1,5 +1,5 @@
 -- How the code's state follows the machine.
-use Rattle.std.proofs.Common.{◌≡◌, ◌⊎◌, ◌+◌, ◌<◌, ◌≤◌, ℕ, zero, suc, List, [], length, drop, get_or, slice_set, Bool, true, false, Option, Some, None, is_some, if◌then◌else◌, sym, ap, ◌∙◌, subst, append-nil, arith, inl, inr}
+use Rattle.std.proofs.Common.{◌≡◌, ◌⊎◌, ◌+◌, ◌<◌, ◌≤◌, ℕ, zero, suc, List, [], length, drop, get_or, slice_set, Bool, true, false, Option, Some, None, is_some, Result, Ok, Err, IfOk, OnErr, if◌then◌else◌, refl, sym, ap, ◌∙◌, subst, append-nil, arith, inl, inr}
 use Rattle.std.proofs.KnownBytes.{Appends-trans}
 use Rattle.std.proofs.lemmas.Bool.{cases_lt}
 use Rattle.std.proofs.lemmas.List.{drop_more, drop_all}
@@ -35,7 +35,7 @@ stepped_is s d h cs start t place c due at is due_is =
     ∙ ap (with_turn place d c) (ap (λ (k : List Entry). due_on s k c) (sym at.history) ∙ due_is)
     ∙ ap (λ (k : List Entry). taken_at place (turn_for (place + 1) k c due) d) (sym at.history)
 
-pub turned : (s : Settings) (h h' : List Entry) (cs cs' : List (Option Connection)) (t t' : Option (List ℕ)) (place : ℕ) (slot slot' : Option Connection)
+turned : (s : Settings) (h h' : List Entry) (cs cs' : List (Option Connection)) (t t' : Option (List ℕ)) (place : ℕ) (slot slot' : Option Connection)
     → connection_at cs place ≡ slot → cs' ≡ slice_set cs place slot' → SlotAnswered s (place + 1) h slot h' slot' t t'
     → (d : Desk) (start : Option (List ℕ)) → IsAt d h cs start t → IsAt (stepped_at s (Some place) d) h' cs' start t'
 turned s h h' cs cs' t t' place slot slot' is set a d start at =
@@ -74,7 +74,7 @@ pub answered_due : (s : Settings) (number : ℕ) (h h' : List Entry) (slot slot'
     → is_some (due_at s h slot) ≡ true
 answered_due s number h h' slot slot' t t' a = due_there s h slot a.old a.answered.due a.was a.answered.is_due
 
-pub part_at : (s : Settings) (h h' : List Entry) (cs : List (Option Connection)) (t t' : Option (List ℕ)) (place : ℕ) (slot : Option Connection)
+part_at : (s : Settings) (h h' : List Entry) (cs : List (Option Connection)) (t t' : Option (List ℕ)) (place : ℕ) (slot : Option Connection)
     → place < length cs → slot ≡ get_or cs place slot → SlotBreaksOff s (place + 1) h slot h' t t'
     → (d : Desk) (start : Option (List ℕ)) → IsAt d h cs start t
     → IsPart d h' start t' ⊎ ((is_some (due_at s h (connection_at cs place)) ≡ true) × (0 < most_left cs) × IsPart (stepped_at s (Some place) d) h' start t')
@@ -88,6 +88,21 @@ part_at s h h' cs t t' place slot within was (inr a) d start at =
       omega (arith, same, few, a.told.some),
       part_turned s h h' cs t t' place slot is a d start at,
     )
+
+-- the same, of what an answer says of the place
+pub turned_here : {E : Type 0} (s : Settings) (h h' : List Entry) (cs : List (Option Connection)) (t t' : Option (List ℕ)) (place : ℕ) (d slot' : Option Connection) (result : Result Bool E)
+    → place < length cs → IfOk result (λ was. was ≡ true → SlotAnswered s (place + 1) h (get_or cs place d) h' slot' t t')
+    → IfOk result (λ was. was ≡ true → (desk : Desk) (start : Option (List ℕ)) → IsAt desk h cs start t → IsAt (stepped_at s (Some place) desk) h' (slice_set cs place slot') start t')
+turned_here s h h' cs t t' place d slot' (Ok was) within answered =
+    λ yes. turned s h h' cs (slice_set cs place slot') t t' place (get_or cs place d) slot' (connection_there cs place d within) refl (answered yes)
+turned_here s h h' cs t t' place d slot' (Err e) within answered = tt
+
+pub part_here : {E : Type 0} (s : Settings) (h h' : List Entry) (cs : List (Option Connection)) (t t' : Option (List ℕ)) (place : ℕ) (slot : Option Connection) (result : Result Bool E)
+    → place < length cs → slot ≡ get_or cs place slot → OnErr result (SlotBreaksOff s (place + 1) h slot h' t t')
+    → OnErr result ((d : Desk) (start : Option (List ℕ)) → IsAt d h cs start t
+    → IsPart d h' start t' ⊎ ((is_some (due_at s h (connection_at cs place)) ≡ true) × (0 < most_left cs) × IsPart (stepped_at s (Some place) d) h' start t'))
+part_here s h h' cs t t' place slot (Ok was) within is broken = tt
+part_here s h h' cs t t' place slot (Err e) within is broken = part_at s h h' cs t t' place slot within is broken
 
 -- ---- fewer are left
 

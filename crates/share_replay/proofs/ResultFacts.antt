@@ -1,9 +1,5 @@
 -- What follows from what is known of an answer, by whether it is a value or an error.
-use Rattle.std.specs.Prelude.{Result, Ok, Err, IfOk, OnOk, OnErr}
-
-pub ok_then : {A E : Type 0} (P Q : A → Type 0) (r : Result A E) → ((a : A) → P a → Q a) → IfOk r P → IfOk r Q
-ok_then P Q (Ok a) more h = more a h
-ok_then P Q (Err e) more h = tt
+use Rattle.std.specs.Prelude.{Result, Ok, Err, OnOk, OnErr}
 
 pub on_ok_then : {A E : Type 0} (P Q : Type 0) (r : Result A E) → (P → Q) → OnOk r P → OnOk r Q
 on_ok_then P Q (Ok a) more h = more h

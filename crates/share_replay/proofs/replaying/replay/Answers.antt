@@ -42,25 +42,9 @@ returns-in-Err-clause-part g c =
 pub returns-in-Err-clause-front : goal.returns-in-Err-clause-front
 returns-in-Err-clause-front g c =
     let a = c.args in
-    let l = c.loop-line in
-    let lines = c.lines-lines.result.now in
-    let line = c.line-item.result in
     let now = c.play.new in
-    let s = a.share.now.settings in
-    let h = a.share.now.history in
-    let t = g.W.Sink.taken a.sink.now in
-    let t1 = g.W.Sink.taken l.sink in
-    let t' = g.W.Sink.taken now.sink in
-    let is : slice_get lines l.line-index ≡ Some line = slice_get-get_or lines l.line-index line c.loop-line-test.true ∙ ap (λ (x : Delivery). Some x) (sym c.line-item.is) in
-    let d : Desk = script_run s h (take l.line-index lines) in
-    let at : IsAt d l.share.history c.as_mut_slice.result.now t t1 =
-    subst (λ (cs : List (Option Connection)). IsAt d l.share.history cs t t1) (sym c.as_mut_slice.ensures.value) l.invariant.at in
-    let part = c.in-Err.ensures.part d t at in
-    let same =
-    subst (λ (x : Settings). (k : ℕ) × (k ≤ most_left (begun line d).connections) × IsPart (answers x (line_place line) k (begun line d)) now.share.history t t') l.invariant.settings part in
-    front_of s h now.share.history a.script.now t t'
-    (subst (λ (ls : List Delivery). IsBrokenOff s h ls now.share.history t t') c.lines-lines.ensures.lines
-    (broken_within s h now.share.history lines l.line-index line t t' is same))
+    front_of a.share.now.settings a.share.now.history now.share.history a.script.now (g.W.Sink.taken a.sink.now) (g.W.Sink.taken now.sink)
+    (returns-in-Err-clause-part g c)
 
 pub returns-clause-part : goal.returns-clause-part
 returns-clause-part g c =
@@ -82,17 +66,9 @@ returns-clause-part g c =
 pub returns-clause-front : goal.returns-clause-front
 returns-clause-front g c =
     let a = c.args in
-    let l = c.loop-line in
-    let lines = c.lines-lines.result.now in
-    let s = a.share.now.settings in
-    let h = a.share.now.history in
-    let h' = l.share.history in
-    let cs = l.connections.items in
+    let before = a.share.now in
+    let h' = c.loop-line.share.history in
     let t = g.W.Sink.taken a.sink.now in
-    let u = g.W.Sink.taken l.sink in
     let v = g.W.Sink.taken c.tell_last_ends.new.sink in
-    let at : IsAt (script_run s h a.script.now) h' cs t u =
-    subst (λ (ls : List Delivery). IsAt (script_run s h ls) h' cs t u) c.lines-lines.ensures.lines (ended_at s h h' cs lines l.line-index t u c.loop-line-test.false l.invariant.at) in
-    let told = subst (λ (xs : List (Option Connection)). OnErr c.tell_last_ends.result (AppendsPrefix u v (last_lines 1 xs))) c.as_slice.ensures.value c.tell_last_ends.ensures.part in
-    on_err_then (AppendsPrefix u v (last_lines 1 cs)) (AppendsPrefix t v (script_bytes s h a.script.now)) c.tell_last_ends.result
-    (λ cut. front_of s h h' a.script.now t v (broken_behind s h h' cs a.script.now t u v at cut)) told
+    on_err_then (IsBrokenOff before.settings before.history a.script.now h' t v) (AppendsPrefix t v (script_bytes before.settings before.history a.script.now))
+    c.tell_last_ends.result (front_of before.settings before.history h' a.script.now t v) (returns-clause-part g c)
