@@ -5,9 +5,10 @@ ghost use Rattle.share_lock.specs.Passes.{lock_id, IsReady};
 ghost use Rattle.share_replies.specs.Laws.{maker};
 
 mod gated;
+mod held;
 
 use crate::all::serve_each;
-use crate::tests::gated::{Gated, GatedDoor, WaitsAt};
+use crate::tests::gated::{Gated, GatedDoor};
 use crate::{Worker, WorkerEnd, serve_all, serve_worker};
 use daap_outside::{MemDoor, MemLink, MemSink, MemSource};
 use item_model::{Batch, Edits};
@@ -16,41 +17,54 @@ use share_asks::Role;
 use share_core::Share;
 use share_lock::{Bell, Pass, ShareLock};
 use std::alloc::{AllocError, Global};
+use std::collections::VecDeque;
 use std::sync::Wait;
-use std::sync::atomic::AtomicBool;
+use std::sync::atomic::AtomicU64;
 use std::test::Fail;
 use std::thread::Threads;
 
 // So often a call looks whether it may go on: longer than any turn takes, and not as long as a test may.
 const MANY_LOOKS: u64 = 10_000_000;
 
-const FEW_LOOKS: u64 = 1_000;
+const FEW_LOOKS: u64 = 10;
 
 const INFO: &str = "GET /server-info HTTP/1.1\r\n\r\n";
 
-const INFO_LENGTH: usize = 29;
+// So many bytes one read gives at most: those of a request for the server's info.
+const PIECE: usize = 29;
 
 const TWO_INFOS: &str = "GET /server-info HTTP/1.1\r\n\r\nGET /server-info HTTP/1.1\r\n\r\n";
 
 const EDIT: &str =
     "POST /edit HTTP/1.1\r\nContent-Length: 45\r\n\r\nop,kind,id,dmap.itemname\nput,item,7,Hey Jude\n";
 
-/// One link of a worker: what comes on it, and which of its calls waits for the other link.
+/// A link that comes to a worker: what comes on it, for how many bytes on the other worker's links its reads wait and its
+/// writes, and which read and which write fail, counted from 1.
 #[derive(Clone, Copy)]
-struct Plan {
-    role: Role,
+struct LinkPlan {
     input: &'static str,
-    waits_at: WaitsAt,
+    reads_wait: &'static [u64],
+    writes_wait: &'static [u64],
+    failing_read: u64,
+    failing_write: u64,
 }
 
-/// Whether one link has written, and the other.
+/// A worker: what its links may ask, and the one or two of them that come.
+#[derive(Clone, Copy)]
+struct WorkerPlan {
+    role: Role,
+    first: LinkPlan,
+    second: Option<LinkPlan>,
+}
+
+/// How many bytes stand on the links of one worker, and of the other.
 #[derive(Drop)]
 struct Written {
-    first: AtomicBool,
-    second: AtomicBool,
+    first: AtomicU64,
+    second: AtomicU64,
 }
 
-/// How a worker and its one link ended, and how many requests were served.
+/// How a worker and its first link ended, and how many requests were served on that.
 #[derive(Clone, Copy, Debug, PartialEq, Eq)]
 struct Told {
     end: WorkerEnd,
@@ -87,14 +101,52 @@ fn drawn<R: Wait>(rt: &R, lock: &ShareLock<Share>, first: &mut Pass<Share>) -> P
     lock.split(rt, first).unwrap()
 }
 
-/// One more worker, at whose door one link comes.
+fn coming_link<'a>(
+    alloc: Global,
+    plan: &LinkPlan,
+    looks: u64,
+    own: &'a AtomicU64,
+    other: &'a AtomicU64,
+) -> Result<Gated<'a>, AllocError> {
+    let source = MemSource::new(alloc, plan.input.as_bytes(), PIECE, &[plan.failing_read])?;
+    let sink = MemSink::new(alloc, 4096, 50, &[plan.failing_write])?;
+    Ok(Gated {
+        link: MemLink::new(source, sink),
+        reads_wait: plan.reads_wait,
+        writes_wait: plan.writes_wait,
+        other,
+        own,
+        looks,
+    })
+}
+
+/// The door to which the links of a worker come.
+fn door_of<'a>(
+    alloc: Global,
+    plan: &WorkerPlan,
+    looks: u64,
+    own: &'a AtomicU64,
+    other: &'a AtomicU64,
+) -> Result<GatedDoor<'a>, AllocError> {
+    let mut coming = VecDeque::new(alloc);
+    coming.push_back(coming_link(alloc, &plan.first, looks, own, other)?)?;
+    if let Some(second) = &plan.second {
+        coming.push_back(coming_link(alloc, second, looks, own, other)?)?;
+    }
+    Ok(GatedDoor {
+        coming,
+        given_back: Vec::new(alloc),
+    })
+}
+
+/// One more worker, at a door.
 fn hire<'a, R: Wait>(
     rt: &R,
     alloc: Global,
     lock: &ShareLock<Share>,
     first: &mut Pass<Share>,
     role: Role,
-    coming: Gated<'a>,
+    door: GatedDoor<'a>,
     workers: &mut Vec<Worker<GatedDoor<'a>>>,
 ) -> Result<(), AllocError>
     requires first { IsReady (lock_id lock.now) first.old }
@@ -109,9 +161,7 @@ fn hire<'a, R: Wait>(
     let pass = drawn(rt, lock, first);
     workers.push(Worker {
         pass,
-        door: GatedDoor {
-            coming: Some(coming),
-        },
+        door,
         role,
         reports: Vec::new(alloc),
         end: WorkerEnd::Running,
@@ -119,38 +169,27 @@ fn hire<'a, R: Wait>(
     Ok(())
 }
 
-/// Two workers with one link each, which begin to wait where they are told to.
+/// Two workers, whose links may wait for each other.
 fn hired<'a, R: Wait>(
     rt: &R,
     alloc: Global,
     lock: &ShareLock<Share>,
     first: &mut Pass<Share>,
-    plans: (Plan, Plan),
+    plans: &(WorkerPlan, WorkerPlan),
     looks: u64,
     written: &'a Written,
 ) -> Result<Vec<Worker<GatedDoor<'a>>>, AllocError>
     requires first { IsReady (lock_id lock.now) first.old }
+    ensures first { IsReady (lock_id lock.now) first.new }
     ensures ready { IfOk result (λ ws. All (λ w. IsReady (lock_id lock.now) w.pass) ws.items) }
     ensures running { IfOk result (λ ws. All (λ w. w.end ≡ WorkerEnd.Running) ws.items) }
     ensures unreported { IfOk result (λ ws. All (λ w. w.reports.items ≡ []) ws.items) }
 {
     let mut workers = Vec::new(alloc);
-    let coming = Gated {
-        link: link(alloc, plans.0.input, INFO_LENGTH)?,
-        waits_at: plans.0.waits_at,
-        opened: &written.second,
-        opens: &written.first,
-        looks,
-    };
-    hire(rt, alloc, lock, first, plans.0.role, coming, &mut workers)?;
-    let coming = Gated {
-        link: link(alloc, plans.1.input, INFO_LENGTH)?,
-        waits_at: plans.1.waits_at,
-        opened: &written.first,
-        opens: &written.second,
-        looks,
-    };
-    hire(rt, alloc, lock, first, plans.1.role, coming, &mut workers)?;
+    let door = door_of(alloc, &plans.0, looks, &written.first, &written.second)?;
+    hire(rt, alloc, lock, first, plans.0.role, door, &mut workers)?;
+    let door = door_of(alloc, &plans.1, looks, &written.second, &written.first)?;
+    hire(rt, alloc, lock, first, plans.1.role, door, &mut workers)?;
     Ok(workers)
 }
 
@@ -180,12 +219,12 @@ fn told_of_both(workers: &[Worker<GatedDoor<'_>>]) -> Result<(Told, Told), Alloc
 fn in_threads<R: Threads + Wait + Sync>(
     rt: &R,
     alloc: Global,
-    plans: (Plan, Plan),
+    plans: &(WorkerPlan, WorkerPlan),
 ) -> Result<(Told, Told), AllocError> {
     let (lock, mut first) = ShareLock::open(alloc, new_share(alloc)?, 3)?;
     let written = Written {
-        first: AtomicBool::new(false),
-        second: AtomicBool::new(false),
+        first: AtomicU64::new(0),
+        second: AtomicU64::new(0),
     };
     let mut workers = hired(rt, alloc, &lock, &mut first, plans, MANY_LOOKS, &written)?;
     serve_all(rt, alloc, &lock, &Bell::new(), &mut workers);
@@ -196,35 +235,59 @@ fn in_threads<R: Threads + Wait + Sync>(
 fn in_one_thread<R: Threads + Wait + Sync>(
     rt: &R,
     alloc: Global,
-    plans: (Plan, Plan),
+    plans: &(WorkerPlan, WorkerPlan),
 ) -> Result<(Told, Told), AllocError> {
     let (lock, mut first) = ShareLock::open(alloc, new_share(alloc)?, 3)?;
     let written = Written {
-        first: AtomicBool::new(false),
-        second: AtomicBool::new(false),
+        first: AtomicU64::new(0),
+        second: AtomicU64::new(0),
     };
     let mut workers = hired(rt, alloc, &lock, &mut first, plans, FEW_LOOKS, &written)?;
     serve_each(rt, alloc, &lock, &Bell::new(), workers.as_mut_slice(), 1);
     told_of_both(workers.as_slice())
 }
 
-const MEET: Plan = Plan {
-    role: Role::Listen,
-    input: TWO_INFOS,
-    waits_at: WaitsAt::Read(2),
-};
+/// A worker of one link.
+fn of_one(role: Role, first: LinkPlan) -> WorkerPlan {
+    WorkerPlan {
+        role,
+        first,
+        second: None,
+    }
+}
 
-const SLOW: Plan = Plan {
-    role: Role::Listen,
-    input: INFO,
-    waits_at: WaitsAt::Write(1),
-};
+/// A link that waits for nobody, and does not fail.
+fn plain(input: &'static str) -> LinkPlan {
+    LinkPlan {
+        input,
+        reads_wait: &[],
+        writes_wait: &[],
+        failing_read: 0,
+        failing_write: 0,
+    }
+}
 
-const EDITS: Plan = Plan {
-    role: Role::Edit,
-    input: EDIT,
-    waits_at: WaitsAt::Write(100),
-};
+/// The second read waits until the other link has taken anything.
+fn meets() -> WorkerPlan {
+    of_one(
+        Role::Listen,
+        LinkPlan {
+            reads_wait: &[0, 1],
+            ..plain(TWO_INFOS)
+        },
+    )
+}
+
+/// The first write does.
+fn slow() -> WorkerPlan {
+    of_one(
+        Role::Listen,
+        LinkPlan {
+            writes_wait: &[1],
+            ..plain(INFO)
+        },
+    )
+}
 
 fn ended(link: LinkEnd, served: usize) -> Told {
     Told {
@@ -236,23 +299,23 @@ fn ended(link: LinkEnd, served: usize) -> Told {
 
 #[test]
 fn two_links_meet(rt: HostRuntime) -> Result<(), Fail> {
-    let told = in_threads(&rt, rt.alloc(), (MEET, MEET))?;
+    let told = in_threads(&rt, rt.alloc(), &(meets(), meets()))?;
     assert!(rt; told == (ended(LinkEnd::Closed, 2), ended(LinkEnd::Closed, 2)));
     Ok(())
 }
 
 #[test]
 fn an_edit_waits_for_no_slow_reader(rt: HostRuntime) -> Result<(), Fail> {
-    let told = in_threads(&rt, rt.alloc(), (SLOW, EDITS))?;
+    let told = in_threads(&rt, rt.alloc(), &(slow(), of_one(Role::Edit, plain(EDIT))))?;
     assert!(rt; told == (ended(LinkEnd::Closed, 1), ended(LinkEnd::Closed, 1)));
     Ok(())
 }
 
 #[test]
 fn one_thread_meets_nobody(rt: HostRuntime) -> Result<(), Fail> {
-    let told = in_one_thread(&rt, rt.alloc(), (MEET, MEET))?;
+    let told = in_one_thread(&rt, rt.alloc(), &(meets(), meets()))?;
     assert!(rt; told.0 == ended(LinkEnd::LinkFault, 1));
-    let told = in_one_thread(&rt, rt.alloc(), (SLOW, EDITS))?;
+    let told = in_one_thread(&rt, rt.alloc(), &(slow(), of_one(Role::Edit, plain(EDIT))))?;
     assert!(rt; told == (ended(LinkEnd::LinkFault, 1), ended(LinkEnd::Closed, 1)));
     Ok(())
 }

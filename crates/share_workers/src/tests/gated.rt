@@ -1,49 +1,59 @@
-//! Links in memory of which one call waits until something was written on another link, and doors at which one such link comes.
-//! They tell contracts nothing.
+//! Links in memory whose calls wait for what stands on the links of another worker, and doors at which such links come. They
+//! tell contracts nothing.
 ghost use Rattle.std.specs.Prelude.{◌≡◌, ◌+◌, ◌<◌, ◌≤◌, ◌^◌, min, None, refl};
 ghost use Rattle.daap_outside.specs.Counts.{Rose};
 
 use daap_outside::{Door, Failed, Faulted, Link, MemLink, Sink, Source};
-use std::sync::atomic::{AtomicBool, Ordering};
+use std::collections::VecDeque;
+use std::sync::atomic::{AtomicU64, Ordering};
 use std::thread;
 
-/// Which call on a link waits, counted from 1.
-#[derive(Clone, Copy, Debug, PartialEq, Eq)]
-pub enum WaitsAt {
-    Read(u64),
-    Write(u64),
-}
-
-/// A link that is to come: what it reads and writes, and what it has to do with another link.
+/// A link that is to come: what it reads and writes, and how it goes with the links of another worker.
 #[derive(Drop)]
 pub struct Gated<'a> {
     pub link: MemLink,
-    pub waits_at: WaitsAt,
-    /// Whether its call may go on.
-    pub opened: &'a AtomicBool,
-    /// What its writes open.
-    pub opens: &'a AtomicBool,
-    /// How often it looks before it gives up, and counts a fault.
+    /// For how many bytes on the other worker's links the first read waits, the second and so on. Further ones do not wait.
+    pub reads_wait: &'static [u64],
+    pub writes_wait: &'static [u64],
+    /// How many bytes stand on the other worker's links, and on this one's: all there can be, once a write failed.
+    pub other: &'a AtomicU64,
+    pub own: &'a AtomicU64,
+    /// How often a call looks before it gives up, and counts a fault.
     pub looks: u64,
 }
 
 impl Gated<'_> {
-    fn is_opened(&self) -> bool {
+    /// Whether so many bytes stand on the other worker's links by now.
+    fn may_go_on(&self, wanted: u64) -> bool {
         for _ in 0..self.looks {
-            if self.opened.load(Ordering::SeqCst) {
+            if self.other.load(Ordering::SeqCst) >= wanted {
                 return true;
             }
             thread::yield_now();
         }
         false
     }
+
+    fn wrote(&self, n: usize) {
+        let before = self.own.load(Ordering::SeqCst);
+        self.own
+            .store(before.saturating_add(n as u64), Ordering::SeqCst);
+    }
+}
+
+/// For how many bytes a call waits that comes behind so many.
+fn wanted(waits: &[u64], calls: usize) -> u64 {
+    match waits.get(calls) {
+        Some(bytes) => *bytes,
+        None => 0,
+    }
 }
 
 #[derive(Drop)]
 pub struct GatedLink<'a> {
     gated: Gated<'a>,
-    reads: u64,
-    writes: u64,
+    reads: usize,
+    writes: usize,
     faults: u64,
 }
 
@@ -64,8 +74,9 @@ impl Source for GatedLink<'_> {
     ghost beside_left = { λ _. None };
 
     fn read(&mut self, room: &mut [u8]) -> Result<usize, Failed> {
+        let bytes = wanted(self.gated.reads_wait, self.reads);
         self.reads = self.reads.saturating_add(1);
-        if self.gated.waits_at == WaitsAt::Read(self.reads) && !self.gated.is_opened() {
+        if !self.gated.may_go_on(bytes) {
             return Err(failed(&mut self.faults));
         }
         match self.gated.link.read(room) {
@@ -81,16 +92,20 @@ impl Sink for GatedLink<'_> {
     ghost beside_taken = { λ _. None };
 
     fn write(&mut self, piece: &[u8]) -> Result<usize, Failed> {
+        let bytes = wanted(self.gated.writes_wait, self.writes);
         self.writes = self.writes.saturating_add(1);
-        if self.gated.waits_at == WaitsAt::Write(self.writes) && !self.gated.is_opened() {
+        if !self.gated.may_go_on(bytes) {
             return Err(failed(&mut self.faults));
         }
         match self.gated.link.write(piece) {
             Ok(n) => {
-                self.gated.opens.store(true, Ordering::SeqCst);
+                self.gated.wrote(n);
                 Ok(n)
             }
-            Err(Failed) => Err(failed(&mut self.faults)),
+            Err(Failed) => {
+                self.gated.wrote(usize::MAX);
+                Err(failed(&mut self.faults))
+            }
         }
     }
 }
@@ -101,10 +116,12 @@ impl Link for GatedLink<'_> {
     ghost write_leaves_left = { λ _. refl };
 }
 
-/// A door at which one link comes, and then no more.
+/// A door at which these links come, one behind the other, and then no more.
 #[derive(Drop)]
 pub struct GatedDoor<'a> {
-    pub coming: Option<Gated<'a>>,
+    pub coming: VecDeque<Gated<'a>>,
+    /// What stands on the links that were given back, as far as there was memory for it.
+    pub given_back: Vec<MemLink>,
 }
 
 impl Faulted for GatedDoor<'_> {
@@ -119,7 +136,7 @@ impl<'a> Door for GatedDoor<'a> {
     ghost written = { λ _. None };
 
     fn accept(&mut self) -> Result<Option<GatedLink<'a>>, Failed> {
-        match self.coming.take() {
+        match self.coming.pop_front() {
             Some(gated) => Ok(Some(GatedLink {
                 gated,
                 reads: 0,
@@ -132,5 +149,9 @@ impl<'a> Door for GatedDoor<'a> {
 
     fn nudge(&mut self) {}
 
-    fn done(&mut self, _link: GatedLink<'a>) {}
+    fn done(&mut self, link: GatedLink<'a>) {
+        let GatedLink { gated, .. } = link;
+        let Gated { link, .. } = gated;
+        let _ = self.given_back.push(link);
+    }
 }
