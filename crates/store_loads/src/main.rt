@@ -1,16 +1,23 @@
-//! Plans and indexes of many made-up songs, so that bench/ can count what they take. Each step is a word: it is done
+//! Plans, indexes and lists of many made-up songs, so that bench/ can count what they take. Each step is a word: it is done
 //! behind all that it needs, so that a step costs what its run takes more than that of the step before it.
 #![tactic(auto)]
 
+mod changing;
+mod edits;
 mod finding;
 mod planning;
 mod song;
+mod stores;
 
+use crate::changing::{deltas_len, revision_after};
+use crate::edits::Kind;
 use crate::finding::{candidates_found, ids_found, look_ups, values_found};
 use crate::planning::{planned, rows, written};
-use anyhow::{Context, bail};
+use anyhow::Context;
 use std::alloc::Global;
 use std::env;
+use std::marker::Brand;
+use std::sync::ledger::Blank;
 
 /// How many songs there are where no word says it.
 const SONGS: u32 = 100;
@@ -32,9 +39,13 @@ enum Step {
     Candidates,
     /// All artists are told.
     Values,
+    /// A share of lists of the songs is edited.
+    Edit(Kind),
+    /// The deltas of its lists are told.
+    Deltas,
 }
 
-const STEPS: [(&str, Step); 7] = [
+const STEPS: [(&str, Step); 11] = [
     ("rows", Step::Rows),
     ("plan", Step::Plan),
     ("write", Step::Write),
@@ -42,7 +53,21 @@ const STEPS: [(&str, Step); 7] = [
     ("ids", Step::Ids),
     ("candidates", Step::Candidates),
     ("values", Step::Values),
+    ("songs", Step::Edit(Kind::Songs)),
+    ("members", Step::Edit(Kind::Members)),
+    ("rules", Step::Edit(Kind::Rules)),
+    ("deltas", Step::Deltas),
 ];
+
+/// How much of a step is done.
+#[derive(Clone, Copy)]
+struct Load {
+    songs: u32,
+    /// How many batches of edits, or how often the deltas.
+    times: u32,
+    /// The edits of a batch.
+    size: u32,
+}
 
 fn step_named(word: &str) -> Option<Step> {
     for (name, step) in STEPS {
@@ -53,8 +78,9 @@ fn step_named(word: &str) -> Option<Step> {
     None
 }
 
-/// Takes a step, and answers how many rows, bytes, ids or texts it led to.
-fn taken(alloc: Global, step: Step, songs: u32) -> anyhow::Result<u64> {
+/// Takes a step, and answers how many rows, bytes, ids, texts or revisions it led to.
+fn taken(alloc: Global, step: Step, load: Load) -> anyhow::Result<u64> {
+    let Load { songs, times, size } = load;
     match step {
         Step::Rows => Ok(rows(alloc, songs)?.len() as u64),
         Step::Plan => Ok(planned(alloc, songs)?.plan_len()),
@@ -63,22 +89,40 @@ fn taken(alloc: Global, step: Step, songs: u32) -> anyhow::Result<u64> {
         Step::Ids => ids_found(&look_ups(alloc, songs)?),
         Step::Candidates => candidates_found(&look_ups(alloc, songs)?),
         Step::Values => values_found(&look_ups(alloc, songs)?),
+        Step::Edit(kind) => {
+            revision_after::<Brand>(Blank::new(1), alloc, songs, kind, times, size)
+        }
+        Step::Deltas => deltas_len::<Brand>(Blank::new(1), alloc, songs, times),
+    }
+}
+
+/// The number at a place of the words, 1 where there is none.
+fn number_at(words: &[String], place: usize) -> anyhow::Result<u32> {
+    match words.get(place) {
+        Some(word) => Ok(word.parse()?),
+        None => Ok(1),
     }
 }
 
 fn main(rt: HostRuntime) -> anyhow::Result<()> {
     let words: Vec<String> = env::args(&rt)?.skip(1).collect(rt.alloc())?;
-    match words.as_slice() {
-        [] => {
-            for (name, step) in STEPS {
-                println!(rt; "{name} {}", taken(rt.alloc(), step, SONGS)?)?;
-            }
+    let Some(word) = words.first() else {
+        let load = Load {
+            songs: SONGS,
+            times: 2,
+            size: 3,
+        };
+        for (name, step) in STEPS {
+            println!(rt; "{name} {}", taken(rt.alloc(), step, load)?)?;
         }
-        [step, songs] => {
-            let step = step_named(step).context("no such step")?;
-            println!(rt; "{}", taken(rt.alloc(), step, songs.parse()?)?)?;
-        }
-        _ => bail!("a step and a number of songs are wanted"),
-    }
+        return Ok(());
+    };
+    let step = step_named(word).context("no such step")?;
+    let load = Load {
+        songs: number_at(words.as_slice(), 1)?,
+        times: number_at(words.as_slice(), 2)?,
+        size: number_at(words.as_slice(), 3)?,
+    };
+    println!(rt; "{}", taken(rt.alloc(), step, load)?)?;
     Ok(())
 }

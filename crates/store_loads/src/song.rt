@@ -18,11 +18,18 @@ pub fn artist(alloc: Global, number: u32) -> Result<String, AllocError> {
 pub fn song(alloc: Global, id: u32) -> anyhow::Result<Row>
     ensures { IfOk result (λ row. row.id ≡ id) }
 {
+    song_like(alloc, id, id)
+}
+
+/// A song with an id, and with the properties of the song of a number.
+pub fn song_like(alloc: Global, id: u32, number: u32) -> anyhow::Result<Row>
+    ensures { IfOk result (λ row. row.id ≡ id) }
+{
     let mut item = Item::new(alloc);
-    let name = format!(in alloc; "Song number {id}")?;
-    let artist = artist(alloc, id / SONGS_EACH)?;
-    let album = format!(in alloc; "Album {}", id / 12)?;
-    let genre = format!(in alloc; "Genre {}", id % 20)?;
+    let name = format!(in alloc; "Song number {number}")?;
+    let artist = artist(alloc, number / SONGS_EACH)?;
+    let album = format!(in alloc; "Album {}", number / 12)?;
+    let genre = format!(in alloc; "Genre {}", number % 20)?;
     for (property, text) in [
         (Property::Minm, name.as_str()),
         (Property::Asar, artist.as_str()),
@@ -31,13 +38,18 @@ pub fn song(alloc: Global, id: u32) -> anyhow::Result<Row>
     ] {
         item.put(property, PropValue::Text(Text::of(alloc, text)?))?;
     }
-    for (property, number) in [
+    for (property, value) in [
         (Property::Mikd, 2),
-        (Property::Asyr, 1950 + id % 80),
-        (Property::Astn, 1 + id % 12),
-        (Property::Astm, 60_000 + id % 300_000),
+        (Property::Asyr, year(number)),
+        (Property::Astn, 1 + number % 12),
+        (Property::Astm, 60_000 + number % 300_000),
     ] {
-        item.put(property, PropValue::Number(u64::from(number)))?;
+        item.put(property, PropValue::Number(u64::from(value)))?;
     }
     Ok(Row { id, item })
+}
+
+/// The year of the song of a number: eighty follow one another.
+pub fn year(number: u32) -> u32 {
+    1950 + number % 80
 }
