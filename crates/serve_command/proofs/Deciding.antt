@@ -20,12 +20,13 @@ use Rattle.command_core.specs.declared.fault.Fault.TheVariants as fault
 use Rattle.command_core.specs.Answers.{Tells}
 use Rattle.command_core.specs.Faults.{memory_line}
 use Rattle.command_core.specs.Seen.{InputSeen, OutputSeen}
+use Rattle.share_commands.specs.ReadRecords.{records_limit, IsRefused, LeavesMany}
 use Rattle.serve_command.specs.declared.fault.ServeFault.{ServeFault}
 use Rattle.serve_command.specs.declared.fault.ServeFault.TheVariants.{Network, TooLong, Records, TooManyLists}
 use Rattle.serve_command.specs.declared.terms.Serving.{Serving}
 use Rattle.serve_command.specs.declared.verdict.Verdict.{Verdict}
 use Rattle.serve_command.specs.declared.verdict.Verdict.TheVariants.{Done, NetworkFailed, OutOfMemory, Exhausted}
-use Rattle.serve_command.specs.Faults.{records_limit, IsRefused, LeavesMany, IsLibrary, StopsServing}
+use Rattle.serve_command.specs.Faults.{IsLibrary, StopsServing}
 use Rattle.serve_command.specs.Lines.{ended_line}
 use Rattle.serve_command.specs.Laws.{IsSpent, RunsAreDecided}
 use Rattle.serve_command.specs.Places.{CountsShut}

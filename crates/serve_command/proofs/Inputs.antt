@@ -1,64 +1,32 @@
 -- Why a share is not served, by its input.
-use Rattle.std.proofs.Common.{Vec, Global, ◌≡◌, ◌≢◌, ◌+◌, ◌<◌, ◌≤◌, ℕ, false, List, [], length, Err, IfSome, refl}
-use Rattle.std.specs.Io.KnownBytes.{Consumes, IsAtEnd}
-use Rattle.daap_outside.specs.Reading.{ConsumesUpTo, CountsReadFaults}
-use Rattle.daap_outside.specs.declared.reading.ReadError.{ReadError}
-use Rattle.daap_outside.specs.declared.reading.ReadError.TheVariants as reads
+use Rattle.std.proofs.Common.{◌≡◌, false, List, [], refl}
 use Rattle.item_model.specs.declared.changes.Edit.{Edit}
 use Rattle.share_history.specs.Limits.{has_few_lists}
-use Rattle.records_import.specs.Table.{table_of}
-use Rattle.records_import.specs.Records.{BatchReads}
-use Rattle.records_import.specs.declared.refusal.RecordError.{RecordError}
-use Rattle.records_import.specs.declared.refusal.RecordError.TheVariants as records
 use Rattle.share_core.specs.declared.share.OpenError.{OpenError}
 use Rattle.share_core.specs.declared.share.OpenError.TheVariants as opens
-use Rattle.command_core.specs.declared.fault.Fault.TheVariants.{Own}
+use Rattle.command_core.specs.declared.fault.Fault.{Fault}
+use Rattle.command_core.specs.declared.fault.Fault.TheVariants.{Own, Read, Memory}
 use Rattle.command_core.specs.Seen.{InputSeen}
-use Rattle.command_core.proofs.Reading.{all_read_on, past_limit, failed_within, of_input}
-use Rattle.serve_command.specs.declared.fault.ServeFault.TheVariants.{Records}
-use Rattle.serve_command.specs.Faults.{records_limit, ReadsAs, IsRefused, LeavesMany, ReadsOn, StopsServing, read_fault, record_fault, open_fault}
+use Rattle.command_core.proofs.Reading.{all_read_on, of_input}
+use Rattle.share_commands.specs.declared.reading.InputFault.{InputFault}
+use Rattle.share_commands.specs.declared.reading.InputFault.TheVariants as unread
+use Rattle.share_commands.specs.ReadRecords.{HasReadAs, IsWithin, LeavesMany, StopsReading}
+use Rattle.serve_command.specs.Faults.{StopsServing, input_fault, open_fault}
 
-pub unread_cause : (before after : InputSeen) (e : ReadError) → (e ≡ reads.Failed → ConsumesUpTo records_limit before.left after.left)
-    → ConsumesUpTo (records_limit + 32768) before.left after.left → (e ≡ reads.TooLong → IfSome before.left (λ input. records_limit < length input))
-    → CountsReadFaults {T = Vec ℕ Global} before.faults after.faults (Err e) → StopsServing ⊥ before after (read_fault e)
-unread_cause before after reads.Failed failed some long count = failed_within ReadsOn before after records_limit (λ bytes within. within) (failed refl) count
-unread_cause before after reads.TooLong failed some long count = record {
-  words = tt;
-  said = long refl;
-  faultless = count;
-  read_on = past_limit ReadsOn before after records_limit (λ bytes within. within) some;
-}
-unread_cause before after reads.Memory failed some long count = tt
-
--- records that are refused
-refused_as : (before after : InputSeen) (bytes : List ℕ) (e : RecordError) → Consumes before.left after.left bytes → IsAtEnd after.left
-    → length bytes ≤ records_limit → after.faults ≡ before.faults → e ≢ records.Memory → BatchReads (table_of bytes) (Err e) → StopsServing ⊥ before after (Own (Records e))
-refused_as before after bytes e read end within faultless known refused = record {
-  words = known;
-  said = of_input (IsRefused e) before.left after.left bytes read end (record { within = within; refused = refused });
-  faultless = faultless;
-  read_on = all_read_on ReadsOn before after bytes read within;
-}
-
-pub records_cause : (before after : InputSeen) (bytes : List ℕ) (e : RecordError) → Consumes before.left after.left bytes → IsAtEnd after.left
-    → length bytes ≤ records_limit → after.faults ≡ before.faults → (e ≢ records.Memory → BatchReads (table_of bytes) (Err e)) → StopsServing ⊥ before after (record_fault e)
-records_cause before after bytes (records.Header column) read end within faultless refused =
-    let known = λ (is : records.Header column ≡ records.Memory). absurd (cc) in refused_as before after bytes (records.Header column) read end within faultless known (refused known)
-records_cause before after bytes (records.Field row column why) read end within faultless refused =
-    let known = λ (is : records.Field row column why ≡ records.Memory). absurd (cc) in refused_as before after bytes (records.Field row column why) read end within faultless known (refused known)
-records_cause before after bytes (records.Length row) read end within faultless refused =
-    let known = λ (is : records.Length row ≡ records.Memory). absurd (cc) in refused_as before after bytes (records.Length row) read end within faultless known (refused known)
-records_cause before after bytes (records.TooMany row) read end within faultless refused =
-    let known = λ (is : records.TooMany row ≡ records.Memory). absurd (cc) in refused_as before after bytes (records.TooMany row) read end within faultless known (refused known)
-records_cause before after bytes records.Memory read end within faultless refused = tt
+-- an input that is no batch
+pub unread_cause : (before after : InputSeen) (stop : Fault InputFault) → StopsReading before after stop → StopsServing ⊥ before after (input_fault stop)
+unread_cause before after (Own unread.TooLong) cause = cause
+unread_cause before after (Own (unread.Records error)) cause = cause
+unread_cause before after Read cause = cause
+unread_cause before after Memory cause = cause
 
 -- a batch that leaves too many lists, or for whose share there is no memory
-pub open_cause : (before after : InputSeen) (bytes : List ℕ) (edits : List Edit) (e : OpenError) → Consumes before.left after.left bytes → IsAtEnd after.left
-    → after.faults ≡ before.faults → ReadsAs edits bytes → (e ≡ opens.Lists → has_few_lists [] edits ≡ false) → StopsServing ⊥ before after (open_fault e)
-open_cause before after bytes edits opens.Lists read end faultless reads many = record {
+pub open_cause : (before after : InputSeen) (edits : List Edit) (e : OpenError) → HasReadAs edits before after → (e ≡ opens.Lists → has_few_lists [] edits ≡ false)
+    → StopsServing ⊥ before after (open_fault e)
+open_cause before after edits opens.Lists read many = record {
   words = tt;
-  said = of_input LeavesMany before.left after.left bytes read end (record { edits = edits; reads = reads; many = many refl });
-  faultless = faultless;
-  read_on = all_read_on ReadsOn before after bytes read reads.within;
+  said = of_input LeavesMany before.left after.left read.bytes read.read read.end (record { edits = edits; reads = read.of; many = many refl });
+  faultless = read.faultless;
+  read_on = all_read_on IsWithin before after read.bytes read.read read.of.within;
 }
-open_cause before after bytes edits opens.Memory read end faultless reads many = tt
+open_cause before after edits opens.Memory read many = tt

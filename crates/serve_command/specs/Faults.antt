@@ -1,17 +1,12 @@
 -- Why a share is not served: a place that is not opened, an input that is too long, records that are refused, and a batch
 -- that leaves too many lists.
-use Rattle.std.specs.Prelude.{◌≡◌, ◌≢◌, ◌<◌, ◌≤◌, ◌++◌, ◌∷◌, [], ℕ, List, length, Ok, Err, true, false, codes}
+use Rattle.std.specs.Prelude.{◌≡◌, ◌≢◌, ◌<◌, ◌++◌, ◌∷◌, [], ℕ, List, length, true, codes}
 use Rattle.std.specs.Io.KnownBytes.{Consumes, IsAtEnd}
 use Rattle.item_model.specs.declared.changes.Edit.{Edit}
 use Rattle.share_history.specs.Limits.{has_few_lists}
-use Rattle.records_import.specs.Table.{table_of}
-use Rattle.records_import.specs.Records.{BatchReads}
-use Rattle.records_import.specs.declared.refusal.RecordError.{RecordError}
 use Rattle.records_import.specs.declared.refusal.RecordError.TheVariants as records
 use Rattle.daap_outside.specs.declared.net.NetError.{NetError}
 use Rattle.daap_outside.specs.declared.net.NetError.TheVariants as nets
-use Rattle.daap_outside.specs.declared.reading.ReadError.{ReadError}
-use Rattle.daap_outside.specs.declared.reading.ReadError.TheVariants as reads
 use Rattle.fault_lines.specs.Records.{records_line}
 use Rattle.share_core.specs.declared.share.OpenError.{OpenError}
 use Rattle.share_core.specs.declared.share.OpenError.TheVariants as opens
@@ -19,28 +14,11 @@ use Rattle.command_core.specs.declared.fault.Fault.{Fault}
 use Rattle.command_core.specs.declared.fault.Fault.TheVariants as fault
 use Rattle.command_core.specs.Seen.{InputSeen}
 use Rattle.command_core.specs.Causes.{Cause, OfWords, OfInput, StopsBy}
+use Rattle.share_commands.specs.declared.reading.InputFault.{InputFault}
+use Rattle.share_commands.specs.declared.reading.InputFault.TheVariants as unread
+use Rattle.share_commands.specs.ReadRecords.{records_limit, IsWithin, ReadsAs, IsRefused, LeavesMany}
 use Rattle.serve_command.specs.declared.fault.ServeFault.{ServeFault}
 use Rattle.serve_command.specs.declared.fault.ServeFault.TheVariants.{Network, TooLong, Records, TooManyLists}
-
--- as many bytes of records are read: 4 MiB
-abbrev pub records_limit : ℕ
-records_limit = 4194304
-
--- the input, within its limit, reads as the batch of these edits
-pub record ReadsAs (edits : List Edit) (input : List ℕ) : Type 0 where
-  pub within : length input ≤ records_limit
-  pub read : BatchReads (table_of input) (Ok edits)
-
--- the input is within its limit, and its records are refused for this
-pub record IsRefused (error : RecordError) (input : List ℕ) : Type 0 where
-  pub within : length input ≤ records_limit
-  pub refused : BatchReads (table_of input) (Err error)
-
--- its records leave more lists than a share has
-pub record LeavesMany (input : List ℕ) : Type 0 where
-  pub edits : List Edit
-  pub reads : ReadsAs edits input
-  pub many : has_few_lists [] edits ≡ false
 
 -- its records are the first batch of a share
 pub record IsLibrary (edits : List Edit) (input : List ℕ) : Type 0 where
@@ -74,29 +52,20 @@ serve_cause failed TooLong = OfInput (Unit {0}) (λ input. records_limit < lengt
 serve_cause failed (Records error) = OfInput (error ≢ records.Memory) (IsRefused error)
 serve_cause failed TooManyLists = OfInput (Unit {0}) LeavesMany
 
-abbrev pub ReadsOn : List ℕ → Type 0
-ReadsOn bytes = length bytes ≤ records_limit
-
 -- `serve` stops so before its share is served; memory may be wanted at any time
 abbrev pub StopsServing : (failed : Type 0) → InputSeen → InputSeen → Fault ServeFault → Type 0
-StopsServing failed before after stop = StopsBy (serve_cause failed) ReadsOn (Unit {0}) before after stop
+StopsServing failed before after stop = StopsBy (serve_cause failed) IsWithin (Unit {0}) before after stop
 
--- the faults that refusals of places, of the input, of its records and of the share are
+-- the faults that refusals of places, of the input and of the share are
 abbrev pub net_fault : NetError → Fault ServeFault
 net_fault nets.Failed = fault.Own Network
 net_fault nets.Memory = fault.Memory
 
-abbrev pub read_fault : ReadError → Fault ServeFault
-read_fault reads.Failed = fault.Read
-read_fault reads.TooLong = fault.Own TooLong
-read_fault reads.Memory = fault.Memory
-
-abbrev pub record_fault : RecordError → Fault ServeFault
-record_fault (records.Header column) = fault.Own (Records (records.Header column))
-record_fault (records.Field row column reason) = fault.Own (Records (records.Field row column reason))
-record_fault (records.Length row) = fault.Own (Records (records.Length row))
-record_fault (records.TooMany row) = fault.Own (Records (records.TooMany row))
-record_fault records.Memory = fault.Memory
+abbrev pub input_fault : Fault InputFault → Fault ServeFault
+input_fault (fault.Own unread.TooLong) = fault.Own TooLong
+input_fault (fault.Own (unread.Records error)) = fault.Own (Records error)
+input_fault fault.Read = fault.Read
+input_fault fault.Memory = fault.Memory
 
 abbrev pub open_fault : OpenError → Fault ServeFault
 open_fault opens.Lists = fault.Own TooManyLists

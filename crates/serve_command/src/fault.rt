@@ -1,12 +1,13 @@
 //! Why a share is not served.
 
 ghost use Rattle.std.specs.Prelude.{◌≡◌};
-ghost use Rattle.serve_command.specs.Faults.{serve_line, serve_status, net_fault, read_fault, record_fault, open_fault};
+ghost use Rattle.serve_command.specs.Faults.{serve_line, serve_status, net_fault, input_fault, open_fault};
 
 use command_core::{Fault, Refusal};
-use daap_outside::{NetError, ReadError};
+use daap_outside::NetError;
 use fault_lines::records_line;
 use records_import::RecordError;
+use share_commands::InputFault;
 use share_core::OpenError;
 use std::alloc::{AllocError, Global};
 
@@ -57,23 +58,14 @@ pub(crate) fn net_fault(error: NetError) -> Fault<ServeFault>
 }
 
 /// What a refusal of the input is.
-pub(crate) fn read_fault(error: ReadError) -> Fault<ServeFault>
-    ensures { result ≡ read_fault error }
+pub(crate) fn input_fault(fault: Fault<InputFault>) -> Fault<ServeFault>
+    ensures { result ≡ input_fault fault }
 {
-    match error {
-        ReadError::Failed => Fault::Read,
-        ReadError::TooLong => Fault::Own(ServeFault::TooLong),
-        ReadError::Memory => Fault::Memory,
-    }
-}
-
-/// What a refusal of its records is.
-pub(crate) fn record_fault(error: RecordError) -> Fault<ServeFault>
-    ensures { result ≡ record_fault error }
-{
-    match error {
-        RecordError::Memory => Fault::Memory,
-        refusal => Fault::Own(ServeFault::Records(refusal)),
+    match fault {
+        Fault::Own(InputFault::TooLong) => Fault::Own(ServeFault::TooLong),
+        Fault::Own(InputFault::Records(error)) => Fault::Own(ServeFault::Records(error)),
+        Fault::Read => Fault::Read,
+        Fault::Memory => Fault::Memory,
     }
 }
 

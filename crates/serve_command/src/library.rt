@@ -7,16 +7,13 @@ ghost use Rattle.share_history.specs.Histories.{opening};
 ghost use Rattle.serve_command.specs.Faults.{HasRead, StopsServing};
 ghost use Rattle.serve_command.specs.Terms.{MayServe, settings_of};
 
-use crate::fault::{ServeFault, open_fault, read_fault, record_fault};
+use crate::fault::{ServeFault, input_fault, open_fault};
 use crate::terms::Serving;
 use command_core::Fault;
-use daap_outside::{Source, read_within};
-use records_import::read_batch;
+use daap_outside::Source;
+use share_commands::read_records;
 use share_core::Share;
 use std::alloc::Global;
-
-/// The most bytes of records that the input may have.
-const RECORDS_LIMIT: u64 = 4_194_304;
 
 /// Reads the input to its end, and opens a share with its records as the first batch.
 pub(crate) fn library<I: Source>(
@@ -33,13 +30,9 @@ pub(crate) fn library<I: Source>(
         (input_seen (I.left input.new) (I.faults input.new))
         stop) }
 {
-    let bytes = match read_within(alloc, input, RECORDS_LIMIT) {
-        Ok(bytes) => bytes,
-        Err(error) => return Err(read_fault(error)),
-    };
-    let batch = match read_batch(alloc, bytes.as_slice()) {
+    let batch = match read_records(alloc, input) {
         Ok(batch) => batch,
-        Err(error) => return Err(record_fault(error)),
+        Err(fault) => return Err(input_fault(fault)),
     };
     match Share::open(alloc, serving.name.as_str(), serving.keep, batch) {
         Ok(share) => Ok(share),

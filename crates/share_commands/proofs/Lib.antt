@@ -1,3 +1,4 @@
+pub mod ReadCauses
 pub mod Unopened
 pub mod LibraryFacts
 pub mod Senses

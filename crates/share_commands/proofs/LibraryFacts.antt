@@ -1,15 +1,13 @@
 -- Why a share that was opened with a batch is not listed.
-use Rattle.std.proofs.Common.{◌≡◌, ◌<◌, ◌≤◌, ℕ, Bool, true, false, cond, List, [], ◌∷◌, length, Option, None, Some, refl, sym, ap, ◌∙◌, arith}
+use Rattle.std.proofs.Common.{◌≡◌, ◌<◌, ◌≤◌, ℕ, Bool, cond, List, [], ◌∷◌, length, None, Some, refl, sym, ap, ◌∙◌, arith}
 use Rattle.std.proofs.lemmas.Bool.{le-leb, lt-leb}
 use Rattle.item_model.specs.declared.changes.Edit.{Edit}
 use Rattle.item_model.specs.declared.request.Target.{Target}
 use Rattle.share_history.specs.Histories.{opening, batches}
 use Rattle.share_history.specs.Histories as histories
-use Rattle.share_history.specs.Limits.{has_few_lists}
 use Rattle.share_history.specs.Numbers.{most_lists}
 use Rattle.share_history.specs.Rows.{lists, is_there}
 use Rattle.share_history.proofs.EditFacts.{edits-opening}
-use Rattle.share_commands.specs.declared.list.ListFault.{ListFault}
 use Rattle.share_commands.specs.declared.list.ListFault.TheVariants.{TooManyLists, NoList}
 use Rattle.share_commands.specs.ListShare.{library_fault}
 

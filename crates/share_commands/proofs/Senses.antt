@@ -1,6 +1,6 @@
 -- What the meanings of the commands on a share owe: words and an input say one status, and no fault where the command is
 -- done.
-use Rattle.std.proofs.Common.{◌≡◌, ◌≢◌, ◌<◌, ◌≤◌, ◌*◌, ℕ, List, [], Option, Some, None, length, true, false, inl, inr, refl, sym, subst, ap, ◌∙◌, arith}
+use Rattle.std.proofs.Common.{◌≡◌, ◌≢◌, ◌<◌, ◌≤◌, ◌*◌, ℕ, List, [], Option, Some, None, length, true, false, inl, refl, sym, subst, ap, ◌∙◌, arith}
 use Rattle.std.proofs.lemmas.Bool.{false≢true}
 use Rattle.item_model.specs.declared.changes.Edit.{Edit}
 use Rattle.item_model.specs.declared.query.Query.{Query}
@@ -24,7 +24,8 @@ use Rattle.share_commands.specs.declared.list.ListFault.TheVariants.{Query as qu
 use Rattle.share_commands.specs.declared.rehearse.RehearseFault.{RehearseFault}
 use Rattle.share_commands.specs.declared.rehearse.RehearseFault.TheVariants.{TooMany}
 use Rattle.share_commands.specs.Looks.{AsksQuery, IsAsked, HasRefusal, IsMetaRefused}
-use Rattle.share_commands.specs.ListShare.{records_limit, ReadsAs, LeavesMany, IsShare, ListLeaves, IsListable, list_status, list_cause, list_meaning}
+use Rattle.share_commands.specs.ReadRecords.{records_limit, ReadsAs, LeavesMany}
+use Rattle.share_commands.specs.ListShare.{IsShare, ListLeaves, IsListable, list_status, list_cause, list_meaning}
 use Rattle.share_history.specs.Numbers.{most_edits}
 use Rattle.share_commands.specs.RehearseShare.{rehearse_status, rehearse_cause, rehearse_meaning}
 

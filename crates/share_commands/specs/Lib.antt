@@ -2,4 +2,5 @@ pub mod Looks
 pub mod ListShare
 pub mod LookFaults
 pub mod Openings
+pub mod ReadRecords
 pub mod RehearseShare

@@ -1,7 +1,7 @@
 -- The command `list`: the full listing of a target of the share that is opened with the batch of the input, or the first
 -- fault of the words and the input: the query's, that of the names, the input's length, its records, that they leave too
 -- many lists, and that the container is not there.
-use Rattle.std.specs.Prelude.{◌≡◌, ◌≢◌, ◌<◌, ◌≤◌, ◌⊎◌, ◌++◌, ◌∷◌, [], ℕ, List, length, Option, None, Some, Ok, Err, true, false, codes, if◌then◌else◌}
+use Rattle.std.specs.Prelude.{◌≡◌, ◌≢◌, ◌<◌, ◌≤◌, ◌⊎◌, ◌++◌, ◌∷◌, [], ℕ, List, length, Option, None, Some, true, false, codes, if◌then◌else◌}
 use Rattle.std.specs.Io.KnownBytes.{Consumes, IsAtEnd}
 use Rattle.dmap_tags.specs.Spelling.{spelling}
 use Rattle.item_model.specs.declared.changes.Edit.{Edit}
@@ -12,12 +12,7 @@ use Rattle.share_history.specs.Bodies.{full_body}
 use Rattle.share_history.specs.Histories.{opening}
 use Rattle.share_history.specs.Limits.{has_few_lists}
 use Rattle.share_history.specs.Rows.{is_there}
-use Rattle.records_import.specs.Table.{table_of}
-use Rattle.records_import.specs.Records.{BatchReads}
-use Rattle.records_import.specs.declared.refusal.RecordError.{RecordError}
 use Rattle.records_import.specs.declared.refusal.RecordError.TheVariants as records
-use Rattle.daap_outside.specs.declared.reading.ReadError.{ReadError}
-use Rattle.daap_outside.specs.declared.reading.ReadError.TheVariants as reads
 use Rattle.fault_lines.specs.Queries.{query_line}
 use Rattle.fault_lines.specs.Records.{records_line}
 use Rattle.command_core.specs.declared.fault.Fault.{Fault}
@@ -27,31 +22,14 @@ use Rattle.command_core.specs.Causes.{Cause, OfWords, OfInput, StopsBy}
 use Rattle.command_core.specs.Meanings.{Meaning, writes_nothing_before, may_read}
 use Rattle.share_commands.specs.declared.list.ListFault.{ListFault}
 use Rattle.share_commands.specs.declared.list.ListFault.TheVariants.{Query, Meta, TooLong, Records, TooManyLists, NoList}
+use Rattle.share_commands.specs.declared.reading.InputFault.{InputFault}
+use Rattle.share_commands.specs.declared.reading.InputFault.TheVariants as unread
+use Rattle.share_commands.specs.ReadRecords.{records_limit, ReadsAs, IsRefused, LeavesMany}
 use Rattle.share_commands.specs.Looks.{AsksLook, IsAsked, HasRefusal, IsMetaRefused}
-
--- as many bytes of records are read: 4 MiB
-abbrev pub records_limit : ℕ
-records_limit = 4194304
 
 -- the listing of a share that is opened with the edits
 abbrev pub listing_bytes : List Edit → Target → Look → List ℕ
 listing_bytes edits target look = spelling (full_body (opening edits) target look)
-
--- the input, within its limit, reads as the batch of these edits
-pub record ReadsAs (edits : List Edit) (input : List ℕ) : Type 0 where
-  pub within : length input ≤ records_limit
-  pub read : BatchReads (table_of input) (Ok edits)
-
--- the input is within its limit, and its records are refused for this
-pub record IsRefused (error : RecordError) (input : List ℕ) : Type 0 where
-  pub within : length input ≤ records_limit
-  pub refused : BatchReads (table_of input) (Err error)
-
--- its records leave more lists than a share has
-pub record LeavesMany (input : List ℕ) : Type 0 where
-  pub edits : List Edit
-  pub reads : ReadsAs edits input
-  pub many : has_few_lists [] edits ≡ false
 
 -- they leave no such container
 pub record LacksTarget (target : Target) (input : List ℕ) : Type 0 where
@@ -148,18 +126,12 @@ StopsListing query meta target before after stop = StopsBy (list_cause query met
 abbrev pub StopsOpening : Target → InputSeen → InputSeen → Fault ListFault → Type 0
 StopsOpening target before after stop = (query meta : Option (List ℕ)) → IsAsked query meta → StopsListing query meta target before after stop
 
--- the faults that refusals of the input and of its records are
-abbrev pub read_fault : ReadError → Fault ListFault
-read_fault reads.Failed = fault.Read
-read_fault reads.TooLong = fault.Own TooLong
-read_fault reads.Memory = fault.Memory
-
-abbrev pub record_fault : RecordError → Fault ListFault
-record_fault (records.Header column) = fault.Own (Records (records.Header column))
-record_fault (records.Field row column reason) = fault.Own (Records (records.Field row column reason))
-record_fault (records.Length row) = fault.Own (Records (records.Length row))
-record_fault (records.TooMany row) = fault.Own (Records (records.TooMany row))
-record_fault records.Memory = fault.Memory
+-- what a refusal of the input is to `list`
+abbrev pub input_fault : Fault InputFault → Fault ListFault
+input_fault (fault.Own unread.TooLong) = fault.Own TooLong
+input_fault (fault.Own (unread.Records error)) = fault.Own (Records error)
+input_fault fault.Read = fault.Read
+input_fault fault.Memory = fault.Memory
 
 -- why a batch is not listed that reads
 abbrev pub library_fault : List Edit → Target → Option ListFault

@@ -5,9 +5,11 @@
 mod list;
 mod look;
 mod opening;
+mod reading;
 mod rehearse;
 #[cfg(test)]
 mod tests;
 
 pub use list::{ListFault, list_share};
+pub use reading::{InputFault, read_records};
 pub use rehearse::{RehearseFault, rehearse_share};

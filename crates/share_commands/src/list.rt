@@ -6,24 +6,22 @@ ghost use Rattle.listing_plan.specs.Plans.{plan_bytes, IsWritable};
 ghost use Rattle.command_core.specs.Seen.{Around, input_seen, output_seen, told_beside, share_with};
 ghost use Rattle.command_core.specs.Answers.{TellsDone};
 ghost use Rattle.command_core.specs.Endings.{IsAnswered};
-ghost use Rattle.share_commands.specs.ListShare.{listing_bytes, IsOpened, StopsOpening, list_line, list_status, read_fault, record_fault, library_fault, list_meaning};
+ghost use Rattle.share_commands.specs.ListShare.{listing_bytes, IsOpened, StopsOpening, list_line, list_status, input_fault, library_fault, list_meaning};
 ghost use Rattle.share_commands.specs.Openings.{HasOpened};
 
 use crate::look::look_of;
 use crate::opening::{Opened, open};
+use crate::reading::{InputFault, read_records};
 use command_core::{Fault, Outcome, Refusal, out_of_memory, refused};
-use daap_outside::{Failed, ReadError, Sink, Source, read_within};
+use daap_outside::{Failed, Sink, Source};
 use dmap_tags::Text;
 use fault_lines::{query_line, records_line};
 use item_model::{Entries, Look, QueryError, Target};
 use listing_plan::Plan;
-use records_import::{RecordError, read_batch};
+use records_import::RecordError;
 use share_history::MAX_LISTS;
 use share_listings::{full_target, is_there};
 use std::alloc::{AllocError, Global};
-
-/// The most bytes of records that the input may have.
-const RECORDS_LIMIT: u64 = 4_194_304;
 
 /// Why nothing is listed. Want of memory is none of these.
 #[derive(Debug, Drop)]
@@ -111,13 +109,9 @@ fn opened<I: Source>(
         (input_seen (I.left input.new) (I.faults input.new))
         fault) }
 {
-    let bytes = match read_within(alloc, input, RECORDS_LIMIT) {
-        Ok(bytes) => bytes,
-        Err(error) => return Err(read_fault(error)),
-    };
-    let batch = match read_batch(alloc, bytes.as_slice()) {
+    let batch = match read_records(alloc, input) {
         Ok(batch) => batch,
-        Err(error) => return Err(record_fault(error)),
+        Err(fault) => return Err(input_fault(fault)),
     };
     let opened = open(alloc, batch)?;
     match library_fault(&opened, target) {
@@ -140,23 +134,14 @@ fn library_fault(opened: &Opened, target: Target) -> Option<ListFault>
 }
 
 /// What a refusal of the input is to `list`.
-fn read_fault(error: ReadError) -> Fault<ListFault>
-    ensures { result ≡ read_fault error }
+fn input_fault(fault: Fault<InputFault>) -> Fault<ListFault>
+    ensures { result ≡ input_fault fault }
 {
-    match error {
-        ReadError::Failed => Fault::Read,
-        ReadError::TooLong => Fault::Own(ListFault::TooLong),
-        ReadError::Memory => Fault::Memory,
-    }
-}
-
-/// What a refusal of its records is.
-fn record_fault(error: RecordError) -> Fault<ListFault>
-    ensures { result ≡ record_fault error }
-{
-    match error {
-        RecordError::Memory => Fault::Memory,
-        refusal => Fault::Own(ListFault::Records(refusal)),
+    match fault {
+        Fault::Own(InputFault::TooLong) => Fault::Own(ListFault::TooLong),
+        Fault::Own(InputFault::Records(error)) => Fault::Own(ListFault::Records(error)),
+        Fault::Read => Fault::Read,
+        Fault::Memory => Fault::Memory,
     }
 }
 

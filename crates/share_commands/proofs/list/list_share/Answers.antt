@@ -1,4 +1,4 @@
-use Rattle.std.proofs.Common.{List, ℕ, [], Option, Some, option_copied, inr, refl}
+use Rattle.std.proofs.Common.{[], Some, option_copied, inr, refl}
 use Rattle.listing_plan.specs.Plans.{plan_bytes}
 use Rattle.command_core.specs.Seen.{InputSeen, Told, input_seen, output_seen, told_beside}
 use Rattle.command_core.proofs.Appending.{none_written}

@@ -1,4 +1,4 @@
-use Rattle.std.proofs.Common.{[], ◌∷◌, List, sym, subst, rules}
+use Rattle.std.proofs.Common.{[], List, sym, subst, rules}
 use Rattle.item_model.specs.declared.changes.Edit.{Edit}
 use Rattle.item_store.specs.Stands as items_stand
 use Rattle.playlist_store.specs.Stands as lists_stand

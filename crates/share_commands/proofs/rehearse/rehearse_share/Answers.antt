@@ -1,4 +1,4 @@
-use Rattle.std.proofs.Common.{◌≤◌, ◌<◌, ◌*◌, Some, [], refl, ap, ◌∙◌, arith}
+use Rattle.std.proofs.Common.{◌≤◌, ◌<◌, ◌*◌, Some, refl, ap, ◌∙◌, arith}
 use Rattle.share_history.specs.Numbers.{most_edits}
 use Rattle.command_core.specs.Seen.{Told, output_seen, share_with, told_beside}
 use Rattle.command_core.proofs.Ended.{by_output, by_refusal, by_idle}
