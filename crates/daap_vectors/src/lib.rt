@@ -4,4 +4,8 @@
 #[cfg(test)]
 mod answers;
 #[cfg(test)]
+mod hostile;
+#[cfg(test)]
+mod replays;
+#[cfg(test)]
 mod shares;

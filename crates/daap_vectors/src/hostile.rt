@@ -1,0 +1,441 @@
+//! What a stranger in the house may send, and how each connection ends: by a refusal at its place, by the end of its
+//! input, or served like any other. How each has to end is told by the profile's rules for requests, by a program of its
+//! own where a connection has many.
+
+ghost use Rattle.std.specs.Prelude.{◌≡◌, ◌<◌, ◌≤◌, [], All, IfOk, OnOk};
+ghost use Rattle.daap_outside.specs.MemLink.{IsNew};
+ghost use Rattle.share_lock.specs.Passes.{lock_id, IsReady};
+
+mod inputs;
+
+use crate::hostile::inputs::{
+    CONNECTIONS, Coming, ITEM_7, NO_REQUESTS, ODD_REQUESTS, QUERIES, RECORDS,
+};
+use code_table::CodeTable;
+use daap_outside::{MemDoor, MemLink, MemSink, MemSource};
+use dmap_stream::{DmapReader, Limits, StreamError, read_tag};
+use item_model::{Batch, Edits};
+use served_links::{LinkEnd, LinkReport};
+use share_asks::Role;
+use share_core::Share;
+use share_lock::{Bell, Pass, ShareLock};
+use share_server::serve_link;
+use share_workers::{Worker, WorkerEnd, serve_all};
+use std::alloc::{AllocError, Global};
+use std::process::Abort;
+use std::sync::Wait;
+use std::test::Fail;
+use std::thread::Threads;
+
+const LOGIN: &[u8] = b"GET /login HTTP/1.1\r\n\r\n";
+
+const LIST_ITEMS: &[u8] = b"GET /databases/1/items?session-id=1&meta=dmap.itemid HTTP/1.1\r\n\r\n";
+
+const LIST_ITEMS_AGAIN: &[u8] =
+    b"GET /databases/1/items?session-id=2&meta=dmap.itemid HTTP/1.1\r\n\r\n";
+
+const PUT_7: &[u8] = b"POST /edit HTTP/1.1\r\nContent-Length: 22\r\n\r\nop,kind,id\nput,item,7\n";
+
+/// How many edits each of two editors sends.
+const MANY_EDITS: usize = 200;
+
+/// What comes over a connection, in pieces of which size, and which of its writes fail.
+#[derive(Drop)]
+struct Visit<'a> {
+    role: Role,
+    input: &'a [u8],
+    piece: usize,
+    failing: &'a [u64],
+}
+
+fn visit_in_pieces<'a>(role: Role, input: &'a [u8], piece: usize) -> Visit<'a>
+    ensures { result.piece ≡ piece }
+{
+    Visit {
+        role,
+        input,
+        piece,
+        failing: &[],
+    }
+}
+
+fn joined(alloc: Global, coming: Coming) -> Result<Vec<u8>, AllocError> {
+    let (front, again, times, back) = coming;
+    let mut input = Vec::from_slice(alloc, front)?;
+    input.extend_from_slice(again.repeat(alloc, times)?.as_slice())?;
+    input.extend_from_slice(back)?;
+    Ok(input)
+}
+
+// A share without items, for three passes.
+fn opened(alloc: Global) -> Result<(ShareLock<Share>, Pass<Share>), AllocError>
+    ensures { IfOk result (λ r. IsReady (lock_id r.0) r.1) }
+{
+    let first = Batch {
+        edits: Edits::new(alloc),
+    };
+    let Ok(share) = Share::open(alloc, "S", 16, first) else {
+        return Err(AllocError);
+    };
+    ShareLock::open(alloc, share, 3)
+}
+
+fn link(alloc: Global, visit: &Visit<'_>) -> Result<MemLink, AllocError>
+    requires { 0 < visit.now.piece }
+    ensures { IfOk result IsNew }
+{
+    let source = MemSource::new(alloc, visit.input, visit.piece, &[])?;
+    let sink = MemSink::new(alloc, 4_194_304, 4_096, visit.failing)?;
+    Ok(MemLink::new(source, sink))
+}
+
+/// Serves a connection, and gives what is told of it and what it took.
+fn served<R: Wait>(
+    rt: &R,
+    alloc: Global,
+    lock: &ShareLock<Share>,
+    pass: &mut Pass<Share>,
+    visit: &Visit<'_>,
+) -> Result<(LinkReport, MemLink), AllocError>
+    requires piece { 0 < visit.now.piece }
+    requires ready { IsReady (lock_id lock.now) pass.old }
+    ensures ready { IsReady (lock_id lock.now) pass.new }
+{
+    let mut link = link(alloc, visit)?;
+    let report = serve_link(
+        rt,
+        alloc,
+        lock,
+        &Bell::new(),
+        pass,
+        &mut link,
+        visit.role,
+        65_536,
+    );
+    Ok((report, link))
+}
+
+/// Serves a connection of a share of its own.
+fn tried<R: Wait>(
+    rt: &R,
+    alloc: Global,
+    visit: &Visit<'_>,
+) -> Result<(LinkReport, MemLink), AllocError>
+    requires { 0 < visit.now.piece }
+{
+    let (lock, mut pass) = opened(alloc)?;
+    served(rt, alloc, &lock, &mut pass, visit)
+}
+
+/// The head that ends a connection whose bytes were refused.
+fn refusal(status: u16) -> &'static [u8] {
+    match status {
+        400 => b"HTTP/1.1 400 Bad Request\r\nContent-Length: 0\r\nConnection: close\r\n\r\n",
+        413 => b"HTTP/1.1 413 Content Too Large\r\nContent-Length: 0\r\nConnection: close\r\n\r\n",
+        _ => {
+            b"HTTP/1.1 431 Request Header Fields Too Large\r\nContent-Length: 0\r\nConnection: close\r\n\r\n"
+        }
+    }
+}
+
+/// What was written behind the replies, by how the connection ended.
+fn last_words(end: LinkEnd) -> &'static [u8] {
+    match end {
+        LinkEnd::Refused { status } => refusal(status),
+        _ => b"",
+    }
+}
+
+/// Checks how a connection ends, how many of its requests are served, and the head of a refusal.
+fn ends<R: Wait + Abort>(
+    rt: &R,
+    alloc: Global,
+    visit: &Visit<'_>,
+    count: usize,
+    end: LinkEnd,
+) -> Result<(), AllocError>
+    requires { 0 < visit.now.piece }
+{
+    let (report, link) = tried(rt, alloc, visit)?;
+    assert!(rt; report.end == end);
+    assert!(rt; report.served.as_slice().len() == count);
+    assert!(rt; link.taken().ends_with(last_words(end)));
+    Ok(())
+}
+
+#[test]
+fn what_is_no_request_is_refused(rt: HostRuntime) -> Result<(), Fail> {
+    for (input, status) in NO_REQUESTS {
+        let end = LinkEnd::Refused { status };
+        let whole = visit_in_pieces(Role::Listen, input, 4_096);
+        ends(&rt, rt.alloc(), &whole, 0, end)?;
+        let by_bytes = visit_in_pieces(Role::Listen, input, 1);
+        ends(&rt, rt.alloc(), &by_bytes, 0, end)?;
+    }
+    Ok(())
+}
+
+#[test]
+fn each_connection_ends(rt: HostRuntime) -> Result<(), Fail> {
+    for (coming, count, end) in CONNECTIONS {
+        let input = joined(rt.alloc(), coming)?;
+        let editor = visit_in_pieces(Role::Edit, input.as_slice(), 4_096);
+        ends(&rt, rt.alloc(), &editor, count, end)?;
+    }
+    Ok(())
+}
+
+fn have_their_status<R: Wait + Abort>(
+    rt: &R,
+    alloc: Global,
+    visit: &Visit<'_>,
+) -> Result<(), AllocError>
+    requires { 0 < visit.now.piece }
+{
+    let (report, _) = tried(rt, alloc, visit)?;
+    assert!(rt; report.end == LinkEnd::Closed);
+    let served = report.served.as_slice();
+    assert!(rt;
+        served
+            .iter()
+            .map(|s| s.status)
+            .eq(ODD_REQUESTS.iter().map(|row| row.1))
+    );
+    Ok(())
+}
+
+#[test]
+fn odd_requests_have_their_status(rt: HostRuntime) -> Result<(), Fail> {
+    let mut input = Vec::new(rt.alloc());
+    for (request, _) in ODD_REQUESTS {
+        input.extend_from_slice(request)?;
+    }
+    let whole = visit_in_pieces(Role::Listen, input.as_slice(), 4_096);
+    have_their_status(&rt, rt.alloc(), &whole)?;
+    let by_bytes = visit_in_pieces(Role::Listen, input.as_slice(), 1);
+    have_their_status(&rt, rt.alloc(), &by_bytes)?;
+    Ok(())
+}
+
+/// A request for the items, with such parameters.
+fn listing(alloc: Global, parameters: Coming) -> Result<Vec<u8>, AllocError> {
+    let parameters = joined(alloc, parameters)?;
+    let mut request = Vec::from_slice(alloc, b"GET /databases/1/items?session-id=1&")?;
+    request.extend_from_slice(parameters.as_slice())?;
+    request.extend_from_slice(b" HTTP/1.1\r\n\r\n")?;
+    Ok(request)
+}
+
+/// A request that takes in such records.
+fn edit(alloc: Global, records: &[u8]) -> Result<Vec<u8>, AllocError> {
+    let length = records.len();
+    let head = format!(in alloc; "POST /edit HTTP/1.1\r\nContent-Length: {length}\r\n\r\n")?;
+    let mut request = Vec::from_slice(alloc, head.as_bytes())?;
+    request.extend_from_slice(records)?;
+    Ok(request)
+}
+
+/// Checks what the reply to a request ends with, behind a login and an item that is put.
+fn is_told<R: Wait + Abort>(
+    rt: &R,
+    alloc: Global,
+    request: &[u8],
+    last: &[u8],
+) -> Result<(), AllocError> {
+    let item = joined(alloc, ITEM_7)?;
+    let mut input = Vec::from_slice(alloc, LOGIN)?;
+    input.extend_from_slice(edit(alloc, item.as_slice())?.as_slice())?;
+    input.extend_from_slice(request)?;
+    let editor = visit_in_pieces(Role::Edit, input.as_slice(), 4_096);
+    let (report, link) = tried(rt, alloc, &editor)?;
+    assert!(rt; report.end == LinkEnd::Closed && report.served.as_slice().len() == 3);
+    assert!(rt; link.taken().ends_with(last));
+    Ok(())
+}
+
+#[test]
+fn requests_have_limits(rt: HostRuntime) -> Result<(), Fail> {
+    for (parameters, last) in QUERIES {
+        let request = listing(rt.alloc(), parameters)?;
+        is_told(&rt, rt.alloc(), request.as_slice(), last)?;
+    }
+    for (records, last) in RECORDS {
+        let records = joined(rt.alloc(), records)?;
+        let request = edit(rt.alloc(), records.as_slice())?;
+        is_told(&rt, rt.alloc(), request.as_slice(), last)?;
+    }
+    Ok(())
+}
+
+// Of 1,000 logins, those from 937 on are live.
+#[test]
+fn sessions_end_in_their_order(rt: HostRuntime) -> Result<(), Fail> {
+    let behind =
+        b"GET /databases?session-id=936 HTTP/1.1\r\n\r\nGET /databases?session-id=937 HTTP/1.1\r\n\r\n";
+    let input = joined(rt.alloc(), (LOGIN, LOGIN, 999, behind))?;
+    let player = visit_in_pieces(Role::Listen, input.as_slice(), 4_096);
+    let (report, _) = tried(&rt, rt.alloc(), &player)?;
+    assert!(rt; report.end == LinkEnd::Closed);
+    let served = report.served.as_slice();
+    assert!(rt; served.len() == 1_002);
+    assert!(rt; served[1_000].status == 403 && served[1_001].status == 200);
+    Ok(())
+}
+
+// An editor's request that puts 1,000 items.
+fn many_items(alloc: Global) -> Result<Vec<u8>, AllocError> {
+    let mut records = String::from_str(alloc, "op,kind,id\n")?;
+    for id in 1..1_001 {
+        records.push_str(format!(in alloc; "put,item,{id}\n")?.as_str())?;
+    }
+    edit(alloc, records.as_bytes())
+}
+
+/// A player whose connection fails at that write while another lists the same items; gives both.
+fn gone_away<R: Wait + Abort>(
+    rt: &R,
+    alloc: Global,
+    failing: u64,
+) -> Result<(MemLink, MemLink), AllocError> {
+    let (lock, mut pass) = opened(alloc)?;
+    let items = many_items(alloc)?;
+    let editor = visit_in_pieces(Role::Edit, items.as_slice(), 4_096);
+    served(rt, alloc, &lock, &mut pass, &editor)?;
+    let input = joined(alloc, (LOGIN, LIST_ITEMS, 2, b""))?;
+    let player = Visit {
+        failing: &[failing],
+        ..visit_in_pieces(Role::Listen, input.as_slice(), 4_096)
+    };
+    let (report, gone) = served(rt, alloc, &lock, &mut pass, &player)?;
+    assert!(rt; report.end == LinkEnd::LinkFault);
+    let input = joined(alloc, (LOGIN, LIST_ITEMS_AGAIN, 1, b""))?;
+    let other = visit_in_pieces(Role::Listen, input.as_slice(), 4_096);
+    let (report, whole) = served(rt, alloc, &lock, &mut pass, &other)?;
+    assert!(rt; report.end == LinkEnd::Closed);
+    Ok((gone, whole))
+}
+
+// A login's reply has 112 bytes, and the listing behind it 83 of its head, 73 in front of its rows, and 20 a row.
+#[test]
+fn who_goes_away_harms_nobody(rt: HostRuntime) -> Result<(), Fail> {
+    for failing in [1, 3, 5, 6] {
+        let (gone, whole) = gone_away(&rt, rt.alloc(), failing)?;
+        let (gone, whole) = (gone.taken(), whole.taken());
+        assert!(rt; whole.len() == 112 + 83 + 73 + 20_000);
+        assert!(rt; whole.ends_with(b"mlit\0\0\0\x0cmiid\0\0\0\x04\0\0\x03\xe8"));
+        let (_, listing) = whole.split_at(whole.len().min(112));
+        let (_, begun) = gone.split_at(gone.len().min(112));
+        assert!(rt; gone.len() < whole.len() && listing.starts_with(begun));
+    }
+    Ok(())
+}
+
+/// A door at which one editor comes, who sends the same edit many times.
+fn editors_door(alloc: Global) -> Result<MemDoor, AllocError> {
+    let input = joined(alloc, (b"", PUT_7, MANY_EDITS, b""))?;
+    let editor = visit_in_pieces(Role::Edit, input.as_slice(), 50);
+    let mut door = MemDoor::new(alloc, &[], 1)?;
+    door.add(link(alloc, &editor)?)?;
+    Ok(door)
+}
+
+/// One more worker, at that door.
+fn hire<R: Wait>(
+    rt: &R,
+    alloc: Global,
+    lock: &ShareLock<Share>,
+    first: &mut Pass<Share>,
+    door: MemDoor,
+    workers: &mut Vec<Worker<MemDoor>>,
+) -> Result<(), AllocError>
+    requires first { IsReady (lock_id lock.now) first.old }
+    requires ready { All (λ w. IsReady (lock_id lock.now) w.pass) workers.old.items }
+    requires running { All (λ w. w.end ≡ WorkerEnd.Running) workers.old.items }
+    requires unreported { All (λ w. w.reports.items ≡ []) workers.old.items }
+    ensures first { IsReady (lock_id lock.now) first.new }
+    ensures ready { OnOk result (All (λ w. IsReady (lock_id lock.now) w.pass) workers.new.items) }
+    ensures running { OnOk result (All (λ w. w.end ≡ WorkerEnd.Running) workers.new.items) }
+    ensures unreported { OnOk result (All (λ w. w.reports.items ≡ []) workers.new.items) }
+{
+    let pass = drawn(rt, lock, first);
+    workers.push(Worker {
+        pass,
+        door,
+        role: Role::Edit,
+        reports: Vec::new(alloc),
+        end: WorkerEnd::Running,
+    })?;
+    Ok(())
+}
+
+/// A pass of its own, for a worker that has not begun.
+fn drawn<R: Wait>(rt: &R, lock: &ShareLock<Share>, first: &mut Pass<Share>) -> Pass<Share>
+    requires ready { IsReady (lock_id lock.now) first.old }
+    ensures first { IsReady (lock_id lock.now) first.new }
+    ensures ready { IsReady (lock_id lock.now) result }
+{
+    lock.split(rt, first).unwrap()
+}
+
+/// Two editors at once, each in a thread; gives the points at which their edits were added.
+fn added_by_two<R: Threads + Wait + Sync>(rt: &R, alloc: Global) -> Result<Vec<u64>, AllocError> {
+    let (lock, mut first) = opened(alloc)?;
+    let mut workers = Vec::new(alloc);
+    let door = editors_door(alloc)?;
+    hire(rt, alloc, &lock, &mut first, door, &mut workers)?;
+    let door = editors_door(alloc)?;
+    hire(rt, alloc, &lock, &mut first, door, &mut workers)?;
+    serve_all(rt, alloc, &lock, &Bell::new(), &mut workers);
+    let mut points = Vec::new(alloc);
+    for worker in &workers {
+        for report in &worker.reports {
+            for served in report.served.as_slice() {
+                if served.added && served.status == 200 {
+                    points.push(served.point)?;
+                }
+            }
+        }
+    }
+    Ok(points)
+}
+
+#[test]
+fn two_editors_add_each_edit_once(rt: HostRuntime) -> Result<(), Fail> {
+    let points = added_by_two(&rt, rt.alloc())?;
+    assert!(rt; points.len() == 2 * MANY_EDITS);
+    for point in 1..401 {
+        assert!(rt; points.as_slice().contains(&point));
+    }
+    Ok(())
+}
+
+/// So many lists, each inside the one before it.
+fn nested(alloc: Global, levels: u32) -> Result<Vec<u8>, AllocError> {
+    let mut bytes = Vec::new(alloc);
+    for level in 0..levels {
+        bytes.extend_from_slice(b"mcon")?;
+        bytes.extend_from_slice(&((levels - level - 1).saturating_mul(8)).to_be_bytes())?;
+    }
+    bytes.push(0)?;
+    Ok(bytes)
+}
+
+#[test]
+fn a_length_that_is_told_takes_no_room(rt: HostRuntime) -> Result<(), Fail> {
+    let alloc = rt.alloc();
+    let table = CodeTable::standard(alloc)?;
+    let limits = Limits { top: 1_073_741_824 };
+    let mut reader = DmapReader::new(alloc, &table, limits)?;
+    assert!(rt; reader.feed(b"mlcl\x40\0\0\0") == Ok(8));
+    assert!(rt; reader.held() == 0);
+    assert!(rt; reader.finish() == Err(StreamError::Truncated { at: 8 }));
+    let mut reader = DmapReader::new(alloc, &table, limits)?;
+    assert!(rt; reader.feed(b"mlcl\x40\0\0\x01") == Err(StreamError::TooLarge { at: 0 }));
+    let mut reader = DmapReader::new(alloc, &table, limits)?;
+    assert!(rt; reader.feed(b"minm\x3f\xff\xff\xffabc") == Ok(11));
+    assert!(rt; reader.held() == 3);
+    assert!(rt; reader.finish() == Err(StreamError::Truncated { at: 11 }));
+    let deep = read_tag(alloc, nested(alloc, 33)?.as_slice(), &table, limits);
+    assert!(rt; matches!(deep, Err(StreamError::TooDeep { at: 256 })));
+    Ok(())
+}

@@ -1,0 +1,344 @@
+//! What a stranger in the house may send.
+
+use served_links::LinkEnd;
+
+/// A text, another so many times, and a last one.
+pub(super) type Coming = (&'static [u8], &'static [u8], usize, &'static [u8]);
+
+/// Bytes that are refused at once, and the status.
+pub(super) const NO_REQUESTS: [(&'static [u8], u16); 24] = [
+    (b"\0\0\r\n\r\n", 400),
+    (b"\n\nPRI * HTTP/2.0\r\n\r\nSM\r\n\r\n", 400),
+    (b"SSH-2.0-OpenSSH_9.6\r\n\r\n", 400),
+    (b"GET  /login HTTP/1.1\r\n\r\n", 400),
+    (b" GET /login HTTP/1.1\r\n\r\n", 400),
+    (b"GET /login HTTP/1.1 \r\n\r\n", 400),
+    (b"GET /login http/1.1\r\n\r\n", 400),
+    (b"GET /\xff HTTP/1.1\r\n\r\n", 400),
+    (b"GET /login HTTP/1.1\r\nA : b\r\n\r\n", 400),
+    (b"GET /login HTTP/1.1\r\nAB\r\n\r\n", 400),
+    (b"GET /login HTTP/1.1\r\n: b\r\n\r\n", 400),
+    (b"GET /login HTTP/1.1\r\nA: \0\r\n\r\n", 400),
+    (b"GET /login HTTP/1.1\r\nContent-Length: +5\r\n\r\n", 400),
+    (b"GET /login HTTP/1.1\r\nContent-Length: -1\r\n\r\n", 400),
+    (b"GET /login HTTP/1.1\r\nContent-Length: 5, 5\r\n\r\n", 400),
+    (b"GET /login HTTP/1.1\r\nContent-Length: 0x5\r\n\r\n", 400),
+    (b"GET /login HTTP/1.1\r\nContent-Length:\r\n\r\n", 400),
+    (
+        b"GET /login HTTP/1.1\r\nContent-Length: 184467440737095516150\r\n\r\n",
+        400,
+    ),
+    (
+        b"GET /login HTTP/1.1\r\nContent-Length: 5\r\ncontent-length: 5\r\n\r\n",
+        400,
+    ),
+    (
+        b"GET /login HTTP/1.1\r\nTransfer-Encoding: identity\r\n\r\n",
+        400,
+    ),
+    (
+        b"GET /login HTTP/1.1\r\nContent-Length: 4194305\r\ntransfer-encoding:\r\n\r\n",
+        400,
+    ),
+    (
+        b"GET /login HTTP/1.1\r\nContent-Length: 4194305\r\n\r\n",
+        413,
+    ),
+    (
+        b"GET /login HTTP/1.1\r\nContent-Length: 18446744073709551615\r\n\r\n",
+        413,
+    ),
+    (
+        b"GET /login HTTP/1.1\r\nContent-Length: 99999999999999999999\r\n\r\n",
+        413,
+    ),
+];
+
+/// What comes over a connection of an editor, how many requests are served, and how it ends.
+pub(super) const CONNECTIONS: [(Coming, usize, LinkEnd); 20] = [
+    (
+        (b"GET /login HTTP/1.1\r\nA: ", b"a", 16359, b""),
+        0,
+        LinkEnd::Cut { at: 16383 },
+    ),
+    (
+        (b"GET /login HTTP/1.1\r\nA: ", b"a", 16360, b""),
+        0,
+        LinkEnd::Refused { status: 431 },
+    ),
+    (
+        (b"", b"\r\n", 8192, b""),
+        0,
+        LinkEnd::Refused { status: 431 },
+    ),
+    (
+        (b"", b"GET / HTTP/1.1\r\n", 1024, b""),
+        0,
+        LinkEnd::Refused { status: 431 },
+    ),
+    (
+        (b"", b"\0", 16384, b""),
+        0,
+        LinkEnd::Refused { status: 431 },
+    ),
+    (
+        (b"GET /login HTTP/1.1\r\n", b"A: b\r\n", 1000, b"\r\n"),
+        0,
+        LinkEnd::Refused { status: 431 },
+    ),
+    (
+        (
+            b"GET /login HTTP/1.1\r\n",
+            b"A:\r\n",
+            65,
+            b"Content-Length: x\r\n\r\n",
+        ),
+        0,
+        LinkEnd::Refused { status: 431 },
+    ),
+    (
+        (b"GET /login HTTP/1.1\r\n", b"A:\r\n", 20000, b"\r\n"),
+        0,
+        LinkEnd::Refused { status: 431 },
+    ),
+    (
+        (
+            b"POST /edit HTTP/1.1\r\nContent-Length: 4194304\r\n\r\n",
+            b"\n\n\n\n\n\n\n\n\n\n\n\n\n\n\n\n",
+            262143,
+            b"\n\n\n\n\n\n\n\n\n\n\n\n\n\n\n",
+        ),
+        0,
+        LinkEnd::Cut { at: 4194351 },
+    ),
+    (
+        (
+            b"POST /edit HTTP/1.1\r\nContent-Length: 4194304\r\n\r\n",
+            b"\n\n\n\n\n\n\n\n\n\n\n\n\n\n\n\n",
+            262144,
+            b"",
+        ),
+        1,
+        LinkEnd::Closed,
+    ),
+    (
+        (
+            b"POST /edit HTTP/1.1\r\nContent-Length: 3\r\n\r\n",
+            b"",
+            0,
+            b"op,kind,id\n\n",
+        ),
+        1,
+        LinkEnd::Refused { status: 400 },
+    ),
+    (
+        (
+            b"POST /edit HTTP/1.1\r\nContent-Length: 40\r\n\r\n",
+            b"",
+            0,
+            b"op,kind,id\nGET /login HTTP/1.1\r\n\r\n",
+        ),
+        0,
+        LinkEnd::Cut { at: 77 },
+    ),
+    (
+        (
+            b"GET /login HTTP/1.1\r\nContent-Length: 23\r\n\r\n",
+            b"",
+            0,
+            b"GET /login HTTP/1.1\r\n\r\n",
+        ),
+        1,
+        LinkEnd::Closed,
+    ),
+    ((b"\r\n\n", b"", 0, b""), 0, LinkEnd::Cut { at: 3 }),
+    (
+        (b"\x16\x03\x01\x02\0\x01\0\x01\xfc\x03\x03", b"", 0, b""),
+        0,
+        LinkEnd::Cut { at: 11 },
+    ),
+    (
+        (b"GET /login HTTP/1.1\r\n\r\n", b"", 0, b"GET /lo"),
+        1,
+        LinkEnd::Cut { at: 30 },
+    ),
+    (
+        (b"GET / HTTP/1.0\r\n\r\n", b"", 0, b"GET"),
+        1,
+        LinkEnd::Closed,
+    ),
+    (
+        (
+            b"GET /login HTTP/1.1\r\nConnection: x,CLOSE \r\n\r\n",
+            b"",
+            0,
+            b"\0",
+        ),
+        1,
+        LinkEnd::Closed,
+    ),
+    (
+        (
+            b"POST /stop HTTP/1.1\r\n\r\n",
+            b"POST /stop HTTP/1.1\r\n\r\n",
+            3,
+            b"",
+        ),
+        1,
+        LinkEnd::Stopped,
+    ),
+    (
+        (b"", b"GET /server-info HTTP/1.1\r\n\r\n", 10000, b""),
+        10000,
+        LinkEnd::Closed,
+    ),
+];
+
+/// Requests of a player, one behind the other, and the status of each.
+pub(super) const ODD_REQUESTS: [(&'static [u8], u16); 40] = [
+    (b"GET /login HTTP/1.1\r\n\r\n", 200),
+    (b"GET /databases?session-id=1 HTTP/1.1\r\n\r\n", 200),
+    (b"GET /databases HTTP/1.1\r\n\r\n", 403),
+    (b"GET /databases?session-id=0 HTTP/1.1\r\n\r\n", 403),
+    (b"GET /databases?session-id=2 HTTP/1.1\r\n\r\n", 403),
+    (
+        b"GET /databases?session-id=4294967295 HTTP/1.1\r\n\r\n",
+        403,
+    ),
+    (
+        b"GET /databases?session-id=4294967296 HTTP/1.1\r\n\r\n",
+        400,
+    ),
+    (
+        b"GET /databases?session-id=00000000001 HTTP/1.1\r\n\r\n",
+        400,
+    ),
+    (b"GET /databases?session-id=-1 HTTP/1.1\r\n\r\n", 400),
+    (b"GET /databases?session-id=1%00 HTTP/1.1\r\n\r\n", 400),
+    (b"GET /databases?session-id=%31 HTTP/1.1\r\n\r\n", 200),
+    (
+        b"GET /databases?session-id=1&session-id=x HTTP/1.1\r\n\r\n",
+        200,
+    ),
+    (
+        b"GET /databases?session-id=&session-id=1 HTTP/1.1\r\n\r\n",
+        403,
+    ),
+    (
+        b"GET /databases/1/items?session-id=9&delta=x HTTP/1.1\r\n\r\n",
+        400,
+    ),
+    (
+        b"GET /databases/1/containers/9/items?session-id=1 HTTP/1.1\r\n\r\n",
+        404,
+    ),
+    (
+        b"GET /databases/1/containers/9/items?session-id=9 HTTP/1.1\r\n\r\n",
+        403,
+    ),
+    (
+        b"GET /databases/1/containers/4294967296/items?session-id=1 HTTP/1.1\r\n\r\n",
+        404,
+    ),
+    (
+        b"GET /databases/1/containers/../items?session-id=1 HTTP/1.1\r\n\r\n",
+        404,
+    ),
+    (b"GET /databases/2/items?session-id=1 HTTP/1.1\r\n\r\n", 404),
+    (b"GET //login HTTP/1.1\r\n\r\n", 404),
+    (b"GET /login/ HTTP/1.1\r\n\r\n", 404),
+    (b"GET /%6Cogin HTTP/1.1\r\n\r\n", 404),
+    (b"GET /LOGIN HTTP/1.1\r\n\r\n", 404),
+    (b"GET /../../etc/passwd HTTP/1.1\r\n\r\n", 404),
+    (b"GET /l\xc3\xb6gin HTTP/1.1\r\n\r\n", 404),
+    (b"OPTIONS * HTTP/1.1\r\n\r\n", 404),
+    (b"CONNECT share:3689 HTTP/1.1\r\n\r\n", 404),
+    (b"GET http://x HTTP/1.1\r\n\r\n", 404),
+    (b"GET http://x/server-info HTTP/1.1\r\n\r\n", 200),
+    (b"HEAD /databases/1/items HTTP/1.1\r\n\r\n", 405),
+    (b"DELETE /login HTTP/1.1\r\n\r\n", 405),
+    (b"get /server-info HTTP/1.1\r\n\r\n", 405),
+    (
+        b"POST /edit HTTP/1.1\r\nContent-Length: 11\r\n\r\nop,kind,id\n",
+        404,
+    ),
+    (b"POST /stop HTTP/1.1\r\n\r\n", 404),
+    (b"\r\n\nGET /server-info HTTP/1.1\nX:\n\n", 200),
+    (
+        b"GET /server-info HTTP/1.1\r\nContent-Length: 23\r\n\r\nGET /login HTTP/1.1\r\n\r\n",
+        200,
+    ),
+    (
+        b"GET /server-info HTTP/1.1\r\nContent-Length: 00000000000000000000\r\n\r\n",
+        200,
+    ),
+    (b"GET /databases?session-id=2 HTTP/1.1\r\n\r\n", 403),
+    (b"GET /server-info?%&%zz=%FF HTTP/1.1\r\n\r\n", 200),
+    (b"GET /databases?session-id=1&%00=%FF HTTP/1.1\r\n\r\n", 200),
+];
+
+/// Records of an item with a name of 255 letters.
+pub(super) const ITEM_7: Coming = (b"op,kind,id,dmap.itemname\nput,item,7,", b"a", 255, b"\n");
+
+/// What a player asks of the items behind that, and what the reply ends with.
+pub(super) const QUERIES: [(Coming, &'static [u8]); 9] = [
+    ((b"query='a:", b"b", 4092, b"'"), b"mlcl\0\0\0\0"),
+    ((b"query='a:", b"b", 4093, b"'"), b"query: too long\n"),
+    (
+        (
+            b"meta=dmap.itemid&query=",
+            b"(",
+            64,
+            b"'a:'))))))))))))))))))))))))))))))))))))))))))))))))))))))))))))))))",
+        ),
+        b"mlit\0\0\0\x0cmiid\0\0\0\x04\0\0\0\x07",
+    ),
+    ((b"query=", b"(", 65, b""), b"query: too deep at 64\n"),
+    (
+        (b"meta=", b"a,", 255, b"a"),
+        b"mlit\0\0\0\x0cmiid\0\0\0\x04\0\0\0\x07",
+    ),
+    ((b"meta=", b"a,", 256, b"a"), b"parameter: meta\n"),
+    ((b"meta=", b",", 256, b""), b"parameter: meta\n"),
+    (
+        (b"meta=a&query='dmap.itemname:*", b"a*", 255, b"'"),
+        b"mlit\0\0\0\x0cmiid\0\0\0\x04\0\0\0\x07",
+    ),
+    (
+        (b"query='dmap.itemname:*", b"a*", 2000, b"b'"),
+        b"mlcl\0\0\0\0",
+    ),
+];
+
+/// Records that an editor sends behind that, and what the reply ends with.
+pub(super) const RECORDS: [(Coming, &'static [u8]); 6] = [
+    (
+        (b"op,kind,id\n", b"drop,item,1\n", 65536, b""),
+        b"musr\0\0\0\x04\0\0\0\x04",
+    ),
+    (
+        (b"op,kind,id\n", b"drop,item,1\n", 65537, b""),
+        b"records: record 65537 too many\n",
+    ),
+    (
+        (b"op,kind,id,query\nput,rule,2,", b"(", 65, b"\n"),
+        b"records: record 1 column 4 query: too deep at 64\n",
+    ),
+    (
+        (
+            b"op,kind,id,dmap.itemname\nput,item,8,\"",
+            b"a",
+            100000,
+            b"",
+        ),
+        b"records: record 1 column 4 text\n",
+    ),
+    (
+        (b"op,kind,id", b",x", 10000, b"\n"),
+        b"records: header column 4\n",
+    ),
+    (
+        (b"op,kind,id\n", b",", 1000000, b"\n"),
+        b"records: record 1 length\n",
+    ),
+];
