@@ -1,13 +1,13 @@
 -- The bodies of a share are tags that a client reads by the standard table.
-use Rattle.std.proofs.Common.{◌≡◌, ◌<◌, ◌≤◌, ◌^◌, ℕ, zero, suc, ◌+◌, List, [], ◌∷◌, ◌++◌, Bool, true, false, cond, ◌&&◌, nat_le, is_none, Option, Some, None, IfSome, map, filter, length, All, max, refl, sym, ap, ◌∙◌, subst, arith}
-use Rattle.std.specs.List.{AllByRecursion, cons_option, filter_map}
+use Rattle.std.proofs.Common.{◌≡◌, ◌<◌, ◌≤◌, ◌^◌, ℕ, suc, List, [], ◌∷◌, ◌++◌, Bool, true, false, cond, ◌&&◌, nat_le, is_none, Option, Some, None, IfSome, map, filter, length, All, refl, sym, ap, ◌∙◌, subst, arith}
+use Rattle.std.specs.List.{AllByRecursion, cons_option}
 use Rattle.std.specs.Option.{option_map}
-use Rattle.std.proofs.lemmas.Bool.{le-leb, leb-true, ltb-true}
+use Rattle.std.proofs.lemmas.Bool.{le-leb, ltb-true}
 use Rattle.std.proofs.lemmas.List.{length-map}
 use Rattle.std.proofs.lemmas.List.Elements.{All-nil, All-cons}
 use Rattle.dmap_tags.specs.Codes.{Four, code}
 use Rattle.dmap_tags.specs.Kinds.{is_list}
-use Rattle.dmap_tags.specs.Tree.{Leaf, Tree, Trees, leaf, list, none, more, trees_of, U8, U32, levels, levels_in}
+use Rattle.dmap_tags.specs.Tree.{Tree, leaf, list, trees_of, U32, levels, levels_in}
 use Rattle.dmap_tags.specs.Proper.{IsProper, IsProperTag, AreProperTags}
 use Rattle.dmap_tags.specs.Spelling.{payload, spelling}
 use Rattle.dmap_tags.specs.declared.kinds.Kind.{Kind}
@@ -15,7 +15,6 @@ use Rattle.dmap_tags.specs.declared.kinds.Kind.TheVariants as kind
 use Rattle.code_table.specs.Fits.{all_fit, fits, leaf_fits}
 use Rattle.code_table.specs.Rows.{kind_in}
 use Rattle.code_table.specs.Standard.{standard_rows}
-use Rattle.dmap_stream.specs.WholeTag.{is_accepted}
 use Rattle.item_model.specs.declared.changes.Entry.{Entry}
 use Rattle.item_model.specs.declared.changes.Edit.{Edit}
 use Rattle.item_model.specs.declared.item.PropValue.{PropValue}
@@ -28,14 +27,14 @@ use Rattle.item_model.specs.declared.request.Meta.{Meta}
 use Rattle.item_model.specs.declared.request.Target.{Target}
 use Rattle.item_model.specs.declared.request.Target.TheVariants.{Items, Container}
 use Rattle.item_model.specs.Items.{is_item, is_of_kind, is_value_of, value_of}
-use Rattle.item_model.specs.Projection.{asked, keys, listed_row, projection, property_tag, shown, value_leaf}
+use Rattle.item_model.specs.Projection.{asked, keys, property_tag, shown, value_leaf}
 use Rattle.item_model.specs.Properties.{is_same, property_code, property_kind}
 use Rattle.item_model.proofs.Places.{value_fits}
 use Rattle.share_history.specs.Bodies.{body_code, body_tree, gone_tags, key_code, listing_body, start_tags}
-use Rattle.share_history.specs.Histories.{all_edits, batches, edits, later, revision}
+use Rattle.share_history.specs.Histories.{all_edits, batches, later, revision}
 use Rattle.share_history.specs.Keyed.{ascending}
 use Rattle.share_history.specs.Kept.{is_kept, touched, touches}
-use Rattle.share_history.specs.Listings.{Listing, delta_listing, full_listing, listing, member_of, shown as shown_row, shown_rows}
+use Rattle.share_history.specs.Listings.{Listing, delta_listing, full_listing, member_of, shown as shown_row, shown_rows}
 use Rattle.share_history.specs.Mirror.{mirror_look}
 use Rattle.share_history.specs.Named.{named_keys}
 use Rattle.share_history.specs.Rows.{row_at, rows}
@@ -44,8 +43,8 @@ use Rattle.share_history.proofs.SessionFacts.{few_batches}
 use Rattle.share_listings.proofs.AnswerFacts.{few_filtered, few_touched}
 use Rattle.listing_plan.proofs.Bodies.{listings_are_short}
 use Rattle.mirror_client.specs.Tellings.{IsTag}
-use Rattle.followed_shares.specs.Whole.{AreWhole, IsText, IsWhole, IsWholeRow}
-use Rattle.followed_shares.proofs.WholeFacts.{AreSmall, IsFound, IsRow, each_both, each_filtered, rows_are, small_keys}
+use Rattle.followed_shares.specs.Whole.{IsText, IsWhole}
+use Rattle.followed_shares.proofs.WholeFacts.{AreSmall, IsRow, each_both, each_filtered, rows_are, small_keys}
 
 both : (a b : Bool) → a ≡ true → b ≡ true → (a && b) ≡ true
 both true b h k = k

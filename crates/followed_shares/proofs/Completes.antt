@@ -1,7 +1,6 @@
 -- A client that follows a share stops at nothing that the share sends.
-use Rattle.std.proofs.Common.{◌≡◌, ◌≢◌, ◌⊎◌, ◌≤◌, ◌<◌, ◌^◌, ◌+◌, ℕ, suc, ◌==◌, List, [], ◌∷◌, ◌++◌, length, map, Bool, true, false, Option, Some, None, IfSome, Result, Ok, Err, refl, sym, ap, ◌∙◌, subst, inl, inr, append_assoc, append-nil, length-append, eq-eqb, is_ok, true≢false, arith}
+use Rattle.std.proofs.Common.{◌≡◌, ◌⊎◌, ◌≤◌, ◌+◌, ℕ, suc, ◌==◌, List, [], ◌∷◌, ◌++◌, length, Bool, true, false, Option, Some, None, IfSome, Result, Ok, Err, refl, sym, ap, ◌∙◌, subst, inl, inr, append_assoc, append-nil, length-append, eq-eqb, is_ok, true≢false, arith}
 use Rattle.std.specs.List.{AllByRecursion}
-use Rattle.std.specs.Io.KnownBytes.{Consumes}
 use Rattle.std.proofs.lemmas.Bool.{ne_eqb}
 use Rattle.dmap_tags.specs.Codes.{Four, code}
 use Rattle.dmap_tags.specs.Spelling.{spelling}
@@ -15,14 +14,14 @@ use Rattle.item_model.specs.declared.changes.Entry.{Entry}
 use Rattle.share_history.specs.Bodies.{listing_body}
 use Rattle.share_history.specs.Histories.{batches, revision}
 use Rattle.share_history.specs.Listings.{Listing, listing}
-use Rattle.share_history.specs.Mirror.{Held, mirror_after, mirror_look}
+use Rattle.share_history.specs.Mirror.{Held, mirror_look}
 use Rattle.share_history.specs.Sessions.{next_session}
 use Rattle.share_history.proofs.EditFacts.{batches-append}
 use Rattle.share_asks.specs.declared.ask.Want.TheVariants as want
 use Rattle.share_replies.specs.Settings.{Settings}
 use Rattle.share_replies.specs.SmallBodies.{login_body, revision_body}
 use Rattle.http_heads.specs.declared.kind.Kind.TheVariants as kind
-use Rattle.http_heads.specs.Messages.{HasNoMessage, print_message}
+use Rattle.http_heads.specs.Messages.{print_message}
 use Rattle.http_heads.proofs.Messages.{refused_none}
 use Rattle.http_client.specs.Replies.{IsReply, Reply}
 use Rattle.mirror_core.specs.Bodies.{IsListing, IsNoListing}
@@ -35,14 +34,14 @@ use Rattle.mirror_client.specs.declared.refusal.FollowError.{FollowError}
 use Rattle.mirror_client.specs.declared.refusal.FollowError.TheVariants.{Refused, BadReply, Ended, Listing as not_taken, Codes, LinkFault, Memory}
 use Rattle.mirror_client.specs.Exchanges.{AreAnswered, Exchange, messages}
 use Rattle.mirror_client.specs.Points.{Point}
-use Rattle.mirror_client.specs.Stages.{Asking, Begun, Closed, Holding, Leads, LeadsOn, Learned, Path, Stage, StopsFrom, UndueBehind, UndueIn, due}
+use Rattle.mirror_client.specs.Stages.{Asking, Begun, Closed, Holding, Leads, LeadsOn, Learned, Path, Stage, UndueBehind, UndueIn, due}
 use Rattle.mirror_client.specs.Steps.{IsRefusedBy, Known, TellsListing, UndueEnd, UndueListing, UndueTable, held_after, with_listings}
 use Rattle.mirror_client.specs.Stopping.{BeginsBad, EndsEarly, NoReply, Stops}
-use Rattle.mirror_client.specs.Tellings.{HasNoNumber, HasNoTag, IsTag, Tells, UndueNumber, number_told}
+use Rattle.mirror_client.specs.Tellings.{IsTag, Tells, UndueNumber, number_told}
 use Rattle.mirror_client.proofs.StageFacts.{held_more}
 use Rattle.mirror_client.proofs.TellingFacts.{tags_once}
 use Rattle.followed_shares.specs.Laws.{ServedRunsGoOn}
-use Rattle.followed_shares.specs.Served.{Rise, Round, Serves, ServesRounds, ServesRun, asked_behind, first_of, points_of}
+use Rattle.followed_shares.specs.Served.{Rise, Round, Serves, ServesRounds, ServesRun, asked_behind, points_of}
 use Rattle.followed_shares.specs.Whole.{IsWhole}
 use Rattle.followed_shares.proofs.BodiesRead.{listing_body_read}
 use Rattle.followed_shares.proofs.FilterShown.{each_whole, few, learned, left_owed, listing_is, listing_revision, login_tag, owed_split, revision_tag, split_on, standard_back, table_tag}

@@ -1,16 +1,13 @@
 -- A client that followed a share was told what the share has, and so holds it.
-use Rattle.std.proofs.Common.{rules, ◌≡◌, ◌≤◌, ◌<◌, ◌^◌, ◌+◌, ◌-◌, ◌*◌, ℕ, ◌==◌, List, [], ◌∷◌, ◌++◌, take, length, map, Bool, true, false, cond, ◌&&◌, nat_le, nat_lt, count_by, Option, Some, None, Result, Ok, Err, All, refl, sym, ap, ◌∙◌, subst, append_assoc, append-nil, arith}
+use Rattle.std.proofs.Common.{rules, ◌≡◌, ◌≤◌, ◌<◌, ◌^◌, ℕ, ◌==◌, List, [], ◌∷◌, ◌++◌, take, length, map, Bool, true, false, cond, ◌&&◌, nat_le, nat_lt, count_by, Option, Some, None, Result, Ok, Err, All, refl, sym, ap, ◌∙◌, subst, append_assoc, arith}
 use Rattle.std.specs.List.{AllByRecursion, list_all}
 use Rattle.std.specs.Str.{is_utf8}
 use Rattle.std.proofs.lemmas.Str.{IsUtf8-from_ascii, is_utf8-from_IsUtf8}
 use Rattle.std.proofs.lemmas.Str.Ascii.{IsAscii-from_all}
 use Rattle.std.specs.Io.KnownBytes.{Consumes}
-use Rattle.std.proofs.Math.Seq.{take-append-add}
-use Rattle.std.proofs.lemmas.List.{take_all}
 use Rattle.std.proofs.lemmas.Bool.{and_parts, leb-true, ltb-true}
 use Rattle.std.proofs.lemmas.List.Sums.{sum_by-cons}
 use Rattle.std.proofs.lemmas.List.Elements.{All-nil, All-cons}
-use Rattle.dmap_tags.specs.Codes.{code}
 use Rattle.dmap_tags.specs.Spelling.{payload, spelling}
 use Rattle.dmap_tags.specs.Tree.{Tree, levels, trees_of}
 use Rattle.dmap_tags.specs.Proper.{AreProperTags}
@@ -21,7 +18,6 @@ use Rattle.code_table.specs.Reply.{entry_of, number_of, table_of, table_reply, t
 use Rattle.code_table.specs.Fits.{fits}
 use Rattle.code_table.specs.Standard.{standard_rows}
 use Rattle.code_table.proofs.ReadsBack.{ReadsBack, table_back}
-use Rattle.dmap_stream.specs.WholeTag.{is_accepted}
 use Rattle.item_model.specs.declared.changes.Edit.{Edit}
 use Rattle.item_model.specs.declared.changes.Entry.{Entry}
 use Rattle.item_model.specs.declared.changes.Entry.TheVariants.{Edits, Login, Logout, Stop}
@@ -30,7 +26,7 @@ use Rattle.item_model.specs.declared.query.Query.{Query}
 use Rattle.item_model.specs.declared.request.Meta.{Meta}
 use Rattle.item_model.specs.declared.request.Target.{Target}
 use Rattle.share_history.specs.Bodies.{listing_body}
-use Rattle.share_history.specs.Histories.{all_edits, at_revision, batches, edits, revision, up_to}
+use Rattle.share_history.specs.Histories.{at_revision, batches, edits, revision, up_to}
 use Rattle.share_history.specs.Kept.{is_kept}
 use Rattle.share_history.specs.Limits.{takes_place}
 use Rattle.share_history.specs.Listings.{Listing, delta_listing, full_listing, listing, shown_rows}
@@ -44,25 +40,22 @@ use Rattle.share_replies.specs.SmallBodies.{login_body, revision_body}
 use Rattle.http_heads.specs.Limits.{reply_limit}
 use Rattle.http_heads.specs.Messages.{print_message}
 use Rattle.http_client.specs.Replies.{Reply}
-use Rattle.mirror_core.specs.declared.mirror.Applied.{Applied}
 use Rattle.mirror_core.specs.Bodies.{IsListing}
 use Rattle.mirror_core.specs.Mirrored.{Mirrored}
 use Rattle.mirror_core.proofs.AfterFacts.{answer_is_listing}
 use Rattle.mirror_core.proofs.LawFacts.{listings_are_one}
 use Rattle.mirror_client.specs.Exchanges.{AreAnswered, Exchange, messages}
 use Rattle.mirror_client.specs.Laws.{AreTold, NeverFall, each_second, last_point, rounds_in}
-use Rattle.mirror_client.specs.Points.{Point}
-use Rattle.mirror_client.specs.Runs.{Followed}
-use Rattle.mirror_client.specs.Stages.{Asking, Begun, Closed, Holding, LeadsOn, Learned, Path, Stage, listings_in}
-use Rattle.mirror_client.specs.Steps.{Known, TellsListing, TellsTable, all_applied, applied_by, held_after, with_listings}
+use Rattle.mirror_client.specs.Stages.{Asking, Begun, Closed, Holding, LeadsOn, Learned, Path, Stage}
+use Rattle.mirror_client.specs.Steps.{Known, TellsListing, TellsTable, all_applied, held_after}
 use Rattle.mirror_client.specs.Tellings.{IsTag, Tells}
 use Rattle.mirror_client.proofs.ServedFacts.{followers_hold_what_the_share_has}
 use Rattle.mirror_client.proofs.TellingFacts.{tags_once}
 use Rattle.followed_shares.specs.Laws.{FollowersHoldTheRows, last_revision, rows_at}
-use Rattle.followed_shares.specs.Served.{Rise, Round, Serves, ServesRounds, ServesRun, asked_behind, first_of, points_of}
+use Rattle.followed_shares.specs.Served.{Rise, Round, ServesRounds, ServesRun, first_of, points_of}
 use Rattle.followed_shares.specs.Whole.{IsWhole}
 use Rattle.followed_shares.proofs.BodiesRead.{listing_body_read, small_revision}
-use Rattle.followed_shares.proofs.Successes.{Begins, answer_is, empty_served, tag_served}
+use Rattle.followed_shares.proofs.Successes.{answer_is, empty_served, tag_served}
 use Rattle.followed_shares.proofs.WholeFacts.{point_whole}
 
 -- ---- points

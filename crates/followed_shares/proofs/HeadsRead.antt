@@ -1,5 +1,5 @@
 -- The head that a share writes for a success is one of the grammar, framed and short, and says what was written.
-use Rattle.std.proofs.Common.{◌≡◌, ◌≤◌, ◌<◌, ◌+◌, ◌^◌, ◌∷◌, ◌++◌, [], ℕ, List, Bool, true, false, nat_le, Option, Some, None, Ok, refl, sym, ap, ◌∙◌, subst, length, All, append_assoc, append-nil, length-append, arith}
+use Rattle.std.proofs.Common.{◌≡◌, ◌≤◌, ◌<◌, ◌^◌, ◌∷◌, ◌++◌, [], ℕ, List, Bool, true, false, Some, refl, sym, ap, ◌∙◌, subst, length, All, append_assoc, append-nil, length-append, arith}
 use Rattle.std.specs.Prelude.{codes, decimal}
 use Rattle.std.specs.Fmt.{digits}
 use Rattle.std.specs.Char.{is_ascii_digit}
@@ -8,11 +8,9 @@ use Rattle.std.proofs.lemmas.Bool.{le-leb}
 use Rattle.std.proofs.lemmas.Fmt.{length-decimal-le}
 use Rattle.std.proofs.lemmas.List.Elements.{All-nil, All-cons, All-weaker}
 use Rattle.httparse.specs.Grammar.{Field, IsField, IsResponseHead, ResponseHead, crlf, is_token_byte, is_value_byte, print_field, print_response, status_code}
-use Rattle.http_heads.specs.declared.kind.Kind.TheVariants as kind
 use Rattle.http_heads.specs.Frames.{IsFramed}
 use Rattle.http_heads.specs.Heads.{IsReplyHead, reply_tells}
 use Rattle.http_heads.specs.Limits.{head_limit, reply_limit}
-use Rattle.http_heads.specs.Messages.{HasHead, Message, print_message}
 use Rattle.http_client.specs.Replies.{IsReply}
 use Rattle.http_client.proofs.HeadsBack.{AreLines, digit_byte, field_is, framed_lines, length_back, passes, sent_field, shown_digits, trimmed}
 use Rattle.http_client.proofs.Numerals.{IsDigit, decimal_digits}

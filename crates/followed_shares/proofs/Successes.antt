@@ -1,5 +1,5 @@
 -- What a client reads where a share answers with a success.
-use Rattle.std.proofs.Common.{◌≡◌, ◌≤◌, ◌++◌, [], ℕ, List, Bool, ◌⊎◌, inl, inr, true, false, cond, ◌&&◌, ◌==◌, not, length, refl, sym, ap, ◌∙◌, subst, true≢false, append_assoc, Option, Some, None, Ok, Err}
+use Rattle.std.proofs.Common.{◌≡◌, ◌≤◌, ◌++◌, [], ℕ, List, Bool, ◌⊎◌, inl, inr, true, false, cond, ◌&&◌, ◌==◌, not, length, refl, sym, ap, ◌∙◌, subst, true≢false, Option, Some, None, Ok, Err}
 use Rattle.std.specs.Option.{option_or, option_map_or}
 use Rattle.dmap_tags.specs.Spelling.{spelling}
 use Rattle.dmap_tags.specs.Tree.{Tree}
@@ -11,7 +11,7 @@ use Rattle.share_asks.specs.declared.ask.Want.{Want}
 use Rattle.share_asks.specs.declared.ask.Want.TheVariants.{ServerInfo, Codes, Login, Logout, Update, Databases, Rows, Lists, Values, Edit, Stop, Bad}
 use Rattle.share_asks.specs.declared.form.BodyForm.TheVariants.{Dmap, NoBody}
 use Rattle.share_replies.specs.Settings.{Settings}
-use Rattle.share_replies.specs.Replies.{Answer, Body, Holds, Nothing, Replies, Reply, Tagged, answer_to, first_of, is_held, lacks_container, lacks_session, meets_limit, records_fault, refusal, reply_with, request_fault, success}
+use Rattle.share_replies.specs.Replies.{Answer, Body, Holds, Nothing, Replies, Reply, Tagged, answer_to, is_held, lacks_container, lacks_session, meets_limit, records_fault, refusal, reply_with, request_fault, success}
 use Rattle.http_front.specs.ReplyHeads.{reply_head_text}
 use Rattle.http_heads.specs.declared.kind.Kind.TheVariants as kind
 use Rattle.http_heads.specs.Limits.{reply_limit}

@@ -1,5 +1,5 @@
 -- The rows and the keys of a listing of a whole history.
-use Rattle.std.proofs.Common.{◌≡◌, ◌<◌, ◌≤◌, ◌^◌, ◌+◌, ℕ, ◌==◌, List, [], ◌∷◌, ◌++◌, Bool, true, false, cond, ◌&&◌, nat_le, nat_lt, Option, Some, None, filter, fold, length, unwrap_or, count_by, refl, sym, ap, ◌∙◌, subst, arith, append_assoc, length-append}
+use Rattle.std.proofs.Common.{◌≡◌, ◌<◌, ◌≤◌, ◌^◌, ℕ, ◌==◌, List, [], ◌∷◌, ◌++◌, Bool, true, false, cond, ◌&&◌, nat_le, nat_lt, Option, Some, None, filter, fold, length, unwrap_or, count_by, refl, sym, ap, ◌∙◌, subst, arith, append_assoc, length-append}
 use Rattle.std.specs.List.{AllByRecursion, cons_option}
 use Rattle.std.specs.Option.{option_map, option_and_then, option_or}
 use Rattle.std.specs.Ordering.{nat_cmp, match_ordering}
@@ -11,14 +11,11 @@ use Rattle.std.proofs.lemmas.List.Sums.{sum_by-cons}
 use Rattle.item_model.specs.declared.changes.Edit.{Edit}
 use Rattle.item_model.specs.declared.changes.Edit.TheVariants.{PutItem, DropItem, PutList, PutRule, DropList, PutMember, DropMember}
 use Rattle.item_model.specs.declared.changes.Entry.{Entry}
-use Rattle.item_model.specs.declared.changes.Entry.TheVariants.{Edits, Login, Logout, Stop}
 use Rattle.item_model.specs.declared.item.Row.{Row}
 use Rattle.item_model.specs.declared.query.Query.{Query}
 use Rattle.item_model.specs.declared.request.Target.{Target}
 use Rattle.item_model.specs.declared.request.Target.TheVariants.{Items, Container}
-use Rattle.item_model.specs.Proper.{is_proper}
-use Rattle.item_model.specs.QuerySeen.{tree_of}
-use Rattle.item_model.specs.Valid.{is_id, is_list_id, is_list_name, is_valid}
+use Rattle.item_model.specs.Valid.{is_id, is_list_id, is_valid}
 use Rattle.share_history.specs.Histories.{all_edits, batches, edits}
 use Rattle.share_history.specs.Keyed.{ascending, pairs_at}
 use Rattle.share_history.specs.LastSaid.{Playlist, Plain, Ruled, item_at, last_said, list_at, member_at, only_if, says_item}

@@ -5,7 +5,7 @@ use Rattle.item_model.specs.declared.query.Query.{Query}
 use Rattle.item_model.specs.declared.request.Meta.{Meta}
 use Rattle.item_model.specs.declared.request.Target.{Target}
 use Rattle.share_asks.specs.declared.ask.Want.{Want}
-use Rattle.share_asks.specs.declared.ask.Want.TheVariants.{ServerInfo, Codes, Login, Logout, Update, Databases, Rows, Lists, Values, Edit, Stop, Bad}
+use Rattle.share_asks.specs.declared.ask.Want.TheVariants.{Codes, Login, Logout, Update, Rows}
 use Rattle.share_history.specs.Histories.{batches, revision}
 use Rattle.share_history.specs.Mirror.{mirror_look}
 use Rattle.share_history.specs.Sessions.{next_session}

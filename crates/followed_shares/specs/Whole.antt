@@ -1,5 +1,5 @@
 -- Histories as a share has them: values are such as a program has, and no limit is passed.
-use Rattle.std.specs.Prelude.{◌≡◌, ◌≤◌, ℕ, List, Bool, true, length, count_by}
+use Rattle.std.specs.Prelude.{◌≡◌, ◌≤◌, List, true, length, count_by}
 use Rattle.std.specs.List.{AllByRecursion}
 use Rattle.std.specs.Str.{is_utf8}
 use Rattle.item_model.specs.declared.changes.Edit.{Edit}
@@ -8,7 +8,6 @@ use Rattle.item_model.specs.declared.changes.Entry.{Entry}
 use Rattle.item_model.specs.declared.item.PropValue.{PropValue}
 use Rattle.item_model.specs.declared.item.PropValue.TheVariants.{Number, Text}
 use Rattle.item_model.specs.declared.item.Row.{Row}
-use Rattle.item_model.specs.declared.property.Property.{Property}
 use Rattle.item_model.specs.Items.{is_item}
 use Rattle.item_model.specs.Valid.{is_valid}
 use Rattle.share_history.specs.Histories.{all_edits}
