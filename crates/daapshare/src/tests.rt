@@ -2,6 +2,7 @@
 
 use crate::run::run;
 use daap_outside::{MemFiles, MemNet, MemSink, MemSource};
+use daapshare_words::usage_text;
 use std::alloc::Global;
 use std::process::Abort;
 use std::sync::Wait;
@@ -106,24 +107,13 @@ fn each_command_does_what_its_words_say(rt: HostRuntime) -> Result<(), Fail> {
     Ok(())
 }
 
-/// How the program is called.
-static USAGE: &str = "\
-usage: daapshare list [--query Q] [--meta M] [--list ID]
-       daapshare show [--back]
-       daapshare check
-       daapshare codes [--learn]
-       daapshare replay [--keep K] [--name N]
-       daapshare rehearse NUMBER BATCHES SIZE [--keep K]
-       daapshare serve LISTEN EDIT [--name N] [--keep K] [--workers W] [--editors E]
-       daapshare edit PLACE [--stop]
-       daapshare follow PLACE ROUNDS [--query Q] [--meta M] [--list ID]
-";
-
 #[test]
 fn words_that_are_no_command_get_the_usage(rt: HostRuntime) -> Result<(), Fail> {
     let alloc = rt.alloc();
-    ends(&rt, alloc, &[], b"", 2, USAGE.as_bytes())?;
-    ends(&rt, alloc, &["lists"], b"", 2, USAGE.as_bytes())?;
-    ends(&rt, alloc, &["check", "x"], b"", 2, USAGE.as_bytes())?;
-    ends(&rt, alloc, &["--help"], b"", 2, USAGE.as_bytes())
+    let usage = usage_text(alloc)?;
+    let text = usage.as_slice();
+    ends(&rt, alloc, &[], b"", 2, text)?;
+    ends(&rt, alloc, &["lists"], b"", 2, text)?;
+    ends(&rt, alloc, &["check", "x"], b"", 2, text)?;
+    ends(&rt, alloc, &["--help"], b"", 2, text)
 }
