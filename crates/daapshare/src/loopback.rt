@@ -1,4 +1,4 @@
-//! A share, one who changes it and a mirror, each a run of the program in a thread of its own, over sockets of this machine.
+//! A share, one who changes it and two mirrors, each a run of the program in a thread of its own, over sockets of this machine.
 
 use crate::run::run;
 use daap_outside::{Door, Failed, MemFiles, MemSink, MemSource, Net, Sink, Source, TcpNet};
@@ -76,19 +76,32 @@ fn next_link<D: Door>(door: &mut D) -> Result<D::L, Failed> {
     }
 }
 
-/// Changes the share once the mirror has told its first round, and stops it once it has told its second. Answers whether each
-/// was told as it should be.
+/// Follows the share for two rounds, once it is open.
+fn follows<R: Threads + Wait + Sync + Clock, N: Net, W: Sink>(
+    rt: &R,
+    alloc: Global,
+    net: &mut N,
+    place: &str,
+    output: &mut W,
+) -> Option<u8> {
+    await_open(rt, net, place);
+    status_of(rt, alloc, net, &["follow", place, "2"], b"", output)
+}
+
+/// Changes the share once both mirrors have told their first round, and stops it once they have told their second. Answers
+/// whether each was told as it should be.
 fn edits<R: Threads + Wait + Sync, S: Source, N: Net>(
     rt: &R,
     alloc: Global,
     net: &mut N,
     place: &str,
-    shown: &mut S,
+    mirrors: (&mut S, &mut S),
     output: &mut MemSink,
 ) -> bool {
-    let first = brings(shown, FIRST_ROUND);
+    let (one, other) = mirrors;
+    let first = brings(one, FIRST_ROUND) && brings(other, FIRST_ROUND);
     let changed = status_of(rt, alloc, net, &["edit", place], CHANGE, output);
-    let second = brings(shown, SECOND_ROUND);
+    let second = brings(one, SECOND_ROUND) && brings(other, SECOND_ROUND);
     let stopped = status_of(rt, alloc, net, &["edit", place, "--stop"], b"", output);
     first && second && changed == Some(0) && stopped == Some(0)
 }
@@ -105,6 +118,8 @@ fn a_share_is_followed_while_it_is_changed_until_it_is_stopped(
     let mut doors = net.listen(window.as_str(), 1)?;
     let mut told = net.connect(window.as_str())?;
     let mut shown = next_link(&mut doors[0])?;
+    let mut told_too = net.connect(window.as_str())?;
+    let mut shown_too = next_link(&mut doors[0])?;
     let mut lines = MemSink::new(alloc, 256, 256, &[])?;
     let mut answers = MemSink::new(alloc, 256, 256, &[])?;
     let (served, (followed, edited)) = thread::join(
@@ -124,10 +139,23 @@ fn a_share_is_followed_while_it_is_changed_until_it_is_stopped(
             thread::join(
                 &rt,
                 || {
-                    let mut net = TcpNet::new(&rt, alloc);
-                    let words = ["follow", listen.as_str(), "2"];
-                    await_open(&rt, &mut net, listen.as_str());
-                    status_of(&rt, alloc, &mut net, &words, b"", &mut told)
+                    thread::join(
+                        &rt,
+                        || follows(
+                            &rt,
+                            alloc,
+                            &mut TcpNet::new(&rt, alloc),
+                            listen.as_str(),
+                            &mut told,
+                        ),
+                        || follows(
+                            &rt,
+                            alloc,
+                            &mut TcpNet::new(&rt, alloc),
+                            listen.as_str(),
+                            &mut told_too,
+                        ),
+                    )
                 },
                 || {
                     let mut net = TcpNet::new(&rt, alloc);
@@ -137,7 +165,7 @@ fn a_share_is_followed_while_it_is_changed_until_it_is_stopped(
                         alloc,
                         &mut net,
                         edit.as_str(),
-                        &mut shown,
+                        (&mut shown, &mut shown_too),
                         &mut answers,
                     )
                 },
@@ -145,11 +173,11 @@ fn a_share_is_followed_while_it_is_changed_until_it_is_stopped(
         },
     );
     assert_eq!(rt; served, Some(0));
-    assert_eq!(rt; followed, Some(0));
+    assert_eq!(rt; followed, (Some(0), Some(0)));
     assert!(rt; edited);
     assert_eq!(rt; answers.taken(), b"revision 4\nstopped\n".as_slice());
     let lines = lines.taken();
     assert!(rt; lines.starts_with(b"serving daapshare at revision 3\nended at revision 4, links "));
-    assert!(rt; lines.ends_with(b", requests 8\n"));
+    assert!(rt; lines.ends_with(b", requests 14\n"));
     Ok(())
 }
