@@ -125,6 +125,11 @@ impl Ran {
     }
 }
 
+/// An output with room for so many bytes.
+fn room_for(alloc: Global, bytes: usize) -> Result<MemSink, AllocError> {
+    MemSink::new(alloc, bytes, 4096, &[])
+}
+
 fn text_of(alloc: Global, text: Option<&str>) -> Result<Option<Text>, AllocError> {
     match text {
         Some(text) => Ok(Some(Text::of(alloc, text)?)),
@@ -165,14 +170,7 @@ fn follow_on(
 /// Two rounds over such replies.
 fn follow(alloc: Global, input: &[u8]) -> Result<Ran, AllocError> {
     let net = net_of(alloc, input, &[], &[])?;
-    follow_on(
-        alloc,
-        net,
-        2,
-        None,
-        None,
-        MemSink::new(alloc, 4096, 4096, &[])?,
-    )
+    follow_on(alloc, net, 2, None, None, room_for(alloc, 4096)?)
 }
 
 #[test]
@@ -223,7 +221,7 @@ fn rows_are_shown_behind_the_last_round(rt: HostRuntime) -> Result<(), Fail> {
 fn each_round_asks_with_the_query(rt: HostRuntime) -> Result<(), Fail> {
     let alloc = rt.alloc();
     let net = net_of(alloc, two_rounds(alloc)?.as_slice(), &[], &[])?;
-    let output = MemSink::new(alloc, 4096, 4096, &[])?;
+    let output = room_for(alloc, 4096)?;
     let query = Some("'dmap.itemname:a'");
     let ran = follow_on(alloc, net, 2, query, Some("dmap.itemname"), output)?;
     assert_eq!(rt; ran.status, 0);
@@ -249,14 +247,7 @@ fn rows_are_read_by_the_table_of_the_share(rt: HostRuntime) -> Result<(), Fail> 
     add_reply(alloc, &mut input, "200 OK", body("item 7 at 3"))?;
     add_reply(alloc, &mut input, "204 No Content", b"")?;
     let net = net_of(alloc, input.as_slice(), &[], &[])?;
-    let ran = follow_on(
-        alloc,
-        net,
-        1,
-        None,
-        None,
-        MemSink::new(alloc, 4096, 4096, &[])?,
-    )?;
+    let ran = follow_on(alloc, net, 1, None, None, room_for(alloc, 4096)?)?;
     assert!(rt;
         ran.has_told(
             0,
@@ -279,14 +270,7 @@ fn texts_are_refused_before_the_net_is_asked(rt: HostRuntime) -> Result<(), Fail
         ),
     ] {
         let net = net_of(alloc, b"", &[], &[])?;
-        let ran = follow_on(
-            alloc,
-            net,
-            1,
-            query,
-            meta,
-            MemSink::new(alloc, 4096, 4096, &[])?,
-        )?;
+        let ran = follow_on(alloc, net, 1, query, meta, room_for(alloc, 4096)?)?;
         assert!(rt; ran.has_told(3, line));
         assert!(rt; matches!(ran.net.asked(), Some([])));
     }
@@ -386,31 +370,17 @@ fn a_failed_link_is_told(rt: HostRuntime) -> Result<(), Fail> {
     let input = two_rounds(alloc)?;
     for call in 1..8 {
         let net = net_of(alloc, input.as_slice(), &[call], &[])?;
-        let ran = follow_on(
-            alloc,
-            net,
-            2,
-            None,
-            None,
-            MemSink::new(alloc, 4096, 4096, &[])?,
-        )?;
+        let ran = follow_on(alloc, net, 2, None, None, room_for(alloc, 4096)?)?;
         assert!(rt; ran.has_told(6, "network failed\n"));
     }
     let net = net_of(alloc, input.as_slice(), &[], &[2])?;
-    let ran = follow_on(
-        alloc,
-        net,
-        2,
-        None,
-        None,
-        MemSink::new(alloc, 4096, 4096, &[])?,
-    )?;
+    let ran = follow_on(alloc, net, 2, None, None, room_for(alloc, 4096)?)?;
     assert!(rt; ran.has_told(6, "network failed\n"));
     let sent = requests("two rounds")
         .get(..50)
         .expect(&rt, "there are more");
     assert!(rt; ran.has_sent(sent));
-    let output = MemSink::new(alloc, 4096, 4096, &[])?;
+    let output = room_for(alloc, 4096)?;
     let ran = follow_on(
         alloc,
         MemNet::with_room(alloc, &[], 1, 1)?,
@@ -429,24 +399,10 @@ fn a_failed_output_ends_it(rt: HostRuntime) -> Result<(), Fail> {
     let alloc = rt.alloc();
     let input = two_rounds(alloc)?;
     let net = net_of(alloc, input.as_slice(), &[], &[])?;
-    let ran = follow_on(
-        alloc,
-        net,
-        2,
-        None,
-        None,
-        MemSink::new(alloc, 40, 4096, &[])?,
-    )?;
+    let ran = follow_on(alloc, net, 2, None, None, room_for(alloc, 40)?)?;
     assert!(rt; ran.has_told(5, "revision 3 full put 1 drop 0 rows 1\nrevi"));
     let net = net_of(alloc, input.as_slice(), &[], &[])?;
-    let ran = follow_on(
-        alloc,
-        net,
-        2,
-        None,
-        None,
-        MemSink::new(alloc, 80, 4096, &[])?,
-    )?;
+    let ran = follow_on(alloc, net, 2, None, None, room_for(alloc, 80)?)?;
     assert!(rt;
         ran.has_told(
             5,
@@ -475,13 +431,7 @@ fn edit_on(
 fn edit(alloc: Global, input: &[u8], stop: bool) -> Result<Ran, AllocError> {
     let net = net_of(alloc, input, &[], &[])?;
     let records = MemSource::new(alloc, b"op,kind,id\n", 4, &[])?;
-    edit_on(
-        alloc,
-        net,
-        stop,
-        records,
-        MemSink::new(alloc, 4096, 4096, &[])?,
-    )
+    edit_on(alloc, net, stop, records, room_for(alloc, 4096)?)
 }
 
 #[test]
@@ -533,13 +483,7 @@ fn long_texts_are_not_shown(rt: HostRuntime) -> Result<(), Fail> {
         add_reply(alloc, &mut input, "400 Bad Request", text.as_slice())?;
         let net = net_of(alloc, input.as_slice(), &[], &[])?;
         let records = MemSource::new(alloc, b"", 4, &[])?;
-        let ran = edit_on(
-            alloc,
-            net,
-            false,
-            records,
-            MemSink::new(alloc, 8192, 8192, &[])?,
-        )?;
+        let ran = edit_on(alloc, net, false, records, room_for(alloc, 8192)?)?;
         assert_eq!(rt; ran.status, 7);
         assert_eq!(rt; ran.output.len(), 18 + shown);
     }
@@ -552,38 +496,26 @@ fn what_is_not_sent_is_told(rt: HostRuntime) -> Result<(), Fail> {
     let input = vec![in alloc; b'x'; 4_194_305]?;
     let records = MemSource::new(alloc, input.as_slice(), 65_536, &[])?;
     let net = net_of(alloc, b"", &[], &[])?;
-    let ran = edit_on(
-        alloc,
-        net,
-        false,
-        records,
-        MemSink::new(alloc, 64, 64, &[])?,
-    )?;
+    let ran = edit_on(alloc, net, false, records, room_for(alloc, 64)?)?;
     assert!(rt; ran.has_told(8, "limit: input\n"));
     assert!(rt; ran.has_sent(b""));
     let records = MemSource::new(alloc, b"op,kind,id\n", 4, &[2])?;
     let net = net_of(alloc, b"", &[], &[])?;
-    let ran = edit_on(
-        alloc,
-        net,
-        false,
-        records,
-        MemSink::new(alloc, 64, 64, &[])?,
-    )?;
+    let ran = edit_on(alloc, net, false, records, room_for(alloc, 64)?)?;
     assert!(rt; ran.has_told(4, "read failed\n"));
     assert!(rt; ran.has_sent(b""));
     let records = MemSource::new(alloc, b"", 4, &[])?;
     let net = MemNet::with_room(alloc, &[], 1, 1)?;
-    let ran = edit_on(alloc, net, true, records, MemSink::new(alloc, 64, 64, &[])?)?;
+    let ran = edit_on(alloc, net, true, records, room_for(alloc, 64)?)?;
     assert!(rt; ran.has_told(6, "network failed\n"));
     let records = MemSource::new(alloc, b"", 4, &[])?;
     let net = net_of(alloc, b"", &[], &[1])?;
-    let ran = edit_on(alloc, net, true, records, MemSink::new(alloc, 64, 64, &[])?)?;
+    let ran = edit_on(alloc, net, true, records, room_for(alloc, 64)?)?;
     assert!(rt; ran.has_told(6, "network failed\n"));
     let reply = replies(alloc, &[("204 No Content", "")])?;
     let records = MemSource::new(alloc, b"", 4, &[])?;
     let net = net_of(alloc, reply.as_slice(), &[], &[])?;
-    let ran = edit_on(alloc, net, true, records, MemSink::new(alloc, 4, 4, &[])?)?;
+    let ran = edit_on(alloc, net, true, records, room_for(alloc, 4)?)?;
     assert!(rt; ran.has_told(5, "stop"));
     Ok(())
 }
