@@ -1,16 +1,335 @@
-//! Bodies, byte for byte. The expected bytes are those that DAAP's published tags and this project's profile of them
-//! spell by hand, and not what the program wrote.
+//! Bodies, byte for byte.
+//!
+//! What is expected was spelled by a program in another language, from the forms of the bodies and the rows that a
+//! listing is to have. The bytes stand in functions of their own: a proof of a test need not read them.
 
-use crate::shares::{Request, opened, told};
+ghost use Rattle.std.specs.Prelude.{◌≤◌};
+
+use crate::shares::{Request, log_in, opened, post, tells};
+use std::alloc::Global;
+use std::process::Abort;
 use std::test::Fail;
 
-const LOGIN: [u8; 32] = *b"mlog\0\0\0\x18mstt\0\0\0\x04\0\0\0\xc8mlid\0\0\0\x04\0\0\0\x01";
+/// Three songs at revision 5.
+fn three_songs() -> &'static [u8] {
+    b"adbs\0\0\0\x98mstt\0\0\0\x04\0\0\0\xc8muty\0\0\0\x01\0musr\0\0\0\x04\0\0\0\x05mtco\0\0\0\x04\0\0\0\x03mrco\0\0\0\x04\0\0\0\x03mlcl\0\0\0Wmlit\0\0\0\x15miid\0\0\0\x04\0\0\0\x01minm\0\0\0\x01Amlit\0\0\0\x15miid\0\0\0\x04\0\0\0\x02minm\0\0\0\x01Bmlit\0\0\0\x15miid\0\0\0\x04\0\0\0\x03minm\0\0\0\x01C"
+}
+
+/// The change at revision 5 since revision 4: the third song.
+fn last_song() -> &'static [u8] {
+    b"adbs\0\0\0fmstt\0\0\0\x04\0\0\0\xc8muty\0\0\0\x01\x01musr\0\0\0\x04\0\0\0\x05mtco\0\0\0\x04\0\0\0\x01mrco\0\0\0\x04\0\0\0\x01mlcl\0\0\0\x1dmlit\0\0\0\x15miid\0\0\0\x04\0\0\0\x03minm\0\0\0\x01Cmudl\0\0\0\0"
+}
+
+/// The change since revision 3: the second song and the third.
+fn last_songs() -> &'static [u8] {
+    b"adbs\0\0\0\x83mstt\0\0\0\x04\0\0\0\xc8muty\0\0\0\x01\x01musr\0\0\0\x04\0\0\0\x05mtco\0\0\0\x04\0\0\0\x02mrco\0\0\0\x04\0\0\0\x02mlcl\0\0\0:mlit\0\0\0\x15miid\0\0\0\x04\0\0\0\x02minm\0\0\0\x01Bmlit\0\0\0\x15miid\0\0\0\x04\0\0\0\x03minm\0\0\0\x01Cmudl\0\0\0\0"
+}
+
+/// The change since revision 2: all three.
+fn all_songs() -> &'static [u8] {
+    b"adbs\0\0\0\xa0mstt\0\0\0\x04\0\0\0\xc8muty\0\0\0\x01\x01musr\0\0\0\x04\0\0\0\x05mtco\0\0\0\x04\0\0\0\x03mrco\0\0\0\x04\0\0\0\x03mlcl\0\0\0Wmlit\0\0\0\x15miid\0\0\0\x04\0\0\0\x01minm\0\0\0\x01Amlit\0\0\0\x15miid\0\0\0\x04\0\0\0\x02minm\0\0\0\x01Bmlit\0\0\0\x15miid\0\0\0\x04\0\0\0\x03minm\0\0\0\x01Cmudl\0\0\0\0"
+}
+
+/// The change since revision 5: none.
+fn no_song() -> &'static [u8] {
+    b"adbs\0\0\0Imstt\0\0\0\x04\0\0\0\xc8muty\0\0\0\x01\x01musr\0\0\0\x04\0\0\0\x05mtco\0\0\0\x04\0\0\0\0mrco\0\0\0\x04\0\0\0\0mlcl\0\0\0\0mudl\0\0\0\0"
+}
+
+/// The change at revision 4 since revision 3: the first song left the query.
+fn hey_left() -> &'static [u8] {
+    b"adbs\0\0\0Umstt\0\0\0\x04\0\0\0\xc8muty\0\0\0\x01\x01musr\0\0\0\x04\0\0\0\x04mtco\0\0\0\x04\0\0\0\0mrco\0\0\0\x04\0\0\0\0mlcl\0\0\0\0mudl\0\0\0\x0cmiid\0\0\0\x04\0\0\0\x01"
+}
+
+/// The change since revision 4: none.
+fn none_left() -> &'static [u8] {
+    b"adbs\0\0\0Imstt\0\0\0\x04\0\0\0\xc8muty\0\0\0\x01\x01musr\0\0\0\x04\0\0\0\x04mtco\0\0\0\x04\0\0\0\0mrco\0\0\0\x04\0\0\0\0mlcl\0\0\0\0mudl\0\0\0\0"
+}
+
+/// The change at revision 5 since revision 3: a song came and went.
+fn nine_dropped() -> &'static [u8] {
+    b"adbs\0\0\0Umstt\0\0\0\x04\0\0\0\xc8muty\0\0\0\x01\x01musr\0\0\0\x04\0\0\0\x05mtco\0\0\0\x04\0\0\0\0mrco\0\0\0\x04\0\0\0\0mlcl\0\0\0\0mudl\0\0\0\x0cmiid\0\0\0\x04\0\0\0\x09"
+}
+
+/// The artists of the songs and films of an album, at revision 3.
+fn artists() -> &'static [u8] {
+    b"abro\0\0\0amstt\0\0\0\x04\0\0\0\xc8muty\0\0\0\x01\0musr\0\0\0\x04\0\0\0\x03mtco\0\0\0\x04\0\0\0\x03mrco\0\0\0\x04\0\0\0\x03abar\0\0\0 mlit\0\0\0\x03Annmlit\0\0\0\x02Dimlit\0\0\0\x03ann"
+}
+
+/// The members of a list at revision 4. One that is no song of the library is not listed.
+fn mix() -> &'static [u8] {
+    b"apso\0\0\0\xc3mstt\0\0\0\x04\0\0\0\xc8muty\0\0\0\x01\0musr\0\0\0\x04\0\0\0\x04mtco\0\0\0\x04\0\0\0\x03mrco\0\0\0\x04\0\0\0\x03mlcl\0\0\0\x82mlit\0\0\0#mcti\0\0\0\x04\0\0\0\x0amiid\0\0\0\x04\0\0\0\x01minm\0\0\0\x03Heymlit\0\0\0$mcti\0\0\0\x04\0\0\0\x0bmiid\0\0\0\x04\0\0\0\x06minm\0\0\0\x04Latemlit\0\0\0#mcti\0\0\0\x04\0\0\0\x0cmiid\0\0\0\x04\0\0\0\x01minm\0\0\0\x03Hey"
+}
+
+/// The change at revision 5 since revision 4: two members lost their song.
+fn hey_dropped() -> &'static [u8] {
+    b"apso\0\0\0amstt\0\0\0\x04\0\0\0\xc8muty\0\0\0\x01\x01musr\0\0\0\x04\0\0\0\x05mtco\0\0\0\x04\0\0\0\0mrco\0\0\0\x04\0\0\0\0mlcl\0\0\0\0mudl\0\0\0\x18mcti\0\0\0\x04\0\0\0\x0amcti\0\0\0\x04\0\0\0\x0c"
+}
+
+/// What a share tells of itself.
+fn server() -> &'static [u8] {
+    b"msrv\0\0\0{mstt\0\0\0\x04\0\0\0\xc8mpro\0\0\0\x04\0\x02\0\0apro\0\0\0\x04\0\x03\0\0minm\0\0\0\x01Smslr\0\0\0\x01\x01msau\0\0\0\x01\0mstm\0\0\0\x04\0\0\x07\x08msup\0\0\0\x01\x01msix\0\0\0\x01\x01msbr\0\0\0\x01\x01msqy\0\0\0\x01\x01msdc\0\0\0\x04\0\0\0\x01"
+}
+
+/// The library at revision 4: six songs, and a list beside that of all songs.
+fn databases() -> &'static [u8] {
+    b"avdb\0\0\0vmstt\0\0\0\x04\0\0\0\xc8muty\0\0\0\x01\0musr\0\0\0\x04\0\0\0\x04mtco\0\0\0\x04\0\0\0\x01mrco\0\0\0\x04\0\0\0\x01mlcl\0\0\05mlit\0\0\0-miid\0\0\0\x04\0\0\0\x01minm\0\0\0\x01Smimc\0\0\0\x04\0\0\0\x06mctc\0\0\0\x04\0\0\0\x02"
+}
+
+/// Both lists.
+fn containers() -> &'static [u8] {
+    b"aply\0\0\0\x9emstt\0\0\0\x04\0\0\0\xc8muty\0\0\0\x01\0musr\0\0\0\x04\0\0\0\x04mtco\0\0\0\x04\0\0\0\x02mrco\0\0\0\x04\0\0\0\x02mlcl\0\0\0]mlit\0\0\0*miid\0\0\0\x04\0\0\0\x01minm\0\0\0\x01Sabpl\0\0\0\x01\x01mimc\0\0\0\x04\0\0\0\x06mlit\0\0\0#miid\0\0\0\x04\0\0\0\x02minm\0\0\0\x03Mixmimc\0\0\0\x04\0\0\0\x03"
+}
+
+/// Revision 4.
+fn revision_4() -> &'static [u8] {
+    b"mupd\0\0\0\x18mstt\0\0\0\x04\0\0\0\xc8musr\0\0\0\x04\0\0\0\x04"
+}
+
+/// Revision 5.
+fn revision_5() -> &'static [u8] {
+    b"mupd\0\0\0\x18mstt\0\0\0\x04\0\0\0\xc8musr\0\0\0\x04\0\0\0\x05"
+}
+
+/// Three batches of a song each.
+const SONGS: [&str; 3] = [
+    "op,kind,id,dmap.itemname\nput,item,1,A\n",
+    "op,kind,id,dmap.itemname\nput,item,2,B\n",
+    "op,kind,id,dmap.itemname\nput,item,3,C\n",
+];
+
+/// What a share that keeps so many revisions tells after three batches of a song each.
+fn three_batches(
+    rt: &impl Abort,
+    alloc: Global,
+    keep: u32,
+    rows: &[(Request, u16, &'static [u8])],
+) -> Result<(), Fail>
+    requires some { 1 ≤ keep }
+    requires window { keep ≤ 65536 }
+{
+    let mut share = opened(alloc, keep, "")?;
+    log_in(alloc, &mut share, 1)?;
+    for records in SONGS {
+        post(alloc, &mut share, "/edit", records)?;
+    }
+    tells(rt, alloc, &mut share, rows)
+}
 
 #[test]
-fn the_first_login_is_session_1(rt: HostRuntime) -> Result<(), Fail> {
-    let mut share = opened(rt.alloc(), 16, "")?;
-    let login = told(rt.alloc(), &mut share, Request::Get("/login"))?;
-    assert!(rt; login.status == 200);
-    assert!(rt; login.body.as_slice() == LOGIN.as_slice());
-    Ok(())
+fn a_share_that_keeps_one_revision_tells_one_change(rt: HostRuntime) -> Result<(), Fail> {
+    three_batches(
+        &rt,
+        rt.alloc(),
+        1,
+        &[
+            (
+                Request::Get("/databases/1/items?session-id=1&delta=5"),
+                200,
+                no_song(),
+            ),
+            (
+                Request::Get("/databases/1/items?session-id=1&delta=4"),
+                200,
+                last_song(),
+            ),
+            (
+                Request::Get("/databases/1/items?session-id=1&delta=3"),
+                200,
+                three_songs(),
+            ),
+        ],
+    )
+}
+
+#[test]
+fn a_base_that_is_no_revision_gets_the_whole(rt: HostRuntime) -> Result<(), Fail> {
+    three_batches(
+        &rt,
+        rt.alloc(),
+        16,
+        &[
+            (
+                Request::Get("/databases/1/items?session-id=1"),
+                200,
+                three_songs(),
+            ),
+            (
+                Request::Get("/databases/1/items?session-id=1&delta=0"),
+                200,
+                three_songs(),
+            ),
+            (
+                Request::Get("/databases/1/items?session-id=1&delta=1"),
+                200,
+                three_songs(),
+            ),
+            (
+                Request::Get("/databases/1/items?session-id=1&delta=2"),
+                200,
+                all_songs(),
+            ),
+            (
+                Request::Get("/databases/1/items?session-id=1&delta=3"),
+                200,
+                last_songs(),
+            ),
+            (
+                Request::Get("/databases/1/items?session-id=1&delta=6"),
+                200,
+                three_songs(),
+            ),
+            (
+                Request::Get("/databases/1/items?session-id=1&delta=x"),
+                400,
+                b"parameter: delta\n",
+            ),
+        ],
+    )
+}
+
+/// Six songs, of which one is a talk and one a film.
+const CATALOGUE: &str =
+    "op,kind,id,dmap.itemname,daap.songartist,daap.songalbum,com.apple.itunes.mediakind
+put,item,1,Hey,Ann,One,1
+put,item,2,it's late,Bob,,1
+put,item,3,Talk,Cy,Pod,4
+put,item,4,Move,Di,Film,32
+put,item,5,Quiet,Ed,Two,
+put,item,6,Late,ann,two,1
+";
+
+/// What a share of six songs tells.
+fn six_songs(
+    rt: &impl Abort,
+    alloc: Global,
+    rows: &[(Request, u16, &'static [u8])],
+) -> Result<(), Fail> {
+    let mut share = opened(alloc, 16, CATALOGUE)?;
+    log_in(alloc, &mut share, 1)?;
+    tells(rt, alloc, &mut share, rows)
+}
+
+#[test]
+fn a_song_that_left_the_query_is_deleted(rt: HostRuntime) -> Result<(), Fail> {
+    let put =
+        "op,kind,id,dmap.itemname,daap.songartist,daap.songalbum,com.apple.itunes.mediakind\nput,item,1,Hey,Ann,One,4\n";
+    six_songs(
+        &rt,
+        rt.alloc(),
+        &[
+            (Request::Post("/edit", put), 200, revision_4()),
+            (
+                Request::Get(
+                    "/databases/1/items?session-id=1&delta=3&query=(('com.apple.itunes.mediakind:1','com.apple.itunes.mediakind:32')+'daap.songalbum!:')",
+                ),
+                200,
+                hey_left(),
+            ),
+            (
+                Request::Get(
+                    "/databases/1/items?session-id=1&delta=3&query=(('com.apple.itunes.mediakind:1','com.apple.itunes.mediakind:32')%20'daap.songalbum!:')",
+                ),
+                200,
+                hey_left(),
+            ),
+            (
+                Request::Get(
+                    "/databases/1/items?session-id=1&delta=3&query=(('com.apple.itunes.mediakind:1','com.apple.itunes.mediakind:32')%2B'daap.songalbum!:')",
+                ),
+                200,
+                hey_left(),
+            ),
+            (
+                Request::Get(
+                    "/databases/1/items?session-id=1&delta=4&query=(('com.apple.itunes.mediakind:1','com.apple.itunes.mediakind:32')+'daap.songalbum!:')",
+                ),
+                200,
+                none_left(),
+            ),
+        ],
+    )
+}
+
+#[test]
+fn a_song_that_was_put_and_dropped_is_deleted(rt: HostRuntime) -> Result<(), Fail> {
+    six_songs(
+        &rt,
+        rt.alloc(),
+        &[
+            (
+                Request::Post("/edit", "op,kind,id\nput,item,9\n"),
+                200,
+                revision_4(),
+            ),
+            (
+                Request::Post("/edit", "op,kind,id\ndrop,item,9\n"),
+                200,
+                revision_5(),
+            ),
+            (
+                Request::Get("/databases/1/items?session-id=1&delta=3"),
+                200,
+                nine_dropped(),
+            ),
+        ],
+    )
+}
+
+#[test]
+fn artists_are_those_of_the_songs_of_a_filter(rt: HostRuntime) -> Result<(), Fail> {
+    six_songs(
+        &rt,
+        rt.alloc(),
+        &[
+            (Request::Get("/server-info"), 200, server()),
+            (
+                Request::Get(
+                    "/databases/1/browse/artists?session-id=1&filter=(('com.apple.itunes.mediakind:1','com.apple.itunes.mediakind:32')+'daap.songalbum!:')",
+                ),
+                200,
+                artists(),
+            ),
+        ],
+    )
+}
+
+#[test]
+fn a_list_has_the_members_whose_songs_are_there(rt: HostRuntime) -> Result<(), Fail> {
+    let put = "op,kind,id,dmap.itemname,list,item
+put,list,2,Mix,,
+put,member,10,,2,1
+put,member,11,,2,6
+put,member,12,,2,1
+put,member,13,,2,99
+";
+    six_songs(
+        &rt,
+        rt.alloc(),
+        &[
+            (Request::Post("/edit", put), 200, revision_4()),
+            (
+                Request::Get("/databases/1/containers/2/items?session-id=1&meta=dmap.itemname"),
+                200,
+                mix(),
+            ),
+            (Request::Get("/databases?session-id=1"), 200, databases()),
+            (
+                Request::Get("/databases/1/containers?session-id=1"),
+                200,
+                containers(),
+            ),
+            (
+                Request::Post("/edit", "op,kind,id\ndrop,item,1\n"),
+                200,
+                revision_5(),
+            ),
+            (
+                Request::Get(
+                    "/databases/1/containers/2/items?session-id=1&meta=dmap.itemname&delta=4",
+                ),
+                200,
+                hey_dropped(),
+            ),
+        ],
+    )
 }

@@ -1,10 +1,17 @@
-//! Tests that cross crates: whole requests, and what a share answers them with. Nothing here is for other crates.
+//! Tests that cross crates: whole requests and what a share answers them with, and long runs. Nothing here is for other
+//! crates.
 #![tactic(auto)]
 
 #[cfg(test)]
 mod answers;
 #[cfg(test)]
 mod hostile;
+#[cfg(test)]
+mod limits;
+#[cfg(test)]
+mod refusals;
+#[cfg(test)]
+mod rehearsals;
 #[cfg(test)]
 mod replays;
 #[cfg(test)]

@@ -1,6 +1,7 @@
 //! A share, and requests that come to it one after the other.
 
 ghost use Rattle.std.specs.Prelude.{◌≡◌, ◌<◌, ◌≤◌, IfOk};
+ghost use Rattle.daap_vectors.specs.Written.{IsWritten};
 ghost use Rattle.listing_plan.specs.Plans.{IsWritable};
 ghost use Rattle.share_asks.specs.Valid.{IsValidWant};
 
@@ -8,23 +9,23 @@ use daap_outside::MemSink;
 use http_front::HeadReader;
 use listing_plan::Plan;
 use records_import::read_batch;
-use share_asks::{Ask, Role};
-use share_core::{Answer, Share};
+use share_asks::{Ask, Role, Want};
+use share_core::{Answer, OpenError, Share};
 use song_query::Steps;
 use std::alloc::{AllocError, Global};
 use std::marker::Brand;
+use std::process::Abort;
 use std::sync::ledger::{Blank, Ledger};
+use std::test::Fail;
 
-/// A request without fields but those of its body.
+/// A request of a player, or what an editor posts.
 #[derive(Clone, Copy)]
 pub(crate) enum Request {
-    /// Asks for a target, where players ask.
     Get(&'static str),
-    /// Posts a body to a target, where editors ask.
     Post(&'static str, &'static str),
 }
 
-/// What a request is told. A held update has the status 0.
+/// What a request is answered with. An update that is held has the status 0.
 #[derive(Drop)]
 pub(crate) struct Response {
     pub(crate) status: u16,
@@ -36,23 +37,101 @@ pub(crate) fn opened(alloc: Global, keep: u32, records: &str) -> Result<Share, A
     requires some { 1 ≤ keep }
     requires window { keep ≤ 65536 }
 {
-    let Ok(first) = read_batch(alloc, records.as_bytes()) else {
-        return Err(AllocError);
-    };
-    match Share::open(alloc, "S", keep, first) {
+    match begun(alloc, keep, records) {
         Ok(share) => Ok(share),
         Err(_) => Err(AllocError),
     }
 }
 
-/// What a share tells to a request.
-pub(crate) fn told(
+/// The same, or why there is none.
+pub(crate) fn begun(alloc: Global, keep: u32, records: &str) -> Result<Share, OpenError>
+    requires some { 1 ≤ keep }
+    requires window { keep ≤ 65536 }
+{
+    match read_batch(alloc, records.as_bytes()) {
+        Ok(first) => Share::open(alloc, "S", keep, first),
+        Err(_) => Err(OpenError::Memory),
+    }
+}
+
+/// The answer to what a player asks for.
+pub(crate) fn get(alloc: Global, share: &mut Share, target: &str) -> Result<Response, AllocError> {
+    let text = format!(in alloc; "GET {target} HTTP/1.1\r\n\r\n")?;
+    let ask = read(alloc, Role::Listen, text.as_bytes())?;
+    answer(alloc, share, &ask)
+}
+
+/// The answer to what an editor posts.
+pub(crate) fn post(
+    alloc: Global,
+    share: &mut Share,
+    target: &str,
+    body: &str,
+) -> Result<Response, AllocError> {
+    let length = body.len();
+    let text = format!(in alloc;
+        "POST {target} HTTP/1.1\r\nContent-Length: {length}\r\n\r\n{body}"
+    )?;
+    let ask = read(alloc, Role::Edit, text.as_bytes())?;
+    answer(alloc, share, &ask)
+}
+
+pub(crate) fn respond(
     alloc: Global,
     share: &mut Share,
     request: Request,
 ) -> Result<Response, AllocError> {
-    let ask = ask_of(alloc, request)?;
-    match answered::<Brand>(Blank::new(1), share, &ask)? {
+    match request {
+        Request::Get(target) => get(alloc, share, target),
+        Request::Post(target, body) => post(alloc, share, target, body),
+    }
+}
+
+/// Compares what requests are answered with, by status and body.
+pub(crate) fn tells(
+    rt: &impl Abort,
+    alloc: Global,
+    share: &mut Share,
+    rows: &[(Request, u16, &'static [u8])],
+) -> Result<(), Fail> {
+    for (request, status, body) in rows {
+        let response = respond(alloc, share, *request)?;
+        assert_eq!(rt; response.status, *status);
+        assert_eq!(rt; response.body.as_slice(), *body);
+    }
+    Ok(())
+}
+
+/// Logs in so many times.
+pub(crate) fn log_in(alloc: Global, share: &mut Share, count: usize) -> Result<(), AllocError> {
+    let ask = Ask {
+        role: Role::Listen,
+        close: false,
+        want: Want::Login,
+    };
+    for _ in 0..count {
+        answered::<Brand>(Blank::new(1), share, &ask)?;
+    }
+    Ok(())
+}
+
+fn read(alloc: Global, role: Role, request: &[u8]) -> Result<Ask, AllocError>
+    ensures { IfOk result (λ ask. IsValidWant ask.want) }
+{
+    let mut reader = HeadReader::new(alloc, role)?;
+    if reader.feed(request).is_err() {
+        return Err(AllocError);
+    }
+    match reader.next() {
+        Some(ask) => Ok(ask),
+        None => Err(AllocError),
+    }
+}
+
+fn answer(alloc: Global, share: &mut Share, ask: &Ask) -> Result<Response, AllocError>
+    requires { IsValidWant ask.now.want }
+{
+    match answered::<Brand>(Blank::new(1), share, ask)? {
         Answer::Reply(reply) => Ok(Response {
             status: reply.said.status,
             body: written(alloc, &reply.said.plan)?,
@@ -64,42 +143,13 @@ pub(crate) fn told(
     }
 }
 
-fn ask_of(alloc: Global, request: Request) -> Result<Ask, AllocError>
-    ensures { IfOk result (λ ask. IsValidWant ask.want) }
-{
-    match request {
-        Request::Get(target) => {
-            let text = format!(in alloc; "GET {target} HTTP/1.1\r\n\r\n")?;
-            read(alloc, Role::Listen, text.as_str())
-        }
-        Request::Post(target, body) => {
-            let length = body.len();
-            let text = format!(in alloc;
-                "POST {target} HTTP/1.1\r\nContent-Length: {length}\r\n\r\n{body}"
-            )?;
-            read(alloc, Role::Edit, text.as_str())
-        }
-    }
-}
-
-fn read(alloc: Global, role: Role, request: &str) -> Result<Ask, AllocError>
-    ensures { IfOk result (λ ask. IsValidWant ask.want) }
-{
-    let mut reader = HeadReader::new(alloc, role)?;
-    if reader.feed(request.as_bytes()).is_err() {
-        return Err(AllocError);
-    }
-    match reader.next() {
-        Some(ask) => Ok(ask),
-        None => Err(AllocError),
-    }
-}
-
+#[tactic(auto, using(crate::proofs::Writable::result_is_written))]
 fn answered<L: Ledger>(blank: Blank, share: &mut Share, ask: &Ask) -> Result<Answer, AllocError>
     requires name { blank.name ≡ L.name }
     requires parts { blank.parts ≡ L.parts }
     requires any { 0 < blank.parts }
     requires valid { IsValidWant ask.now.want }
+    ensures { IfOk result IsWritten }
 {
     share.answer(9, ask, &mut Steps::<L>::open(blank))
 }

@@ -1,0 +1,142 @@
+//! The limits of a share's history, at each number and one above.
+
+use crate::shares::{Request, begun, log_in, opened, post, respond};
+use share_core::{OpenError, Share};
+use share_history::MAX_ENTRIES;
+use std::alloc::{AllocError, Global};
+use std::process::Abort;
+use std::test::Fail;
+
+const BAD: Request = Request::Post("/edit", "op,kind,id\nput,item,x\n");
+
+const NO_RECORDS: Request = Request::Post("/edit", "op,kind,id\n");
+
+const ONE_DROP: Request = Request::Post("/edit", "op,kind,id\ndrop,item,7\n");
+
+const TWO_DROPS: Request = Request::Post("/edit", "op,kind,id\ndrop,item,7\ndrop,item,7\n");
+
+const LOGIN: Request = Request::Get("/login");
+
+const STOP: Request = Request::Post("/stop", "");
+
+/// Compares the statuses of what requests are answered with.
+fn has_statuses(
+    rt: &impl Abort,
+    alloc: Global,
+    share: &mut Share,
+    rows: &[(Request, u16)],
+) -> Result<(), Fail> {
+    for (n, (request, status)) in rows.iter().enumerate() {
+        let response = respond(alloc, share, *request)?;
+        assert_eq!(rt; response.status, *status, "at {n}");
+    }
+    Ok(())
+}
+
+/// Records of one kind, as many as ids from the first up to the last.
+fn records(alloc: Global, kind: &str, first: u32, last: u32) -> Result<String, AllocError> {
+    let mut text = String::new(alloc);
+    text.push_str("op,kind,id\n")?;
+    for id in first..=last {
+        text.push_str(format!(in alloc; "{kind},{id}\n")?.as_str())?;
+    }
+    Ok(text)
+}
+
+/// The share has its last place left, and then none.
+const LAST_PLACE: [(Request, u16); 10] = [
+    (NO_RECORDS, 204),
+    (ONE_DROP, 200),
+    (ONE_DROP, 507),
+    (LOGIN, 507),
+    (BAD, 400),
+    (NO_RECORDS, 204),
+    (Request::Get("/logout?session-id=1048575"), 204),
+    (LOGIN, 507),
+    (STOP, 204),
+    (LOGIN, 503),
+];
+
+#[test]
+fn the_last_place_is_taken_once(rt: HostRuntime) -> Result<(), Fail> {
+    let mut share = opened(rt.alloc(), 16, "")?;
+    log_in(rt.alloc(), &mut share, MAX_ENTRIES - 1)?;
+    has_statuses(&rt, rt.alloc(), &mut share, &LAST_PLACE)?;
+    assert!(rt; share.into_history().len() == MAX_ENTRIES + 2);
+    Ok(())
+}
+
+/// There is room for one edit more, and then for none.
+const LAST_EDIT: [(Request, u16); 8] = [
+    (TWO_DROPS, 507),
+    (ONE_DROP, 200),
+    (ONE_DROP, 507),
+    (BAD, 400),
+    (NO_RECORDS, 204),
+    (LOGIN, 200),
+    (Request::Get("/logout?session-id=1"), 204),
+    (STOP, 204),
+];
+
+#[test]
+fn the_last_edit_is_taken_once(rt: HostRuntime) -> Result<(), Fail> {
+    let alloc = rt.alloc();
+    let most = records(alloc, "put,item", 1, 65_536)?;
+    let mut share = opened(alloc, 16, most.as_str())?;
+    for _ in 0..2u32 {
+        let response = post(alloc, &mut share, "/edit", most.as_str())?;
+        assert!(rt; response.status == 200);
+    }
+    let rest = records(alloc, "drop,item", 1, 65_535)?;
+    let response = post(alloc, &mut share, "/edit", rest.as_str())?;
+    assert!(rt; response.status == 200);
+    has_statuses(&rt, alloc, &mut share, &LAST_EDIT)
+}
+
+/// There is room for one list more. A list that is put again is none more, nor is one that its batch drops.
+const LAST_LIST: [(Request, u16); 8] = [
+    (
+        Request::Post("/edit", "op,kind,id\nput,list,1025\nput,list,1026\n"),
+        507,
+    ),
+    (Request::Post("/edit", "op,kind,id\nput,list,1025\n"), 200),
+    (Request::Post("/edit", "op,kind,id\nput,list,1026\n"), 507),
+    (Request::Post("/edit", "op,kind,id\nput,list,1025\n"), 200),
+    (
+        Request::Post("/edit", "op,kind,id\nput,list,1026\ndrop,list,1026\n"),
+        200,
+    ),
+    (
+        Request::Post("/edit", "op,kind,id,query\nput,rule,1026,'a:1'\n"),
+        507,
+    ),
+    (
+        Request::Post("/edit", "op,kind,id\nput,list,1026\ndrop,list,2\n"),
+        200,
+    ),
+    (ONE_DROP, 200),
+];
+
+/// Whether a share is opened with lists of ids up to the last.
+fn opens(alloc: Global, last: u32) -> Result<bool, AllocError> {
+    let lists = records(alloc, "put,list", 2, last)?;
+    match begun(alloc, 16, lists.as_str()) {
+        Ok(_) => Ok(true),
+        Err(OpenError::Lists) => Ok(false),
+        Err(OpenError::Memory) => Err(AllocError),
+    }
+}
+
+#[test]
+fn the_last_list_is_taken_once(rt: HostRuntime) -> Result<(), Fail> {
+    let lists = records(rt.alloc(), "put,list", 2, 1_024)?;
+    let mut share = opened(rt.alloc(), 16, lists.as_str())?;
+    has_statuses(&rt, rt.alloc(), &mut share, &LAST_LIST)
+}
+
+#[test]
+fn a_share_is_opened_with_1024_lists_at_most(rt: HostRuntime) -> Result<(), Fail> {
+    assert!(rt; opens(rt.alloc(), 1_025)?);
+    assert!(rt; !opens(rt.alloc(), 1_026)?);
+    Ok(())
+}

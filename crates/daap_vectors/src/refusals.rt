@@ -1,0 +1,235 @@
+//! Refusals, each alone and each beside the next, and the mark that each kind of answer leaves to its session.
+
+use crate::shares::{Request, get, log_in, opened, respond};
+use std::alloc::Global;
+use std::process::Abort;
+use std::test::Fail;
+
+/// No artists at revision 2, spelled by a program in another language.
+fn no_artists() -> &'static [u8] {
+    b"abro\0\0\0Amstt\0\0\0\x04\0\0\0\xc8muty\0\0\0\x01\0musr\0\0\0\x04\0\0\0\x02mtco\0\0\0\x04\0\0\0\0mrco\0\0\0\x04\0\0\0\0abar\0\0\0\0"
+}
+
+/// Compares what requests are answered with, by status and line, where session 1 is live.
+fn refuses(
+    rt: &impl Abort,
+    alloc: Global,
+    rows: &[(Request, u16, &'static str)],
+) -> Result<(), Fail> {
+    let mut share = opened(alloc, 16, "")?;
+    log_in(alloc, &mut share, 1)?;
+    for (request, status, line) in rows {
+        let response = respond(alloc, &mut share, *request)?;
+        assert_eq!(rt; response.status, *status);
+        assert_eq!(rt; response.body.as_slice(), line.as_bytes());
+    }
+    Ok(())
+}
+
+/// Refusals in their order, each alone and with the next: of a path, a method, a parameter, the session, a container and
+/// records. Behind the stop there is one.
+const REFUSALS: [(Request, u16, &str); 15] = [
+    (Request::Get("/nothing"), 404, ""),
+    (Request::Get("/databases/2/items?session-id=1"), 404, ""),
+    (Request::Get("/edit"), 404, ""),
+    (Request::Post("/nothing", ""), 404, ""),
+    (Request::Post("/login", ""), 405, ""),
+    (Request::Post("/logout?session-id=x", ""), 405, ""),
+    (
+        Request::Get("/logout?session-id=x"),
+        400,
+        "parameter: session-id\n",
+    ),
+    (
+        Request::Get("/databases/1/items?session-id=9&index=x"),
+        400,
+        "parameter: index\n",
+    ),
+    (Request::Get("/databases/1/items"), 403, ""),
+    (
+        Request::Get("/databases/1/containers/7/items?session-id=9"),
+        403,
+        "",
+    ),
+    (
+        Request::Get("/databases/1/containers/7/items?session-id=1"),
+        404,
+        "",
+    ),
+    (
+        Request::Post("/edit", "op,kind,id\nput,item,x\n"),
+        400,
+        "records: record 1 column 3 number\n",
+    ),
+    (Request::Post("/stop", ""), 204, ""),
+    (Request::Get("/server-info"), 503, ""),
+    (Request::Post("/nothing", ""), 503, ""),
+];
+
+#[test]
+fn the_first_refusal_is_told(rt: HostRuntime) -> Result<(), Fail> {
+    refuses(&rt, rt.alloc(), &REFUSALS)
+}
+
+/// Parameters in their order, each alone and with the next.
+const PARAMETERS: [(Request, u16, &str); 10] = [
+    (
+        Request::Get("/update?session-id=x&revision-number=x"),
+        400,
+        "parameter: session-id\n",
+    ),
+    (
+        Request::Get("/update?session-id=1&revision-number=x"),
+        400,
+        "parameter: revision-number\n",
+    ),
+    (
+        Request::Get("/databases/1/items?session-id=x&delta=x"),
+        400,
+        "parameter: session-id\n",
+    ),
+    (
+        Request::Get("/databases/1/items?session-id=1&delta=x"),
+        400,
+        "parameter: delta\n",
+    ),
+    (
+        Request::Get("/databases/1/items?session-id=1&query='a;1'"),
+        400,
+        "query: at 2 byte\n",
+    ),
+    (
+        Request::Get("/databases/1/items?session-id=1&query='a;1'&index=x"),
+        400,
+        "query: at 2 byte\n",
+    ),
+    (
+        Request::Get("/databases/1/items?session-id=1&index=x"),
+        400,
+        "parameter: index\n",
+    ),
+    (
+        Request::Get("/databases/1/browse/artists?session-id=1&query='a:1"),
+        400,
+        "query: at 4 end\n",
+    ),
+    (
+        Request::Get("/databases/1/browse/artists?session-id=1&query='a:1&filter='a;1'"),
+        400,
+        "query: at 2 byte\n",
+    ),
+    (
+        Request::Get("/databases/1/browse/artists?session-id=x&filter='a;1'"),
+        400,
+        "parameter: session-id\n",
+    ),
+];
+
+#[test]
+fn the_first_bad_parameter_is_told(rt: HostRuntime) -> Result<(), Fail> {
+    refuses(&rt, rt.alloc(), &PARAMETERS)
+}
+
+#[test]
+fn a_query_is_not_read_beside_a_filter(rt: HostRuntime) -> Result<(), Fail> {
+    let target = "/databases/1/browse/artists?session-id=1&query='a:1&filter='a:1'";
+    let mut share = opened(rt.alloc(), 16, "")?;
+    log_in(rt.alloc(), &mut share, 1)?;
+    let response = get(rt.alloc(), &mut share, target)?;
+    assert!(rt; response.status == 200);
+    assert!(rt; response.body.as_slice() == no_artists());
+    Ok(())
+}
+
+/// So many names.
+fn names(alloc: Global, count: usize) -> Result<String, Fail> {
+    let mut names = String::new(alloc);
+    for _ in 1..count {
+        names.push_str("a,")?;
+    }
+    names.push_str("a")?;
+    Ok(names)
+}
+
+/// Compares what a look at items is answered with that shows so many properties.
+fn shows(
+    rt: &impl Abort,
+    alloc: Global,
+    count: usize,
+    beside: &str,
+    status: u16,
+    line: &str,
+) -> Result<(), Fail> {
+    let meta = names(alloc, count)?;
+    let target = format!(in alloc; "/databases/1/items?session-id=9&meta={meta}{beside}")?;
+    let mut share = opened(alloc, 16, "")?;
+    let response = get(alloc, &mut share, target.as_str())?;
+    assert_eq!(rt; response.status, status);
+    assert_eq!(rt; response.body.as_slice(), line.as_bytes());
+    Ok(())
+}
+
+#[test]
+fn the_257th_name_is_refused(rt: HostRuntime) -> Result<(), Fail> {
+    let alloc = rt.alloc();
+    shows(&rt, alloc, 256, "", 403, "")?;
+    shows(&rt, alloc, 257, "", 400, "parameter: meta\n")?;
+    shows(&rt, alloc, 257, "&delta=x", 400, "parameter: delta\n")?;
+    shows(&rt, alloc, 257, "&query='a;1'", 400, "parameter: meta\n")
+}
+
+const PUT: &str = "op,kind,id\nput,item,7\n";
+
+/// Requests with their status, and the mark of session 1 behind each.
+const MARKS: [(Request, u16, u64); 22] = [
+    (Request::Get("/login"), 200, 1),
+    (Request::Post("/edit", PUT), 200, 1),
+    (Request::Get("/server-info"), 200, 1),
+    (Request::Get("/content-codes"), 200, 1),
+    (Request::Get("/databases?session-id=1"), 200, 2),
+    (Request::Post("/edit", PUT), 200, 2),
+    (Request::Get("/databases/1/items?session-id=1"), 200, 3),
+    (Request::Post("/edit", "op,kind,id\n"), 204, 3),
+    (Request::Post("/edit", PUT), 200, 3),
+    (Request::Get("/databases/1/containers?session-id=1"), 200, 4),
+    (Request::Post("/edit", PUT), 200, 4),
+    (
+        Request::Get("/databases/1/browse/albums?session-id=1"),
+        200,
+        5,
+    ),
+    (Request::Get("/login"), 200, 5),
+    (
+        Request::Get("/databases/1/items?session-id=1&delta=x"),
+        400,
+        5,
+    ),
+    (Request::Get("/update?session-id=1&revision-number=6"), 0, 5),
+    (
+        Request::Get("/databases/1/containers/7/items?session-id=1"),
+        404,
+        6,
+    ),
+    (Request::Get("/logout?session-id=2"), 204, 6),
+    (Request::Get("/databases?session-id=2"), 403, 6),
+    (Request::Post("/edit", "op,kind\n"), 400, 6),
+    (
+        Request::Get("/update?session-id=1&revision-number=5"),
+        200,
+        7,
+    ),
+    (Request::Post("/stop", ""), 204, 7),
+    (Request::Get("/databases?session-id=1"), 503, 7),
+];
+
+#[test]
+fn an_answer_to_a_session_moves_its_mark(rt: HostRuntime) -> Result<(), Fail> {
+    let mut share = opened(rt.alloc(), 16, "")?;
+    for (request, status, mark) in MARKS {
+        let response = respond(rt.alloc(), &mut share, request)?;
+        assert_eq!(rt; response.status, status);
+        assert_eq!(rt; share.seen(1), Some(mark));
+    }
+    assert!(rt; share.seen(2).is_none());
+    Ok(())
+}
