@@ -1,127 +1,594 @@
 #!/usr/bin/python3
-"""Writes the records of a folder of tagged music files, for `daapshare serve` and `daapshare edit`.
+"""Writes the records of a folder of music files, for `daapshare serve` and `daapshare edit`.
 
-    records.py FOLDER > library.csv                    all files that have tags
-    records.py FOLDER --since library.csv > changes.csv    what changed since those records were written
+    records.py FOLDER --output library.csv                        all songs and playlists
+    records.py FOLDER --since library.csv --output changes.csv    what changed since those records were written
 
-It reads tags by mutagen (Debian's package is python3-mutagen). A file's id is made from its path below the folder,
-so that a file which stays keeps its id, and a renamed file is a new item.
+Without --output the script writes to standard output. It reads tags by mutagen (Debian's package is python3-mutagen). It
+makes the id of a song from the path of its file below the folder: a file keeps its id while it has its path, and a renamed
+file is a new song. Each .m3u and .m3u8 file is a playlist with the name of the file.
+
+A song whose file is there but can't be read keeps its row: the one in the records of --since, or else in those that --output
+replaces. If more than a quarter of the songs there would be dropped, the script writes nothing, unless --drop-many is given.
+
+Standard error gets the files that are left out, and how many songs there are. Status 0: the records are written. Status 1:
+they are not, and the last line says why. Status 2: the arguments are wrong.
 """
 
 import argparse
+import codecs
 import csv
+import io
 import os
+import stat
 import sys
+import urllib.parse
 import zlib
+from collections import namedtuple
 
 import mutagen
+from mutagen._vorbis import VCommentDict
+from mutagen.apev2 import APETextValue, APEv2
+from mutagen.asf import ASFTags
+from mutagen.id3 import ID3
+from mutagen.mp4 import MP4, Atoms, MP4Tags
+from mutagen.oggtheora import OggTheora
 
-COLUMNS = [
-    "dmap.itemname", "daap.songartist", "daap.songalbum", "daap.songalbumartist", "daap.songgenre",
-    "daap.songcomposer", "daap.songformat", "daap.songyear", "daap.songtracknumber", "daap.songdiscnumber",
-    "daap.songtime", "com.apple.itunes.mediakind",
-]
-HEADER = ["op", "kind", "id"] + COLUMNS
 MOST_BYTES = 4_194_304  # of a batch
-MOST_RECORDS = 65_536
+MOST_RECORDS = 65_536  # of a batch
+MOST_LISTS = 1_024  # of a share
+MOST_TEXT = 255  # bytes of a text
+MOST_ID = 2**31 - 1  # players show larger ids as negative numbers
+
+PLAYLISTS = {"m3u", "m3u8"}
+# A file with one of these suffixes is named if it can't be read. Any other is a song if mutagen knows it, and else ignored.
+MUSIC = set(
+    "3gp aac ac3 aif aifc aiff ape asf au avi dff dsf eac3 flac m4a m4b m4p m4v mid midi mka mkv mov mp+ mp1 mp2 mp3 mp4 mpc"
+    " oga ofr ofs ogg ogv opus ra rm shn spx tak tta wav weba webm wma wmv wv".split()
+)
+
+SONG, FILM = "1", "2"  # values of com.apple.itunes.mediakind
+MEDIA_KINDS = {0: FILM, 2: "8", 6: "32", 9: FILM, 10: "64", 21: "4"}  # by the values of the MP4 tag `stik`
 
 
-def text(tags, key):
-    """The first value of a tag, at most 255 bytes long, cut between two characters."""
-    values = tags.get(key) or [""]
-    clean = " ".join(str(values[0]).split())
-    return clean.encode("utf-8", "ignore")[:255].decode("utf-8", "ignore")
+class Refusal(Exception):
+    """The line that says why nothing is written or sent."""
 
 
-def number(tags, key, digits):
-    """The number that a tag begins with, as `3` of `3/12`, or `1905` of `1905-04-02`."""
-    begin = text(tags, key)[:digits]
-    kept = begin[: next((i for i, c in enumerate(begin) if c not in "0123456789"), len(begin))]
-    return str(min(int(kept), 65_535)) if kept else ""
-
-
-def cells(path):
-    """The cells of a file's record behind its id, or None where mutagen knows no such file."""
-    try:
-        file = mutagen.File(path, easy=True)
-    except (mutagen.MutagenError, OSError) as error:
-        print(f"{path}: {error}", file=sys.stderr)
-        return None
-    if file is None:
-        return None
-    tags = file.tags or {}
-    name, kind = os.path.splitext(os.path.basename(path))
-    milliseconds = int(getattr(file.info, "length", 0) * 1000)
-    return [
-        text(tags, "title") or text({"name": [name]}, "name"), text(tags, "artist"), text(tags, "album"),
-        text(tags, "albumartist"), text(tags, "genre"), text(tags, "composer"), kind[1:].lower(),
-        number(tags, "date", 4), number(tags, "tracknumber", 5), number(tags, "discnumber", 5),
-        str(min(milliseconds, 4_294_967_295)), "1",
-    ]
-
-
-def library(folder):
-    """The cells of each file by its id."""
-    items = {}
-    for parent, folders, names in os.walk(folder):
-        folders.sort()
-        for name in sorted(names):
-            path = os.path.join(parent, name)
-            found = cells(path)
-            if found is None:
-                continue
-            key = zlib.crc32(os.path.relpath(path, folder).encode("utf-8", "surrogateescape")) or 1
-            while key in items:  # two paths with one checksum
-                key = key % 4_294_967_295 + 1
-            items[key] = found
-    return items
-
-
-def read(path):
-    """The cells by id that such records put."""
-    with open(path, newline="", encoding="utf-8") as file:
-        rows = csv.reader(file)
-        if next(rows, HEADER) != HEADER:
-            sys.exit(f"{path}: not written by this script")
-        return {int(row[2]): row[3:] for row in rows}
-
-
-def changes(old, new):
-    """The records that lead from one library to the other."""
-    blank = [""] * len(COLUMNS)
-    for key in sorted(old.keys() - new.keys()):
-        yield ["drop", "item", str(key)] + blank
-    for key in sorted(new):
-        if old.get(key) != new[key]:
-            yield ["put", "item", str(key)] + new[key]
-
-
-class Counted:
-    """Standard output, whose bytes are counted."""
+class Library:
+    """Items and playlists by id. An item is the texts of its properties by their DAAP names."""
 
     def __init__(self):
-        self.bytes = 0
+        self.items = {}
+        self.lists = {}
 
-    def write(self, piece):
-        self.bytes += len(piece.encode("utf-8"))
-        return sys.stdout.write(piece)
+
+# `members` has the ids of items by their position, counted from 1. Only a rule list has a `query`, and it has no members.
+Playlist = namedtuple("Playlist", "name members query", defaults=[None])
+
+
+# Texts and numbers of tags
+
+
+def clean(text):
+    """A text for a cell: without line breaks and control characters, cut between two characters to at most 255 bytes."""
+    text = "".join(c for c in " ".join(text.split()) if c >= " " and c != "\x7f")
+    return text.encode("utf-8", "ignore")[:MOST_TEXT].decode("utf-8", "ignore")
+
+
+def first(texts):
+    """A cell of the first text of a tag."""
+    return clean(texts[0])
+
+
+def joined(texts):
+    """A cell of all texts of a tag."""
+    return clean("; ".join(texts))
+
+
+def number(texts):
+    """A cell of the number at the start of a tag, such as `3` in `3/12`. It is empty for 0."""
+    text = texts[0].strip()
+    digits = text[: next((i for i, c in enumerate(text) if c not in "0123456789"), len(text))]
+    return capped(int(digits[:9] or 0), 65_535)
+
+
+def year(texts):
+    """A cell of the year at the start of a date, such as `1905` in `1905-04-02`."""
+    return number([texts[0].strip()[:4]])
+
+
+def flag(texts):
+    """A cell with `1` if a tag says yes, and an empty one if not."""
+    return "1" if texts[0].strip().lower() in ("1", "true", "yes") else ""
+
+
+def capped(value, most):
+    """A cell of a number, which is empty for 0."""
+    return str(min(value, most)) if value > 0 else ""
+
+
+TAG_KINDS = (ID3, MP4Tags, VCommentDict, ASFTags, APEv2)
+TAG_KEYS = {  # by DAAP name: the function that makes a cell of a tag's texts, and the key in each of these kinds of tags
+    "dmap.itemname": (first, "TIT2", "\xa9nam", "title", "Title", "Title"),
+    "daap.songartist": (joined, "TPE1", "\xa9ART", "artist", "Author", "Artist"),
+    "daap.songalbum": (first, "TALB", "\xa9alb", "album", "WM/AlbumTitle", "Album"),
+    "daap.songalbumartist": (joined, "TPE2", "aART", "albumartist", "WM/AlbumArtist", "Album Artist"),
+    "daap.songgenre": (joined, "TCON", "\xa9gen", "genre", "WM/Genre", "Genre"),
+    "daap.songcomposer": (joined, "TCOM", "\xa9wrt", "composer", "WM/Composer", "Composer"),
+    "daap.songyear": (year, "TDRC", "\xa9day", "date", "WM/Year", "Year"),
+    "daap.songtracknumber": (number, "TRCK", "trkn", "tracknumber", "WM/TrackNumber", "Track"),
+    "daap.songdiscnumber": (number, "TPOS", "disk", "discnumber", "WM/PartOfSet", "Disc"),
+    "daap.songcompilation": (flag, "TCMP", "cpil", "compilation", "WM/IsCompilation", "Compilation"),
+}
+OTHER_KEYS = {"albumartist": "album artist", "date": "year", "Album Artist": "albumartist"}  # used if a key is not there
+
+PROPERTIES = list(TAG_KEYS) + ["dmap.itemkind", "daap.songformat", "daap.songtime", "com.apple.itunes.mediakind"]
+HEADER = ["op", "kind", "id"] + PROPERTIES + ["list", "item"]
+
+
+def texts_of(value):
+    """The texts of a tag, for which mutagen has many types."""
+    value = getattr(value, "genres", None) or getattr(value, "text", value)
+    values = list(value) if isinstance(value, (list, APETextValue)) else [value]
+    return [str(one[0] if isinstance(one, tuple) else one) for one in values]
+
+
+def cells_of(tags):
+    """The cells of a file's tags."""
+    column = next((i for i, kind in enumerate(TAG_KINDS, 1) if isinstance(tags, kind)), None)
+    if column is None:
+        return {}
+    cells = {}
+    for name, row in TAG_KEYS.items():
+        value = tags.get(row[column])
+        if value is None and row[column] in OTHER_KEYS:
+            value = tags.get(OTHER_KEYS[row[column]])
+        texts = [] if value is None else texts_of(value)
+        cells[name] = row[0](texts) if texts else ""
+    return cells
+
+
+# Files
+
+
+def shown(path):
+    """A path as one line of text, whatever its bytes are."""
+    text = os.fsencode(path).decode("utf-8", "backslashreplace")
+    return "".join(c if c.isprintable() else c.encode("unicode_escape").decode() for c in text)
+
+
+def name_of(path):
+    """The name of a file without its suffix, read as UTF-8 or else as Latin-1."""
+    name = os.path.splitext(os.fsencode(os.path.basename(path)))[0]
+    try:
+        return clean(name.decode("utf-8"))
+    except UnicodeDecodeError:
+        return clean(name.decode("latin-1"))
+
+
+def suffix_of(path):
+    """The suffix of a file in lower case, without the dot."""
+    return os.path.splitext(path)[1][1:].lower()
+
+
+def why(error):
+    """The text of an error, on one line."""
+    return getattr(error, "strerror", None) or " ".join(str(error).split()) or type(error).__name__
+
+
+def has_pictures(file):
+    """Whether an MP4 file has a video track."""
+    file.seek(0)
+    for track in Atoms(file)[b"moov"].findall(b"trak"):
+        try:
+            handler = track[b"mdia", b"hdlr"]
+        except KeyError:
+            continue
+        if handler.read(file)[1][8:12] == b"vide":
+            return True
+    return False
+
+
+def media_kind(music, file, suffix):
+    """The value of com.apple.itunes.mediakind, by the file's tag if it has one."""
+    if not isinstance(music, MP4):
+        return FILM if isinstance(music, OggTheora) or suffix == "wmv" else SONG
+    kind = music.get("stik")
+    if kind:
+        return MEDIA_KINDS.get(kind[0], SONG)
+    # The video track of an .m4a or .m4b has the pictures of its chapters.
+    return FILM if suffix not in ("m4a", "m4b") and has_pictures(file) else SONG
+
+
+def read_item(path):
+    """Reads the item of a file. Returns None if mutagen does not know the format, and raises what mutagen raises."""
+    suffix = suffix_of(path)
+    with open(path, "rb") as file:
+        music = mutagen.File(file)
+        if music is None:
+            return None
+        cells = cells_of(music.tags)
+        cells["com.apple.itunes.mediakind"] = media_kind(music, file, suffix)
+    cells["dmap.itemname"] = cells.get("dmap.itemname") or name_of(path)
+    cells["dmap.itemkind"] = "2"
+    cells["daap.songformat"] = clean(suffix)
+    cells["daap.songtime"] = capped(int((getattr(music.info, "length", 0) or 0) * 1000), 4_294_967_295)
+    return {name: cell for name, cell in cells.items() if cell}
+
+
+def entries_of(path):
+    """The entries of a playlist file as bytes: its lines that are neither empty nor comments."""
+    with open(path, "rb") as file:
+        text = file.read()
+    if text.startswith(codecs.BOM_UTF8):
+        text = text[len(codecs.BOM_UTF8) :]
+    return [line for line in text.splitlines() if line.strip() and not line.startswith(b"#")]
+
+
+def meanings_of(entry):
+    """The paths that an entry of a playlist may be, the likeliest first."""
+    if entry.lower().startswith(b"file://"):
+        entry = b"/" + urllib.parse.unquote_to_bytes(entry[7:].partition(b"/")[2])
+    forms = [entry, entry.strip(), entry.replace(b"\\", b"/"), urllib.parse.unquote_to_bytes(entry)]
+    return forms + [form.decode("latin-1").encode("utf-8") for form in forms]
+
+
+class Folder:
+    """A folder of music. It can be read again and again, and then reads only the files that changed."""
+
+    def __init__(self, path):
+        self.path = os.path.abspath(path)
+        self.known = {}  # the stamp and the item of each file, by its path
+
+    def item(self, path):
+        """The item of a file, as `read_item` returns it. A pipe or a device is not opened."""
+        state = os.stat(path)
+        if not stat.S_ISREG(state.st_mode):
+            raise OSError("not a plain file")
+        stamp = (state.st_ino, state.st_size, state.st_mtime_ns, state.st_ctime_ns)
+        if path not in self.known or self.known[path][0] != stamp:
+            self.known.pop(path, None)
+            self.known[path] = (stamp, read_item(path))
+        return self.known[path][1]
+
+    def paths(self, faults):
+        """The paths of all files, sorted. Adds a line to `faults` for each folder that can't be read."""
+        try:
+            os.scandir(self.path).close()
+        except (FileNotFoundError, NotADirectoryError):
+            raise Refusal(f"{shown(self.path)}: not a folder") from None
+        except OSError as error:
+            raise Refusal(f"{shown(self.path)}: cannot be read: {why(error)}") from None
+        errors, paths = [], []
+        for parent, folders, names in os.walk(self.path, onerror=errors.append):
+            folders.sort()
+            paths += (os.path.join(parent, name) for name in sorted(names))
+        gone = (FileNotFoundError, NotADirectoryError)
+        faults += (f"{shown(e.filename)}: cannot be read: {why(e)}" for e in errors if not isinstance(e, gone))
+        return paths
+
+    def read(self, old):
+        """Reads the folder. What can't be read stays as it is in the library `old`."""
+        faults = []
+        paths = self.paths(faults)
+        reading = Reading(self, old)
+        for path in paths:
+            if suffix_of(path) not in PLAYLISTS:
+                reading.add_file(path)
+        if faults:
+            reading.keep_items(faults)
+        for path in paths:
+            if suffix_of(path) in PLAYLISTS:
+                reading.add_playlist(path)
+        if faults:
+            reading.keep_lists()
+        self.known = {path: self.known[path] for path in paths if path in self.known}
+        return reading
+
+
+class Reading:
+    """What was read of a folder: its library, and a line for each file that is left out or kept as it was."""
+
+    def __init__(self, folder, old):
+        self.folder = folder
+        self.old = old
+        self.library = Library()
+        self.lines = []
+        self.songs_out = self.lists_out = 0
+        self.ids = {}  # ids of items by the paths of their files, in bytes
+        self.unseen = set()  # ids of items that are kept because their files may be in a folder that can't be read
+        self.top = os.fsencode(folder.path)
+        self.real_top = os.path.realpath(self.top)
+
+    def checksum(self, path):
+        """The checksum of a path, given in bytes, below the folder."""
+        return zlib.crc32(os.path.relpath(path, self.top)) & MOST_ID
+
+    def free_id(self, path, taken, least):
+        """The id of a path: its checksum, or the next number from `least` on that is not taken."""
+        key = self.checksum(os.fsencode(path))
+        while key < least or key in taken:
+            key = (key + 1) & MOST_ID
+        return key
+
+    def add_file(self, path):
+        """Adds the item of a file, or the old one if the file can't be read."""
+        key = self.free_id(path, self.library.items, 1)
+        try:
+            item = self.folder.item(path)
+            fault = "mutagen does not know it" if item is None and suffix_of(path) in MUSIC else None
+        except FileNotFoundError as error:
+            item, fault = None, why(error) if os.path.islink(path) else None
+        except Exception as error:  # a broken file makes mutagen raise errors of many types
+            item, fault = None, why(error)
+        if fault is not None:
+            item = self.old.items.get(key)
+            if item is not None or suffix_of(path) in MUSIC:
+                self.lines.append(f"{shown(path)}: {'left out' if item is None else 'kept as it was'}: {fault}")
+                self.songs_out += item is None
+        if item is not None:
+            self.library.items[key] = item
+            self.ids[os.fsencode(path)] = key
+
+    def add_playlist(self, path):
+        """Adds the list of a playlist file, or the old one if the file can't be read."""
+        key = self.free_id(path, self.library.lists, 2)
+        found, fault = None, None
+        try:
+            if len(self.library.lists) == MOST_LISTS:
+                fault = f"a share has at most {MOST_LISTS} lists"
+            elif not stat.S_ISREG(os.stat(path).st_mode):
+                fault = "not a plain file"
+            else:
+                found = self.playlist(path)
+        except OSError as error:
+            gone = isinstance(error, FileNotFoundError) and not os.path.islink(path)
+            found, fault = self.old.lists.get(key), None if gone else why(error)
+        if fault is not None:
+            self.lines.append(f"{shown(path)}: {'left out' if found is None else 'kept as it was'}: {fault}")
+            self.lists_out += found is None
+        if found is not None:
+            self.library.lists[key] = found
+
+    def playlist(self, path):
+        """Reads a playlist file. Its list has the entries that are items of the folder."""
+        entries = entries_of(path)
+        keys = [self.entry_id(entry, os.path.dirname(os.fsencode(path))) for entry in entries]
+        items = [key for key in keys if key is not None]
+        if len(items) < len(entries):
+            count = f"{len(entries) - len(items)} of {len(entries)}"
+            self.lines.append(f"{shown(path)}: {count} entries are not songs of this folder")
+        return Playlist(name_of(path), dict(enumerate(items, 1)))
+
+    def entry_id(self, entry, parent):
+        """The id of the item for an entry of a playlist in the folder `parent`, or None."""
+        for form in meanings_of(entry):
+            path = os.path.normpath(os.path.join(parent, form))
+            if path.startswith(self.real_top + b"/"):
+                path = self.top + path[len(self.real_top) :]
+            key = self.ids.get(path)
+            if key is None and self.unseen and self.checksum(path) in self.unseen:
+                key = self.checksum(path)
+            if key is not None:
+                return key
+        return None
+
+    def keep_items(self, faults):
+        """Keeps all old items, because any of them may be in a folder that can't be read."""
+        self.lines += (f"{fault}: nothing is dropped" for fault in faults)
+        self.unseen = self.old.items.keys() - self.library.items.keys()
+        self.library.items.update((key, self.old.items[key]) for key in self.unseen)
+
+    def keep_lists(self):
+        """Keeps all old lists, for the same reason."""
+        self.library.lists = {**self.old.lists, **self.library.lists}
+
+    def check(self, drop_many):
+        """Refuses a library without songs. Without `drop_many` also refuses one that lacks over a quarter of the old songs."""
+        if not self.library.items:
+            raise Refusal(f"{shown(self.folder.path)}: no songs")
+        dropped = len(self.old.items.keys() - self.library.items.keys())
+        if dropped * 4 > len(self.old.items) and not drop_many:
+            count = f"{dropped} of {len(self.old.items)} songs"
+            raise Refusal(f"{shown(self.folder.path)}: {count} would be dropped: more than a quarter needs --drop-many")
+
+    def summary(self):
+        """The lines that say how many songs and playlists there are."""
+        yield f"{len(self.library.items)} songs, {self.songs_out} left out"
+        if self.library.lists or self.lists_out:
+            yield f"{len(self.library.lists)} playlists, {self.lists_out} left out"
+
+
+# Records
+
+
+def differences(old, new):
+    """The records that turn one library into another, each as cells by column. Drops come first."""
+    for key in sorted(old.items.keys() - new.items.keys()):
+        yield {"op": "drop", "kind": "item", "id": key}
+    for key in sorted(old.lists.keys() - new.lists.keys()):
+        yield {"op": "drop", "kind": "list", "id": key}
+    for key in sorted(new.items):
+        if old.items.get(key) != new.items[key]:
+            yield {"op": "put", "kind": "item", "id": key, **new.items[key]}
+    for key in sorted(new.lists):
+        yield from list_differences(key, old.lists.get(key), new.lists[key])
+
+
+def list_differences(key, old, new):
+    """The records that turn a list into another with the same id. Putting a list removes its members."""
+    members = old.members if old else {}
+    if old is None or (old.name, old.query) != (new.name, new.query):
+        rule = {} if new.query is None else {"query": new.query}
+        yield {"op": "put", "kind": "rule" if rule else "list", "id": key, "dmap.itemname": new.name, **rule}
+        members = {}
+    for place in sorted(members.keys() - new.members.keys()):
+        yield {"op": "drop", "kind": "member", "id": place, "list": key}
+    for place, item in sorted(new.members.items()):
+        if members.get(place) != item:
+            yield {"op": "put", "kind": "member", "id": place, "list": key, "item": item}
+
+
+def counts(records):
+    """How many songs and lists the records put, and how many they drop. A list counts as put if its members change."""
+    things = {"put": set(), "drop": set()}
+    for record in records:
+        if record["kind"] == "member":
+            things["put"].add(("list", record["list"]))
+        else:
+            things[record["op"]].add(("item" if record["kind"] == "item" else "list", record["id"]))
+    return len(things["put"]), len(things["drop"])
+
+
+def line_of(cells):
+    """A line of comma separated text, in bytes."""
+    text = io.StringIO()
+    csv.writer(text, lineterminator="\n").writerow(cells)
+    return text.getvalue().encode("utf-8")
+
+
+def lines_of(records):
+    """The header line, and the lines of the records."""
+    others = {name for record in records for name in record} - set(HEADER)
+    header = HEADER + sorted(others)
+    return line_of(header), [line_of(record.get(name, "") for name in header) for record in records]
+
+
+def batches(records):
+    """Yields the records in batches, each with a header and within the limits of a batch."""
+    head, lines = lines_of(records)
+    batch, size = [], len(head)
+    for line in lines:
+        if batch and (size + len(line) > MOST_BYTES or len(batch) == MOST_RECORDS):
+            yield head + b"".join(batch)
+            batch, size = [], len(head)
+        batch.append(line)
+        size += len(line)
+    if batch:
+        yield head + b"".join(batch)
+
+
+def apply(library, row):
+    """Applies a record to a library."""
+    key = int(row["id"])
+    what = row["op"], row["kind"]
+    if what == ("put", "item"):
+        cells = {name: cell for name, cell in row.items() if cell and name not in ("op", "kind", "id", "query", "list", "item")}
+        library.items[key] = cells
+    elif what == ("drop", "item"):
+        library.items.pop(key, None)
+    elif what in (("put", "list"), ("put", "rule")):
+        library.lists[key] = Playlist(row.get("dmap.itemname", ""), {}, row["query"] if what[1] == "rule" else None)
+    elif what == ("drop", "list"):
+        library.lists.pop(key, None)
+    elif what[1] == "member":
+        apply_member(library.lists.get(int(row["list"])), key, row)
+    else:
+        raise ValueError(what)
+
+
+def apply_member(playlist, place, row):
+    """Applies a member's record to a list. Only a plain list has members."""
+    if playlist is None or playlist.query is not None:
+        return
+    if row["op"] == "put":
+        playlist.members[place] = int(row["item"])
+    else:
+        playlist.members.pop(place, None)
+
+
+def read_records(path):
+    """The library after the records of a file."""
+    library = Library()
+    try:
+        with open(path, newline="", encoding="utf-8-sig") as file:
+            rows = csv.DictReader(file)
+            if rows.fieldnames and rows.fieldnames[:3] != HEADER[:3]:
+                raise ValueError(rows.fieldnames)
+            for row in rows:
+                if None in row or None in row.values():
+                    raise ValueError(row)
+                apply(library, row)
+    except OSError as error:
+        raise Refusal(f"{shown(path)}: cannot be read: {why(error)}") from None
+    except (ValueError, KeyError, csv.Error):
+        raise Refusal(f"{shown(path)}: not records") from None
+    return library
+
+
+# The command
+
+
+def is_replaced(path):
+    """Whether --output replaces a file. A pipe or a device is written to."""
+    return path is not None and os.path.isfile(path)
+
+
+def write(data, path):
+    """Writes bytes to standard output, or to a file, which then has all of them or stays as it was."""
+    if path is None or (os.path.exists(path) and not is_replaced(path)):
+        with open(sys.stdout.fileno() if path is None else path, "wb", closefd=path is not None) as file:
+            file.write(data)
+        return
+    path = os.path.realpath(path)
+    beside = f"{path}.{os.getpid()}.new"
+    try:
+        with open(beside, "xb") as file:
+            file.write(data)
+            file.flush()
+            os.fsync(file.fileno())
+        os.replace(beside, path)
+    except BaseException:
+        if os.path.exists(beside):
+            os.remove(beside)
+        raise
+
+
+def words():
+    """Reads the arguments."""
+    form = argparse.RawDescriptionHelpFormatter
+    parser = argparse.ArgumentParser(description=__doc__, formatter_class=form)
+    parser.add_argument("folder", metavar="FOLDER")
+    parser.add_argument("--since", metavar="RECORDS", help="write only the changes since these records")
+    parser.add_argument("--output", metavar="FILE", help="replace this file, once all is written")
+    parser.add_argument("--drop-many", action="store_true", help="even if that drops more than a quarter of the songs")
+    asked = parser.parse_args()
+    if asked.since and asked.output and os.path.realpath(asked.since) == os.path.realpath(asked.output):
+        parser.error("--since and --output are the same file")
+    return asked
+
+
+def run(asked):
+    """Writes the records, and on standard error what was read."""
+    before = asked.since or (asked.output if is_replaced(asked.output) else None)
+    old = read_records(before) if before else Library()
+    reading = Folder(asked.folder).read(old)
+    for line in reading.lines:
+        print(line, file=sys.stderr)
+    reading.check(asked.drop_many)
+    records = list(differences(old if asked.since else Library(), reading.library))
+    head, lines = lines_of(records)
+    data = head + b"".join(lines)
+    try:
+        write(data, asked.output)
+    except OSError as error:
+        raise Refusal(f"{shown(asked.output or 'standard output')}: cannot be written: {why(error)}") from None
+    for line in reading.summary():
+        print(line, file=sys.stderr)
+    if len(lines) > MOST_RECORDS or len(data) > MOST_BYTES:
+        print(f"{len(lines)} records of {len(data)} bytes: send them in several batches", file=sys.stderr)
 
 
 def main():
-    parser = argparse.ArgumentParser(description=__doc__.splitlines()[0])
-    parser.add_argument("folder")
-    parser.add_argument("--since", metavar="RECORDS")
-    asked = parser.parse_args()
-    sys.stdout.reconfigure(encoding="utf-8")
-    old = read(asked.since) if asked.since else {}
-    rows = list(changes(old, library(asked.folder)))
-    output = Counted()
-    writer = csv.writer(output, lineterminator="\n")
-    writer.writerow(HEADER)
-    writer.writerows(rows)
-    if len(rows) > MOST_RECORDS or output.bytes > MOST_BYTES:
-        print(f"{len(rows)} records of {output.bytes} bytes: send them in several batches", file=sys.stderr)
+    asked = words()
+    try:
+        run(asked)
+    except Refusal as refusal:
+        print(refusal, file=sys.stderr)
+        return 1
+    return 0
 
 
 if __name__ == "__main__":
-    main()
+    sys.exit(main())

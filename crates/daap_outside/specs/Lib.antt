@@ -1,7 +1,9 @@
 pub mod Counts
+pub mod Faults
 pub mod Told
 pub mod Places
 pub mod NetCounts
+pub mod Open
 pub mod MemSource
 pub mod MemSink
 pub mod Kept

@@ -1,5 +1,6 @@
 -- What a link in memory is made of: a source and a sink, with one count of its own.
-use Rattle.std.specs.Prelude.{◌≡◌, ℕ, nat_lt, []}
+use Rattle.std.specs.Prelude.{◌≡◌, ℕ, ◌+◌, ◌-◌, ◌^◌, min, nat_lt, List, []}
+use Rattle.std.specs.Option.{option_map_or}
 use Rattle.daap_outside.specs.declared.memory.link.MemLink.{MemLink}
 use Rattle.daap_outside.specs.declared.memory.source.MemSource.{MemSource}
 use Rattle.daap_outside.specs.declared.memory.sink.MemSink.{MemSink}
@@ -17,6 +18,24 @@ output_of link = link.output
 -- the faults of both directions
 abbrev pub faults_of : MemLink → ℕ
 faults_of link = link.faults
+
+-- the numbers of the probes that fail
+abbrev pub failing_probes : MemLink → List ℕ
+failing_probes link = option_map_or (λ failing. failing.items) link.failing []
+
+-- the number of the next probe, which stays at the last number of its type
+abbrev pub next_probe : MemLink → ℕ
+next_probe link = min (link.probes + 1) (2 ^ 64 - 1)
+
+-- a probe was counted, and the link is set as before
+pub record CountsProbe (before now : MemLink) : Type 0 where
+  pub number : next_probe now ≡ min (next_probe before + 1) (2 ^ 64 - 1)
+  pub failing : failing_probes now ≡ failing_probes before
+
+-- no probe was counted, and the link is set as before
+pub record ProbesStay (before now : MemLink) : Type 0 where
+  pub number : next_probe now ≡ next_probe before
+  pub failing : failing_probes now ≡ failing_probes before
 
 -- nothing was written to it, and no call on it failed
 pub record IsNew (link : MemLink) : Type 0 where

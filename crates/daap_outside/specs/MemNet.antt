@@ -41,6 +41,10 @@ written_of net = kept_items net.written
 abbrev pub written_room : MemNet → ℕ
 written_room net = kept_room net.written
 
+-- how many doors and links are open
+abbrev pub open_of : MemNet → ℕ
+open_of net = net.open_count
+
 -- the numbers of the calls that fail
 abbrev pub failing_calls : MemNet → List ℕ
 failing_calls net = net.failing.items
@@ -62,6 +66,7 @@ pub record IsSetAlike (before now : MemNet) : Type 0 where
   pub written_space : written_room now ≡ written_room before
   pub failing : failing_calls now ≡ failing_calls before
   pub number : next_call now ≡ next_call before
+  pub open_count : now.open_count ≡ before.open_count
   pub faults : now.faults ≡ before.faults
 
 -- told places with one more behind them, where they have room for it and it is no longer than a host's name and a port can be

@@ -1,8 +1,6 @@
--- What the calls of doors, nets and files do to the lists that these tell.
-use Rattle.std.specs.Prelude.{◌≡◌, ℕ, Bool, nat_lt, List, [], ◌∷◌, map, length, take, drop, ⊤, Some, None, Option, option_map, unwrap_or}
-use Rattle.std.specs.FinMap as map
-use Rattle.std.specs.Cmp.Lexicographic.{slice_cmp}
-use Rattle.std.specs.Ordering.{nat_cmp}
+-- What the calls of doors and nets do to the lists that these tell.
+use Rattle.std.specs.Prelude.{◌≡◌, ℕ, Bool, nat_lt, List, [], ◌∷◌, map, length, take, drop, ⊤, Some, None, Option, option_map}
+pub use Rattle.outside_disks.specs.Contents.{Contents, OpensFile, ClosesFile}
 
 -- a link that was given back: the bytes that it had taken, and whether a fault was counted on it
 abbrev pub Returned : Type 0
@@ -27,18 +25,3 @@ abbrev pub OpensDoors : Option (List (List (List ℕ))) → Option (List (List (
 OpensDoors None now coming = ⊤
 OpensDoors (Some links) now coming =
     (coming ≡ map (λ inputs. Some inputs) (take (length coming) links)) × (now ≡ Some (drop (length coming) links))
-
--- a finite map from the names of files to their bytes
-abbrev pub Contents : Type 0
-Contents = map.FinMap (slice_cmp nat_cmp) (List ℕ)
-
--- an opened disk has the bytes that are kept under its name, or no bytes
-abbrev pub OpensFile : Option Contents → List ℕ → Option (List ℕ) → Option (List ℕ) → Type 0
-OpensFile None name opened_as bytes = ⊤
-OpensFile (Some contents) name opened_as bytes =
-    (opened_as ≡ Some name) × (bytes ≡ Some (unwrap_or (map.get contents name) []))
-
--- a closed disk leaves its bytes under the name that was opened, and the bytes of other names as they were
-abbrev pub ClosesFile : Option Contents → Option Contents → Option (List ℕ) → Option (List ℕ) → Type 0
-ClosesFile (Some contents) now (Some name) (Some bytes) = now ≡ Some (map.insert contents name bytes)
-ClosesFile contents now opened_as bytes = ⊤

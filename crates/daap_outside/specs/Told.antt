@@ -1,6 +1,7 @@
 -- What calls do to bytes and lists that an object tells. What it does not tell has no rule.
-use Rattle.std.specs.Prelude.{◌≡◌, ℕ, ◌≤◌, List, [], ◌++◌, length, take, ⊤, ◌↔◌, Some, None, Option}
+use Rattle.std.specs.Prelude.{◌≡◌, ℕ, ◌≤◌, List, [], length, take, ⊤, ◌↔◌, Some, None, Option}
 use Rattle.std.specs.Io.KnownBytes.{Appends}
+pub use Rattle.outside_disks.specs.Told.{Grows}
 
 -- a read answers 0 exactly where no byte was left
 abbrev pub AnswersEnd : Option (List ℕ) → ℕ → Type 0
@@ -20,13 +21,6 @@ IsEmptyIfTold (Some xs) = xs ≡ []
 abbrev pub BeginsEmpty : {A B : Type 0} → Option (List A) → Option (List B) → Type 0
 BeginsEmpty None begun = IsEmptyIfTold begun
 BeginsEmpty (Some kept) begun = begun ≡ Some []
-
--- a told list grows by these at its end, or is told no more; one that was not told stays so
-abbrev pub Grows : {A : Type 0} → Option (List A) → Option (List A) → List A → Type 0
-Grows None None more = ⊤
-Grows None (Some now) more = ⊥
-Grows (Some before) None more = ⊤
-Grows (Some before) (Some now) more = now ≡ before ++ more
 
 -- the same by a list that may not be told; then it is told no more
 abbrev pub GrowsByTold : {A : Type 0} → Option (List A) → Option (List A) → Option (List A) → Type 0

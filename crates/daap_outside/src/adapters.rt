@@ -1,9 +1,9 @@
 //! Sources and sinks over std's readers and writers: the edge that is trusted to tell the truth.
 ghost use Rattle.std.specs.Prelude.{◌≡◌, None};
 
-use crate::faulted::{Failed, Faulted, counted};
 use crate::sink::Sink;
 use crate::source::Source;
+use outside_disks::{Failed, Faulted, counted};
 use std::io::{Read, Write};
 
 /// A source over a reader of std. It tells the bytes that the reader is known to have left.

@@ -4,8 +4,6 @@
 #![tactic(auto)]
 
 mod adapters;
-mod faulted;
-mod files;
 mod link;
 mod memory;
 mod net;
@@ -17,18 +15,19 @@ mod tcp;
 mod tests;
 
 pub use adapters::{Reading, Writing};
-pub use faulted::{Failed, Faulted};
-pub use files::{Disk, Files};
 pub use link::Link;
 pub use memory::asked::Asked;
 pub use memory::door::MemDoor;
-pub use memory::files::{MemDisk, MemFiles};
 pub use memory::link::{MemLink, Returned};
 pub use memory::net::MemNet;
 pub use memory::sink::MemSink;
 pub use memory::source::MemSource;
 pub use net::{Door, Net, NetError};
+pub use outside_disks::{
+    Disk, DiskCall, DiskOp, Failed, Faulted, FileDisk, Files, MemDisk, MemFiles, SystemFiles,
+};
 pub use reading::{ReadError, read_within};
 pub use sink::{Sink, put_all};
 pub use source::Source;
-pub use tcp::{READ_SECONDS, TcpDoor, TcpLink, TcpNet, WRITE_SECONDS};
+pub use tcp::link::{READ_SECONDS, TcpLink, WRITE_SECONDS};
+pub use tcp::{HELD_SECONDS, TcpDoor, TcpNet};

@@ -3,7 +3,6 @@ ghost use Rattle.std.specs.Prelude.{◌≡◌, IfOk};
 
 pub mod asked;
 pub mod door;
-pub mod files;
 mod kept;
 pub mod link;
 pub mod net;

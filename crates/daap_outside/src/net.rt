@@ -4,10 +4,11 @@ ghost use Rattle.daap_outside.specs.Counts.{CountsFaults, Rose, RisesWith};
 ghost use Rattle.daap_outside.specs.Told.{BeginsEmpty, Grows, GrowsByTold};
 ghost use Rattle.daap_outside.specs.Places.{Accepts, OpensDoors, Returned, returned};
 ghost use Rattle.daap_outside.specs.NetCounts.{CountsNetFaults};
+ghost use Rattle.daap_outside.specs.Open.{Opens, Closes};
 ghost use Rattle.daap_outside.specs.declared.net.NetError.TheVariants.{Failed as failed, Memory};
 
-use crate::faulted::{Failed, Faulted};
 use crate::link::Link;
+use outside_disks::{Failed, Faulted};
 use std::alloc::AllocError;
 use thiserror::Error;
 
@@ -89,6 +90,9 @@ pub trait Net: Faulted {
     // The input of the link that is connected next, where it is told.
     ghost next_input: { Self → Option (List ℕ) };
 
+    // How many doors and connected links are open: those that were given and not given back.
+    ghost open_count: { Self → ℕ };
+
     /// Opens a number of doors to one place.
     fn listen(&mut self, place: &str, number: u32) -> Result<Vec<Self::D>, NetError>
         ensures as_many { IfOk result (λ ds. length ds.items ≡ number) }
@@ -101,6 +105,7 @@ pub trait Net: Faulted {
         ensures asks { Grows (asked self.old) (asked self.new) ((place.now, number) ∷ []) }
         ensures written_stays { written self.new ≡ written self.old }
         ensures next_stays { next_input self.new ≡ next_input self.old }
+        ensures opens { Opens (open_count self.old) (open_count self.new) number result }
         ensures count { CountsNetFaults (Self.faults self.old) (Self.faults self.new) result };
 
     /// Connects to a place.
@@ -112,6 +117,7 @@ pub trait Net: Faulted {
         ensures asks { Grows (asked self.old) (asked self.new) ((place.now, 0) ∷ []) }
         ensures written_stays { written self.new ≡ written self.old }
         ensures links_stay { door_links self.new ≡ door_links self.old }
+        ensures opens { Opens (open_count self.old) (open_count self.new) 1 result }
         ensures count { CountsFaults (Self.faults self.old) (Self.faults self.new) result };
 
     /// Ends a door that this net opened. It needs no memory.
@@ -120,6 +126,7 @@ pub trait Net: Faulted {
         ensures written_grows { GrowsByTold (written self.old) (written self.new) (Self.D.written door) }
         ensures links_stay { door_links self.new ≡ door_links self.old }
         ensures next_stays { next_input self.new ≡ next_input self.old }
+        ensures closes { Closes (open_count self.old) (open_count self.new) }
         ensures count { RisesWith (Self.faults self.old) (Self.faults self.new) (Self.D.faults door) };
 
     /// Ends a link that this net connected. It needs no memory.
@@ -129,5 +136,6 @@ pub trait Net: Faulted {
             (returned (Self.L.taken link) (Self.L.faults link)) }
         ensures links_stay { door_links self.new ≡ door_links self.old }
         ensures next_stays { next_input self.new ≡ next_input self.old }
+        ensures closes { Closes (open_count self.old) (open_count self.new) }
         ensures count { RisesWith (Self.faults self.old) (Self.faults self.new) (Self.L.faults link) };
 }

@@ -4,8 +4,8 @@ ghost use Rattle.std.specs.Io.KnownBytes.{Consumes, IsAtEnd};
 ghost use Rattle.daap_outside.specs.Reading.{ConsumesUpTo, CountsReadFaults};
 ghost use Rattle.daap_outside.specs.declared.reading.ReadError.TheVariants.{Failed as failed, Memory};
 
-use crate::faulted::Failed;
 use crate::source::Source;
+use outside_disks::Failed;
 use std::alloc::{AllocError, Global};
 use thiserror::Error;
 

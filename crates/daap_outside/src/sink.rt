@@ -4,7 +4,7 @@ ghost use Rattle.std.specs.Io.KnownBytes.{Appends, WriteAppends};
 ghost use Rattle.daap_outside.specs.Counts.{CountsFaults};
 ghost use Rattle.daap_outside.specs.Told.{AppendsPrefix};
 
-use crate::faulted::{Failed, Faulted};
+use outside_disks::{Failed, Faulted};
 
 /// A stream of bytes to write.
 pub trait Sink: Faulted {

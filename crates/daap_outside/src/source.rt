@@ -5,7 +5,7 @@ ghost use Rattle.std.specs.Io.KnownBytes.{ReadConsumes};
 ghost use Rattle.daap_outside.specs.Counts.{CountsFaults};
 ghost use Rattle.daap_outside.specs.Told.{AnswersEnd};
 
-use crate::faulted::{Failed, Faulted};
+use outside_disks::{Failed, Faulted};
 
 /// A stream of bytes to read.
 pub trait Source: Faulted {

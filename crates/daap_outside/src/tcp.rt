@@ -1,96 +1,30 @@
 //! Links, doors and nets over TCP sockets of std: the edge that is trusted to tell the truth.
-//! Of bytes they tell contracts nothing; the counts of faults are all that is known of them.
-ghost use Rattle.std.specs.Prelude.{◌≡◌, ℕ, ◌≤◌, List, [], All, None, IfOk, length, refl};
+//! Of bytes they tell contracts nothing; the counts of faults and of what is open are all that is known of them.
+ghost use Rattle.std.specs.Prelude.{◌≡◌, All, None, IfOk, length};
 
-use crate::faulted::{Failed, Faulted, counted};
-use crate::link::Link;
-use crate::net::{Door, Net, NetError};
-use crate::sink::Sink;
-use crate::source::Source;
-use std::alloc::{AllocError, Global};
-use std::io::{ErrorKind, Read, Write};
-use std::net::{SocketAddr, TcpListener, TcpStream};
-use std::time::Duration;
-use std::{io, net};
-
+mod accepting;
+pub mod link;
 #[cfg(test)]
 mod tests;
 
-/// How long a read waits for the peer, in seconds. It is what `/server-info` announces as the time
-/// after which a silent client is let go, so that none which keeps to it is cut off, and one that
-/// has gone without a word frees its worker.
-pub const READ_SECONDS: u64 = 1_800;
+use crate::net::{Door, Net, NetError};
+use crate::tcp::accepting::next_stream;
+use crate::tcp::link::{Holding, TcpLink, set_options};
+use outside_disks::{Failed, Faulted, counted};
+use std::alloc::{AllocError, Global};
+use std::net::{SocketAddr, TcpListener, TcpStream};
+use std::sync::Arc;
+use std::sync::atomic::{AtomicU64, Ordering};
+use std::time::{Clock, Duration};
+use std::{io, net};
 
-/// How long a write waits for the peer to take anything, in seconds. Whoever asked for a reply and
-/// takes no byte of it for a minute has gone or is stuck, and frees its worker.
-pub const WRITE_SECONDS: u64 = 60;
+/// How long an update may be held, in seconds, before its connection is ended because no door of its
+/// place waits for a link. A peer that vanished without a word sends no end, and this frees its
+/// worker. A peer that is still there sees its connection closed, and may ask again.
+pub const HELD_SECONDS: u64 = 300;
 
 // How long a nudge tries to reach a place. One that lets it wait has callers enough to wake it.
 const NUDGE_SECONDS: u64 = 1;
-
-/// A connection over TCP. A read or a write that waits too long counts a fault.
-#[derive(Drop)]
-pub struct TcpLink {
-    stream: TcpStream,
-    faults: u64,
-}
-
-impl TcpLink {
-    // What is written goes out at once, so that the body of a reply never waits until its head is acknowledged.
-    fn over(stream: TcpStream) -> io::Result<TcpLink>
-        ensures { IfOk result (λ link. link.faults ≡ 0) }
-    {
-        stream.set_nodelay(true)?;
-        stream.set_read_timeout(Some(Duration::from_secs(READ_SECONDS)))?;
-        stream.set_write_timeout(Some(Duration::from_secs(WRITE_SECONDS)))?;
-        Ok(TcpLink { stream, faults: 0 })
-    }
-}
-
-impl Faulted for TcpLink {
-    ghost faults = { λ link. link.faults };
-}
-
-impl Source for TcpLink {
-    ghost left = { λ _. None };
-
-    ghost beside_left = { λ _. None };
-
-    // A program that was stopped and goes on finds its waits interrupted: they begin again.
-    fn read(&mut self, room: &mut [u8]) -> Result<usize, Failed> {
-        for _ in 0..u64::MAX {
-            match self.stream.read(room) {
-                Ok(n) => return Ok(n),
-                Err(error) if error.kind() == ErrorKind::Interrupted => {}
-                Err(_) => break,
-            }
-        }
-        Err(counted(&mut self.faults))
-    }
-}
-
-impl Sink for TcpLink {
-    ghost taken = { λ _. None };
-
-    ghost beside_taken = { λ _. None };
-
-    fn write(&mut self, piece: &[u8]) -> Result<usize, Failed> {
-        for _ in 0..u64::MAX {
-            match self.stream.write(piece) {
-                Ok(n) if n > 0 => return Ok(n),
-                Err(error) if error.kind() == ErrorKind::Interrupted => {}
-                _ => break,
-            }
-        }
-        Err(counted(&mut self.faults))
-    }
-}
-
-impl Link for TcpLink {
-    ghost read_leaves_taken = { λ _. refl };
-
-    ghost write_leaves_left = { λ _. refl };
-}
 
 /// A clone of the listener of its place. Links keep coming: it never answers that none will.
 #[derive(Drop)]
@@ -99,6 +33,9 @@ pub struct TcpDoor<R> {
     listener: TcpListener,
     // The places that its net has opened doors to, its own among them.
     places: Vec<SocketAddr>,
+    // How many doors of its place wait for a link.
+    waiting: Arc<AtomicU64, Global>,
+    held_limit: Duration,
     faults: u64,
 }
 
@@ -106,17 +43,27 @@ impl<R> Faulted for TcpDoor<R> {
     ghost faults = { λ door. door.faults };
 }
 
-impl<R: net::Net<Listener = TcpListener, Stream = TcpStream> + Copy> Door for TcpDoor<R> {
-    type L = TcpLink;
+impl<R> Door for TcpDoor<R>
+where
+    R: net::Net<Listener = TcpListener, Stream = TcpStream> + Clock + Copy + Send,
+{
+    type L = TcpLink<R>;
 
     ghost coming = { λ _. None };
 
     ghost written = { λ _. None };
 
-    fn accept(&mut self) -> Result<Option<TcpLink>, Failed> {
-        match accepted(&self.listener) {
-            Ok(link) => Ok(Some(link)),
-            Err(_) => Err(counted(&mut self.faults)),
+    fn accept(&mut self) -> Result<Option<TcpLink<R>>, Failed> {
+        self.waiting.fetch_add(1, Ordering::SeqCst);
+        let next = next_stream(&self.rt, &self.listener);
+        self.waiting.fetch_sub(1, Ordering::SeqCst);
+        match (next, Arc::try_clone(&self.waiting)) {
+            (Some(stream), Ok(waiting)) => {
+                let limit = self.held_limit;
+                let holding = Some(Holding { waiting, limit });
+                Ok(Some(TcpLink::new(self.rt, stream, holding)))
+            }
+            _ => Err(counted(&mut self.faults)),
         }
     }
 
@@ -130,14 +77,11 @@ impl<R: net::Net<Listener = TcpListener, Stream = TcpStream> + Copy> Door for Tc
         }
     }
 
-    fn done(&mut self, _link: TcpLink) {}
-}
-
-fn accepted(listener: &TcpListener) -> io::Result<TcpLink>
-    ensures { IfOk result (λ link. link.faults ≡ 0) }
-{
-    let (stream, _peer) = listener.accept()?;
-    TcpLink::over(stream)
+    fn done(&mut self, mut link: TcpLink<R>) {
+        if link.faults == 0 {
+            link.goodbye();
+        }
+    }
 }
 
 /// Opens doors and connects links by std's sockets. A place is an address or a host's name, a
@@ -147,24 +91,32 @@ pub struct TcpNet<R> {
     rt: R,
     alloc: Global,
     places: Vec<SocketAddr>,
+    held_limit: Duration,
+    open_count: u64,
     faults: u64,
 }
 
 impl<R: Copy> TcpNet<R> {
-    /// A net with no fault counted.
+    /// A net with no fault counted, and with nothing open.
     pub fn new(rt: R, alloc: Global) -> TcpNet<R>
-        ensures { ⟦<TcpNet<R> as Faulted>⟧.faults result ≡ 0 }
+        ensures faults { result.faults ≡ 0 }
+        ensures open_count { result.open_count ≡ 0 }
     {
         TcpNet {
             rt,
             alloc,
             places: Vec::new(alloc),
+            held_limit: Duration::from_secs(HELD_SECONDS),
+            open_count: 0,
             faults: 0,
         }
     }
 }
 
-impl<R: net::Net<Listener = TcpListener, Stream = TcpStream> + Copy> TcpNet<R> {
+impl<R> TcpNet<R>
+where
+    R: net::Net<Listener = TcpListener, Stream = TcpStream> + Copy,
+{
     // Listens at a place, which is then the last of those that the net has opened doors to.
     fn bound(&self, place: &str) -> Result<(TcpListener, Vec<SocketAddr>), NetError> {
         let mut places = Vec::from_slice(self.alloc, self.places.as_slice())?;
@@ -189,6 +141,10 @@ impl<R: net::Net<Listener = TcpListener, Stream = TcpStream> + Copy> TcpNet<R> {
         ensures fresh { IfOk result (λ opened. All (λ door. door.faults ≡ 0) opened.0.items) }
     {
         let (listener, places) = self.bound(place)?;
+        let waiting = match Arc::new(self.alloc, AtomicU64::new(0)) {
+            Ok(waiting) => waiting,
+            Err(_) => return Err(NetError::Memory),
+        };
         let mut doors = Vec::with_capacity(self.alloc, number as usize)?;
         for _ in 0..number {
             let Ok(listener) = listener.try_clone() else {
@@ -198,6 +154,8 @@ impl<R: net::Net<Listener = TcpListener, Stream = TcpStream> + Copy> TcpNet<R> {
                 rt: self.rt,
                 listener,
                 places: Vec::from_slice(self.alloc, places.as_slice())?,
+                waiting: Arc::try_clone(&waiting)?,
+                held_limit: self.held_limit,
                 faults: 0,
             });
         }
@@ -209,8 +167,11 @@ impl<R> Faulted for TcpNet<R> {
     ghost faults = { λ net. net.faults };
 }
 
-impl<R: net::Net<Listener = TcpListener, Stream = TcpStream> + Copy + Send> Net for TcpNet<R> {
-    type L = TcpLink;
+impl<R> Net for TcpNet<R>
+where
+    R: net::Net<Listener = TcpListener, Stream = TcpStream> + Clock + Copy + Send,
+{
+    type L = TcpLink<R>;
 
     type D = TcpDoor<R>;
 
@@ -222,10 +183,13 @@ impl<R: net::Net<Listener = TcpListener, Stream = TcpStream> + Copy + Send> Net 
 
     ghost next_input = { λ _. None };
 
+    ghost open_count = { λ net. net.open_count };
+
     fn listen(&mut self, place: &str, number: u32) -> Result<Vec<TcpDoor<R>>, NetError> {
         match self.opened(place, number) {
             Ok((doors, places)) => {
                 self.places = places;
+                self.open_count = self.open_count.saturating_add(u64::from(number));
                 Ok(doors)
             }
             Err(NetError::Failed) => Err(NetError::from(counted(&mut self.faults))),
@@ -233,28 +197,34 @@ impl<R: net::Net<Listener = TcpListener, Stream = TcpStream> + Copy + Send> Net 
         }
     }
 
-    fn connect(&mut self, place: &str) -> Result<TcpLink, Failed> {
+    fn connect(&mut self, place: &str) -> Result<TcpLink<R>, Failed> {
         match connected(&self.rt, place) {
-            Ok(link) => Ok(link),
+            Ok(stream) => {
+                self.open_count = self.open_count.saturating_add(1);
+                Ok(TcpLink::new(self.rt, stream, None))
+            }
             Err(_) => Err(counted(&mut self.faults)),
         }
     }
 
     fn shut(&mut self, door: TcpDoor<R>) {
+        self.open_count = self.open_count.saturating_sub(1);
         if door.faults > 0 {
             counted(&mut self.faults);
         }
     }
 
-    fn hang_up(&mut self, link: TcpLink) {
+    fn hang_up(&mut self, link: TcpLink<R>) {
+        self.open_count = self.open_count.saturating_sub(1);
         if link.faults > 0 {
             counted(&mut self.faults);
         }
     }
 }
 
-fn connected<R: net::Net<Stream = TcpStream>>(rt: &R, place: &str) -> io::Result<TcpLink>
-    ensures { IfOk result (λ link. link.faults ≡ 0) }
-{
-    TcpLink::over(TcpStream::connect(rt, place)?)
+// A connection whose reads wait for the peer as long as that takes.
+fn connected<R: net::Net<Stream = TcpStream>>(rt: &R, place: &str) -> io::Result<TcpStream> {
+    let stream = TcpStream::connect(rt, place)?;
+    set_options(&stream, None)?;
+    Ok(stream)
 }

@@ -220,6 +220,21 @@ fn a_link_fails_at_each_read_and_each_write_in_turn(rt: HostRuntime) -> Result<(
     Ok(())
 }
 
+#[test]
+fn a_link_fails_at_the_probes_that_are_set_to(rt: HostRuntime) -> Result<(), Fail> {
+    let alloc = rt.alloc();
+    let input = MemSource::new(alloc, b"abc", 2, &[])?;
+    let output = MemSink::new(alloc, 9, 2, &[])?;
+    let mut link = MemLink::with_failing_probes(alloc, input, output, &[2])?;
+    assert_eq!(rt;
+        (link.probe().is_ok(), exchanged(&mut link)),
+        (true, (false, false))
+    );
+    assert_eq!(rt; (link.probe().is_err(), link.probe().is_ok()), (true, true));
+    assert!(rt; is_back(&link.returned(), b"xy", true));
+    Ok(())
+}
+
 // A link with an input, and room for 9 bytes.
 fn linked(alloc: Global, input: &[u8]) -> Result<MemLink, AllocError>
     ensures { IfOk result IsNew }

@@ -45,9 +45,19 @@ fn none_left() -> &'static [u8] {
     b"adbs\0\0\0Imstt\0\0\0\x04\0\0\0\xc8muty\0\0\0\x01\x01musr\0\0\0\x04\0\0\0\x04mtco\0\0\0\x04\0\0\0\0mrco\0\0\0\x04\0\0\0\0mlcl\0\0\0\0mudl\0\0\0\0"
 }
 
-/// The change at revision 5 since revision 3: a song came and went.
-fn nine_dropped() -> &'static [u8] {
-    b"adbs\0\0\0Umstt\0\0\0\x04\0\0\0\xc8muty\0\0\0\x01\x01musr\0\0\0\x04\0\0\0\x05mtco\0\0\0\x04\0\0\0\0mrco\0\0\0\x04\0\0\0\0mlcl\0\0\0\0mudl\0\0\0\x0cmiid\0\0\0\x04\0\0\0\x09"
+/// The change at revision 4 since revision 3: the second song is shown with a year.
+fn late_dated() -> &'static [u8] {
+    b"adbs\0\0\0gmstt\0\0\0\x04\0\0\0\xc8muty\0\0\0\x01\x01musr\0\0\0\x04\0\0\0\x04mtco\0\0\0\x04\0\0\0\x01mrco\0\0\0\x04\0\0\0\x01mlcl\0\0\0\x1emlit\0\0\0\x16miid\0\0\0\x04\0\0\0\x02asyr\0\0\0\x02\x07\xbfmudl\0\0\0\0"
+}
+
+/// The change at revision 5 since revision 4: a member is another song of the same name.
+fn other_hey() -> &'static [u8] {
+    b"apso\0\0\0tmstt\0\0\0\x04\0\0\0\xc8muty\0\0\0\x01\x01musr\0\0\0\x04\0\0\0\x05mtco\0\0\0\x04\0\0\0\x01mrco\0\0\0\x04\0\0\0\x01mlcl\0\0\0+mlit\0\0\0#mcti\0\0\0\x04\0\0\0\x0amiid\0\0\0\x04\0\0\0\x07minm\0\0\0\x03Heymudl\0\0\0\0"
+}
+
+/// The change of a container at revision 5: none.
+fn same_rows() -> &'static [u8] {
+    b"apso\0\0\0Imstt\0\0\0\x04\0\0\0\xc8muty\0\0\0\x01\x01musr\0\0\0\x04\0\0\0\x05mtco\0\0\0\x04\0\0\0\0mrco\0\0\0\x04\0\0\0\0mlcl\0\0\0\0mudl\0\0\0\0"
 }
 
 /// The artists of the songs and films of an album, at revision 3.
@@ -250,26 +260,82 @@ fn a_song_that_left_the_query_is_deleted(rt: HostRuntime) -> Result<(), Fail> {
     )
 }
 
+/// Batches that a share of six songs takes, what is asked for then, and the body.
+type Change = (&'static [&'static str], &'static str, &'static [u8]);
+
+fn changes(rt: &impl Abort, alloc: Global, table: &[Change]) -> Result<(), Fail> {
+    for (batches, target, body) in table {
+        let mut share = opened(alloc, 16, CATALOGUE)?;
+        log_in(alloc, &mut share, 1)?;
+        for records in *batches {
+            let taken = post(alloc, &mut share, "/edit", records)?;
+            assert_eq!(rt; taken.status, 200);
+        }
+        tells(rt, alloc, &mut share, &[(Request::Get(target), 200, *body)])?;
+    }
+    Ok(())
+}
+
+/// The second song as it is, and with a year beside.
+const LATE: &str =
+    "op,kind,id,dmap.itemname,daap.songartist,com.apple.itunes.mediakind\nput,item,2,it's late,Bob,1\n";
+
+const LATE_DATED: &str =
+    "op,kind,id,dmap.itemname,daap.songartist,com.apple.itunes.mediakind,daap.songyear\nput,item,2,it's late,Bob,1,1983\n";
+
+/// The first song as it is, and on another album.
+const HEY: &str =
+    "op,kind,id,dmap.itemname,daap.songartist,daap.songalbum,com.apple.itunes.mediakind\nput,item,1,Hey,Ann,One,1\n";
+
+const HEY_MOVED: &str =
+    "op,kind,id,dmap.itemname,daap.songartist,daap.songalbum,com.apple.itunes.mediakind\nput,item,1,Hey,Ann,Uno,1\n";
+
 #[test]
-fn a_song_that_was_put_and_dropped_is_deleted(rt: HostRuntime) -> Result<(), Fail> {
-    six_songs(
+fn a_change_is_what_is_shown_otherwise(rt: HostRuntime) -> Result<(), Fail> {
+    changes(
         &rt,
         rt.alloc(),
         &[
             (
-                Request::Post("/edit", "op,kind,id\nput,item,9\n"),
-                200,
-                revision_4(),
+                &[LATE],
+                "/databases/1/items?session-id=1&delta=3",
+                none_left(),
             ),
             (
-                Request::Post("/edit", "op,kind,id\ndrop,item,9\n"),
-                200,
-                revision_5(),
+                &[LATE_DATED],
+                "/databases/1/items?session-id=1&delta=3",
+                none_left(),
             ),
             (
-                Request::Get("/databases/1/items?session-id=1&delta=3"),
-                200,
-                nine_dropped(),
+                &[LATE_DATED],
+                "/databases/1/items?session-id=1&delta=3&meta=daap.songyear",
+                late_dated(),
+            ),
+            (
+                &["op,kind,id\nput,item,9\ndrop,item,9\n"],
+                "/databases/1/items?session-id=1&delta=3",
+                none_left(),
+            ),
+            (
+                &["op,kind,id\ndrop,item,1\n", HEY],
+                "/databases/1/items?session-id=1&delta=3",
+                no_song(),
+            ),
+            (
+                &[
+                    "op,kind,id,list,item\nput,list,2,,\nput,member,10,2,1\n",
+                    "op,kind,id,dmap.itemname,list,item\nput,item,7,Hey,,\nput,member,10,,2,7\n",
+                ],
+                "/databases/1/containers/2/items?session-id=1&meta=dmap.itemname&delta=4",
+                other_hey(),
+            ),
+            (
+                &[
+                    "op,kind,id,query\nput,rule,3,'com.apple.itunes.mediakind:1'\n",
+                    HEY_MOVED,
+                ],
+                "/databases/1/containers/3/items?session-id=1&meta=dmap.itemname&delta=4",
+                same_rows(),
             ),
         ],
     )

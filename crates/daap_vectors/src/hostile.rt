@@ -26,6 +26,7 @@ use std::process::Abort;
 use std::sync::Wait;
 use std::test::Fail;
 use std::thread::Threads;
+use std::time::Clock;
 
 const LOGIN: &[u8] = b"GET /login HTTP/1.1\r\n\r\n";
 
@@ -90,7 +91,7 @@ fn link(alloc: Global, visit: &Visit<'_>) -> Result<MemLink, AllocError>
 }
 
 /// Serves a connection, and gives what is told of it and what it took.
-fn served<R: Wait>(
+fn served<R: Wait + Clock>(
     rt: &R,
     alloc: Global,
     lock: &ShareLock<Share>,
@@ -116,7 +117,7 @@ fn served<R: Wait>(
 }
 
 /// Serves a connection of a share of its own.
-fn tried<R: Wait>(
+fn tried<R: Wait + Clock>(
     rt: &R,
     alloc: Global,
     visit: &Visit<'_>,
@@ -147,7 +148,7 @@ fn last_words(end: LinkEnd) -> &'static [u8] {
 }
 
 /// Checks how a connection ends, how many of its requests are served, and the head of a refusal.
-fn ends<R: Wait + Abort>(
+fn ends<R: Wait + Clock + Abort>(
     rt: &R,
     alloc: Global,
     visit: &Visit<'_>,
@@ -185,7 +186,7 @@ fn each_connection_ends(rt: HostRuntime) -> Result<(), Fail> {
     Ok(())
 }
 
-fn have_their_status<R: Wait + Abort>(
+fn have_their_status<R: Wait + Clock + Abort>(
     rt: &R,
     alloc: Global,
     visit: &Visit<'_>,
@@ -236,7 +237,7 @@ fn edit(alloc: Global, records: &[u8]) -> Result<Vec<u8>, AllocError> {
 }
 
 /// Checks what the reply to a request ends with, behind a login and an item that is put.
-fn is_told<R: Wait + Abort>(
+fn is_told<R: Wait + Clock + Abort>(
     rt: &R,
     alloc: Global,
     request: &[u8],
@@ -292,7 +293,7 @@ fn many_items(alloc: Global) -> Result<Vec<u8>, AllocError> {
 }
 
 /// A player whose connection fails at that write while another lists the same items; gives both.
-fn gone_away<R: Wait + Abort>(
+fn gone_away<R: Wait + Clock + Abort>(
     rt: &R,
     alloc: Global,
     failing: u64,
@@ -378,7 +379,10 @@ fn drawn<R: Wait>(rt: &R, lock: &ShareLock<Share>, first: &mut Pass<Share>) -> P
 }
 
 /// Two editors at once, each in a thread; gives the points at which their edits were added.
-fn added_by_two<R: Threads + Wait + Sync>(rt: &R, alloc: Global) -> Result<Vec<u64>, AllocError> {
+fn added_by_two<R: Threads + Wait + Clock + Sync>(
+    rt: &R,
+    alloc: Global,
+) -> Result<Vec<u64>, AllocError> {
     let (lock, mut first) = opened(alloc)?;
     let mut workers = Vec::new(alloc);
     let door = editors_door(alloc)?;

@@ -5,6 +5,7 @@ use Rattle.command_core.specs.declared.fault.Fault.TheVariants.{Own, Read, Memor
 use Rattle.command_core.specs.Seen.{Seen, IsUnread}
 use Rattle.command_core.specs.Meanings.{IsCause}
 use Rattle.command_core.proofs.Sensible.{IsSensible, WritesOnce}
+use Rattle.json_commands.proofs.Senses.{json_sense, json_back_sense}
 use Rattle.replay_command.proofs.Sense.{replay_sense}
 use Rattle.tag_commands.proofs.Senses.{check_sense, show_sense, show_back_sense, codes_sense, learn_sense}
 use Rattle.share_commands.proofs.Senses.{list_sense, rehearse_sense}
@@ -12,7 +13,7 @@ use Rattle.daapshare_words.specs.declared.command.LocalCommand.{LocalCommand}
 use Rattle.daapshare_words.specs.declared.command.LocalCommand.TheVariants as local
 use Rattle.daapshare.specs.declared.usage.UsageFault.{UsageFault}
 use Rattle.daapshare.specs.Usage.{usage_meaning}
-use Rattle.daapshare.specs.Table.{shows, tells_codes, target_of, meaning_of}
+use Rattle.daapshare.specs.Table.{shows, jsons, tells_codes, target_of, meaning_of}
 
 -- words that are no command's leave the input as it was
 untouched : (before after : Seen) (fault : Fault UsageFault) → IsCause usage_meaning before after fault → IsUnread before.input after.input
@@ -42,6 +43,10 @@ show_senses : (back : Bool) → IsSensible (shows back)
 show_senses true = show_back_sense.sensible
 show_senses false = show_sense
 
+json_senses : (back : Bool) → IsSensible (jsons back)
+json_senses true = json_back_sense.sensible
+json_senses false = json_sense.sensible
+
 codes_senses : (learn : Bool) → IsSensible (tells_codes learn)
 codes_senses true = learn_sense.sensible
 codes_senses false = codes_sense.sensible
@@ -53,3 +58,4 @@ sense_of local.Check = check_sense.sensible
 sense_of (local.Codes words) = codes_senses words.learn
 sense_of (local.Replay words) = replay_sense words.keep words.name
 sense_of (local.Rehearse words) = (rehearse_sense words.number words.batches words.size words.keep).sensible
+sense_of (local.Json words) = json_senses words.back

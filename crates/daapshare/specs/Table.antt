@@ -5,6 +5,8 @@ use Rattle.item_model.specs.declared.request.Target.TheVariants.{Items, Containe
 use Rattle.command_core.specs.Endings.{IsAnswered}
 use Rattle.command_core.specs.Meanings.{Meaning}
 use Rattle.command_core.specs.Seen.{Told}
+use Rattle.json_commands.specs.Json.{json_meaning}
+use Rattle.json_commands.specs.JsonBack.{json_back_meaning}
 use Rattle.link_commands.specs.EditShare.{edit_meaning}
 use Rattle.link_commands.specs.FollowShare.{follow_meaning}
 use Rattle.link_commands.specs.Meanings.{IsLinkAnswered}
@@ -33,6 +35,10 @@ abbrev pub shows : (back : Bool) → Meaning
 shows true = show_back_meaning
 shows false = show_meaning
 
+abbrev pub jsons : (back : Bool) → Meaning
+jsons true = json_back_meaning
+jsons false = json_meaning
+
 abbrev pub tells_codes : (learn : Bool) → Meaning
 tells_codes true = learn_meaning
 tells_codes false = codes_meaning
@@ -50,6 +56,7 @@ meaning_of local.Check = check_meaning
 meaning_of (local.Codes words) = tells_codes words.learn
 meaning_of (local.Replay words) = replay_meaning words.keep words.name
 meaning_of (local.Rehearse words) = rehearse_meaning words.number words.batches words.size words.keep
+meaning_of (local.Json words) = jsons words.back
 
 -- the share that is served
 abbrev pub serving_of : ServeWords → Serving

@@ -22,6 +22,7 @@ use std::io::{ErrorKind, Read, Write};
 use std::process::ExitCode;
 use std::sync::Wait;
 use std::thread::Threads;
+use std::time::Clock;
 use std::{env, io};
 
 /// The words after the program's name. One that is not UTF-8 is an error.
@@ -43,7 +44,7 @@ fn texts_of(alloc: Global, words: &[String]) -> io::Result<Vec<&str>> {
 }
 
 /// Runs the program over its standard input and output.
-fn run_on<R: Threads + Wait + Sync, I: Read, W: Write, N: Net>(
+fn run_on<R: Threads + Wait + Clock + Sync, I: Read, W: Write, N: Net>(
     rt: &R,
     alloc: Global,
     words: &[String],

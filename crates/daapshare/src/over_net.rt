@@ -17,9 +17,10 @@ use serve_command::{Serving, serve};
 use std::alloc::Global;
 use std::sync::Wait;
 use std::thread::Threads;
+use std::time::Clock;
 
 /// Does what a command over the net asks for.
-pub fn obeyed_over_net<R: Threads + Wait + Sync, I: Source, W: Sink, N: Net>(
+pub fn obeyed_over_net<R: Threads + Wait + Clock + Sync, I: Source, W: Sink, N: Net>(
     rt: &R,
     alloc: Global,
     command: NetCommand,

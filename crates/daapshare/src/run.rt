@@ -13,22 +13,26 @@ use crate::over_net::obeyed_over_net;
 use crate::usage::UsageFault;
 use command_core::{Fault, out_of_memory, refused};
 use daap_outside::{Files, Net, Sink, Source};
-use daapshare_words::{CodesWords, Command, LocalCommand, ShowWords, WordsError, read_words};
+use daapshare_words::{
+    CodesWords, Command, JsonWords, LocalCommand, ShowWords, WordsError, read_words,
+};
 use item_model::Target;
+use json_commands::{read_json, write_json};
 use replay_command::replay_script;
 use share_commands::{list_share, rehearse_share};
 use std::alloc::Global;
 use std::sync::Wait;
 use std::thread::Threads;
+use std::time::Clock;
 use tag_commands::{check_tags, learn_codes, list_codes, read_shown, show_tags};
 
 /// Does what the words ask for. Only `serve` starts threads, and waits for others beside the net.
 ///
 /// The statuses are 0 where all was done, 2 for words that are no command's, 3 for a query, names of properties, records, a
-/// container, tags, shown text, a script or a reply of content codes that are refused, 4 and 5 where the input or the output
+/// container, tags, shown text, JSON, a script or a reply of content codes that are refused, 4 and 5 where the input or the output
 /// failed, 6 where the net did, 7 where a peer answered otherwise than it should, 8 where a number passed its limit, and 9
 /// for want of memory. Each but 0 and 5 has its line on the output.
-pub fn run<R: Threads + Wait + Sync, I: Source, W: Sink, F: Files, N: Net>(
+pub fn run<R: Threads + Wait + Clock + Sync, I: Source, W: Sink, F: Files, N: Net>(
     rt: &R,
     alloc: Global,
     words: &[&str],
@@ -107,6 +111,8 @@ fn obeyed<I: Source, W: Sink>(
             words.keep,
             output,
         ),
+        LocalCommand::Json(JsonWords { back: false }) => write_json(alloc, input, output),
+        LocalCommand::Json(JsonWords { back: true }) => read_json(alloc, input, output),
     }
 }
 

@@ -8,6 +8,7 @@ use std::process::Abort;
 use std::sync::Wait;
 use std::test::Fail;
 use std::thread::Threads;
+use std::time::Clock;
 
 /// Words, an input, and how the run ends: with a status and these bytes on the output.
 fn known(n: u32) -> (&'static [&'static str], &'static [u8], u8, &'static [u8]) {
@@ -64,6 +65,18 @@ fn known(n: u32) -> (&'static [&'static str], &'static [u8], u8, &'static [u8]) 
             0,
             b"apso\0\0\0\x41mstt\0\0\0\x04\0\0\0\xc8muty\0\0\0\x01\0musr\0\0\0\x04\0\0\0\x03mtco\0\0\0\x04\0\0\0\0mrco\0\0\0\x04\0\0\0\0mlcl\0\0\0\0",
         ),
+        10 => (
+            &["json"],
+            b"miid\0\0\0\x03\0\0\x01",
+            0,
+            b"{\"code\":\"miid\",\"kind\":\"opaque\",\"value\":\"000001\"}\n",
+        ),
+        11 => (
+            &["json", "--back"],
+            b"{\"code\":\"miid\",\"kind\":\"opaque\",\"value\":\"00000001\"}\n",
+            3,
+            b"json: line 1\n",
+        ),
         _ => (
             &["rehearse", "1", "1025", "256"],
             b"",
@@ -73,7 +86,7 @@ fn known(n: u32) -> (&'static [&'static str], &'static [u8], u8, &'static [u8]) 
     }
 }
 
-fn ends<R: Abort + Threads + Wait + Sync>(
+fn ends<R: Abort + Threads + Wait + Clock + Sync>(
     rt: &R,
     alloc: Global,
     words: &[&str],
@@ -100,7 +113,7 @@ fn ends<R: Abort + Threads + Wait + Sync>(
 
 #[test]
 fn each_command_does_what_its_words_say(rt: HostRuntime) -> Result<(), Fail> {
-    for n in 0..11 {
+    for n in 0..13 {
         let (words, input, status, output) = known(n);
         ends(&rt, rt.alloc(), words, input, status, output)?;
     }

@@ -10,5 +10,6 @@ pub mod Rehearse
 pub mod Serve
 pub mod Edit
 pub mod Follow
+pub mod Json
 pub mod Usage
 pub mod Words

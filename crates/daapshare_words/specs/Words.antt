@@ -11,6 +11,7 @@ use Rattle.daapshare_words.specs.Rehearse.{rehearse_command, AreRehearseWords}
 use Rattle.daapshare_words.specs.Serve.{serve_command, AreServeWords}
 use Rattle.daapshare_words.specs.Edit.{edit_command, AreEditWords}
 use Rattle.daapshare_words.specs.Follow.{follow_command, AreFollowWords}
+use Rattle.daapshare_words.specs.Json.{json_command}
 use Rattle.daapshare_words.specs.declared.command.Command.{Command}
 use Rattle.daapshare_words.specs.declared.command.Command.TheVariants.{Local, Net}
 use Rattle.daapshare_words.specs.declared.command.LocalCommand.{LocalCommand}
@@ -37,7 +38,8 @@ command_named name words =
     else (if bytes_eq name (codes "codes") then codes_command words
     else (if bytes_eq name (codes "replay") then replay_command words
     else (if bytes_eq name (codes "rehearse") then rehearse_command words
-    else net_command_named name words)))))
+    else (if bytes_eq name (codes "json") then json_command words
+    else net_command_named name words))))))
 
 -- the first word is the command's name, and the words are in that command's grammar
 abbrev pub command_of : List Text → Option Command

@@ -7,12 +7,13 @@ ghost use Rattle.daapshare_words.specs.Words.{command_named, command_of, net_com
 use crate::codes::CodesWords;
 use crate::edit::EditWords;
 use crate::follow::FollowWords;
+use crate::json::JsonWords;
 use crate::list::ListWords;
 use crate::rehearse::RehearseWords;
 use crate::replay::ReplayWords;
 use crate::serve::ServeWords;
 use crate::show::ShowWords;
-use crate::{check, codes, edit, follow, list, rehearse, replay, serve, show};
+use crate::{check, codes, edit, follow, json, list, rehearse, replay, serve, show};
 use clap::error::ErrorKind;
 use std::alloc::{AllocError, Global};
 use thiserror::Error;
@@ -41,6 +42,8 @@ pub enum LocalCommand {
     Replay(ReplayWords),
     /// A rehearsal of made-up batches.
     Rehearse(RehearseWords),
+    /// Tags as JSON, or back from it.
+    Json(JsonWords),
 }
 
 /// A command over the net.
@@ -121,6 +124,8 @@ fn read_named_words(alloc: Global, name: &str, words: &[&str]) -> Result<Command
         replay::read(alloc, words)
     } else if name == "rehearse" {
         rehearse::read(alloc, words)
+    } else if name == "json" {
+        json::read(alloc, words)
     } else {
         read_net_words(alloc, name, words)
     }

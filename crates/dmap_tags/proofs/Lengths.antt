@@ -1,5 +1,5 @@
 -- Lengths of lists of tags, summed from the front.
-use Rattle.std.proofs.Common.{◌≡◌, ◌≤◌, ◌<◌, ◌+◌, ◌&&◌, ℕ, zero, suc, Bool, true, nat_le, length, get_or, drop, List, [], ◌∷◌, Option, Some, None, if◌then◌else◌, refl, arith}
+use Rattle.std.proofs.Common.{◌≡◌, ◌≤◌, ◌<◌, ◌+◌, ◌&&◌, ℕ, zero, suc, true, nat_le, length, get_or, drop, List, [], ◌∷◌, Option, Some, None, if◌then◌else◌, arith}
 use Rattle.std.proofs.lemmas.Bool.{and_parts}
 use Rattle.dmap_tags.specs.Tree.{Tree, Trees, trees_of}
 use Rattle.dmap_tags.specs.Spelling.{spellings, longest, is_spellable, are_spellable}

@@ -1,3 +1,4 @@
 pub mod Sizes
 pub mod Lengths
 pub mod Fronts
+pub mod SameFacts

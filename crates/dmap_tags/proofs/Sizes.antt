@@ -1,6 +1,6 @@
 -- Sizes of tags, by which recursions over them end.
-use Rattle.std.proofs.Common.{◌≡◌, ◌<◌, ◌≤◌, ◌+◌, ℕ, zero, suc, List, [], ◌∷◌, length, get_or, drop, arith}
-use Rattle.dmap_tags.specs.Tree.{Tree, Trees, trees_of, size_of, sizes_of}
+use Rattle.std.proofs.Common.{◌<◌, ℕ, zero, suc, List, [], ◌∷◌, length, get_or, arith}
+use Rattle.dmap_tags.specs.Tree.{Tree, trees_of, size_of, sizes_of}
 
 -- a member of a list is smaller than all its members
 pub member_falls : (ts : List Tree) (i : ℕ) (d : Tree) → i < length ts → size_of (get_or ts i d) < sizes_of (trees_of ts)

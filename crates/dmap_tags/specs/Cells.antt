@@ -1,6 +1,6 @@
 -- How proofs tell one tree from another: a tree as a row of cells, where a list is its code, the cells of its
 -- members and an end. It serves no contract by itself.
-use Rattle.std.specs.Prelude.{◌≡◌, ℕ, ℤ, pos, List, [], ◌∷◌, ◌⊎◌, ◌==◌, Bool, if◌then◌else◌, refl}
+use Rattle.std.specs.Prelude.{◌≡◌, ℕ, ℤ, pos, List, [], ◌∷◌, ◌⊎◌, ◌==◌, if◌then◌else◌, refl}
 use Rattle.std.proofs.Common.{inl, inr, ap, ◌∙◌}
 use Rattle.std.specs.Coded.{Coded, code_by, coded×, coded⊎, coded_ℕ, coded_ℤ, coded_list}
 use base.Stored.{coded_unit}

@@ -6,6 +6,7 @@ pub mod Proper
 pub mod Spelling
 pub mod Begins
 pub mod Cells
+pub mod SameTags
 pub mod Seen
 pub mod Typed
 pub mod Falls

@@ -1,5 +1,5 @@
 -- The bodies of a share are tags that a client reads by the standard table.
-use Rattle.std.proofs.Common.{◌≡◌, ◌<◌, ◌≤◌, ◌^◌, ℕ, suc, List, [], ◌∷◌, ◌++◌, Bool, true, false, cond, ◌&&◌, nat_le, is_none, Option, Some, None, IfSome, map, filter, length, All, refl, sym, ap, ◌∙◌, subst, arith}
+use Rattle.std.proofs.Common.{◌≡◌, ◌<◌, ◌≤◌, ◌^◌, ℕ, suc, List, [], ◌∷◌, ◌++◌, Bool, true, false, cond, ◌&&◌, nat_le, not, Option, Some, None, IfSome, map, filter, length, All, refl, sym, ap, ◌∙◌, subst, arith}
 use Rattle.std.specs.List.{AllByRecursion, cons_option}
 use Rattle.std.specs.Option.{option_map}
 use Rattle.std.proofs.lemmas.Bool.{le-leb, ltb-true}
@@ -23,6 +23,7 @@ use Rattle.item_model.specs.declared.item.Row.{Row}
 use Rattle.item_model.specs.declared.property.Property.{Property}
 use Rattle.item_model.specs.declared.property.Property.TheVariants as property
 use Rattle.item_model.specs.declared.query.Query.{Query}
+use Rattle.item_model.specs.declared.request.Look.{Look}
 use Rattle.item_model.specs.declared.request.Meta.{Meta}
 use Rattle.item_model.specs.declared.request.Target.{Target}
 use Rattle.item_model.specs.declared.request.Target.TheVariants.{Items, Container}
@@ -31,20 +32,22 @@ use Rattle.item_model.specs.Projection.{asked, keys, property_tag, shown, value_
 use Rattle.item_model.specs.Properties.{is_same, property_code, property_kind}
 use Rattle.item_model.proofs.Places.{value_fits}
 use Rattle.share_history.specs.Bodies.{body_code, body_tree, gone_tags, key_code, listing_body, start_tags}
-use Rattle.share_history.specs.Histories.{all_edits, batches, later, revision}
-use Rattle.share_history.specs.Keyed.{ascending}
-use Rattle.share_history.specs.Kept.{is_kept, touched, touches}
-use Rattle.share_history.specs.Listings.{Listing, delta_listing, full_listing, member_of, shown as shown_row, shown_rows}
+use Rattle.share_history.specs.Differences.{has_tag}
+use Rattle.share_history.specs.Histories.{all_edits, batches, edits, later, revision, up_to}
+use Rattle.share_history.specs.Kept.{is_kept}
+use Rattle.share_history.specs.Listings.{Listing, delta_listing, full_listing, member_of, shown as shown_row, shown_rows, shown_after}
 use Rattle.share_history.specs.Mirror.{mirror_look}
-use Rattle.share_history.specs.Named.{named_keys}
-use Rattle.share_history.specs.Rows.{row_at, rows}
+use Rattle.share_history.specs.Rows.{rows}
+use Rattle.share_history.proofs.DeltaFacts.{map-filter, gone_all, few_gone}
+use Rattle.share_history.proofs.EditFacts.{edits-split}
+use Rattle.share_history.proofs.RangeFacts.{length-delta}
 use Rattle.share_history.proofs.RowFacts.{length-rows}
 use Rattle.share_history.proofs.SessionFacts.{few_batches}
-use Rattle.share_listings.proofs.AnswerFacts.{few_filtered, few_touched}
 use Rattle.listing_plan.proofs.Bodies.{listings_are_short}
 use Rattle.mirror_client.specs.Tellings.{IsTag}
-use Rattle.followed_shares.specs.Whole.{IsText, IsWhole}
-use Rattle.followed_shares.proofs.WholeFacts.{AreSmall, IsRow, each_both, each_filtered, rows_are, small_keys}
+use Rattle.item_model.specs.Valid.{is_valid}
+use Rattle.followed_shares.specs.Whole.{AreWhole, IsText, IsWhole, PutsWhole}
+use Rattle.followed_shares.proofs.WholeFacts.{AreSmall, IsRow, each_both, each_filtered, each_front, rows_are, small_keys}
 
 both : (a b : Bool) → a ≡ true → b ≡ true → (a && b) ≡ true
 both true b h k = k
@@ -331,13 +334,6 @@ body_read target meta pairs l r = record {
 
 -- ---- the listings of a whole history
 
-few_rows_filtered : {A : Type 0} (p : A → Bool) (ks : List A) → length (filter p ks) ≤ length ks
-few_rows_filtered p [] = omega arith
-few_rows_filtered p (k ∷ ks) = elim (p k) as (λ b. length (cond b (k ∷ filter p ks) (filter p ks)) ≤ length (k ∷ ks)) [
-  | true ↦ omega (arith, few_rows_filtered p ks)
-  | false ↦ omega (arith, few_rows_filtered p ks)
-]
-
 pub small_revision : (h : List Entry) → IsWhole h → revision (batches h) < 2 ^ 32
 small_revision h whole = let few = whole.few_entries in omega (arith, few, few_batches h)
 
@@ -345,21 +341,26 @@ listing_read : (kept : Bool) (h : List Entry) (target : Target) (query : Option 
     → (pairs : List (ℕ × Row))
     × IsReadable target meta pairs (cond kept (delta_listing (batches h) target (mirror_look query meta base) base) (full_listing (batches h) target (mirror_look query meta base)))
 listing_read true h target query meta base whole =
+    let bs : List (List Edit) = batches h in
     let es : List Edit = all_edits h in
-    let p : ℕ × Row → Bool = λ row. touches es target (later (batches h) base) row.0 in
-    let g : ℕ → Bool = λ key. is_none (row_at es target query key) in
+    let look : Look = mirror_look query meta base in
+    let new : ℕ × Tree → Bool = λ tag. not (has_tag (shown_after (up_to bs base) target look) tag) in
+    let p : ℕ × Row → Bool = λ row. new (shown_row target meta row) in
     let few = whole.few_edits in
-    let count : length (filter p (rows es target query)) ≤ length es = omega (arith, few_rows_filtered p (rows es target query), length-rows es target query) in (
+    let listed = map-filter (shown_row target meta) new (rows es target query) in
+    let count : length (filter p (rows es target query)) ≤ length es =
+    omega (arith, length-map (filter p (rows es target query)) (shown_row target meta), ap length listed, length-delta bs target look base) in
+    let front : AreWhole (edits (up_to bs base)) =
+    each_front (λ e. (is_valid e ≡ true) × PutsWhole e) (edits (up_to bs base)) (later bs base) (subst AreWhole (edits-split bs base) whole.edits) in (
       filter p (rows es target query),
       record {
-        rows = refl;
+        rows = sym listed;
         are = each_filtered IsRow p (rows es target query) (rows_are es target query whole.edits);
-        gone = each_filtered (λ key. key < 2 ^ 32) g (touched (batches h) target base)
-            (each_filtered (λ key. key < 2 ^ 32) (touches es target (later (batches h) base)) (ascending (named_keys es)) (small_keys es whole.edits));
+        gone = gone_all (λ key. key < 2 ^ 32) bs target look base (small_keys (edits (up_to bs base)) front);
         few = omega (arith, count, few);
-        few_gone = omega (arith, few_filtered g (touched (batches h) target base), few_touched (batches h) target base, few);
+        few_gone = omega (arith, few_gone bs target look base, few);
         revision = small_revision h whole;
-        total = omega (arith, count, few);
+        total = omega (arith, length-delta bs target look base, few);
       },
     )
 listing_read false h target query meta base whole =

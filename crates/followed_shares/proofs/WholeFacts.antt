@@ -32,7 +32,7 @@ pub each_both : {A : Type 0} (P : A → Type 0) (xs ys : List A) → AllByRecurs
 each_both P [] ys h k = k
 each_both P (x ∷ xs) ys h k = (h.0, each_both P xs ys h.1 k)
 
-each_front : {A : Type 0} (P : A → Type 0) (xs ys : List A) → AllByRecursion P (xs ++ ys) → AllByRecursion P xs
+pub each_front : {A : Type 0} (P : A → Type 0) (xs ys : List A) → AllByRecursion P (xs ++ ys) → AllByRecursion P xs
 each_front P [] ys h = tt
 each_front P (x ∷ xs) ys h = (h.0, each_front P xs ys h.1)
 

@@ -4,11 +4,7 @@
 mod parameters;
 mod reader;
 mod refusal;
-#[cfg(test)]
-mod request_tests;
 mod requests;
-#[cfg(test)]
-mod tests;
 
 pub use reader::ReplyReader;
 pub use refusal::ReplyError;

@@ -11,8 +11,6 @@ mod reader;
 mod reply_heads;
 mod routes;
 mod targets;
-#[cfg(test)]
-mod tests;
 mod wants;
 
 pub use http_heads::HeadError;

@@ -12,8 +12,6 @@ mod limits;
 mod refusal;
 mod replies;
 mod scanning;
-#[cfg(test)]
-mod tests;
 
 pub use gathering::Gatherer;
 pub use heads::{Head, read_head};

@@ -3,10 +3,10 @@ use Rattle.std.proofs.Common.{◌≡◌, ◌≤◌, ◌<◌, ◌+◌, ◌&&◌, 
 use Rattle.std.specs.List.{filter}
 use Rattle.std.proofs.lemmas.List.{take_more_set, length-take-le}
 use Rattle.item_model.specs.declared.property.Property.{Property}
-use Rattle.item_model.specs.declared.property.Property.TheVariants.{Minm, Mikd, Mper, Asar, Asal, Asaa, Asgn, Ascp, Ascm, Agrp, Asfm, Asyr, Astn, Astc, Asdn, Asdc, Asbr, Asbt, Astm, Assr, Assz, Asur, Asco, Aemk, Asda, Asdm}
+use Rattle.item_model.specs.declared.property.Property.TheVariants.{Minm}
 use Rattle.item_model.specs.Properties.{all_properties, rank_of, is_same}
 use Rattle.item_model.specs.Projection.{default_projection, first_mentions, mentions, new_mention}
-use Rattle.item_model.proofs.Ranks.{at_rank}
+use Rattle.item_model.proofs.Ranks.{at_rank, rank_below}
 use Rattle.item_model.proofs.Mentions.{first_last, mentions_first}
 use Rattle.item_model.proofs.Distinct.{first_again}
 
@@ -81,34 +81,6 @@ first_passing w f ts (x ∷ xs) has =
 passing_all : (w : Property → ℕ) (xs : List Property) → passing w (λ _. true) xs ≡ total w xs
 passing_all w [] = refl
 passing_all w (x ∷ xs) = ap (λ n. w x + n) (passing_all w xs)
-
-rank_below : (p : Property) → rank_of p < 26
-rank_below Minm = omega arith
-rank_below Mikd = omega arith
-rank_below Mper = omega arith
-rank_below Asar = omega arith
-rank_below Asal = omega arith
-rank_below Asaa = omega arith
-rank_below Asgn = omega arith
-rank_below Ascp = omega arith
-rank_below Ascm = omega arith
-rank_below Agrp = omega arith
-rank_below Asfm = omega arith
-rank_below Asyr = omega arith
-rank_below Astn = omega arith
-rank_below Astc = omega arith
-rank_below Asdn = omega arith
-rank_below Asdc = omega arith
-rank_below Asbr = omega arith
-rank_below Asbt = omega arith
-rank_below Astm = omega arith
-rank_below Assr = omega arith
-rank_below Assz = omega arith
-rank_below Asur = omega arith
-rank_below Asco = omega arith
-rank_below Aemk = omega arith
-rank_below Asda = omega arith
-rank_below Asdm = omega arith
 
 weighed : (w : Property → ℕ) (xs ts : List Property) → HasEach ts → total w (first_mentions xs) ≤ total w ts
 weighed w xs ts has =

@@ -1,8 +1,11 @@
 pub mod Ranks
 pub mod Places
+pub mod FoldLaws
+pub mod KeptFolds
 pub mod Mentions
 pub mod Parts
 pub mod Distinct
 pub mod Few
 pub mod ReadsBack
 pub mod QuerySizes
+pub mod AlikeFacts

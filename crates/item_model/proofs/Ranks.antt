@@ -1,9 +1,9 @@
 -- A property is known by its place in the order of listings.
-use Rattle.std.proofs.Common.{◌≡◌, ℕ, true, slice_index_or, refl, sym, ap, ◌∙◌}
+use Rattle.std.proofs.Common.{◌≡◌, ◌<◌, ℕ, true, slice_index_or, refl, sym, ap, ◌∙◌, arith}
 use Rattle.std.proofs.lemmas.Bool.{eqb-true}
 use Rattle.item_model.specs.declared.property.Property.{Property}
 use Rattle.item_model.specs.declared.property.Property.TheVariants.{Minm, Mikd, Mper, Asar, Asal, Asaa, Asgn, Ascp, Ascm, Agrp, Asfm, Asyr, Astn, Astc, Asdn, Asdc, Asbr, Asbt, Astm, Assr, Assz, Asur, Asco, Aemk, Asda, Asdm}
-use Rattle.item_model.specs.Properties.{all_properties, rank_of, is_same}
+use Rattle.item_model.specs.Properties.{property_count, all_properties, rank_of, is_same}
 
 abbrev pub property_at : ℕ → Property
 property_at n = slice_index_or all_properties n Minm
@@ -42,3 +42,32 @@ pub same_property : (p q : Property) → is_same p q ≡ true → p ≡ q
 same_property p q h =
     let e : rank_of p ≡ rank_of q = eqb-true _ _ h in
     sym (at_rank p) ∙ ap property_at e ∙ at_rank q
+
+-- each place is below the number of properties
+pub rank_below : (p : Property) → rank_of p < property_count
+rank_below Minm = omega arith
+rank_below Mikd = omega arith
+rank_below Mper = omega arith
+rank_below Asar = omega arith
+rank_below Asal = omega arith
+rank_below Asaa = omega arith
+rank_below Asgn = omega arith
+rank_below Ascp = omega arith
+rank_below Ascm = omega arith
+rank_below Agrp = omega arith
+rank_below Asfm = omega arith
+rank_below Asyr = omega arith
+rank_below Astn = omega arith
+rank_below Astc = omega arith
+rank_below Asdn = omega arith
+rank_below Asdc = omega arith
+rank_below Asbr = omega arith
+rank_below Asbt = omega arith
+rank_below Astm = omega arith
+rank_below Assr = omega arith
+rank_below Assz = omega arith
+rank_below Asur = omega arith
+rank_below Asco = omega arith
+rank_below Aemk = omega arith
+rank_below Asda = omega arith
+rank_below Asdm = omega arith

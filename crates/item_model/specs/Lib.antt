@@ -1,6 +1,8 @@
 pub mod Limits
 pub mod Properties
 pub mod Items
+pub mod Folding
+pub mod Folds
 pub mod QueryTree
 pub mod QuerySeen
 pub mod QueryCells
@@ -8,4 +10,5 @@ pub mod QueryFalls
 pub mod Proper
 pub mod Valid
 pub mod Projection
+pub mod Alike
 pub mod Names

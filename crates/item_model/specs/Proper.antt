@@ -25,7 +25,7 @@ have_two (more_queries q (more_queries r qs)) = true
 
 abbrev mutual
   pub is_proper : QueryTree → Bool
-  is_proper (condition c) = (has_one c.name && are_name_bytes c.name) && has_one c.pattern.pieces
+  is_proper (condition c) = (has_one c.name && are_name_bytes c.name) && has_one c.pattern
   is_proper (and_of qs) = have_two qs && are_proper qs
   is_proper (or_of qs) = have_two qs && are_proper qs
 

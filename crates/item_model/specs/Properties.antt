@@ -77,6 +77,10 @@ rank_of Aemk = 23
 rank_of Asda = 24
 rank_of Asdm = 25
 
+-- how many properties there are
+abbrev pub property_count : ℕ
+property_count = 26
+
 abbrev pub is_same : Property → Property → Bool
 is_same p q = rank_of p == rank_of q
 

@@ -1,42 +1,48 @@
 -- How proofs tell one query from another: a query as a row of cells, where a list is its mark, the cells of
 -- its members and an end. It serves no contract by itself.
-use Rattle.std.specs.Prelude.{◌≡◌, ℕ, List, [], ◌∷◌, ◌⊎◌, Bool, true, false, refl}
+use Rattle.std.specs.Prelude.{◌≡◌, ℕ, zero, suc, List, [], ◌∷◌, ◌⊎◌, Bool, true, false, refl}
 use Rattle.std.proofs.Common.{inl, inr, ap, ◌∙◌}
 use Rattle.std.specs.Coded.{Coded, code_by, coded×, coded⊎, coded_ℕ, coded_bool, coded_list}
 use base.Stored.{coded_unit}
 use Rattle.item_model.specs.QueryTree.{QueryTree, condition, and_of, or_of, QueryTrees, no_queries, more_queries}
 use Rattle.item_model.specs.declared.condition.Cond.{Cond}
 use Rattle.item_model.specs.declared.condition.Op.{Op}
-use Rattle.item_model.specs.declared.condition.Op.TheVariants.{Is, IsNot}
+use Rattle.item_model.specs.declared.condition.Op.TheVariants.{Is, IsNot, Less, More}
 
--- a condition's name, whether it asks for a match, and its pieces
+-- a condition's name, the number of its operator, and its pieces
 abbrev pub CondParts : Type 0
-CondParts = List ℕ × (Bool × List (List ℕ))
+CondParts = List ℕ × (ℕ × List (List ℕ))
 
-abbrev pub asks_match : Op → Bool
-asks_match Is = true
-asks_match IsNot = false
+abbrev pub op_number : Op → ℕ
+op_number Is = 0
+op_number IsNot = 1
+op_number Less = 2
+op_number More = 3
 
-abbrev pub op_of : Bool → Op
-op_of true = Is
-op_of false = IsNot
+abbrev pub op_of : ℕ → Op
+op_of zero = Is
+op_of (suc zero) = IsNot
+op_of (suc (suc zero)) = Less
+op_of (suc (suc (suc n))) = More
 
-abbrev pub op_again : (op : Op) → op_of (asks_match op) ≡ op
+abbrev pub op_again : (op : Op) → op_of (op_number op) ≡ op
 op_again Is = refl
 op_again IsNot = refl
+op_again Less = refl
+op_again More = refl
 
 abbrev pub cond_parts : Cond → CondParts
-cond_parts c = (c.name, (asks_match c.op, c.pattern.pieces))
+cond_parts c = (c.name, (op_number c.op, c.pattern))
 
 abbrev pub parts_cond : CondParts → Cond
-parts_cond p = record { name = p.0; op = op_of p.1.0; pattern = record { pieces = p.1.1 } }
+parts_cond p = record { name = p.0; op = op_of p.1.0; pattern = p.1.1 }
 
 abbrev pub cond_again : (c : Cond) → parts_cond (cond_parts c) ≡ c
 cond_again c = ap (λ op. record { name = c.name; op = op; pattern = c.pattern }) (op_again c.op)
 
 abbrev pub cond_code : Coded Cond
 cond_code =
-    code_by CondParts (coded× (coded_list coded_ℕ) (coded× coded_bool (coded_list (coded_list coded_ℕ)))) cond_parts parts_cond cond_again
+    code_by CondParts (coded× (coded_list coded_ℕ) (coded× coded_ℕ (coded_list (coded_list coded_ℕ)))) cond_parts parts_cond cond_again
 
 -- a condition, a list's beginning, which says whether all have to hold, or a list's end
 abbrev pub Cell : Type 0

@@ -1,22 +1,44 @@
 //! Conditions on one property.
 
-ghost use Rattle.std.specs.Prelude.{◌≡◌, IfOk};
+ghost use Rattle.std.specs.Prelude.{◌≡◌, ◌<◌, IfOk, length, map};
+ghost use Rattle.item_model.specs.Folding.{folded};
 
-use crate::texts::Texts;
+use crate::folds::folds_of;
+use crate::texts::copies;
 use dmap_tags::Text;
-use std::alloc::AllocError;
+use std::alloc::{AllocError, Global};
+use std::marker::Model;
 
-/// Whether a condition asks for a match or for none.
+/// How a condition compares.
 #[derive(Clone, Copy, Debug, PartialEq, Eq)]
 pub enum Op {
+    /// The property matches the pattern.
     Is,
+    /// It does not.
     IsNot,
+    /// The property is a number below the pattern's.
+    Less,
+    /// The property is a number above the pattern's.
+    More,
 }
 
-/// The literal pieces of a condition's value, one or more, with a wildcard between each two.
+/// The literal pieces of a condition's value, one or more, with a wildcard between each two. The pieces are kept folded
+/// as well.
 #[derive(Debug, Drop)]
 pub struct Pattern {
-    pub pieces: Texts,
+    pieces: Vec<Text>,
+    folds: Vec<Text>,
+}
+
+impl Model for Pattern {
+    ghost use Rattle.std.specs.Prelude.{◌≡◌, ℕ, List, map};
+    ghost use Rattle.item_model.specs.Folding.{folded};
+
+    ghost Value = { List (List ℕ) };
+
+    ghost view = { λ a. a.pieces.items };
+
+    ghost invariant = { λ a. a.folds.items ≡ map folded a.pieces.items };
 }
 
 /// A condition on the property of a name.
@@ -28,13 +50,43 @@ pub struct Cond {
 }
 
 impl Pattern {
+    /// The pattern of the pieces, which are taken over as they are.
+    ///
+    /// # Errors
+    /// Returns `AllocError` if memory runs out.
+    pub fn new(alloc: Global, pieces: Vec<Text>) -> Result<Pattern, AllocError>
+        requires { 0 < length pieces.items }
+        ensures { IfOk result (λ p. p ≡ pieces.items) }
+    {
+        let folds = folds_of(alloc, pieces.as_slice())?;
+        Ok(Pattern { pieces, folds })
+    }
+
+    /// The pieces as they were written, without memory.
+    pub fn pieces(&self) -> &[Text]
+        ensures { result.now ≡ self.now }
+    {
+        self.pieces.as_slice()
+    }
+
+    /// The pieces folded, without memory.
+    pub fn folded(&self) -> &[Text]
+        ensures { result.now ≡ map folded self.now }
+    {
+        self.folds.as_slice()
+    }
+
     /// A pattern of its own with the same pieces.
+    ///
+    /// # Errors
+    /// Returns `AllocError` if memory runs out.
     pub fn copy(&self) -> Result<Pattern, AllocError>
         ensures { IfOk result (λ c. c ≡ self.now) }
     {
-        Ok(Pattern {
-            pieces: self.pieces.copy()?,
-        })
+        let alloc = *self.pieces.allocator();
+        let pieces = copies(alloc, self.pieces.as_slice())?;
+        let folds = copies(alloc, self.folds.as_slice())?;
+        Ok(Pattern { pieces, folds })
     }
 }
 

@@ -1,8 +1,10 @@
 //! Items and rows.
 
-ghost use Rattle.std.specs.Prelude.{◌≡◌, ◌↔◌, [], OnOk, OnErr, IfOk, IfSome, MatchResult, option_copied, nat_lt, true, false};
+ghost use Rattle.std.specs.Prelude.{◌≡◌, ◌↔◌, ◌<◌, [], OnOk, OnErr, IfOk, IfSome, MatchResult, option_copied, nat_lt, true, false, vec_len, vec_capacity};
 ghost use Rattle.item_model.specs.Items.{is_value_of, numbers_of, is_text_of, value_of, with_value, Replaces, ComesIn};
+ghost use Rattle.item_model.specs.Folds.{Serves, IsSoughtIfAny};
 
+use crate::folds::{Sought, find_fold, fold_copies, fold_of, keep};
 use crate::property::Property;
 use dmap_tags::{Kind, Text};
 use std::alloc::{AllocError, AllocFailed, Global};
@@ -19,10 +21,12 @@ pub enum PropValue {
     Text(Text),
 }
 
-/// The properties that an item has, each with its value.
+/// The properties that an item has, each with its value, and the folded texts that conditions compare.
 #[derive(Debug, Drop)]
 pub struct Item {
     entries: Vec<(Property, PropValue)>,
+    // A text is kept here only where lowering its ASCII letters does not fold it.
+    folds: Vec<(Property, Text)>,
 }
 
 impl Model for Item {
@@ -33,10 +37,11 @@ impl Model for Item {
     ghost Value = { List (Property × PropValue) };
 
     ghost use Rattle.item_model.specs.Items.{is_item};
+    ghost use Rattle.item_model.specs.Folds.{AreFolds};
 
     ghost view = { λ a. a.entries.items };
 
-    ghost invariant = { λ a. is_item a.entries.items ≡ true };
+    ghost invariant = { λ a. (is_item a.entries.items ≡ true) × AreFolds a.entries.items a.folds.items };
 }
 
 /// An item with its id.
@@ -87,6 +92,16 @@ impl PropValue {
         }
     }
 
+    // What an item keeps beside the value.
+    fn fold(&self, alloc: Global) -> Result<Option<Text>, AllocError>
+        ensures { IfOk result (λ kept. Serves kept self.now) }
+    {
+        match self {
+            PropValue::Number(_) => Ok(None),
+            PropValue::Text(text) => fold_of(alloc, text.as_str()),
+        }
+    }
+
     /// A value of its own with the same contents.
     pub fn copy(&self) -> Result<PropValue, AllocError>
         ensures { IfOk result (λ v. v ≡ self.now) }
@@ -126,6 +141,7 @@ impl Item {
     {
         Item {
             entries: Vec::new(alloc),
+            folds: Vec::new(alloc),
         }
     }
 
@@ -137,6 +153,19 @@ impl Item {
         find_value(self.entries.as_slice(), property)
     }
 
+    /// What a condition compares of the property, without memory.
+    pub fn sought(&self, property: Property) -> Option<Sought<'_>>
+        ensures { IsSoughtIfAny (value_of property self.now) result }
+    {
+        match find_value(self.entries.as_slice(), property)? {
+            PropValue::Number(n) => Some(Sought::Number(*n)),
+            PropValue::Text(text) => match find_fold(self.folds.as_slice(), property) {
+                Some(fold) => Some(Sought::Text(fold.as_str())),
+                None => Some(Sought::Text(text.as_str())),
+            },
+        }
+    }
+
     /// Sets the property. After an `Err` the item is as before.
     pub fn put(&mut self, property: Property, value: PropValue) -> Result<(), ItemError>
         ensures put { OnOk result (self.new ≡ with_value property value self.old) }
@@ -146,7 +175,10 @@ impl Item {
         if !value.is_value_of(property) {
             return Err(ItemError::Range);
         }
-        set(&mut self.entries, property, value)?;
+        let fold = value.fold(*self.entries.allocator())?;
+        self.entries.reserve(1)?;
+        keep(&mut self.folds, property, fold)?;
+        set(&mut self.entries, property, value);
         Ok(())
     }
 
@@ -154,8 +186,10 @@ impl Item {
     pub fn copy(&self) -> Result<Item, AllocError>
         ensures { IfOk result (λ item. item ≡ self.now) }
     {
-        let entries = copies(*self.entries.allocator(), self.entries.as_slice())?;
-        Ok(Item { entries })
+        let alloc = *self.entries.allocator();
+        let entries = copies(alloc, self.entries.as_slice())?;
+        let folds = fold_copies(alloc, self.folds.as_slice())?;
+        Ok(Item { entries, folds })
     }
 }
 
@@ -198,22 +232,15 @@ fn place_of(entries: &[(Property, PropValue)], property: Property) -> Result<usi
     Err(entries.len())
 }
 
-fn set(
-    entries: &mut Vec<(Property, PropValue)>,
-    property: Property,
-    value: PropValue,
-) -> Result<(), AllocError>
-    ensures set { OnOk result (entries.new.items ≡ with_value property value entries.old.items) }
-    ensures unchanged { OnErr result (entries.new.items ≡ entries.old.items) }
+// There is room for one entry more.
+fn set(entries: &mut Vec<(Property, PropValue)>, property: Property, value: PropValue)
+    requires { vec_len entries.old < vec_capacity entries.old }
+    ensures { entries.new.items ≡ with_value property value entries.old.items }
 {
     match place_of(entries.as_slice(), property) {
-        Ok(place) => {
-            entries[place] = (property, value);
-            Ok(())
-        }
+        Ok(place) => entries[place] = (property, value),
         Err(place) => {
-            entries.insert(place, (property, value))?;
-            Ok(())
+            let _ = entries.insert(place, (property, value));
         }
     }
 }

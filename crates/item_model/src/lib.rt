@@ -3,8 +3,10 @@
 //! listed tag as the list of what was asked and is there.
 #![tactic(auto)]
 
+mod alike;
 mod changes;
 mod condition;
+mod folds;
 mod item;
 pub mod laws;
 mod names;
@@ -20,8 +22,10 @@ mod shown;
 mod tests;
 mod texts;
 
+pub use alike::is_shown_alike;
 pub use changes::{Batch, Edit, Edits, Entries, Entry};
 pub use condition::{Cond, Op, Pattern};
+pub use folds::{Sought, folded};
 pub use item::{Item, ItemError, PropValue, Row, TEXT_BYTES};
 pub use names::{MetaError, first_part};
 pub use projection::project;

@@ -2,7 +2,8 @@
 
 use crate::{
     Batch, Cond, Edit, Edits, Entries, Entry, Item, ItemError, Look, Meta, MetaError, Op, Pattern,
-    PropValue, Properties, Property, Queries, Query, Range, Row, SharedRow, Texts, project,
+    PropValue, Properties, Property, Queries, Query, Range, Row, SharedRow, Sought, folded,
+    project,
 };
 use dmap_tags::{Code, Kind, Text, encode_into};
 use std::alloc::{AllocError, Global};
@@ -121,6 +122,59 @@ fn values_outside_a_property_are_refused(rt: HostRuntime) -> Result<(), Fail> {
     Ok(())
 }
 
+/// Names with their folded texts, as bench/casefold prints them.
+fn folding(number: u32) -> (&'static str, &'static str) {
+    match number {
+        0 => ("Hey Jude", "hey jude"),
+        1 => ("Björk", "björk"),
+        2 => ("Straße", "strasse"),
+        3 => ("GROẞE FREIHEIT", "grosse freiheit"),
+        4 => ("Ὀδυσσεύς", "ὀδυσσεύσ"),
+        5 => ("ΐ", "ι\u{308}\u{301}"),
+        6 => ("ᾳ", "αι"),
+        7 => ("Чайковский", "чайковский"),
+        8 => ("İstanbul", "i\u{307}stanbul"),
+        9 => ("ısparta", "ısparta"),
+        10 => ("eﬃcient", "efficient"),
+        11 => ("\u{212a}elvin", "kelvin"),
+        _ => ("", ""),
+    }
+}
+
+/// The name that an item gives to be searched.
+fn is_sought(item: &Item, folded: &str) -> bool {
+    match item.sought(Property::Minm) {
+        Some(Sought::Text(name)) => name.eq_ignore_ascii_case(folded),
+        _ => false,
+    }
+}
+
+fn is_folded_piece(pattern: &Pattern, piece: &str, folded: &str) -> bool {
+    match (pattern.pieces(), pattern.folded()) {
+        ([own], [other]) => own.as_str() == piece && other.as_str() == folded,
+        _ => false,
+    }
+}
+
+#[test]
+fn names_fold_as_in_another_program(rt: HostRuntime) -> Result<(), Fail> {
+    let alloc = rt.alloc();
+    let mut item = Item::new(alloc);
+    for number in 0..12 {
+        let (name, text) = folding(number);
+        assert_eq!(rt; folded(alloc, name)?.as_str(), text);
+        put(
+            &mut item,
+            Property::Minm,
+            PropValue::Text(Text::of(alloc, name)?),
+        )?;
+        assert!(rt; is_sought(&item.copy()?, text), "{name}");
+        let pattern = Pattern::new(alloc, vec![in alloc; Text::of(alloc, name)?]?)?;
+        assert!(rt; is_folded_piece(&pattern.copy()?, name, text), "{name}");
+    }
+    Ok(())
+}
+
 #[test]
 fn names_and_codes_find_their_properties(rt: HostRuntime) -> Result<(), Fail> {
     let kind = Property::by_name("com.apple.itunes.mediakind");
@@ -164,12 +218,11 @@ fn more_names_than_256_are_too_many(rt: HostRuntime) -> Result<(), Fail> {
 }
 
 fn condition(alloc: Global, name: &str, piece: &str) -> Result<Query, AllocError> {
-    let mut pieces = Texts::new(alloc);
-    pieces.push(Text::of(alloc, piece)?)?;
+    let piece = Text::of(alloc, piece)?;
     Ok(Query::Cond(Cond {
         name: Text::of(alloc, name)?,
         op: Op::IsNot,
-        pattern: Pattern { pieces },
+        pattern: Pattern::new(alloc, vec![in alloc; piece]?)?,
     }))
 }
 

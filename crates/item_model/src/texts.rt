@@ -69,7 +69,7 @@ impl Texts {
 }
 
 // Copies of texts, in order.
-fn copies(alloc: Global, texts: &[Text]) -> Result<Vec<Text>, AllocError>
+pub(crate) fn copies(alloc: Global, texts: &[Text]) -> Result<Vec<Text>, AllocError>
     ensures { IfOk result (λ v. v.items ≡ texts.now) }
 {
     let mut copies = Vec::with_capacity(alloc, texts.len())?;

@@ -1,6 +1,7 @@
 -- What is said to a request that was served, and by which turns.
 use Rattle.std.specs.Prelude.{◌≡◌, List, [], ◌∷◌, length, Bool, false, Option, Some, None, Result, Ok, Err, ℕ}
 use Rattle.std.specs.declared.alloc.AllocError.{AllocError}
+use Rattle.daap_outside.specs.Counts.{Rose}
 use Rattle.item_model.specs.declared.changes.Entry.{Entry}
 use Rattle.http_front.specs.ReplyHeads.{HasReason}
 use Rattle.listing_plan.specs.Plans.{IsWritable, plan_bytes}
@@ -21,6 +22,8 @@ use Rattle.served_links.specs.Served.{at_point}
 use Rattle.served_links.specs.Replies.{served_bytes}
 use Rattle.served_links.specs.Passes.{Pass, Serves}
 use Rattle.link_answers.specs.declared.outcome.Answered.{Answered}
+use Rattle.link_answers.specs.declared.outcome.Unanswered.{Unanswered}
+use Rattle.link_answers.specs.declared.outcome.Unanswered.TheVariants.{Gone}
 use Rattle.link_answers.specs.declared.outcome.Look.{Look}
 use Rattle.link_answers.specs.declared.outcome.Look.TheVariants as look
 
@@ -38,6 +41,16 @@ pub record IsAnswered (k k' : Pass) (ask : Ask) (a : Answered) : Type 0 where
   pub latest : a.served.point ≡ length k'.seen
   pub stopped : a.stopped ≡ is_stopped (at_point k'.seen a.served)
   pub said : Says k.settings (at_point k'.seen a.served) ask a.served a.said
+
+-- the request was served, or its peer went while it was held, and nothing was served
+abbrev pub IsOutcome : Pass → Pass → Ask → Result Answered Unanswered → Type 0
+IsOutcome k k' ask (Ok a) = IsAnswered k k' ask a
+IsOutcome k k' ask (Err Gone) = Serves k k' [] []
+
+-- the link's count rose exactly where its peer went
+abbrev pub CountsOutcome : ℕ → ℕ → Result Answered Unanswered → Type 0
+CountsOutcome before now (Ok a) = now ≡ before
+CountsOutcome before now (Err Gone) = Rose before now
 
 -- in one turn the pass served the request, or nothing
 abbrev pub IsLooked : Pass → Pass → Ask → Look → Type 0

@@ -1,38 +1,45 @@
 //! Turns until a request is answered.
 
-ghost use Rattle.std.specs.Prelude.{◌≡◌, ◌∷◌, [], length};
+ghost use Rattle.std.specs.Prelude.{◌≡◌};
 ghost use Rattle.share_asks.specs.Valid.{IsValidWant};
-ghost use Rattle.share_history.specs.Sessions.{is_stopped};
 ghost use Rattle.share_lock.specs.Passes.{lock_id, known, IsReady};
-ghost use Rattle.served_links.specs.Passes.{Serves};
-ghost use Rattle.served_links.specs.Served.{at_point};
-ghost use Rattle.link_answers.specs.Answering.{IsAnswered, Says};
+ghost use Rattle.link_answers.specs.Answering.{IsOutcome, CountsOutcome};
 
-use crate::outcome::{Answered, Look};
+use crate::outcome::{Answered, Look, Unanswered};
 use crate::turns::looked;
+use daap_outside::Link;
 use share_asks::Ask;
 use share_core::Share;
 use share_lock::{Bell, Pass, ShareLock};
 use std::sync::Wait;
+use std::time::{Clock, Duration, Instant};
+
+/// How long an update is held at most before its link is probed, in seconds.
+pub const PROBE_SECONDS: u64 = 5;
 
 /// Answers a request of a pass. The share is held for the answer alone, and nothing of it is written here. An update
-/// that is yet to come waits at the bell, outside any turn, and looks at the share again when it rings; an answer that
-/// adds an entry rings it. Where there is no memory for the answer the share stays as it was, and the status is 500. The
-/// call takes no memory beside what the answer takes.
-pub fn answer_request<R: Wait>(
+/// that is yet to come waits at the bell, outside any turn, for at most `PROBE_SECONDS`; then its link is probed, and it
+/// looks at the share again. An answer that adds an entry rings the bell. Where there is no memory for the answer the
+/// share stays as it was, and the status is 500. The call takes no memory beside what the answer takes.
+///
+/// # Errors
+///
+/// Returns `Gone` if the link's probe failed while the update was held. Nothing was served then.
+pub fn answer_request<K: Link, R: Wait + Clock>(
     rt: &R,
     lock: &ShareLock<Share>,
     bell: &Bell,
     pass: &mut Pass<Share>,
+    link: &mut K,
     ask: &Ask,
-) -> Answered
+) -> Result<Answered, Unanswered>
     requires ready { IsReady (lock_id lock.now) pass.old }
     requires valid { IsValidWant ask.now.want }
     ensures ready { IsReady (lock_id lock.now) pass.new }
-    ensures serves { Serves (known pass.old) (known pass.new) (ask.now ∷ []) (result.served ∷ []) }
-    ensures latest { result.served.point ≡ length (known pass.new).seen }
-    ensures stopped { result.stopped ≡ is_stopped (at_point (known pass.new).seen result.served) }
-    ensures said { Says (known pass.old).settings (at_point (known pass.new).seen result.served) ask.now result.served result.said }
+    ensures outcome { IsOutcome (known pass.old) (known pass.new) ask.now result }
+    ensures taken { K.taken link.new ≡ K.taken link.old }
+    ensures beside { K.beside_taken link.new ≡ K.beside_taken link.old }
+    ensures count { CountsOutcome (K.faults link.old) (K.faults link.new) result }
 {
     for _ in rt.forever() {
         match looked(rt, lock, pass, ask) {
@@ -40,10 +47,24 @@ pub fn answer_request<R: Wait>(
                 if answered.served.added {
                     bell.ring(rt, answered.served.point);
                 }
-                return answered;
+                return Ok(answered);
             }
-            Look::Held { point } => bell.wait(rt, point),
+            Look::Held { point } => {
+                wait_held(rt, bell, point);
+                if link.probe().is_err() {
+                    return Err(Unanswered::Gone);
+                }
+            }
         }
     }
     unreachable!()
+}
+
+// Waits at the bell for as long as an update may be held before its link is probed. Where the clock can't be read,
+// nobody would end the wait but the bell: without that, an update that is held would take turn after turn.
+fn wait_held<R: Wait + Clock>(rt: &R, bell: &Bell, point: u64) {
+    match Instant::now(rt) {
+        Ok(_) => bell.wait_for(rt, point, Duration::from_secs(PROBE_SECONDS)),
+        Err(_) => bell.wait(rt, point),
+    }
 }

@@ -9,4 +9,4 @@ mod tests;
 mod turns;
 
 pub use answers::answer_request;
-pub use outcome::Answered;
+pub use outcome::{Answered, Unanswered};

@@ -14,6 +14,13 @@ pub struct Answered {
     pub stopped: bool,
 }
 
+/// Why a request was not answered.
+#[derive(Debug, Drop)]
+pub enum Unanswered {
+    /// Its peer went while the update was held.
+    Gone,
+}
+
 /// What one look at the share gives.
 #[derive(Debug, Drop)]
 pub(crate) enum Look {

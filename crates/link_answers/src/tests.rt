@@ -4,9 +4,10 @@ ghost use Rattle.std.specs.Prelude.{◌≡◌, IfOk};
 ghost use Rattle.share_asks.specs.Valid.{IsValidWant};
 ghost use Rattle.share_lock.specs.Passes.{lock_id, IsReady};
 
-use crate::answer_request;
-use crate::outcome::{Answered, Look};
+use crate::answers::{PROBE_SECONDS, answer_request};
+use crate::outcome::{Answered, Look, Unanswered};
 use crate::turns::{look_of, looked};
+use daap_outside::{MemLink, MemSink, MemSource};
 use item_model::{Batch, Edits, Entry};
 use records_import::read_batch;
 use served_links::Served;
@@ -16,6 +17,7 @@ use share_lock::{Bell, Pass, ShareLock};
 use std::alloc::{AllocError, Global};
 use std::sync::Wait;
 use std::test::Fail;
+use std::time::{Clock, Duration};
 
 // A share without items, for two passes.
 fn opened(alloc: Global) -> Result<(ShareLock<Share>, Pass<Share>), AllocError>
@@ -52,20 +54,55 @@ fn edit(alloc: Global) -> Result<Want, AllocError>
 // The status, the point, whether an entry was added, and whether the share was stopped.
 type Told = (u16, u64, bool, bool);
 
-fn told<R: Wait>(
+// A link without bytes of which these probes fail.
+fn linked(alloc: Global, failing: &[u64]) -> Result<MemLink, AllocError> {
+    let input = MemSource::new(alloc, b"", 1, &[])?;
+    let output = MemSink::new(alloc, 0, 1, &[])?;
+    MemLink::with_failing_probes(alloc, input, output, failing)
+}
+
+fn read_clock<C: Clock>(clock: &C) -> Result<Duration, AllocError> {
+    match clock.monotonic() {
+        Ok(time) => Ok(time),
+        Err(_) => Err(AllocError),
+    }
+}
+
+// The answer to a request on a link of which no probe fails.
+fn answered<R: Wait + Clock>(
     rt: &R,
+    alloc: Global,
+    lock: &ShareLock<Share>,
+    bell: &Bell,
+    pass: &mut Pass<Share>,
+    want: Want,
+) -> Result<Answered, AllocError>
+    requires ready { IsReady (lock_id lock.now) pass.old }
+    requires valid { IsValidWant want }
+    ensures ready { IsReady (lock_id lock.now) pass.new }
+{
+    let mut link = linked(alloc, &[])?;
+    match answer_request(rt, lock, bell, pass, &mut link, &asks(want)) {
+        Ok(answered) => Ok(answered),
+        Err(Unanswered::Gone) => Err(AllocError),
+    }
+}
+
+fn told<R: Wait + Clock>(
+    rt: &R,
+    alloc: Global,
     lock: &ShareLock<Share>,
     bell: &Bell,
     pass: Pass<Share>,
     want: Want,
-) -> Told
+) -> Result<Told, AllocError>
     requires ready { IsReady (lock_id lock.now) pass }
     requires valid { IsValidWant want }
 {
     let mut pass = pass;
-    let answered = answer_request(rt, lock, bell, &mut pass, &asks(want));
+    let answered = answered(rt, alloc, lock, bell, &mut pass, want)?;
     let served = answered.served;
-    (served.status, served.point, served.added, answered.stopped)
+    Ok((served.status, served.point, served.added, answered.stopped))
 }
 
 // Of session 1, for the revision behind the first one.
@@ -79,24 +116,25 @@ fn update() -> Want
 }
 
 // Logs in, and tells from which length of the history on an update is held, where it is.
-fn held_from<R: Wait>(
+fn held_from<R: Wait + Clock>(
     rt: &R,
+    alloc: Global,
     lock: &ShareLock<Share>,
     bell: &Bell,
     pass: &mut Pass<Share>,
-) -> Option<u64>
+) -> Result<Option<u64>, AllocError>
     requires { IsReady (lock_id lock.now) pass.old }
     ensures { IsReady (lock_id lock.now) pass.new }
 {
-    answer_request(rt, lock, bell, pass, &asks(Want::Login));
+    answered(rt, alloc, lock, bell, pass, Want::Login)?;
     match looked(rt, lock, pass, &asks(update())) {
-        Look::Held { point } => Some(point),
-        Look::Answered(_) => None,
+        Look::Held { point } => Ok(Some(point)),
+        Look::Answered(_) => Ok(None),
     }
 }
 
 // Pass 0 asks for an update, which is held, then pass 1 for something else, and then pass 0 again.
-fn held_before<R: Wait>(
+fn held_before<R: Wait + Clock>(
     rt: &R,
     alloc: Global,
     other: Want,
@@ -106,9 +144,9 @@ fn held_before<R: Wait>(
     let (lock, mut first) = opened(alloc)?;
     let bell = Bell::new();
     let second = lock.split(rt, &mut first)?;
-    let point = held_from(rt, &lock, &bell, &mut first);
-    let other = told(rt, &lock, &bell, second, other);
-    let held = told(rt, &lock, &bell, first, update());
+    let point = held_from(rt, alloc, &lock, &bell, &mut first)?;
+    let other = told(rt, alloc, &lock, &bell, second, other)?;
+    let held = told(rt, alloc, &lock, &bell, first, update())?;
     Ok((point, held, other))
 }
 
@@ -129,9 +167,30 @@ fn a_stop_ends_what_holds_an_update(rt: HostRuntime) -> Result<(), Fail> {
     Ok(())
 }
 
-fn logged_in<R: Wait>(rt: &R, alloc: Global) -> Result<Answered, AllocError> {
+fn logged_in<R: Wait + Clock>(rt: &R, alloc: Global) -> Result<Answered, AllocError> {
     let (lock, mut pass) = opened(alloc)?;
-    Ok(answer_request(rt, &lock, &Bell::new(), &mut pass, &asks(Want::Login)))
+    answered(rt, alloc, &lock, &Bell::new(), &mut pass, Want::Login)
+}
+
+// An update that nobody ends, on a link whose second probe fails: whether its peer was seen to go, and for how long it was held.
+fn held_alone<R: Wait + Clock>(rt: &R, alloc: Global) -> Result<(bool, Duration), AllocError> {
+    let (lock, mut pass) = opened(alloc)?;
+    let bell = Bell::new();
+    held_from(rt, alloc, &lock, &bell, &mut pass)?;
+    let mut link = linked(alloc, &[2])?;
+    let begun = read_clock(rt)?;
+    let ended = answer_request(rt, &lock, &bell, &mut pass, &mut link, &asks(update()));
+    let ended_at = read_clock(rt)?;
+    let gone = matches!(ended, Err(Unanswered::Gone));
+    Ok((gone, ended_at.saturating_sub(begun)))
+}
+
+// Two probes are two waits of five seconds: between them nobody looks at the share.
+#[test]
+fn a_peer_that_went_ends_what_holds_an_update(rt: HostRuntime) -> Result<(), Fail> {
+    let (gone, held) = held_alone(&rt, rt.alloc())?;
+    assert!(rt; gone && held >= Duration::from_secs(2 * PROBE_SECONDS));
+    Ok(())
 }
 
 #[test]
@@ -178,13 +237,13 @@ fn edits_of(entry: Option<&Entry>) -> Option<(u32, usize)> {
 }
 
 // Pass 0 is split, pass 1 puts an item, pass 0 looks, takes pass 1 in, and takes the share out.
-fn two_passes<R: Wait>(
+fn two_passes<R: Wait + Clock>(
     rt: &R,
     alloc: Global,
 ) -> Result<(Share, Option<(u32, usize)>, u64), AllocError> {
     let (lock, mut first) = opened(alloc)?;
     let mut second = lock.split(rt, &mut first)?;
-    answer_request(rt, &lock, &Bell::new(), &mut second, &asks(edit(alloc)?));
+    answered(rt, alloc, &lock, &Bell::new(), &mut second, edit(alloc)?)?;
     let mut turn = lock.take(rt, &mut first);
     let found = edits_of(turn.state().entry(0));
     lock.give(turn);

@@ -28,6 +28,7 @@ use Rattle.link_commands.specs.RoundLines.{round_lines, shown_rows}
 use Rattle.link_commands.specs.Rounds.{EndsRounds}
 use Rattle.link_commands.proofs.EndedFacts.{Promised, by_cut, by_fault, by_idle, by_memory, by_output, untouched}
 use Rattle.command_core.proofs.Appending.{none_written}
+use Rattle.link_commands.proofs.FollowDecided.{follow_decided, follow_refused}
 use Rattle.link_commands.proofs.FollowPromised.{follow_goes_on, follow_shows}
 use Rattle.link_commands.proofs.LinkedFacts.{link_rose}
 use Rattle.link_commands.proofs.PushFacts.{link_fails, link_is}
@@ -108,6 +109,8 @@ follow_promised host rounds query meta target told status ends = record {
   net = keeps_net host rounds query meta target told status ends;
   shows = follow_shows host rounds query meta target told status follow_fails ends;
   goes_on = follow_goes_on host rounds query meta target told status ends;
+  refused = follow_refused host rounds query meta target told status ends;
+  decided = follow_decided host rounds query meta target told status ends;
 }
 
 -- ---- before a link

@@ -1,6 +1,5 @@
 -- What a run of `follow` comes to where the bytes of its link are a share's.
-use Rattle.std.proofs.Common.{◌≡◌, ◌≢◌, ◌⊎◌, ◌++◌, ℕ, List, [], Option, Some, None, IfSome, sym, ap, ◌∙◌, subst, inl, inr}
-use Rattle.std.specs.Io.KnownBytes.{prepend_known}
+use Rattle.std.proofs.Common.{◌≡◌, ◌≢◌, ◌⊎◌, ◌++◌, ℕ, List, Option, Some, None, sym, ap, ◌∙◌, subst, inl, inr}
 use Rattle.dmap_tags.specs.Tree.{Tree}
 use Rattle.item_model.specs.declared.changes.Entry.{Entry}
 use Rattle.item_model.specs.declared.query.Query.{Query as query_type}
@@ -24,19 +23,12 @@ use Rattle.followed_shares.proofs.FilterShown.{followers_hold_the_rows}
 use Rattle.link_commands.specs.declared.follow.FollowFault.{FollowFault}
 use Rattle.link_commands.specs.declared.follow.FollowFault.TheVariants.{Query, Meta, Unreached, Link}
 use Rattle.link_commands.specs.FollowShare.{IsFollowDone, StopsFollowBy, StopsFollowing, follow_meaning, follow_status}
-use Rattle.link_commands.specs.Linked.{LinkSeen, start_of}
+use Rattle.link_commands.specs.Linked.{start_of}
 use Rattle.link_commands.specs.Looks.{AsksQuery, HasRefusal}
 use Rattle.link_commands.specs.Meanings.{LinkEnds}
 use Rattle.link_commands.specs.RoundLines.{round_lines, shown_rows}
 use Rattle.link_commands.specs.Served.{IsFaultless, ServesMirror, ShowsTheShare}
-use Rattle.link_commands.proofs.LinkedFacts.{link_rose}
-
--- the link has the bytes that were to come
-pub left_is : (next left : Option (List ℕ)) (bytes : List ℕ) → next ≡ Some bytes → IfSome next (λ input. left ≡ Some input) → left ≡ Some bytes
-left_is next left bytes same h = subst (λ (n : Option (List ℕ)). IfSome n (λ input. left ≡ Some input)) same h
-
-pub owed_is : (link : LinkSeen) (bytes : List ℕ) → link.left ≡ Some bytes → (start_of link).owed ≡ Some bytes
-owed_is link bytes same = ap (λ (l : Option (List ℕ)). prepend_known [] l) same
+use Rattle.link_commands.proofs.LinkedFacts.{left_is, link_rose, owed_is}
 
 -- ---- the rows
 
@@ -64,18 +56,17 @@ follow_shows host rounds query meta target told status fails (LineCut front faul
 
 -- ---- nothing else ends it
 
-read_or_refused : (text : Option (List ℕ)) (asked : Option query_type) (error : QueryError) → error ≢ query_error.Memory → AsksQuery text asked → HasRefusal text error → ⊥
+pub read_or_refused : (text : Option (List ℕ)) (asked : Option query_type) (error : QueryError) → error ≢ query_error.Memory → AsksQuery text asked → HasRefusal text error → ⊥
 read_or_refused None asked error cause reads refused = refused
 read_or_refused (Some text) None error cause reads refused = reads
 read_or_refused (Some text) (Some asked) error cause reads refused = answers_once text asked error cause reads refused
 
-link_goes_on : (host : List ℕ) (rounds : ℕ) (query meta : Option (List ℕ)) (target : Target) (told : Told) (e : FollowError) (front : List ℕ) (s : Settings) (h : List Entry)
-    → e ≢ Memory → (x : StopsFollowing host rounds query meta target told.before told.after e front) → ServesMirror s h rounds query meta target told → IsFaultless told
-    → (e ≡ LinkFault) ⊎ (e ≡ Memory) → ⊥
-link_goes_on host rounds query meta target told e front s h other x serves faultless (inl fault) =
+pub link_goes_on : (host : List ℕ) (rounds : ℕ) (query meta : Option (List ℕ)) (target : Target) (told : Told) (e : FollowError) (front : List ℕ) → e ≢ Memory
+    → (x : StopsFollowing host rounds query meta target told.before told.after e front) → IsFaultless told → (e ≡ LinkFault) ⊎ (e ≡ Memory) → ⊥
+link_goes_on host rounds query meta target told e front other x faultless (inl fault) =
     faultless.net (link_rose host told.before.around.net told.after.around.net x.link x.for.linked
     (subst (λ (f : FollowError). CountsFault 0 x.link.faults f) fault x.stops.count))
-link_goes_on host rounds query meta target told e front s h other x serves faultless (inr memory) = other memory
+link_goes_on host rounds query meta target told e front other x faultless (inr memory) = other memory
 
 outside : (host : List ℕ) (rounds : ℕ) (query meta : Option (List ℕ)) (target : Target) (told : Told) (e : FollowError) (front : List ℕ) (s : Settings) (h : List Entry)
     (x : StopsFollowing host rounds query meta target told.before told.after e front) → ServesMirror s h rounds query meta target told → (e ≡ LinkFault) ⊎ (e ≡ Memory)
@@ -93,7 +84,7 @@ fault_goes_on host rounds query meta target told status (Own Meta) front s h e s
     let bad : Some serves.asks.shown ≡ None = sym serves.asks.meta_is ∙ stops.1 in absurd (cc)
 fault_goes_on host rounds query meta target told status (Own Unreached) front s h e stops serves faultless = absurd (faultless.net stops.0.unreached.rose)
 fault_goes_on host rounds query meta target told status (Own (Link error)) front s h e stops serves faultless =
-    absurd (link_goes_on host rounds query meta target told error front s h stops.0 stops.1 serves faultless
+    absurd (link_goes_on host rounds query meta target told error front stops.0 stops.1 faultless
     (outside host rounds query meta target told error front s h stops.1 serves))
 fault_goes_on host rounds query meta target told status Read front s h e stops serves faultless = absurd stops
 fault_goes_on host rounds query meta target told status want front s h e stops serves faultless = inr e

@@ -1,6 +1,9 @@
 pub mod LinkedFacts
 pub mod EndedFacts
 pub mod FollowPromised
+pub mod RunOnce
+pub mod FollowDecided
+pub mod EditDecided
 pub mod EditPromised
 pub mod PushFacts
 pub mod RowFacts

@@ -1,6 +1,6 @@
 -- What a net keeps of one link, and how its count of faults tells of the link's.
-use Rattle.std.proofs.Common.{◌≡◌, ℕ, Bool, List, [], ◌∷◌, ◌++◌, length, Option, Some, IfSome, sym, subst, ◌∙◌, inl, inr, arith, append-nil}
-use Rattle.std.specs.Io.KnownBytes.{Appends}
+use Rattle.std.proofs.Common.{◌≡◌, ℕ, Bool, List, [], ◌∷◌, ◌++◌, length, Option, Some, IfSome, sym, subst, ◌∙◌, ap, inl, inr, arith, append-nil}
+use Rattle.std.specs.Io.KnownBytes.{Appends, prepend_known}
 use Rattle.std.proofs.lemmas.List.{take_all}
 use Rattle.daap_outside.specs.Counts.{Rose, RisesWith}
 use Rattle.daap_outside.specs.Places.{returned}
@@ -12,7 +12,7 @@ use Rattle.mirror_client.specs.Exchanges.{Exchanged}
 use Rattle.mirror_client.specs.Points.{Point}
 use Rattle.http_client.specs.Replies.{Reply}
 use Rattle.mirror_client.specs.Stopping.{CountsFault, Stops}
-use Rattle.link_commands.specs.Linked.{HasLinked, LinkSeen, net_seen}
+use Rattle.link_commands.specs.Linked.{HasLinked, LinkSeen, net_seen, start_of}
 
 -- the calls on the net, and the link between them
 pub linked : (host : List ℕ) (asked asked' asked'' : Option (List (List ℕ × ℕ))) (written written' written'' : Option (List (List ℕ × Bool)))
@@ -54,3 +54,10 @@ written_part request Undue p taken e (inr a) =
     (whole_front p.taken a.there.taken request
     (subst (Appends p.taken a.there.taken) (append-nil request)
     (subst (λ (r : List ℕ). Appends p.taken a.there.taken (r ++ [])) a.asked a.went.written)))
+
+-- the link has the bytes that were to come
+pub left_is : (next left : Option (List ℕ)) (bytes : List ℕ) → next ≡ Some bytes → IfSome next (λ input. left ≡ Some input) → left ≡ Some bytes
+left_is next left bytes same h = subst (λ (n : Option (List ℕ)). IfSome n (λ input. left ≡ Some input)) same h
+
+pub owed_is : (link : LinkSeen) (bytes : List ℕ) → link.left ≡ Some bytes → (start_of link).owed ≡ Some bytes
+owed_is link bytes same = ap (λ (l : Option (List ℕ)). prepend_known [] l) same

@@ -1,12 +1,10 @@
 -- What an edit and a stop leave, and how they stop.
-use Rattle.std.proofs.Common.{◌≡◌, ◌<◌, ◌+◌, ℕ, Bool, true, false, List, [], length, Option, Some, None, IfSome, Result, Ok, Err, Vec, Global, IfOk, IfErr, refl, sym, ap, ◌∙◌, subst, inl, inr, arith}
-use Rattle.std.proofs.KnownBytes.{Appends-nil}
+use Rattle.std.proofs.Common.{◌≡◌, ◌<◌, ◌+◌, ℕ, Bool, false, List, [], length, Option, None, IfSome, Result, Ok, Err, Vec, Global, IfOk, IfErr, refl, sym, ap, ◌∙◌, subst, inl, inr}
 use Rattle.daap_outside.specs.Counts.{Rose}
 use Rattle.daap_outside.specs.Reading.{ConsumesUpTo, CountsReadFaults}
 use Rattle.daap_outside.specs.declared.reading.ReadError.{ReadError}
 use Rattle.daap_outside.specs.declared.reading.ReadError.TheVariants as reads
-use Rattle.command_core.proofs.Reading.{failed_within, past_limit}
-use Rattle.daap_outside.specs.Told.{AppendsPrefix}
+use Rattle.command_core.proofs.Reading.{all_read_on, failed_within, past_limit}
 use Rattle.command_core.specs.declared.fault.Fault.{Fault}
 use Rattle.command_core.specs.declared.fault.Fault.TheVariants.{Own, Read, Memory as want}
 use Rattle.command_core.specs.declared.outcome.Outcome.{Outcome}
@@ -22,11 +20,12 @@ use Rattle.mirror_client.specs.declared.refusal.FollowError.TheVariants.{Refused
 use Rattle.mirror_client.specs.Pushes.{UnduePush, push_text}
 use Rattle.link_commands.specs.declared.edit.EditFault.{EditFault}
 use Rattle.link_commands.specs.declared.edit.EditFault.TheVariants.{TooLong, Unreached, Refused, Link}
-use Rattle.link_commands.specs.EditShare.{EditReadsOn, HasBody, HasPushed, HasSent, IsEditDone, IsSentInPart, IsToldFault, IsUnsent, StopsEdit, StopsPush, StopsSending, edit_meaning, edit_line, edit_status, push_fault, read_fault, records_limit, told_of}
+use Rattle.link_commands.specs.EditShare.{EditReadsOn, HasBody, HasPushed, HasSent, IsEditDone, IsToldFault, IsUnsent, StopsEdit, StopsPush, StopsSending, edit_meaning, edit_line, edit_status, push_fault, read_fault, records_limit, told_of}
 use Rattle.link_commands.specs.Linked.{HasLinked, IsUnreached, LinkSeen, start_of}
 use Rattle.link_commands.specs.Links.{link_status}
 use Rattle.link_commands.specs.Meanings.{IsLinkAnswered, KeepsNet, LinkEnds}
 use Rattle.link_commands.proofs.EndedFacts.{Promised, by_fault, by_idle, untouched}
+use Rattle.link_commands.proofs.EditDecided.{edit_decided}
 use Rattle.link_commands.proofs.EditPromised.{edit_goes_on}
 use Rattle.link_commands.proofs.LinkedFacts.{link_rose, written_part, written_whole}
 
@@ -108,35 +107,20 @@ keeps_net host stop told status (LineCut front fault, s, (stops, w)) = record {
 -- what is promised of every run
 pub edit_promised : (host : List ℕ) (stop : Bool) → Promised (edit_meaning host stop)
 edit_promised host stop told status ends =
-    record { net = keeps_net host stop told status ends; goes_on = edit_goes_on host stop told status ends }
+    record { net = keeps_net host stop told status ends; goes_on = edit_goes_on host stop told status ends; decided = edit_decided host stop told status ends }
 
 -- ---- want of memory in place of another fault
 
-body_unread : (stop : Bool) (before after : InputSeen) (body : Option (List ℕ)) → HasBody stop before after body → stop ≡ true → IsUnread before after
-body_unread true before after None has is = has
-body_unread true before after (Some bytes) has is = absurd has
-body_unread false before after body has is = absurd (cc)
-
-reads_unread : (stop : Bool) (before after : InputSeen) → stop ≡ false → stop ≡ true → IsUnread before after
-reads_unread stop before after reads stops = let bad : false ≡ true = sym reads ∙ stops in absurd (cc)
-
-unsent_part : (host : List ℕ) (link : LinkSeen) → IsUnsent link → IsSentInPart host link
-unsent_part host link u =
-    (None, subst (λ (t : Option (List ℕ)). AppendsPrefix link.begun t (push_text None host)) (sym u.unsent) (0, omega arith, Appends-nil link.begun))
-
 pub wants_sending : (host : List ℕ) (stop : Bool) (before after : InputSeen) (link : LinkSeen) (fault : Fault EditFault) → StopsSending host stop before after link fault
     → StopsSending host stop before after link want
-wants_sending host stop before after link (Own TooLong) stops = (reads_unread stop before after stops.0.reads, unsent_part host link stops.1)
+wants_sending host stop before after link (Own TooLong) stops = inl (stops.0.read_on, stops.1)
 wants_sending host stop before after link (Own Unreached) stops = absurd stops
-wants_sending host stop before after link (Own (Refused status text)) stops = (
-  body_unread stop before after stops.0 stops.1,
-  (stops.0, written_whole (push_text stops.0 host) (start_of link) stops.2.there stops.2.answer link.taken stops.2.exchanged stops.2.written),
-)
-wants_sending host stop before after link (Own (Link e)) stops = (
-  body_unread stop before after stops.1.0 stops.1.1,
-  (stops.1.0, written_part (push_text stops.1.0 host) (UnduePush stops.1.0) (start_of link) link.taken e stops.1.2.stops),
-)
-wants_sending host stop before after link Read stops = (reads_unread stop before after stops.0, unsent_part host link stops.2)
+wants_sending host stop before after link (Own (Refused status text)) stops =
+    inr (stops.0, stops.1, written_whole (push_text stops.0 host) (start_of link) stops.2.there stops.2.answer link.taken stops.2.exchanged stops.2.written)
+wants_sending host stop before after link (Own (Link e)) stops =
+    inr (stops.1.0, stops.1.1, written_part (push_text stops.1.0 host) (UnduePush stops.1.0) (start_of link) link.taken e stops.1.2.stops)
+wants_sending host stop before after link Read stops =
+    inl (all_read_on (EditReadsOn stop) before after stops.1.bytes stops.1.read stops.1.on, stops.2)
 wants_sending host stop before after link want stops = stops
 
 -- ---- what came of it
@@ -163,10 +147,8 @@ told_fault host stop before after body link made (Own own) pushed told has = by_
     by_made stopped f x h = absurd (cc)
     by_made (refusal status text) f x h = subst (λ (o : EditFault). StopsSending host stop before after link (Own o)) (own_is status text f h) (body, has, x)
 told_fault host stop before after body link made Read pushed told has = absurd told
-told_fault host stop before after body link made want pushed told has = (
-  body_unread stop before after body has,
-  (body, written_whole (push_text body host) (start_of link) pushed.there pushed.answer link.taken pushed.exchanged pushed.written),
-)
+told_fault host stop before after body link made want pushed told has =
+    inr (body, has, written_whole (push_text body host) (start_of link) pushed.there pushed.answer link.taken pushed.exchanged pushed.written)
 
 -- the exchange ended early
 pub pushing_fault : (host : List ℕ) (stop : Bool) (before after : InputSeen) (body : Option (List ℕ)) (link : LinkSeen) (e : FollowError) → StopsPush host body link e
@@ -177,10 +159,8 @@ pushing_fault host stop before after body link (Ended at) x has = (λ bad. absur
 pushing_fault host stop before after body link (Listing error) x has = (λ bad. absurd (cc), (body, has, x))
 pushing_fault host stop before after body link (Codes error) x has = (λ bad. absurd (cc), (body, has, x))
 pushing_fault host stop before after body link LinkFault x has = (λ bad. absurd (cc), (body, has, x))
-pushing_fault host stop before after body link Memory x has = (
-  body_unread stop before after body has,
-  (body, written_part (push_text body host) (UnduePush body) (start_of link) link.taken Memory x.stops),
-)
+pushing_fault host stop before after body link Memory x has =
+    inr (body, has, written_part (push_text body host) (UnduePush body) (start_of link) link.taken Memory x.stops)
 
 -- the input was not read whole
 pub reading_fault : (host : List ℕ) (stop : Bool) (before after : InputSeen) (link : LinkSeen) (e : ReadError) → stop ≡ false → IsUnsent link
@@ -198,7 +178,8 @@ reading_fault host stop before after link reads.TooLong is unsent failed some lo
   },
   unsent,
 )
-reading_fault host stop before after link reads.Memory is unsent failed some long count = (reads_unread stop before after is, unsent_part host link unsent)
+reading_fault host stop before after link reads.Memory is unsent failed some long count =
+    inl (past_limit (EditReadsOn stop) before after records_limit (λ bytes within. subst (λ (b : Bool). EditReadsOn b bytes) (sym is) within) some, unsent)
 
 -- ---- over a net
 

@@ -48,6 +48,11 @@ HasBody true before after (Some bytes) = ⊥
 HasBody false before after None = ⊥
 HasBody false before after (Some bytes) = HasReadAll before after bytes
 
+-- bytes of the input behind which it reads on
+abbrev pub EditReadsOn : (stop : Bool) → List ℕ → Type 0
+EditReadsOn true bytes = ⊥
+EditReadsOn false bytes = length bytes ≤ records_limit
+
 -- nothing was sent over the link
 pub record IsUnsent (link : LinkSeen) : Type 0 where
   pub unsent : link.taken ≡ link.begun
@@ -75,9 +80,12 @@ HasSent host stop before after link made = (body : Option (List ℕ)) × HasBody
 abbrev pub StopsPushing : List ℕ → (stop : Bool) → InputSeen → InputSeen → LinkSeen → FollowError → Type 0
 StopsPushing host stop before after link e = (body : Option (List ℕ)) × HasBody stop before after body × StopsPush host body link e
 
--- a front of some request was
-abbrev pub IsSentInPart : List ℕ → LinkSeen → Type 0
-IsSentInPart host link = (body : Option (List ℕ)) × AppendsPrefix link.begun link.taken (push_text body host)
+-- of an edit nothing was sent, and the input was perhaps not read to its end; or a prefix of this run's own request was: of the
+-- stop, or of the edit with the bytes that were read
+abbrev pub IsSentInPart : List ℕ → (stop : Bool) → InputSeen → InputSeen → LinkSeen → Type 0
+IsSentInPart host stop before after link =
+    (HasReadOn (EditReadsOn stop) before after × IsUnsent link)
+    ⊎ ((body : Option (List ℕ)) × HasBody stop before after body × AppendsPrefix link.begun link.taken (push_text body host))
 
 abbrev pub number_line : List ℕ → ℕ → List ℕ
 number_line words n = words ++ (decimal n ++ 10 ∷ [])
@@ -107,10 +115,6 @@ edit_status Unreached = 6
 edit_status (Refused status text) = 7
 edit_status (Link error) = link_status error
 
-abbrev pub EditReadsOn : (stop : Bool) → List ℕ → Type 0
-EditReadsOn true bytes = ⊥
-EditReadsOn false bytes = length bytes ≤ records_limit
-
 -- the input has more than is sent
 pub record IsTooLong (stop : Bool) (before after : InputSeen) : Type 0 where
   pub reads : stop ≡ false
@@ -125,7 +129,7 @@ StopsSending host stop before after link (Own Unreached) = ⊥
 StopsSending host stop before after link (Own (Refused status text)) = HasSent host stop before after link (pushed.Refused status text)
 StopsSending host stop before after link (Own (Link error)) = (error ≢ Memory) × StopsPushing host stop before after link error
 StopsSending host stop before after link Read = (stop ≡ false) × IsReadFault (EditReadsOn stop) before after × IsUnsent link
-StopsSending host stop before after link want = (stop ≡ true → IsUnread before after) × IsSentInPart host link
+StopsSending host stop before after link want = IsSentInPart host stop before after link
 
 -- none was made; where memory is wanted for the line of that, its own line is told
 pub record StopsUnlinked (host : List ℕ) (before after : Seen) (fault : Fault EditFault) : Type 0 where

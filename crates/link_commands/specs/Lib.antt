@@ -3,6 +3,7 @@ pub mod Links
 pub mod Meanings
 pub mod Looks
 pub mod LookFaults
+pub mod Decided
 pub mod RoundLines
 pub mod Served
 pub mod EditShare

@@ -16,6 +16,7 @@ use Rattle.mirror_core.specs.Mirrored.{Mirrored}
 use Rattle.followed_shares.specs.Laws.{last_revision, rows_at}
 use Rattle.followed_shares.specs.Served.{ServesRun}
 use Rattle.followed_shares.specs.Whole.{IsWhole}
+use Rattle.link_commands.specs.Decided.{DecidesEdit, DecidesFollow, IsOrMemory, IsTextRefused}
 use Rattle.link_commands.specs.Looks.{AsksMirror}
 use Rattle.link_commands.specs.Meanings.{KeepsNet}
 use Rattle.link_commands.specs.RoundLines.{round_lines, shown_rows}
@@ -49,6 +50,9 @@ pub record FollowPromises (host : List ℕ) (rounds : ℕ) (query meta : Option 
   pub net : KeepsNet host told status
   pub shows : (s : Settings) (h : List Entry) → ServesMirror s h rounds query meta target told → status ≡ 0 → ShowsTheShare h query meta target told
   pub goes_on : (s : Settings) (h : List Entry) → ServesMirror s h rounds query meta target told → IsFaultless told → (status ≡ 0) ⊎ (status ≡ 9)
+  -- refused texts decide it where the output did not fail
+  pub refused : (Rose told.output_before.faults told.output_after.faults → ⊥) → IsTextRefused query meta → IsOrMemory 3 status
+  pub decided : IsFaultless told → DecidesFollow host rounds query meta target told status
 
 -- ---- edit
 
@@ -78,3 +82,4 @@ pub record ServesPush (s : Settings) (h : List Entry) (stop : Bool) (told : Told
 pub record EditPromises (host : List ℕ) (stop : Bool) (told : Told) (status : ℕ) : Type 0 where
   pub net : KeepsNet host told status
   pub goes_on : (s : Settings) (h : List Entry) → ServesPush s h stop told → IsFaultless told → (status ≡ 0) ⊎ (status ≡ 9)
+  pub decided : IsFaultless told → DecidesEdit stop told status

@@ -7,7 +7,7 @@ use Rattle.std.specs.Io.KnownBytes.{Appends}
 use Rattle.std.specs.Prelude.{take, IsErr, OnOk, OnErr}
 use Rattle.daap_outside.specs.Counts.{CountsFaults, Rose}
 use Rattle.daap_outside.specs.Told.{AppendsPrefix}
-use Rattle.daap_outside.specs.declared.faulted.Failed.{Failed}
+use Rattle.daap_outside.specs.Faults.{Failed}
 use Rattle.listing_plan.specs.Pages.{Moved, Pushes}
 
 -- bytes were put behind the first ones

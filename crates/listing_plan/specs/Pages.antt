@@ -3,7 +3,7 @@ use Rattle.std.specs.Prelude.{◌≡◌, ℕ, List, ◌++◌, Option, Result, On
 use Rattle.std.specs.Io.KnownBytes.{Appends}
 use Rattle.daap_outside.specs.Counts.{Rose}
 use Rattle.daap_outside.specs.Told.{AppendsPrefix}
-use Rattle.daap_outside.specs.declared.faulted.Failed.{Failed}
+use Rattle.daap_outside.specs.Faults.{Failed}
 
 -- the sink took a front of the page with the bytes behind it, and what is left of them is the page now
 pub record Moved (bytes : List ℕ) (told now : Option (List ℕ)) (page page' : List ℕ) : Type 0 where

@@ -1,5 +1,5 @@
 -- What a mirror holds after a body that is a listing, and after the body of an answer.
-use Rattle.std.proofs.Common.{◌≡◌, ℕ, ◌+◌, ◌<◌, ◌≤◌, List, [], ◌∷◌, ◌++◌, Bool, true, false, cond, ◌&&◌, nat_le, length, map, filter, get_or, Option, Some, Result, Ok, Err, refl, sym, ap, subst, ◌∙◌, arith, true≢false, leb-true}
+use Rattle.std.proofs.Common.{◌≡◌, ℕ, ◌+◌, ◌<◌, ◌≤◌, List, [], ◌∷◌, ◌++◌, Bool, true, false, cond, not, ◌&&◌, nat_le, length, map, filter, get_or, Option, Some, Result, Ok, Err, refl, sym, ap, subst, ◌∙◌, arith, true≢false, leb-true}
 use Rattle.std.specs.List.{All}
 use Rattle.std.specs.Option.{option_map_or}
 use Rattle.std.proofs.lemmas.List.Elements.{All-map, All-filter}
@@ -13,9 +13,10 @@ use Rattle.item_model.specs.declared.request.Meta.{Meta}
 use Rattle.item_model.specs.declared.request.Target.{Target}
 use Rattle.item_model.specs.declared.request.Target.TheVariants.{Items, Container}
 use Rattle.share_history.specs.Bodies.{start_tags, gone_tags, body_tree, listing_body}
-use Rattle.share_history.specs.Histories.{batches, edits, later, revision}
-use Rattle.share_history.specs.Kept.{is_kept, is_left, touches}
-use Rattle.share_history.specs.Listings.{Listing, listing, full_listing, delta_listing, shown, shown_rows}
+use Rattle.share_history.specs.Histories.{batches, edits, later, revision, up_to}
+use Rattle.share_history.specs.Kept.{is_kept, is_left}
+use Rattle.share_history.specs.Differences.{has_tag}
+use Rattle.share_history.specs.Listings.{Listing, listing, full_listing, delta_listing, shown, shown_rows, shown_after}
 use Rattle.share_history.specs.Mirror.{Held, mirror_after, mirrored, mirror_look}
 use Rattle.share_history.specs.Numbers.{first_revision}
 use Rattle.share_history.specs.Rows.{rows}
@@ -106,8 +107,8 @@ delta_is_listing : (bs : List (List Edit)) (t : Target) (query : Option Query) (
     → IsListing t base (delta_listing bs t (mirror_look query meta base) base) (body_tree t (delta_listing bs t (mirror_look query meta base) base))
 delta_is_listing bs t query meta base above =
     body_is_listing t base (delta_listing bs t (mirror_look query meta base) base)
-    (shown_rows_own t meta (filter (λ row. touches (edits bs) t (later bs base) row.0) (rows (edits bs) t query))
-    (All-filter (λ row. touches (edits bs) t (later bs base) row.0) (IsOwn t) (rows (edits bs) t query) (own_rows (edits bs) t query)))
+    (All-filter (λ tag. not (has_tag (shown_after (up_to bs base) t (mirror_look query meta base)) tag)) (IsRow t) (shown_rows t meta (rows (edits bs) t query))
+    (shown_rows_own t meta (rows (edits bs) t query) (own_rows (edits bs) t query)))
     (λ h. above) (λ h. absurd (true≢false h))
 
 -- the body of the answer to a mirror is that answer's listing

@@ -13,14 +13,12 @@ use Rattle.item_model.specs.declared.query.Query.{Query}
 use Rattle.item_model.specs.declared.request.Browse.{Browse}
 use Rattle.item_model.specs.declared.request.Target.TheVariants.{Items}
 use Rattle.item_model.specs.QuerySeen.{tree_of}
-use Rattle.share_history.specs.Keyed.{at}
 use Rattle.share_history.specs.Rows.{is_asked, rows, library}
 use Rattle.share_history.specs.BrowseListings.{is_filled, browse_values}
 use Rattle.share_history.proofs.RowFacts.{rows_asked}
-use Rattle.prop_index.specs.Forms.{spelled, browse_text, finds, HasTexts}
+use Rattle.prop_index.specs.Forms.{spelled, browse_text, finds}
 use Rattle.prop_index.specs.Candidates.{needed_text, is_candidate}
 use Rattle.prop_index.specs.Laws.{CandidatesSuffice, ValuesByTheirItems}
-use Rattle.prop_index.proofs.FoundFacts.{each_stands}
 use Rattle.prop_index.proofs.NeedFacts.{query_needs}
 use Rattle.prop_index.proofs.ValueFacts.{by_bytes, among, same_texts, sorted_sorted, among_sorted}
 
@@ -38,17 +36,15 @@ filtered_twice {X} p f (x ∷ xs) all =
     ∙ filtered_twice p f xs all.1 ∙ ap (λ b. filter p (cond b (x ∷ filter f xs) (filter f xs))) (sym h))
     (cases_Bool (f x))
 
-all_need : (query : Query) (text : Browse × List ℕ) (whole rows : List (ℕ × Row)) → needed_text (tree_of query) ≡ Some text
-    → ((id : ℕ) (row : Row) → at id whole ≡ Some row → HasTexts row) → AllByRecursion (λ e. at e.0 whole ≡ Some e.1) rows
+all_need : (query : Query) (text : Browse × List ℕ) (rows : List (ℕ × Row)) → needed_text (tree_of query) ≡ Some text
     → AllByRecursion (λ row. is_asked (Some query) row.1 ≡ true → is_candidate text row.1 ≡ true) rows
-all_need query text whole [] needed texts all = tt
-all_need query text whole (r ∷ rows) needed texts all =
-    (query_needs (tree_of query) text.0 text.1 r.1 needed (texts r.0 r.1 all.0), all_need query text whole rows needed texts all.1)
+all_need query text [] needed = tt
+all_need query text (r ∷ rows) needed =
+    (query_needs (tree_of query) text.0 text.1 r.1 needed, all_need query text rows needed)
 
 pub candidates_suffice : CandidatesSuffice
-candidates_suffice rows index query text rising stands needed =
-    filtered_twice (λ row. is_asked (Some query) row.1) (λ row. is_candidate text row.1) rows
-    (all_need query text rows rows needed stands.texts (each_stands rows rising))
+candidates_suffice rows query text needed =
+    filtered_twice (λ row. is_asked (Some query) row.1) (λ row. is_candidate text row.1) rows (all_need query text rows needed)
 
 -- ---- values
 

@@ -1,6 +1,7 @@
 -- An item that meets a query is found by the text that the query needs.
-use Rattle.std.proofs.Common.{◌≡◌, ℕ, Bool, true, false, cond, ◌&&◌, true≢false, List, [], ◌∷◌, Option, Some, None, option_map, unwrap_or, refl, sym, ap, ◌∙◌, ⊎_elim, codes}
+use Rattle.std.proofs.Common.{◌≡◌, ◌≤◌, ℕ, Bool, true, false, cond, ◌&&◌, true≢false, List, [], ◌∷◌, Option, Some, None, option_map, unwrap_or, refl, sym, ap, ◌∙◌, ⊎_elim, codes, filter, length, IsUtf8, arith}
 use Rattle.std.specs.Prelude.{option_and_then}
+use Rattle.std.specs.List.{AllByRecursion}
 use Rattle.std.specs.Option.{option_or, option_map_or}
 use Rattle.std.specs.Str.{bytes_eq}
 use Rattle.std.proofs.lemmas.Bool.{cases_Bool}
@@ -8,7 +9,7 @@ use Rattle.std.proofs.lemmas.Slice.Eq.{bytes_eq-Decides}
 use Rattle.item_model.specs.declared.changes.Edit.{Edit}
 use Rattle.item_model.specs.declared.condition.Cond.{Cond}
 use Rattle.item_model.specs.declared.condition.Op.{Op}
-use Rattle.item_model.specs.declared.condition.Op.TheVariants.{Is, IsNot}
+use Rattle.item_model.specs.declared.condition.Op.TheVariants.{Is, IsNot, Less, More}
 use Rattle.item_model.specs.declared.item.PropValue.{PropValue}
 use Rattle.item_model.specs.declared.item.PropValue.TheVariants.{Number, Text}
 use Rattle.item_model.specs.declared.item.Row.{Row}
@@ -22,10 +23,11 @@ use Rattle.item_model.specs.Items.{value_of}
 use Rattle.item_model.specs.Properties.{property_named, property_kind}
 use Rattle.item_model.specs.QuerySeen.{tree_of}
 use Rattle.item_model.specs.QueryTree.{QueryTree, condition, and_of, or_of, QueryTrees, no_queries, more_queries}
-use Rattle.song_query.specs.Glob.{folded}
-use Rattle.song_query.specs.Holds.{absent, asked, matches_value, named_value, property_value, meets, holds, all_hold}
+use Rattle.item_model.specs.Folding.{folded}
+use Rattle.item_model.proofs.FoldLaws.{folded_filled}
+use Rattle.song_query.specs.Holds.{absent, is_met, matches_value, named_value, property_value, meets, holds, all_hold}
 use Rattle.share_history.specs.BrowseListings.{browsed, text_in, is_filled}
-use Rattle.share_history.specs.Keyed.{at}
+use Rattle.share_history.specs.Keyed.{at, IsAscending}
 use Rattle.share_history.specs.Rows.{is_asked, if_asked, row_at, library}
 use Rattle.share_history.specs.LastSaid.{only_if}
 use Rattle.share_history.proofs.RowFacts.{at-library}
@@ -34,6 +36,7 @@ use Rattle.prop_index.specs.IdSets.{has}
 use Rattle.prop_index.specs.Forms.{any_case, finds, is_textual, HasTexts}
 use Rattle.prop_index.specs.Index.{found, StandsFor}
 use Rattle.prop_index.specs.Candidates.{browse_of, is_positive, only_piece, text_asked, text_of_condition, first_text, needed_text, is_candidate}
+use Rattle.prop_index.proofs.FoundFacts.{each_stands}
 
 some_same : {A : Type 0} (x y : A) → Some x ≡ Some y → x ≡ y
 some_same x y p = (cc)
@@ -64,22 +67,22 @@ both false b h = absurd (true≢false (sym h))
 record Asks (c : Cond) (browse : Browse) (text : List ℕ) : Type 0 where
   positive : is_positive c.op ≡ true
   filled : is_filled text ≡ true
-  pieces : c.pattern.pieces ≡ text ∷ []
+  pieces : c.pattern ≡ text ∷ []
   named : property_named c.name ≡ Some (browsed browse)
 
-asks_where : (c : Cond) (browse : Browse) (text : List ℕ) (ok : Bool) → (is_positive c.op && is_filled (only_piece c.pattern.pieces)) ≡ ok → (where_ : Option Browse)
+asks_where : (c : Cond) (browse : Browse) (text : List ℕ) (ok : Bool) → (is_positive c.op && is_filled (only_piece c.pattern)) ≡ ok → (where_ : Option Browse)
     → option_and_then browse_of (property_named c.name) ≡ where_
-    → (if_ok : cond ok (option_map {U = Browse × List ℕ} (λ browse. (browse, only_piece c.pattern.pieces)) where_) None ≡ Some (browse, text)) → Asks c browse text
+    → (if_ok : cond ok (option_map {U = Browse × List ℕ} (λ browse. (browse, only_piece c.pattern)) where_) None ≡ Some (browse, text)) → Asks c browse text
 asks_where c browse text false ok where_ at_ h = absurd (cc)
 asks_where c browse text true ok None at_ h = absurd (cc)
 asks_where c browse text true ok (Some b) at_ h =
-    let pair = some_same (b, only_piece c.pattern.pieces) (browse, text) h in
-    let tests = both (is_positive c.op) (is_filled (only_piece c.pattern.pieces)) ok in
-    let piece : only_piece c.pattern.pieces ≡ text = ap (λ p. p.1) pair in
+    let pair = some_same (b, only_piece c.pattern) (browse, text) h in
+    let tests = both (is_positive c.op) (is_filled (only_piece c.pattern)) ok in
+    let piece : only_piece c.pattern ≡ text = ap (λ p. p.1) pair in
     record {
       positive = tests.0;
       filled = ap is_filled (sym piece) ∙ tests.1;
-      pieces = only_is c.pattern.pieces tests.1 ∙ ap (λ t. t ∷ []) piece;
+      pieces = only_is c.pattern tests.1 ∙ ap (λ t. t ∷ []) piece;
       named = named_is (property_named c.name) browse (at_ ∙ ap (λ x. Some x) (ap (λ p. p.0) pair));
     }
 
@@ -106,47 +109,78 @@ absent_text Albums = refl
 absent_text Genres = refl
 absent_text Composers = refl
 
-filled_folded : (text : List ℕ) → is_filled text ≡ true → is_filled (folded text) ≡ true
-filled_folded [] h = h
-filled_folded (b ∷ text) h = refl
+has_length : (text : List ℕ) → is_filled text ≡ true → 1 ≤ length text
+has_length [] h = absurd (true≢false (sym h))
+has_length (b ∷ text) h = omega arith
 
--- a text that matches without a wildcard is the same in any case
-matched : (text : List ℕ) (value : Option PropValue) → is_filled text ≡ true → is_textual value ≡ true
-    → matches_value (text ∷ []) (unwrap_or value (Text [])) ≡ true → (is_filled (folded text) && bytes_eq (folded (text_in value)) (folded text)) ≡ true
+has_bytes : (text : List ℕ) → 1 ≤ length text → is_filled text ≡ true
+has_bytes [] h = absurd (omega arith)
+has_bytes (b ∷ text) h = refl
+
+filled_folded : (text : List ℕ) → IsUtf8 text → is_filled text ≡ true → is_filled (folded text) ≡ true
+filled_folded text utf8 h = has_bytes (folded text) (folded_filled text utf8 (has_length text h))
+
+-- a text matches without a wildcard where it is found by the folded text
+matched : (text : List ℕ) (value : Option PropValue) → IsUtf8 text → is_filled text ≡ true → is_textual value ≡ true
+    → (is_filled (folded text) && bytes_eq (folded (text_in value)) (folded text)) ≡ matches_value (text ∷ []) (unwrap_or value (Text []))
 unfolding matches_value
-matched text None filled textual h = ap (λ b. b && bytes_eq (folded []) (folded text)) (filled_folded text filled) ∙ h
-matched text (Some (Number n)) filled textual h = absurd (true≢false (sym textual))
-matched text (Some (Text bytes)) filled textual h = ap (λ b. b && bytes_eq (folded bytes) (folded text)) (filled_folded text filled) ∙ h
+matched text None utf8 filled textual = ap (λ b. b && bytes_eq (folded []) (folded text)) (filled_folded text utf8 filled)
+matched text (Some (Number n)) utf8 filled textual = absurd (true≢false (sym textual))
+matched text (Some (Text bytes)) utf8 filled textual = ap (λ b. b && bytes_eq (folded bytes) (folded text)) (filled_folded text utf8 filled)
 
-positive_asked : (op : Op) (b : Bool) → is_positive op ≡ true → asked op b ≡ b
-positive_asked Is b h = refl
-positive_asked IsNot b h = absurd (true≢false (sym h))
-
-condition_needs : (c : Cond) (browse : Browse) (text : List ℕ) (row : Row) → text_asked c ≡ Some (browse, text) → HasTexts row → meets c row ≡ true
-    → is_candidate (browse, text) row ≡ true
-condition_needs c browse text row is texts meets_it =
-    let a = asks c browse text is in
+-- the items that are found by the folded text are those whose value matches the text
+candidate_found : (browse : Browse) (text : List ℕ) (row : Row) → IsUtf8 text → is_filled text ≡ true → HasTexts row
+    → finds any_case browse (folded text) row ≡ is_candidate (browse, text) row
+candidate_found browse text row utf8 filled texts =
     let value = value_of (browsed browse) row.item in
-    let met : matches_value (text ∷ []) (unwrap_or value (Text [])) ≡ true =
-    ap (λ v. matches_value (text ∷ []) (unwrap_or value v)) (sym (absent_text browse))
-    ∙ ap (matches_value (text ∷ [])) (sym (value_named c.name row (browsed browse) a.named))
+    matched text value utf8 filled (texts browse) ∙ ap (λ v. matches_value (text ∷ []) (unwrap_or value v)) (sym (absent_text browse))
+
+same_filter : {X : Type 0} (p f : X → Bool) (xs : List X) → AllByRecursion (λ x. p x ≡ f x) xs → filter p xs ≡ filter f xs
+same_filter p f [] all = refl
+same_filter p f (x ∷ xs) all =
+    ap (λ b. cond b (x ∷ filter p xs) (filter p xs)) all.0 ∙ ap (λ ys. cond (f x) (x ∷ ys) ys) (same_filter p f xs all.1)
+
+each_found : (whole rows : List (ℕ × Row)) (browse : Browse) (text : List ℕ) → IsUtf8 text → is_filled text ≡ true
+    → ((id : ℕ) (row : Row) → at id whole ≡ Some row → HasTexts row) → AllByRecursion (λ e. at e.0 whole ≡ Some e.1) rows
+    → AllByRecursion (λ e. finds any_case browse (folded text) e.1 ≡ is_candidate (browse, text) e.1) rows
+each_found whole [] browse text utf8 filled texts all = tt
+each_found whole (r ∷ rows) browse text utf8 filled texts all =
+    (candidate_found browse text r.1 utf8 filled (texts r.0 r.1 all.0), each_found whole rows browse text utf8 filled texts all.1)
+
+-- so are those of a library for which an index stands
+pub candidates_found : (rows : List (ℕ × Row)) (index : PropIndex) (browse : Browse) (text : List ℕ) → IsUtf8 text → is_filled text ≡ true → IsAscending rows → StandsFor rows index
+    → filter (λ row. finds any_case browse (folded text) row.1) rows ≡ filter (λ row. is_candidate (browse, text) row.1) rows
+candidates_found rows index browse text utf8 filled rising stands =
+    same_filter (λ row. finds any_case browse (folded text) row.1) (λ row. is_candidate (browse, text) row.1) rows
+    (each_found rows rows browse text utf8 filled stands.texts (each_stands rows rising))
+
+positive_met : (op : Op) (pieces : List (List ℕ)) (v : PropValue) → is_positive op ≡ true → is_met op pieces v ≡ matches_value pieces v
+positive_met Is pieces v h = refl
+positive_met IsNot pieces v h = absurd (true≢false (sym h))
+positive_met Less pieces v h = absurd (true≢false (sym h))
+positive_met More pieces v h = absurd (true≢false (sym h))
+
+condition_needs : (c : Cond) (browse : Browse) (text : List ℕ) (row : Row) → text_asked c ≡ Some (browse, text) → meets c row ≡ true
+    → is_candidate (browse, text) row ≡ true
+condition_needs c browse text row is meets_it =
+    let a = asks c browse text is in
+    ap (matches_value (text ∷ [])) (sym (value_named c.name row (browsed browse) a.named))
     ∙ ap (λ ps. matches_value ps (named_value c.name row)) (sym a.pieces)
-    ∙ sym (positive_asked c.op (matches_value c.pattern.pieces (named_value c.name row)) a.positive) ∙ meets_it in
-    matched text value a.filled (texts browse) met
+    ∙ sym (positive_met c.op c.pattern (named_value c.name row) a.positive) ∙ meets_it
 
 -- ---- what a query needs
 
-first_needs : (qs : QueryTrees) (browse : Browse) (text : List ℕ) (row : Row) → first_text qs ≡ Some (browse, text) → HasTexts row → all_hold qs row ≡ true
+first_needs : (qs : QueryTrees) (browse : Browse) (text : List ℕ) (row : Row) → first_text qs ≡ Some (browse, text) → all_hold qs row ≡ true
     → is_candidate (browse, text) row ≡ true
-first_needs no_queries browse text row is texts held = absurd (cc)
-first_needs (more_queries q qs) browse text row is texts held =
-    first_or_next q (both (holds q row) (all_hold qs row) held) (λ is held. first_needs qs browse text row is texts held) is
+first_needs no_queries browse text row is held = absurd (cc)
+first_needs (more_queries q qs) browse text row is held =
+    first_or_next q (both (holds q row) (all_hold qs row) held) (λ is held. first_needs qs browse text row is held) is
   where
     in_condition : (c : Cond) (o : Option (Browse × List ℕ)) → text_asked c ≡ o → (meets c row ≡ true) × (all_hold qs row ≡ true)
         → (first_text qs ≡ Some (browse, text) → all_hold qs row ≡ true → is_candidate (browse, text) row ≡ true)
         → option_or o (first_text qs) ≡ Some (browse, text) → is_candidate (browse, text) row ≡ true
     in_condition c None e held next is = next is held.1
-    in_condition c (Some asked) e held next is = condition_needs c browse text row (e ∙ is) texts held.0
+    in_condition c (Some asked) e held next is = condition_needs c browse text row (e ∙ is) held.0
 
     first_or_next : (q : QueryTree) → (holds q row ≡ true) × (all_hold qs row ≡ true)
         → (first_text qs ≡ Some (browse, text) → all_hold qs row ≡ true → is_candidate (browse, text) row ≡ true)
@@ -155,28 +189,46 @@ first_needs (more_queries q qs) browse text row is texts held =
     first_or_next (and_of rs) held next is = next is held.1
     first_or_next (or_of rs) held next is = next is held.1
 
-pub query_needs : (q : QueryTree) (browse : Browse) (text : List ℕ) (row : Row) → needed_text q ≡ Some (browse, text) → HasTexts row → holds q row ≡ true
+pub query_needs : (q : QueryTree) (browse : Browse) (text : List ℕ) (row : Row) → needed_text q ≡ Some (browse, text) → holds q row ≡ true
     → is_candidate (browse, text) row ≡ true
-query_needs (condition c) browse text row is texts held = condition_needs c browse text row is texts held
-query_needs (and_of qs) browse text row is texts held = first_needs qs browse text row is texts held
-query_needs (or_of qs) browse text row is texts held = absurd (cc)
+query_needs (condition c) browse text row is held = condition_needs c browse text row is held
+query_needs (and_of qs) browse text row is held = first_needs qs browse text row is held
+query_needs (or_of qs) browse text row is held = absurd (cc)
+
+first_filled : (qs : QueryTrees) (browse : Browse) (text : List ℕ) → first_text qs ≡ Some (browse, text) → is_filled text ≡ true
+first_filled no_queries browse text is = absurd (cc)
+first_filled (more_queries (and_of rs) qs) browse text is = first_filled qs browse text is
+first_filled (more_queries (or_of rs) qs) browse text is = first_filled qs browse text is
+first_filled (more_queries (condition c) qs) browse text is = by_text (text_asked c) refl (first_filled qs browse text) is
+  where
+    by_text : (o : Option (Browse × List ℕ)) → text_asked c ≡ o → (first_text qs ≡ Some (browse, text) → is_filled text ≡ true)
+        → option_or o (first_text qs) ≡ Some (browse, text) → is_filled text ≡ true
+    by_text None e next is = next is
+    by_text (Some asked) e next is = (asks c browse text (e ∙ is)).filled
+
+-- and the text is not empty
+pub needed_filled : (q : QueryTree) (browse : Browse) (text : List ℕ) → needed_text q ≡ Some (browse, text) → is_filled text ≡ true
+needed_filled (condition c) browse text is = (asks c browse text is).filled
+needed_filled (and_of qs) browse text is = first_filled qs browse text is
+needed_filled (or_of qs) browse text is = absurd (cc)
 
 -- ---- no other item is asked for
 
-not_found : (query : Query) (browse : Browse) (text : List ℕ) (row : Row) → needed_text (tree_of query) ≡ Some (browse, text) → HasTexts row
+not_found : (query : Query) (browse : Browse) (text : List ℕ) (row : Row) → needed_text (tree_of query) ≡ Some (browse, text)
     → is_candidate (browse, text) row ≡ false → only_if (is_asked (Some query) row) row ≡ None
-not_found query browse text row is texts missed =
+not_found query browse text row is missed =
     ⊎_elim
-    (λ (h : holds (tree_of query) row ≡ true). absurd (true≢false (sym (query_needs (tree_of query) browse text row is texts h) ∙ missed)))
+    (λ (h : holds (tree_of query) row ≡ true). absurd (true≢false (sym (query_needs (tree_of query) browse text row is h) ∙ missed)))
     (λ (h : holds (tree_of query) row ≡ false). ap (λ b. only_if b row) h)
     (cases_Bool (holds (tree_of query) row))
 
-pub others_unasked : (es : List Edit) (index : PropIndex) (query : Query) (browse : Browse) (text : List ℕ) → needed_text (tree_of query) ≡ Some (browse, text)
+pub others_unasked : (es : List Edit) (index : PropIndex) (query : Query) (browse : Browse) (text : List ℕ) → IsUtf8 text → needed_text (tree_of query) ≡ Some (browse, text)
     → StandsFor (library es) index → (id : ℕ) → has id (found index browse any_case (folded text)) ≡ false → row_at es Items (Some query) id ≡ None
-others_unasked es index query browse text is stands id missed =
+others_unasked es index query browse text utf8 is stands id missed =
     ap (option_and_then (if_asked (Some query))) (sym (at-library es id))
     ∙ elim (at id (library es)) as (λ o. at id (library es) ≡ o → option_and_then (if_asked (Some query)) o ≡ None) [
       | None ↦ λ e. refl
-      | Some row ↦ λ e. not_found query browse text row is (stands.texts id row e)
-          (sym (stands.found_by browse any_case (folded text) id ∙ ap (λ o. option_map_or (finds any_case browse (folded text)) o false) e) ∙ missed)
+      | Some row ↦ λ e. not_found query browse text row is
+          (sym (candidate_found browse text row utf8 (needed_filled (tree_of query) browse text is) (stands.texts id row e))
+          ∙ sym (stands.found_by browse any_case (folded text) id ∙ ap (λ o. option_map_or (finds any_case browse (folded text)) o false) e) ∙ missed)
     ] refl

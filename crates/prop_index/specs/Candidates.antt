@@ -1,21 +1,20 @@
 -- The items that may meet a query. A condition that asks one of the properties by which libraries are browsed for one text,
--- without a wildcard, is met by the items that are found by it in any case. So is an `And` with such a member by no others.
+-- without a wildcard, is met by the items whose value matches it. An `And` with such a member is met by no others.
 use Rattle.std.specs.Prelude.{ℕ, List, [], ◌∷◌, ◌&&◌, filter, Bool, true, false, Option, Some, None, option_map, option_and_then, if◌then◌else◌}
 use Rattle.std.specs.Option.{option_or}
 use Rattle.std.specs.Map.{keys_of}
 use Rattle.item_model.specs.declared.item.Row.{Row}
 use Rattle.item_model.specs.declared.condition.Cond.{Cond}
 use Rattle.item_model.specs.declared.condition.Op.{Op}
-use Rattle.item_model.specs.declared.condition.Op.TheVariants.{Is, IsNot}
+use Rattle.item_model.specs.declared.condition.Op.TheVariants.{Is, IsNot, Less, More}
 use Rattle.item_model.specs.declared.property.Property.{Property}
 use Rattle.item_model.specs.declared.property.Property.TheVariants.{Asar, Asal, Asgn, Ascp}
 use Rattle.item_model.specs.declared.request.Browse.{Browse}
 use Rattle.item_model.specs.declared.request.Browse.TheVariants.{Artists, Albums, Genres, Composers}
 use Rattle.item_model.specs.Properties.{property_named}
 use Rattle.item_model.specs.QueryTree.{QueryTree, condition, and_of, or_of, QueryTrees, no_queries, more_queries}
-use Rattle.song_query.specs.Glob.{folded}
-use Rattle.share_history.specs.BrowseListings.{is_filled}
-use Rattle.prop_index.specs.Forms.{any_case, finds}
+use Rattle.song_query.specs.Holds.{matches_value, property_value}
+use Rattle.share_history.specs.BrowseListings.{browsed, is_filled}
 
 abbrev pub browse_of : Property → Option Browse
 browse_of Asar = Some Artists
@@ -27,6 +26,8 @@ browse_of _ = None
 abbrev pub is_positive : Op → Bool
 is_positive Is = true
 is_positive IsNot = false
+is_positive Less = false
+is_positive More = false
 
 -- the one piece of a pattern without a wildcard
 abbrev pub only_piece : List (List ℕ) → List ℕ
@@ -37,8 +38,8 @@ only_piece (piece ∷ next ∷ pieces) = []
 -- the text that a condition asks for, and where
 abbrev pub text_asked : Cond → Option (Browse × List ℕ)
 text_asked c =
-    if is_positive c.op && is_filled (only_piece c.pattern.pieces)
-    then option_map (λ browse. (browse, only_piece c.pattern.pieces)) (option_and_then browse_of (property_named c.name))
+    if is_positive c.op && is_filled (only_piece c.pattern)
+    then option_map (λ browse. (browse, only_piece c.pattern)) (option_and_then browse_of (property_named c.name))
     else None
 
 -- the same of a query that is a condition
@@ -58,9 +59,9 @@ needed_text (condition c) = text_asked c
 needed_text (and_of qs) = first_text qs
 needed_text (or_of qs) = None
 
--- whether an item is found by the text, in any case
+-- whether an item's value of the property matches the text
 abbrev pub is_candidate : Browse × List ℕ → Row → Bool
-is_candidate (browse, text) row = finds any_case browse (folded text) row
+is_candidate (browse, text) row = matches_value (text ∷ []) (property_value (Some (browsed browse)) row.item)
 
 -- the ids of the items that may meet a query, where it needs a text
 abbrev pub candidates_in : QueryTree → List (ℕ × Row) → Option (List ℕ)

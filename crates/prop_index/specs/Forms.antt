@@ -7,7 +7,7 @@ use Rattle.item_model.specs.declared.item.PropValue.{PropValue}
 use Rattle.item_model.specs.declared.item.PropValue.TheVariants.{Number, Text}
 use Rattle.item_model.specs.declared.request.Browse.{Browse}
 use Rattle.item_model.specs.Items.{value_of}
-use Rattle.song_query.specs.Glob.{folded}
+use Rattle.item_model.specs.Folding.{folded}
 use Rattle.share_history.specs.BrowseListings.{browsed, text_in, is_filled}
 
 pub data Form : Type 0 where

@@ -6,19 +6,15 @@ use Rattle.item_model.specs.declared.item.Row.{Row}
 use Rattle.item_model.specs.declared.query.Query.{Query}
 use Rattle.item_model.specs.declared.request.Browse.{Browse}
 use Rattle.item_model.specs.QuerySeen.{tree_of}
-use Rattle.share_history.specs.Keyed.{IsAscending}
 use Rattle.share_history.specs.Rows.{is_asked, library}
 use Rattle.share_history.specs.BrowseListings.{browse_values}
-use Rattle.prop_index.specs.declared.index.PropIndex.{PropIndex}
 use Rattle.prop_index.specs.Forms.{spelled, finds}
-use Rattle.prop_index.specs.Index.{StandsFor}
 use Rattle.prop_index.specs.Candidates.{needed_text, is_candidate}
 
 -- a listing that starts from the candidates is the listing of all that a query asks for
 abbrev pub CandidatesSuffice : Type 0
 CandidatesSuffice =
-    (rows : List (ℕ × Row)) (index : PropIndex) (query : Query) (text : Browse × List ℕ) → IsAscending rows → StandsFor rows index
-    → needed_text (tree_of query) ≡ Some text
+    (rows : List (ℕ × Row)) (query : Query) (text : Browse × List ℕ) → needed_text (tree_of query) ≡ Some text
     → filter (λ row. is_asked (Some query) row.1) rows ≡ filter (λ row. is_asked (Some query) row.1) (filter (λ row. is_candidate text row.1) rows)
 
 -- the values that a query leaves are those of which it asks for an item

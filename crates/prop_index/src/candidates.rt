@@ -45,7 +45,7 @@ fn is_positive(op: Op) -> bool
 {
     match op {
         Op::Is => true,
-        Op::IsNot => false,
+        Op::IsNot | Op::Less | Op::More => false,
     }
 }
 
@@ -53,7 +53,7 @@ fn is_positive(op: Op) -> bool
 fn text_asked(cond: &Cond) -> Option<(Browse, &str)>
     ensures { option_map (λ asked. (asked.0, asked.1.now)) result ≡ text_asked cond.now }
 {
-    let piece = only_piece(cond.pattern.pieces.as_slice());
+    let piece = only_piece(cond.pattern.pieces());
     if !is_positive(cond.op) || piece.is_empty() {
         return None;
     }

@@ -1,8 +1,8 @@
 //! The texts by which an item is found.
 
-ghost use Rattle.std.specs.Prelude.{◌≡◌, IfOk, IfSome, true, string_bytes, option_copied};
+ghost use Rattle.std.specs.Prelude.{◌≡◌, IfOk, IfSome, IsUtf8, true, string_bytes, option_copied};
 ghost use Rattle.item_model.specs.Items.{value_of};
-ghost use Rattle.song_query.specs.Glob.{folded};
+ghost use Rattle.item_model.specs.Folding.{folded};
 ghost use Rattle.share_history.specs.BrowseListings.{browsed, text_in};
 ghost use Rattle.prop_index.specs.Forms.{browse_text, is_textual, HasTexts};
 
@@ -26,13 +26,18 @@ pub(crate) struct Keys<'a> {
     pub composers: Forms<'a>,
 }
 
-/// The text with its letters folded as queries fold them: A to Z count as a to z.
+/// The text folded as queries compare it. One of ASCII is lowered, which is the same and costs less.
+#[tactic(auto, using(item_model::proofs::FoldLaws::folded_ascii))]
 pub(crate) fn folded(alloc: Global, text: &str) -> Result<String, AllocError>
-    ensures { IfOk result (λ bytes. string_bytes bytes ≡ folded text.now) }
+    ensures key { IfOk result (λ bytes. string_bytes bytes ≡ folded text.now) }
+    ensures utf8 { IsUtf8 text.now }
 {
-    let mut folded = String::from_str(alloc, text)?;
-    folded.make_ascii_lowercase();
-    Ok(folded)
+    if !text.is_ascii() {
+        return item_model::folded(alloc, text);
+    }
+    let mut lowered = String::from_str(alloc, text)?;
+    lowered.make_ascii_lowercase();
+    Ok(lowered)
 }
 
 /// The property by which a library is browsed.
@@ -102,6 +107,7 @@ impl<'a> Keys<'a> {
         })
     }
 
+    #[tactic(auto, using(song_query::proofs::Folded::nothing_searched))]
     fn none(alloc: Global) -> Result<Keys<'a>, AllocError>
         ensures { IfOk result (HasKeys None) }
     {

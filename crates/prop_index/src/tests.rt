@@ -54,7 +54,8 @@ fn are(texts: &Texts, wanted: &[&str]) -> bool {
 #[test]
 fn queries_that_need_a_text_have_candidates(rt: HostRuntime) -> Result<(), Fail> {
     let alloc = rt.alloc();
-    let index = six(alloc)?;
+    let mut index = six(alloc)?;
+    index.apply(None, Some(&row(alloc, 7, "gro\u{df}e", "")?))?;
     for (query, wanted) in [
         ("'daap.songartist:ANN'", Some([1, 6].as_slice())),
         ("'daap.songalbum:TWO'", Some(&[5, 6])),
@@ -65,6 +66,11 @@ fn queries_that_need_a_text_have_candidates(rt: HostRuntime) -> Result<(), Fail>
         ),
         ("'daap.songartist:A*'", None),
         ("'daap.songartist!:ann'", None),
+        ("'daap.songartist<:ann'", None),
+        (
+            "'daap.songartist:GROSSE*' 'daap.songartist:GROSSE'",
+            Some(&[7]),
+        ),
         ("'daap.songalbum:'", None),
         ("'dmap.itemname:Hey'", None),
         ("'daap.songartist:ann','daap.songartist:bob'", None),

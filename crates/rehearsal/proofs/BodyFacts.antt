@@ -1,5 +1,5 @@
 -- The body of a listing of such rows is a tag that a reader by the standard codes takes.
-use Rattle.std.proofs.Common.{◌≡◌, ◌<◌, ◌≤◌, ◌^◌, ℕ, ◌+◌, ◌*◌, ◌%◌, ◌==◌, List, [], ◌∷◌, ◌++◌, Bool, true, false, cond, ◌&&◌, nat_le, is_none, Some, None, map, filter, fold, length, refl, sym, ap, subst, ◌∙◌, arith, le-leb}
+use Rattle.std.proofs.Common.{◌≡◌, ◌<◌, ◌≤◌, ◌^◌, ℕ, ◌+◌, ◌*◌, ◌%◌, ◌==◌, List, [], ◌∷◌, ◌++◌, Bool, true, false, cond, ◌&&◌, nat_le, not, Some, None, map, filter, fold, length, refl, sym, ap, subst, ◌∙◌, arith, le-leb}
 use Rattle.std.specs.List.{AllByRecursion}
 use Rattle.std.proofs.lemmas.List.{length-map}
 use Rattle.std.specs.Ordering.{nat_cmp, match_ordering}
@@ -21,20 +21,22 @@ use Rattle.item_model.specs.declared.request.Meta.TheVariants.{Default}
 use Rattle.item_model.specs.declared.request.Range.TheVariants.{All as whole_range}
 use Rattle.item_model.specs.declared.request.Target.TheVariants.{Items}
 use Rattle.share_history.specs.Bodies.{start_tags, gone_tags, body_tree}
-use Rattle.share_history.specs.Histories.{edits, revision, later}
-use Rattle.share_history.specs.Keyed.{ascending}
-use Rattle.share_history.specs.Kept.{is_kept, touches, touched}
-use Rattle.share_history.specs.Listings.{Listing, listing, full_listing, delta_listing, shown, shown_rows}
+use Rattle.share_history.specs.Differences.{has_tag}
+use Rattle.share_history.specs.Histories.{edits, revision, later, up_to}
+use Rattle.share_history.specs.Kept.{is_kept}
+use Rattle.share_history.specs.Listings.{Listing, listing, full_listing, delta_listing, shown, shown_rows, shown_after}
 use Rattle.share_history.specs.Named.{named_keys, keys_in}
 use Rattle.share_history.specs.Ranges.{in_range}
-use Rattle.share_history.specs.Rows.{rows, row_at}
+use Rattle.share_history.specs.Rows.{rows}
+use Rattle.share_history.proofs.DeltaFacts.{map-filter, gone_all, few_gone}
+use Rattle.share_history.proofs.EditFacts.{edits-split}
+use Rattle.share_history.proofs.RangeFacts.{length-delta}
 use Rattle.share_history.proofs.RowFacts.{length-rows}
 use Rattle.listing_plan.proofs.Spelled.{more_length}
 use Rattle.listing_plan.proofs.Bodies.{parts_length, gone_length}
 use Rattle.rehearsal.specs.Edits.{row_by}
 use Rattle.rehearsal.specs.Made.{IsMade, AreMade}
 use Rattle.rehearsal.proofs.RowFacts.{rows_made, made_filter, AreGood, rows_good}
-use Rattle.share_listings.proofs.AnswerFacts.{few_filtered, few_touched}
 
 -- ---- the rows of a body
 
@@ -194,21 +196,6 @@ small_folded : (acc ks : List ℕ) → AreSmall acc → AreSmall ks → AreSmall
 small_folded acc [] h k = h
 small_folded acc (x ∷ ks) h k = small_folded (insert_key nat_cmp acc x) ks (small_insert acc x h k.0) k.1
 
-small_filter : (p : ℕ → Bool) (ks : List ℕ) → AreSmall ks → AreSmall (filter p ks)
-small_filter p [] h = tt
-small_filter p (x ∷ ks) h = kept (p x) (small_filter p ks h.1)
-  where
-    kept : (b : Bool) → AreSmall (filter p ks) → AreSmall (cond b (x ∷ filter p ks) (filter p ks))
-    kept true rest = (h.0, rest)
-    kept false rest = rest
-
-few_rows_filtered : {A : Type 0} (p : A → Bool) (ks : List A) → length (filter p ks) ≤ length ks
-few_rows_filtered p [] = omega arith
-few_rows_filtered p (k ∷ ks) = elim (p k) as (λ b. length (cond b (k ∷ filter p ks) (filter p ks)) ≤ length (k ∷ ks)) [
-  | true ↦ omega (arith, few_rows_filtered p ks)
-  | false ↦ omega (arith, few_rows_filtered p ks)
-]
-
 full_readable : (bs : List (List Edit)) (look : Look) → look.meta ≡ Default → look.range ≡ whole_range → AreMade (edits bs) → length (edits bs) ≤ 262144 → revision bs < 2 ^ 32
     → IsReadable (full_listing bs Items look)
 full_readable bs look meta whole made few v =
@@ -220,22 +207,26 @@ full_readable bs look meta whole made few v =
     length-map (in_range look.range all) (shown Items look.meta) ∙ ap (λ r. length (in_range r all)) whole in
     record { rows = good; gone = tt; few = omega (arith, same, count, few); few_gone = omega arith; revision = v; total = omega (arith, count, few) }
 
+made_front : (es ds : List Edit) → AreMade (es ++ ds) → AreMade es
+made_front [] ds made = tt
+made_front (e ∷ es) ds made = (made.0, made_front es ds made.1)
+
 delta_readable : (bs : List (List Edit)) (look : Look) (base : ℕ) → look.meta ≡ Default → AreMade (edits bs) → length (edits bs) ≤ 262144 → revision bs < 2 ^ 32
     → IsReadable (delta_listing bs Items look base)
 delta_readable bs look base meta made few v =
-    let p : ℕ × Row → Bool = λ row. touches (edits bs) Items (later bs base) row.0 in
+    let new : ℕ × Tree → Bool = λ tag. not (has_tag (shown_after (up_to bs base) Items look) tag) in
+    let p : ℕ × Row → Bool = λ row. new (shown Items look.meta row) in
     let all : List (ℕ × Row) = rows (edits bs) Items look.query in
-    let g : ℕ → Bool = λ key. is_none (row_at (edits bs) Items look.query key) in
-    let count : length (filter p all) ≤ length (edits bs) = omega (arith, few_rows_filtered p all, length-rows (edits bs) Items look.query) in
-    let same : length (shown_rows Items look.meta (filter p all)) ≡ length (filter p all) = length-map (filter p all) (shown Items look.meta) in
+    let good : AreGood (shown_rows Items look.meta (filter p all)) =
+    subst (λ m. AreGood (shown_rows Items m (filter p all))) (sym meta) (rows_good (filter p all) (made_filter p all (rows_made (edits bs) look.query made))) in
+    let made_then : AreMade (edits (up_to bs base)) = made_front (edits (up_to bs base)) (later bs base) (subst AreMade (edits-split bs base) made) in
     record {
-      rows = subst (λ m. AreGood (shown_rows Items m (filter p all))) (sym meta) (rows_good (filter p all) (made_filter p all (rows_made (edits bs) look.query made)));
-      gone = small_filter g (touched bs Items base)
-          (small_filter (touches (edits bs) Items (later bs base)) (ascending (named_keys (edits bs))) (small_folded [] (named_keys (edits bs)) tt (small_keys (edits bs) made)));
-      few = omega (arith, same, count, few);
-      few_gone = omega (arith, few_filtered g (touched bs Items base), few_touched bs Items base, few);
+      rows = subst AreGood (map-filter (shown Items look.meta) new all) good;
+      gone = gone_all (λ key. key < 2 ^ 32) bs Items look base (small_folded [] (named_keys (edits (up_to bs base))) tt (small_keys (edits (up_to bs base)) made_then));
+      few = omega (arith, length-delta bs Items look base, few);
+      few_gone = omega (arith, few_gone bs Items look base, few);
       revision = v;
-      total = omega (arith, count, few);
+      total = omega (arith, length-delta bs Items look base, few);
     }
 
 pub listing_readable : (keep : ℕ) (bs : List (List Edit)) (look : Look) → look.meta ≡ Default → look.range ≡ whole_range → AreMade (edits bs) → length (edits bs) ≤ 262144 → revision bs < 2 ^ 32

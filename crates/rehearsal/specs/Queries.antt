@@ -6,8 +6,8 @@ use Rattle.item_model.specs.declared.query.Query.TheVariants.{Cond}
 
 -- 'daap.songartist:a1*'
 abbrev pub artist_query : Option Query
-artist_query = Some (Cond (record { name = codes "daap.songartist"; op = Is; pattern = record { pieces = codes "a1" ∷ codes "" ∷ [] } }))
+artist_query = Some (Cond (record { name = codes "daap.songartist"; op = Is; pattern = codes "a1" ∷ codes "" ∷ [] }))
 
 -- 'daap.songyear:1983'
 abbrev pub year_query : Option Query
-year_query = Some (Cond (record { name = codes "daap.songyear"; op = Is; pattern = record { pieces = codes "1983" ∷ [] } }))
+year_query = Some (Cond (record { name = codes "daap.songyear"; op = Is; pattern = codes "1983" ∷ [] }))

@@ -5,7 +5,7 @@ use Rattle.std.proofs.KnownBytes.{Appends-trans}
 use Rattle.std.specs.Io.KnownBytes.{Appends}
 use Rattle.std.specs.Prelude.{take, OnErr}
 use Rattle.daap_outside.specs.Told.{AppendsPrefix}
-use Rattle.daap_outside.specs.declared.faulted.Failed.{Failed}
+use Rattle.daap_outside.specs.Faults.{Failed}
 
 -- a front of the second bytes is taken behind the first, all of which were
 pub cut_behind : (a b : List ℕ) (t0 t1 t2 : Option (List ℕ)) → Appends t0 t1 a → AppendsPrefix t1 t2 b → AppendsPrefix t0 t2 (a ++ b)

@@ -3,8 +3,6 @@
 #![tactic(auto)]
 
 pub mod laws;
-#[cfg(test)]
-mod tests;
 mod writing;
 
 pub use writing::{ReplyError, status_of, write_failure, write_refusal, write_reply};

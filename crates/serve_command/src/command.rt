@@ -37,9 +37,10 @@ use share_workers::serve_all;
 use std::alloc::Global;
 use std::sync::Wait;
 use std::thread::Threads;
+use std::time::Clock;
 
 /// Serves a share that begins with the records of the input, until it is stopped or no further link comes.
-pub fn serve<I: Source, W: Sink, N: Net, R: Threads + Wait + Sync>(
+pub fn serve<I: Source, W: Sink, N: Net, R: Threads + Wait + Clock + Sync>(
     rt: &R,
     alloc: Global,
     serving: &Serving,
@@ -76,7 +77,7 @@ fn unserved(alloc: Global, status: u8) -> Outcome
 }
 
 // Serves a share at doors that are open.
-fn serve_at<I: Source, W: Sink, N: Net, R: Threads + Wait + Sync>(
+fn serve_at<I: Source, W: Sink, N: Net, R: Threads + Wait + Clock + Sync>(
     rt: &R,
     alloc: Global,
     serving: &Serving,
@@ -112,7 +113,7 @@ fn serve_at<I: Source, W: Sink, N: Net, R: Threads + Wait + Sync>(
 }
 
 // Serves a share that is under its lock, to its end.
-fn serve_begun<W: Sink, N: Net, R: Threads + Wait + Sync>(
+fn serve_begun<W: Sink, N: Net, R: Threads + Wait + Clock + Sync>(
     rt: &R,
     alloc: Global,
     output: &mut W,
@@ -179,7 +180,7 @@ fn staffed<D: Drop, R: Wait>(rt: &R, alloc: Global, begun: Begun<D>, doors: Door
 }
 
 // Lets all workers serve to their ends, and takes the share out of its lock.
-fn worked<N: Net, R: Threads + Wait + Sync>(
+fn worked<N: Net, R: Threads + Wait + Clock + Sync>(
     rt: &R,
     alloc: Global,
     net: &mut N,

@@ -13,6 +13,7 @@ use std::alloc::{AllocError, Global};
 use std::sync::Wait;
 use std::test::Fail;
 use std::thread::Threads;
+use std::time::Clock;
 
 const SIX_SONGS: &[u8] =
     b"op,kind,id,dmap.itemname,daap.songartist,daap.songalbum,com.apple.itunes.mediakind\n\
@@ -74,7 +75,7 @@ fn net_of(alloc: Global, failing: &[u64], waits: &[u64]) -> Result<MemNet, Alloc
 }
 
 // Serves the share of some records over a net, to an output with so much room.
-fn run<R: Threads + Wait + Sync>(
+fn run<R: Threads + Wait + Clock + Sync>(
     rt: &R,
     alloc: Global,
     records: &[u8],

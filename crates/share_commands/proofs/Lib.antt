@@ -2,3 +2,4 @@ pub mod ReadCauses
 pub mod Unopened
 pub mod LibraryFacts
 pub mod Senses
+pub mod Listed

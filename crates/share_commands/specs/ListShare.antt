@@ -5,6 +5,7 @@ use Rattle.std.specs.Prelude.{◌≡◌, ◌≢◌, ◌<◌, ◌≤◌, ◌⊎�
 use Rattle.std.specs.Io.KnownBytes.{Consumes, IsAtEnd}
 use Rattle.dmap_tags.specs.Spelling.{spelling}
 use Rattle.item_model.specs.declared.changes.Edit.{Edit}
+use Rattle.item_model.specs.declared.changes.Entry.{Entry}
 use Rattle.item_model.specs.declared.refusal.QueryError.TheVariants as query_error
 use Rattle.item_model.specs.declared.request.Look.{Look}
 use Rattle.item_model.specs.declared.request.Target.{Target}
@@ -17,7 +18,9 @@ use Rattle.fault_lines.specs.Queries.{query_line}
 use Rattle.fault_lines.specs.Records.{records_line}
 use Rattle.command_core.specs.declared.fault.Fault.{Fault}
 use Rattle.command_core.specs.declared.fault.Fault.TheVariants as fault
-use Rattle.command_core.specs.Seen.{InputSeen, Seen, ShareSeen, no_share, share_with}
+use Rattle.command_core.specs.declared.outcome.Outcome.{Outcome}
+use Rattle.command_core.specs.Answers.{TellsDone, TellsMemory}
+use Rattle.command_core.specs.Seen.{InputSeen, OutputSeen, Seen, ShareSeen, no_share, share_with}
 use Rattle.command_core.specs.Causes.{Cause, OfWords, OfInput, StopsBy}
 use Rattle.command_core.specs.Meanings.{Meaning, writes_nothing_before, may_read}
 use Rattle.share_commands.specs.declared.list.ListFault.{ListFault}
@@ -60,6 +63,11 @@ pub record IsListed (query meta : Option (List ℕ)) (target : Target) (before a
   pub asked : AsksLook query meta look
   pub opened : IsOpened edits target before after share
   pub written : output ≡ listing_bytes edits target look
+
+-- what is told of a share that was opened: its listing was written, or the line of want of memory, and the outcome has its history
+abbrev pub TellsListed : (history : List Entry) → (listing : List ℕ) → OutputSeen → OutputSeen → Outcome → Type 0
+TellsListed history listing before after outcome =
+    TellsDone (Some history) listing before after outcome ⊎ TellsMemory (Some history) before after outcome
 
 -- a fault leaves no share; where memory is wanted for the listing, the share may have been opened
 abbrev pub ListLeaves : Target → Seen → Seen → Fault ListFault → ShareSeen → Type 0

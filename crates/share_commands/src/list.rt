@@ -6,7 +6,7 @@ ghost use Rattle.listing_plan.specs.Plans.{plan_bytes, IsWritable};
 ghost use Rattle.command_core.specs.Seen.{Around, input_seen, output_seen, told_beside, share_with};
 ghost use Rattle.command_core.specs.Answers.{TellsDone};
 ghost use Rattle.command_core.specs.Endings.{IsAnswered};
-ghost use Rattle.share_commands.specs.ListShare.{listing_bytes, IsOpened, StopsOpening, list_line, list_status, input_fault, library_fault, list_meaning};
+ghost use Rattle.share_commands.specs.ListShare.{listing_bytes, IsOpened, StopsOpening, TellsListed, list_line, list_status, input_fault, library_fault, list_meaning};
 ghost use Rattle.share_commands.specs.Openings.{HasOpened};
 
 use crate::look::look_of;
@@ -85,13 +85,9 @@ pub fn list_share<I: Source, W: Sink>(
         Ok(look) => look,
         Err(fault) => return refused(alloc, output, &fault),
     };
-    let opened = match opened(alloc, target, input) {
-        Ok(opened) => opened,
-        Err(fault) => return refused(alloc, output, &fault),
-    };
-    match planned(alloc, &opened, target, look) {
-        Ok(listing) => written(output, &listing, opened.history),
-        Err(AllocError) => out_of_memory(output, Some(opened.history)),
+    match opened(alloc, target, input) {
+        Ok(opened) => listed(alloc, opened, target, look, output),
+        Err(fault) => refused(alloc, output, &fault),
     }
 }
 
@@ -142,6 +138,27 @@ fn input_fault(fault: Fault<InputFault>) -> Fault<ListFault>
         Fault::Own(InputFault::Records(error)) => Fault::Own(ListFault::Records(error)),
         Fault::Read => Fault::Read,
         Fault::Memory => Fault::Memory,
+    }
+}
+
+/// Lists a share that was opened. Whatever ends it, the outcome has the share's history.
+fn listed<W: Sink>(
+    alloc: Global,
+    opened: Opened,
+    target: Target,
+    look: Look,
+    output: &mut W,
+) -> Outcome
+    requires { (edits : List Edit) × HasOpened edits opened × (length edits ≤ 65536) }
+    ensures history { result.history ≡ Some opened.history }
+    ensures told { (edits : List Edit) → HasOpened edits opened → TellsListed opened.history (listing_bytes edits target look)
+        (output_seen (W.taken output.old) (W.faults output.old))
+        (output_seen (W.taken output.new) (W.faults output.new))
+        result }
+{
+    match planned(alloc, &opened, target, look) {
+        Ok(listing) => written(output, &listing, opened.history),
+        Err(AllocError) => out_of_memory(output, Some(opened.history)),
     }
 }
 

@@ -1,5 +1,5 @@
 -- Keys that a loop over edits, or over entries, puts into a set one after the other.
-use Rattle.std.proofs.Common.{◌≡◌, ℕ, zero, suc, ◌+◌, ◌-◌, ◌<◌, ◌≤◌, Bool, true, false, ◌||◌, cond, map, filter, arith, Option, Some, None, append-nil, append_assoc, length-append, List, [], ◌∷◌, ◌++◌, length, get_or, drop, take, fold, flat_map, refl, sym, ap, ◌∙◌}
+use Rattle.std.proofs.Common.{◌≡◌, ℕ, zero, suc, ◌+◌, ◌-◌, ◌<◌, ◌≤◌, Bool, true, false, ◌||◌, cond, map, filter, arith, Option, Some, None, append-nil, append_assoc, length-append, List, [], ◌∷◌, ◌++◌, length, get_or, drop, take, fold, flat_map, refl, sym, ap, ◌∙◌, Bor}
 use Rattle.std.specs.Option.{option_to_list}
 use Rattle.std.specs.List.{list_any, cons_option}
 use Rattle.std.proofs.lemmas.List.Folds.{list_any-append}
@@ -11,7 +11,10 @@ use Rattle.item_model.specs.declared.changes.Edit.{Edit}
 use Rattle.item_model.specs.declared.changes.Entry.{Entry}
 use Rattle.item_model.specs.declared.changes.Entry.TheVariants.{Edits, Login, Logout, Stop}
 use Rattle.share_history.specs.Histories.{batches, edits_in, all_edits, until_edits}
+use Rattle.item_model.specs.declared.item.Row.{Row}
+use Rattle.std.specs.Map.{keys_of}
 use Rattle.share_history.specs.Keyed.{ascending}
+use Rattle.share_history.specs.RowSeen.{row_of}
 use Rattle.share_history.proofs.EditFacts.{drop_more, all_edits-cons}
 
 pub fold-append : {A B : Type 0} (f : B → A → B) (b : B) (xs ys : List A) → fold f b (xs ++ ys) ≡ fold f (fold f b xs) ys
@@ -64,14 +67,26 @@ pub shown_next : {A B : Type 0} (f : A → B) (done : List B) (xs : List A) (i :
     → (done ++ f x ∷ []) ++ map f (drop (i + 1) xs) ≡ done ++ map f (drop i xs)
 shown_next f done xs i x lt is = append_assoc done (f x ∷ []) (map f (drop (i + 1) xs)) ∙ ap (λ ys. done ++ map f ys) (sym (drop_more xs i x lt is))
 
+kept_or_not : {A : Type 0} (b : Bool) (done : List A) (x : A) (rest : List A) → (done ++ cond b (x ∷ []) []) ++ rest ≡ done ++ cond b (x ∷ rest) rest
+kept_or_not true done x rest = append_assoc done (x ∷ []) rest
+kept_or_not false done x rest = ap (λ ys. ys ++ rest) (append-nil done)
+
 -- one more that passes a test or not, before those of the items that are left
 pub filtered_next : {A : Type 0} (p : A → Bool) (done : List A) (xs : List A) (i : ℕ) (x : A) → i < length xs → x ≡ get_or xs i x
     → (done ++ cond (p x) (x ∷ []) []) ++ filter p (drop (i + 1) xs) ≡ done ++ filter p (drop i xs)
 filtered_next p done xs i x lt is = kept_or_not (p x) done x (filter p (drop (i + 1) xs)) ∙ ap (λ ys. done ++ filter p ys) (sym (drop_more xs i x lt is))
-  where
-    kept_or_not : {A : Type 0} (b : Bool) (done : List A) (x : A) (rest : List A) → (done ++ cond b (x ∷ []) []) ++ rest ≡ done ++ cond b (x ∷ rest) rest
-    kept_or_not true done x rest = append_assoc done (x ∷ []) rest
-    kept_or_not false done x rest = ap (λ ys. ys ++ rest) (append-nil done)
+
+-- the same of values that are made of the items
+pub filtered_by_next : {A B : Type 0} (f : A → B) (p : B → Bool) (done : List B) (xs : List A) (i : ℕ) (x : A) → i < length xs → x ≡ get_or xs i x
+    → (done ++ cond (p (f x)) (f x ∷ []) []) ++ filter p (map f (drop (i + 1) xs)) ≡ done ++ filter p (map f (drop i xs))
+filtered_by_next f p done xs i x lt is =
+    kept_or_not (p (f x)) done (f x) (filter p (map f (drop (i + 1) xs))) ∙ ap (λ left. done ++ filter p (map f left)) (sym (drop_more xs i x lt is))
+
+-- and of rows, of which one more is tested by its key
+pub filtered_key_next : (p : ℕ → Bool) (done : List ℕ) (rs : List (ℕ × Bor Row)) (i : ℕ) (r : ℕ × Bor Row) → i < length rs → r ≡ get_or rs i r
+    → (done ++ cond (p r.0) (r.0 ∷ []) []) ++ filter p (keys_of (map row_of (drop (i + 1) rs))) ≡ done ++ filter p (keys_of (map row_of (drop i rs)))
+filtered_key_next p done rs i r lt is =
+    kept_or_not (p r.0) done r.0 (filter p (keys_of (map row_of (drop (i + 1) rs)))) ∙ ap (λ left. done ++ filter p (keys_of (map row_of left))) (sym (drop_more rs i r lt is))
 
 -- how many edits the entries bring that are left
 pub edits_left : (h : List Entry) (i : ℕ) (e : Entry) → i < length h → e ≡ get_or h i e → length (all_edits (drop i h)) ≡ length (edits_in e) + length (all_edits (drop (i + 1) h))

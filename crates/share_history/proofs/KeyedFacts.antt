@@ -110,7 +110,7 @@ module _ {X : Type 0} where
   at_head : (x : ℕ × X) (xs : List (ℕ × X)) → at x.0 (x ∷ xs) ≡ Some x.1
   at_head x xs = lookup_head (is_at (nat_cmp x.0)) x xs (ap is_eq (tied_itself nat_cmp_total x.0))
 
-  past_head : (q : ℕ) (x : ℕ × X) (xs : List (ℕ × X)) → IsAscending (x ∷ xs) → is_eq (nat_cmp q x.0) ≡ true → at q xs ≡ None
+  pub past_head : (q : ℕ) (x : ℕ × X) (xs : List (ℕ × X)) → IsAscending (x ∷ xs) → is_eq (nat_cmp q x.0) ≡ true → at q xs ≡ None
   past_head q x xs s t = lookup-none (is_at (nat_cmp q)) xs (none_past_head (eq_by_cmp_equiv nat_cmp_total) q x xs (IsDistinct-from_sorted nat_cmp _ s) t)
 
   module _ (x y : ℕ × X) (xs ys : List (ℕ × X)) (s : IsAscending (x ∷ xs)) (t : IsAscending (y ∷ ys)) (h : (q : ℕ) → at q (x ∷ xs) ≡ at q (y ∷ ys)) where
@@ -258,7 +258,7 @@ module _ {X : Type 0} where
   ascending-outs es (k ∷ ks) s = ascending-outs (taken_out es k) ks (ascending-out k es s)
 
   -- the pairs of a function's values
-  all-pairs_at : (P : ℕ → Type 0) (value : ℕ → Option X) (ks : List ℕ) → AllByRecursion P ks → AllByRecursion P (keys_of (pairs_at value ks))
+  pub all-pairs_at : (P : ℕ → Type 0) (value : ℕ → Option X) (ks : List ℕ) → AllByRecursion P ks → AllByRecursion P (keys_of (pairs_at value ks))
   all-pairs_at P value [] all = tt
   all-pairs_at P value (k ∷ ks) all =
       elim (value k) as (λ v. AllByRecursion P (keys_of (cons_option (option_map (λ x. (k, x)) v) (pairs_at value ks)))) [
@@ -315,7 +315,7 @@ module _ {X : Type 0} where
 pub has-filter : (q : ℕ) (p : ℕ → Bool) (ks : List ℕ) → has q (filter p ks) ≡ (p q && has q ks)
 has-filter q p ks = any-filter_same (is_at (nat_cmp q)) p (p q) (λ k h. ap p (sym (same_key q k h))) ks
 
-all-kept : (P : ℕ → Type 0) (p : ℕ → Bool) (ks : List ℕ) → AllByRecursion P ks → AllByRecursion P (filter p ks)
+pub all-kept : (P : ℕ → Type 0) (p : ℕ → Bool) (ks : List ℕ) → AllByRecursion P ks → AllByRecursion P (filter p ks)
 all-kept P p [] all = tt
 all-kept P p (k ∷ ks) all = elim (p k) as (λ b. AllByRecursion P (cond b (k ∷ filter p ks) (filter p ks))) [
   | true ↦ (all.0, all-kept P p ks all.1)

@@ -1,5 +1,5 @@
 -- The laws of lists, members, bases and bodies.
-use Rattle.std.proofs.Common.{◌≡◌, ℕ, ◌+◌, ◌-◌, ◌<◌, Bool, true, false, cond, ◌&&◌, ◌==◌, nat_le, List, [], ◌∷◌, ◌++◌, map, filter, length, refl, sym, ap, ◌∙◌, subst, true≢false, inl, inr, Option, Some, None, is_none, is_some, not, unwrap_or, arith, eq-eqb, leb-true, drop_of_length-le, append_assoc, append-nil}
+use Rattle.std.proofs.Common.{◌≡◌, ℕ, ◌+◌, ◌<◌, Bool, true, false, cond, ◌&&◌, ◌==◌, nat_le, List, [], ◌∷◌, ◌++◌, map, length, refl, sym, ap, ◌∙◌, subst, true≢false, inl, inr, Option, Some, None, is_some, not, unwrap_or, arith, eq-eqb, leb-true, append_assoc, append-nil}
 use Rattle.std.specs.Option.{option_and_then}
 use Rattle.std.specs.List.{list_any}
 use Rattle.std.proofs.lemmas.Bool.{false_from_ne_true, false≢true}
@@ -10,18 +10,19 @@ use Rattle.item_model.specs.declared.changes.Edit.{Edit}
 use Rattle.item_model.specs.declared.changes.Edit.TheVariants.{PutItem, DropItem, PutList, PutRule, DropList, PutMember, DropMember}
 use Rattle.item_model.specs.declared.request.Target.TheVariants.{Items, Container}
 use Rattle.share_history.specs.Numbers.{first_revision, base_list}
-use Rattle.share_history.specs.Keyed.{ascending}
-use Rattle.share_history.specs.Histories.{edits, later, revision}
+use Rattle.share_history.specs.Histories.{edits, later, revision, up_to}
 use Rattle.share_history.specs.LastSaid.{Playlist, Plain, Ruled, only_if, says_list, says_member, item_at, list_at, member_at}
-use Rattle.share_history.specs.Named.{names_list, named_keys}
+use Rattle.share_history.specs.Named.{names_list}
 use Rattle.share_history.specs.Rows.{if_asked, in_list, row_at, rows}
-use Rattle.share_history.specs.Kept.{is_kept, is_left, touches}
-use Rattle.share_history.specs.Listings.{shown_rows}
+use Rattle.share_history.specs.Kept.{is_kept, is_left}
+use Rattle.share_history.specs.Differences.{new_tags, gone_keys}
+use Rattle.share_history.specs.Listings.{shown_after}
 use Rattle.share_history.specs.Laws.{is_plain, puts_member, LibraryAscends, OpensWithTheBatch, ListsBeginWithoutMembers, ListsBeginEmpty, MembersNeedAList, MembersFollowTheirItems, BasesArePast, NewTargetsAreNotKept, NothingChangedSinceNow, BodiesTellTheirRows}
 use Rattle.share_history.proofs.KeyedFacts.{sorted-ascending}
 use Rattle.share_history.proofs.EditFacts.{both_false, first_false, second_false, edits-split, up_to-revision, list_more, member_more, list_stays, member_stays, edits-opening}
 use Rattle.share_history.proofs.RowFacts.{rows_are, ascending-library}
-use Rattle.share_history.proofs.TouchFacts.{untouched}
+use Rattle.share_history.proofs.DifferenceFacts.{nothing_new, nothing_gone}
+use Rattle.share_history.proofs.MirrorFacts.{ascending-after}
 
 pub library_ascends : LibraryAscends
 library_ascends es = ascending-library es
@@ -151,20 +152,14 @@ pub new_targets_are_not_kept : NewTargetsAreNotKept
 new_targets_are_not_kept keep bs cs Items gone there = absurd (false≢true (sym gone))
 new_targets_are_not_kept keep bs cs (Container c) gone there = new_container keep bs cs c (c == base_list) refl gone there
 
--- no edits came after the present revision
-later-now : (bs : List (List Edit)) → later bs (revision bs) ≡ []
-later-now bs = ap edits (drop_of_length-le bs {i = length bs + first_revision - first_revision} (omega arith))
-
-none_pass : {A : Type 0} (p : A → Bool) → ((x : A) → p x ≡ false) → (xs : List A) → filter p xs ≡ []
-none_pass p h [] = refl
-none_pass p h (x ∷ xs) = ap (λ b. cond b (x ∷ filter p xs) (filter p xs)) (h x) ∙ none_pass p h xs
+-- all batches are up to the present revision
+up_to-now : (bs : List (List Edit)) → up_to bs (revision bs) ≡ bs
+up_to-now bs = ap (λ all. up_to all (revision bs)) (sym (append-nil bs)) ∙ up_to-revision bs []
 
 pub nothing_changed_since_now : NothingChangedSinceNow
 nothing_changed_since_now bs t look = (
-  ap (λ ds. shown_rows t look.meta (filter (λ row. touches (edits bs) t ds row.0) (rows (edits bs) t look.query))) (later-now bs)
-      ∙ ap (shown_rows t look.meta) (none_pass (λ row. touches (edits bs) t [] row.0) (λ row. untouched (edits bs) t row.0) (rows (edits bs) t look.query)),
-  ap (λ ds. filter (λ key. is_none (row_at (edits bs) t look.query key)) (filter (touches (edits bs) t ds) (ascending (named_keys (edits bs))))) (later-now bs)
-      ∙ ap (filter (λ key. is_none (row_at (edits bs) t look.query key))) (none_pass (touches (edits bs) t []) (untouched (edits bs) t) (ascending (named_keys (edits bs)))),
+  ap (λ old. new_tags (shown_after old t look) (shown_after bs t look)) (up_to-now bs) ∙ nothing_new (shown_after bs t look) (ascending-after bs t look),
+  ap (λ old. gone_keys (shown_after old t look) (shown_after bs t look)) (up_to-now bs) ∙ nothing_gone (shown_after bs t look) (ascending-after bs t look),
 )
 
 -- ---- bodies

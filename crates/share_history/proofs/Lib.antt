@@ -3,7 +3,9 @@ pub mod EditFacts
 pub mod RowFacts
 pub mod OwnFacts
 pub mod TouchFacts
+pub mod DifferenceFacts
 pub mod MirrorFacts
+pub mod DeltaFacts
 pub mod LawFacts
 pub mod FoldFacts
 pub mod SessionFacts

@@ -1,5 +1,5 @@
 -- A range of rows, whatever is then made of each row.
-use Rattle.std.proofs.Common.{◌≡◌, ℕ, ◌+◌, ◌-◌, Bor, true, false, cond, ◌≤◌, length-drop, length-take, arith, subst, Bool, [], ◌∷◌, filter, is_none, Option, List, map, take, drop, length, refl, sym, ap, ◌∙◌}
+use Rattle.std.proofs.Common.{◌≡◌, ℕ, ◌+◌, ◌-◌, Bor, true, false, cond, ◌≤◌, length-drop, length-take, arith, subst, Bool, not, [], ◌∷◌, filter, List, map, take, drop, length, refl, sym, ap, ◌∙◌}
 use Rattle.std.proofs.lemmas.List.{take-map, length-map}
 use Rattle.std.specs.List.{drop-map}
 use Rattle.item_model.specs.declared.request.Range.{Range}
@@ -8,14 +8,13 @@ use Rattle.dmap_tags.specs.Tree.{Tree}
 use Rattle.item_model.specs.declared.item.Row.{Row}
 use Rattle.item_model.specs.declared.request.Look.{Look}
 use Rattle.item_model.specs.declared.request.Target.{Target}
-use Rattle.item_model.specs.declared.query.Query.{Query}
 use Rattle.item_model.specs.declared.changes.Edit.{Edit}
-use Rattle.share_history.specs.Numbers.{first_revision}
-use Rattle.share_history.specs.Histories.{edits, later, revision}
-use Rattle.share_history.specs.Rows.{row_at, rows}
-use Rattle.share_history.specs.Kept.{is_kept, touches, touched}
+use Rattle.share_history.specs.Histories.{edits, up_to}
+use Rattle.share_history.specs.Rows.{rows}
+use Rattle.share_history.specs.Kept.{is_kept}
+use Rattle.share_history.specs.Differences.{has_tag}
 use Rattle.share_history.specs.Ranges.{in_range}
-use Rattle.share_history.specs.Listings.{Listing, shown, shown_rows, full_of, delta_of, full_listing, delta_listing, listing}
+use Rattle.share_history.specs.Listings.{Listing, shown, shown_rows, shown_after, full_of, full_listing, delta_listing, listing}
 use Rattle.share_history.proofs.RowFacts.{length-rows}
 use Rattle.std.proofs.lemmas.Bool.{cond_both}
 use Rattle.share_history.specs.RowSeen.{row_of}
@@ -35,20 +34,6 @@ full_made revision t look all listed tags gone h k g =
     let rows : tags ≡ shown_rows t look.meta (in_range look.range (map row_of all)) = k ∙ ap (λ xs. shown_rows t look.meta (map row_of xs)) h ∙ ap (shown_rows t look.meta) (sym (in_range-map row_of look.range all)) in
     λ i. record { is_delta = false; revision = revision; total = sym (length-map all row_of) i; rows = rows i; gone = g i }
 
--- a delta of rows and keys that the program found
-pub delta_found : (bs behind : List (List Edit)) (t : Target) (look : Look) (query : Option Query) (base revised : ℕ) (all all_read listed listed_read : List (ℕ × Bor Row)) (keys keys_read gone : List ℕ)
-    → revised ≡ revision bs → query ≡ look.query → behind ≡ drop (base - first_revision) bs → map row_of all ≡ rows (edits bs) t query → all_read ≡ all
-    → map row_of listed ≡ filter (λ row. touches (edits bs) t (edits behind) row.0) (map row_of all_read) → listed_read ≡ listed → keys ≡ touched bs t base → keys_read ≡ keys
-    → gone ≡ filter (λ key. is_none (row_at (edits bs) t query key)) keys_read
-    → delta_of revised t look (map row_of listed_read) gone ≡ delta_listing bs t look base
-delta_found bs behind t look query base revised all all_read listed listed_read keys keys_read gone r q b a ar l lr k kr g =
-    let all_is : map row_of all_read ≡ rows (edits bs) t look.query = ap (map row_of) ar ∙ a ∙ ap (rows (edits bs) t) q in
-    let listed_is : map row_of listed_read ≡ filter (λ row. touches (edits bs) t (later bs base) row.0) (rows (edits bs) t look.query) =
-    ap (map row_of) lr ∙ l ∙ (λ i. filter (λ row. touches (edits bs) t (edits (b i)) row.0) (all_is i)) in
-    let gone_is : gone ≡ filter (λ key. is_none (row_at (edits bs) t look.query key)) (touched bs t base) =
-    g ∙ (λ i. filter (λ key. is_none (row_at (edits bs) t (q i) key)) ((kr ∙ k) i)) in
-    λ i. delta_of (r i) t look (listed_is i) (gone_is i)
-
 -- ---- how many rows are listed
 
 no_longer_back : {A : Type 0} (n : ℕ) (xs : List A) → length (drop n xs) ≤ length xs
@@ -64,7 +49,7 @@ length-in_range (From place) xs = no_longer_back place xs
 length-in_range (Span from to) xs = omega (arith, no_longer_back from (take (to + 1) xs), no_longer_front (to + 1) xs)
 length-in_range (Last count) xs = no_longer_back (length xs - count) xs
 
-length-filter : {A : Type 0} (p : A → Bool) (xs : List A) → length (filter p xs) ≤ length xs
+pub length-filter : {A : Type 0} (p : A → Bool) (xs : List A) → length (filter p xs) ≤ length xs
 length-filter p [] = omega arith
 length-filter p (x ∷ xs) = elim (p x) as (λ b. length (cond b (x ∷ filter p xs) (filter p xs)) ≤ length (x ∷ xs)) [
   | true ↦ omega (arith, length-filter p xs)
@@ -75,12 +60,12 @@ length-full : (bs : List (List Edit)) (t : Target) (look : Look) → length (ful
 length-full bs t look =
     omega (arith, length-map (in_range look.range (rows (edits bs) t look.query)) (shown t look.meta), length-in_range look.range (rows (edits bs) t look.query), length-rows (edits bs) t look.query)
 
-length-delta : (bs : List (List Edit)) (t : Target) (look : Look) (base : ℕ) → length (delta_listing bs t look base).rows ≤ length (edits bs)
+pub length-delta : (bs : List (List Edit)) (t : Target) (look : Look) (base : ℕ) → length (delta_listing bs t look base).rows ≤ length (edits bs)
 length-delta bs t look base =
     omega (
       arith,
-      length-map (filter (λ row. touches (edits bs) t (later bs base) row.0) (rows (edits bs) t look.query)) (shown t look.meta),
-      length-filter (λ row. touches (edits bs) t (later bs base) row.0) (rows (edits bs) t look.query),
+      length-filter (λ tag. not (has_tag (shown_after (up_to bs base) t look) tag)) (shown_after bs t look),
+      length-map (rows (edits bs) t look.query) (shown t look.meta),
       length-rows (edits bs) t look.query,
     )
 

@@ -1,5 +1,7 @@
 -- What follows from the definitions. Each fact here is proved for all histories.
-use Rattle.std.specs.Prelude.{◌≡◌, ◌<◌, ◌⊎◌, ℕ, List, [], ◌∷◌, ◌++◌, Bool, true, false, ◌==◌, Option, Some, None, length, option_and_then, if◌then◌else◌}
+use Rattle.std.specs.Prelude.{◌≡◌, ◌≢◌, ◌<◌, ◌⊎◌, ℕ, List, [], ◌∷◌, ◌++◌, Bool, true, false, ◌==◌, ◌&&◌, Option, Some, None, is_some, is_none, length, option_and_then, if◌then◌else◌}
+use Rattle.std.specs.Ordering.{nat_cmp}
+use Rattle.std.specs.BTreeMap.{is_at}
 use Rattle.std.specs.List.{list_any}
 use Rattle.dmap_tags.specs.Tree as tree
 use Rattle.dmap_tags.specs.Tree.{Tree, more, tree_list, leaf, U32}
@@ -14,12 +16,12 @@ use Rattle.item_model.specs.declared.request.Target.{Target}
 use Rattle.item_model.specs.declared.request.Target.TheVariants.{Container}
 use Rattle.share_history.specs.Numbers.{first_revision, base_list}
 use Rattle.share_history.specs.Keyed.{IsAscending, at}
-use Rattle.share_history.specs.Histories.{at_revision, batches, edits, revision, up_to, opening}
+use Rattle.share_history.specs.Histories.{at_revision, batches, edits, later, revision, up_to, opening}
 use Rattle.share_history.specs.LastSaid.{Playlist, Plain, Ruled, item_at, list_at, member_at}
 use Rattle.share_history.specs.Named.{names_list, names_member}
 use Rattle.share_history.specs.Rows.{if_asked, row_at, rows, library, is_there}
-use Rattle.share_history.specs.Kept.{is_kept}
-use Rattle.share_history.specs.Listings.{Listing, delta_listing, full_listing, listing}
+use Rattle.share_history.specs.Kept.{is_kept, touches}
+use Rattle.share_history.specs.Listings.{Listing, shown_after, delta_listing, full_listing, listing}
 use Rattle.share_history.specs.Bodies.{body_tree}
 use Rattle.share_history.specs.Sessions.{is_live, next_session}
 use Rattle.share_history.specs.Marks.{Marks, is_orderly, marks_after}
@@ -91,6 +93,31 @@ NewTargetsAreNotKept =
 abbrev pub NothingChangedSinceNow : Type 0
 NothingChangedSinceNow =
     (bs : List (List Edit)) (target : Target) (look : Look) → ((delta_listing bs target look (revision bs)).rows ≡ []) × ((delta_listing bs target look (revision bs)).gone ≡ [])
+
+-- what a request shows under a key after some batches
+abbrev pub shown_under : List (List Edit) → Target → Look → ℕ → Option Tree
+shown_under bs target look key = at key (shown_after bs target look)
+
+-- a delta lists under a key what is shown there now where that differs from what was shown at the base, or where nothing
+-- was, and it lists nothing else
+abbrev pub DeltasListNews : Type 0
+DeltasListNews =
+    (bs : List (List Edit)) (target : Target) (look : Look) (base key : ℕ)
+    → (shown_under bs target look key ≡ shown_under (up_to bs base) target look key → at key (delta_listing bs target look base).rows ≡ None)
+    × (shown_under bs target look key ≢ shown_under (up_to bs base) target look key → at key (delta_listing bs target look base).rows ≡ shown_under bs target look key)
+
+-- a delta deletes exactly the keys under which something was shown at the base and nothing is now
+abbrev pub DeltasDeleteWhatIsGone : Type 0
+DeltasDeleteWhatIsGone =
+    (bs : List (List Edit)) (target : Target) (look : Look) (base key : ℕ)
+    → list_any (is_at (nat_cmp key)) (delta_listing bs target look base).gone ≡ (is_some (shown_under (up_to bs base) target look key) && is_none (shown_under bs target look key))
+
+-- under a key that no edit touched after a kept base, the same is shown as at the base
+abbrev pub UntouchedStayShown : Type 0
+UntouchedStayShown =
+    (keep : ℕ) (bs : List (List Edit)) (target : Target) (look : Look) (base key : ℕ)
+    → is_kept keep bs target base ≡ true → touches (edits bs) target (later bs base) key ≡ false
+    → shown_under bs target look key ≡ shown_under (up_to bs base) target look key
 
 -- a body whose row count is a number and whose rows are a list tells as many rows as it lists
 abbrev pub tells_its_rows : Tree → Bool

@@ -6,6 +6,7 @@ pub mod Named
 pub mod Rows
 pub mod Kept
 pub mod Ranges
+pub mod Differences
 pub mod Listings
 pub mod Bodies
 pub mod Limits

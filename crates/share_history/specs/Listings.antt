@@ -1,6 +1,6 @@
--- What a listing of items says. A full one has all rows that are asked for, cut to the range; a delta, for a kept base, the
--- rows whose keys were touched after the base, and the touched keys that are no rows.
-use Rattle.std.specs.Prelude.{ℕ, List, [], Bool, true, false, length, map, filter, Option, Some, None, is_none, if◌then◌else◌}
+-- What a listing of items says. A full one has all rows that the query selects, cut to the range. A delta, for a kept base,
+-- has the rows that were not shown at the base, or were shown otherwise, and the keys of rows that are no longer shown.
+use Rattle.std.specs.Prelude.{ℕ, List, [], Bool, true, false, length, map, Option, Some, None, if◌then◌else◌}
 use Rattle.dmap_tags.specs.Tree.{Tree}
 use Rattle.item_model.specs.declared.item.Row.{Row}
 use Rattle.item_model.specs.declared.changes.Edit.{Edit}
@@ -9,10 +9,11 @@ use Rattle.item_model.specs.declared.request.Look.{Look}
 use Rattle.item_model.specs.declared.request.Target.{Target}
 use Rattle.item_model.specs.declared.request.Target.TheVariants.{Items, Container}
 use Rattle.item_model.specs.Projection.{projection}
-use Rattle.share_history.specs.Histories.{revision, edits, later}
-use Rattle.share_history.specs.Rows.{row_at, rows}
+use Rattle.share_history.specs.Histories.{revision, edits, up_to}
+use Rattle.share_history.specs.Rows.{rows}
 use Rattle.share_history.specs.Ranges.{in_range}
-use Rattle.share_history.specs.Kept.{is_kept, touches, touched}
+use Rattle.share_history.specs.Kept.{is_kept}
+use Rattle.share_history.specs.Differences.{new_tags, gone_keys}
 
 pub record Listing : Type 0 where
   pub is_delta : Bool
@@ -40,18 +41,23 @@ abbrev pub full_of : ℕ → Target → Look → List (ℕ × Row) → Listing
 full_of revision target look all =
     record { is_delta = false; revision = revision; total = length all; rows = shown_rows target look.meta (in_range look.range all); gone = [] }
 
--- the delta that lists these rows and deletes these keys, whatever the range
-abbrev pub delta_of : ℕ → Target → Look → List (ℕ × Row) → List ℕ → Listing
-delta_of revision target look listed gone =
-    record { is_delta = true; revision = revision; total = length listed; rows = shown_rows target look.meta listed; gone = gone }
+-- the delta that lists these tags and deletes these keys
+abbrev pub delta_with : ℕ → List (ℕ × Tree) → List ℕ → Listing
+delta_with revision listed gone = record { is_delta = true; revision = revision; total = length listed; rows = listed; gone = gone }
+
+-- the delta from the rows that were shown at the base to those that are shown now, whatever the range
+abbrev pub delta_of : ℕ → List (ℕ × Tree) → List (ℕ × Tree) → Listing
+delta_of revision before now = delta_with revision (new_tags before now) (gone_keys before now)
+
+-- all rows that a request shows after some batches, before the range
+abbrev pub shown_after : List (List Edit) → Target → Look → List (ℕ × Tree)
+shown_after bs target look = shown_rows target look.meta (rows (edits bs) target look.query)
 
 abbrev pub full_listing : List (List Edit) → Target → Look → Listing
 full_listing bs target look = full_of (revision bs) target look (rows (edits bs) target look.query)
 
 abbrev pub delta_listing : List (List Edit) → Target → Look → ℕ → Listing
-delta_listing bs target look base =
-    delta_of (revision bs) target look (filter (λ row. touches (edits bs) target (later bs base) row.0) (rows (edits bs) target look.query))
-    (filter (λ key. is_none (row_at (edits bs) target look.query key)) (touched bs target base))
+delta_listing bs target look base = delta_of (revision bs) (shown_after (up_to bs base) target look) (shown_after bs target look)
 
 -- a kept base is answered by a delta, and every other one by a full listing
 abbrev pub listing : ℕ → List (List Edit) → Target → Look → Listing

@@ -1,7 +1,7 @@
 //! What holds of all histories. Each function does nothing; its contract is a fact that follows from the
 //! definitions.
 
-ghost use Rattle.share_history.specs.Laws.{LibraryAscends, OpensWithTheBatch, BatchesMakeRevisions, ListsBeginWithoutMembers, ListsBeginEmpty, MembersNeedAList, MembersFollowTheirItems, BasesArePast, NewTargetsAreNotKept, NothingChangedSinceNow, BodiesTellTheirRows, MirrorsFollow, MirrorsCatchUp, FullListingsSuffice, LoginsStayOrderly, MarksFollowAnswers};
+ghost use Rattle.share_history.specs.Laws.{LibraryAscends, OpensWithTheBatch, BatchesMakeRevisions, ListsBeginWithoutMembers, ListsBeginEmpty, MembersNeedAList, MembersFollowTheirItems, BasesArePast, NewTargetsAreNotKept, NothingChangedSinceNow, DeltasListNews, DeltasDeleteWhatIsGone, UntouchedStayShown, BodiesTellTheirRows, MirrorsFollow, MirrorsCatchUp, FullListingsSuffice, LoginsStayOrderly, MarksFollowAnswers};
 
 /// The library has each id once, in ascending order.
 #[tactic(auto, using(crate::proofs::LawFacts::library_ascends))]
@@ -52,7 +52,25 @@ pub fn a_new_target_is_not_kept()
     ensures { NewTargetsAreNotKept }
 {}
 
-/// From the present revision on nothing was touched.
+/// A delta lists exactly what is new or shown otherwise than at the base.
+#[tactic(auto, using(crate::proofs::DeltaFacts::deltas_list_news))]
+pub fn a_delta_lists_news()
+    ensures { DeltasListNews }
+{}
+
+/// A delta deletes exactly the keys that the base had and that are gone.
+#[tactic(auto, using(crate::proofs::DeltaFacts::deltas_delete_what_is_gone))]
+pub fn a_delta_deletes_what_is_gone()
+    ensures { DeltasDeleteWhatIsGone }
+{}
+
+/// The row of a key that was not touched since a kept base is shown as it was.
+#[tactic(auto, using(crate::proofs::DeltaFacts::untouched_stay_shown))]
+pub fn an_untouched_key_stays_shown()
+    ensures { UntouchedStayShown }
+{}
+
+/// A delta since the present revision is empty.
 pub fn nothing_changed_since_now()
     ensures { NothingChangedSinceNow }
 {}

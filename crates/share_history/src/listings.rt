@@ -1,20 +1,21 @@
 //! Listings of items.
 
-ghost use Rattle.std.specs.Prelude.{◌≡◌, ◌<◌, ◌≤◌, ◌+◌, ◌^◌, ◌++◌, ◌∷◌, [], IfOk, OnOk, map, length, is_none, if◌then◌else◌, option_copied};
+ghost use Rattle.std.specs.Prelude.{◌≡◌, ◌<◌, ◌≤◌, ◌+◌, ◌^◌, ◌++◌, ◌∷◌, [], IfOk, OnOk, map, length, is_none, not, if◌then◌else◌, option_copied};
+ghost use Rattle.std.specs.Map.{keys_of};
 ghost use Rattle.std.specs.List.{filter};
 ghost use Rattle.share_history.specs.Histories.{batches, revision, all_edits};
-ghost use Rattle.share_history.specs.Rows.{row_at};
-ghost use Rattle.share_history.specs.Kept.{touches};
-ghost use Rattle.share_history.specs.Listings.{member_of, shown, shown_rows, full_of, full_listing, delta_of, delta_listing, listing};
+ghost use Rattle.share_history.specs.Rows.{row_at, rows};
+ghost use Rattle.share_history.specs.Differences.{has_tag};
+ghost use Rattle.share_history.specs.Listings.{member_of, shown, shown_rows, full_of, full_listing, delta_with, delta_listing, listing};
 ghost use Rattle.share_history.specs.RowSeen.{row_of};
 ghost use Rattle.share_history.specs.ListingSeen.{listing_of};
 
-use crate::kept::{is_kept, is_touched, push_if, touched};
+use crate::kept::{is_kept, push_if};
 use crate::ranges::in_range;
-use crate::revisions::{after, revision};
+use crate::revisions::{at_revision, revision};
 use crate::selection::{row, rows};
 use dmap_tags::Tag;
-use item_model::{Entry, Look, Meta, Query, Row, Target, project};
+use item_model::{Entry, Look, Meta, Query, Row, ShownProperties, Target, is_shown_alike, project};
 use std::alloc::{AllocError, Global};
 
 /// What a listing of items says.
@@ -117,56 +118,73 @@ fn push_row_if<'a>(
     Ok(())
 }
 
-// The rows whose keys the later entries touch.
-#[tactic(auto, using(crate::proofs::FoldFacts::filtered_next))]
-fn touched_rows<'a>(
-    alloc: Global,
-    history: &'a [Entry],
+// Whether the earlier history shows another row under the key, or none.
+fn is_new(
+    earlier: &[Entry],
     target: Target,
-    later: &[Entry],
-    rows: &[(u32, &'a Row)],
+    query: Option<&Query>,
+    meta: &Meta,
+    found: (u32, &Row),
+) -> bool
+    ensures { result ≡ not (has_tag (shown_rows target meta.now (rows (all_edits earlier.now) target (option_copied query.entry))) (shown target meta.now (row_of found.entry))) }
+{
+    let (key, now) = found;
+    let Some(old) = row(earlier, target, query, key) else {
+        return true;
+    };
+    !is_shown_alike(old, now, ShownProperties::of(meta).as_slice())
+}
+
+// Those of the rows that the earlier history does not show.
+fn new_rows<'a>(
+    alloc: Global,
+    earlier: &[Entry],
+    target: Target,
+    query: Option<&Query>,
+    meta: &Meta,
+    current: &[(u32, &'a Row)],
 ) -> Result<Vec<(u32, &'a Row)>, AllocError>
-    ensures rows { IfOk result (λ found. map row_of found.items ≡ filter (λ row. touches (all_edits history.now) target (all_edits later.now) row.0) (map row_of rows.now)) }
-    ensures few { IfOk result (λ found. length found.items ≤ length rows.now) }
+    ensures rows { IfOk result (λ found. map row_of found.items ≡ filter (λ row. not (has_tag (shown_rows target meta.now (rows (all_edits earlier.now) target (option_copied query.entry))) (shown target meta.now row))) (map row_of current.now)) }
+    ensures few { IfOk result (λ found. length found.items ≤ length current.now) }
 {
     let mut found = Vec::new(alloc);
-    for row in rows {
-        push_row_if(&mut found, *row, is_touched(history, target, later, row.0))?;
+    for row in current {
+        push_row_if(&mut found, *row, is_new(earlier, target, query, meta, *row))?;
     }
     Ok(found)
 }
 
-// Those of the keys that are no rows.
-#[tactic(auto, using(crate::proofs::FoldFacts::filtered_next))]
+// The keys of those earlier rows that have no row now.
+#[tactic(auto, using(crate::proofs::FoldFacts::filtered_key_next))]
 fn gone_keys(
     alloc: Global,
     history: &[Entry],
     target: Target,
     query: Option<&Query>,
-    keys: &[u32],
+    earlier: &[(u32, &Row)],
 ) -> Result<Vec<u32>, AllocError>
-    ensures { IfOk result (λ gone. gone.items ≡ filter (λ key. is_none (row_at (all_edits history.now) target (option_copied query.entry) key)) keys.now) }
+    ensures { IfOk result (λ gone. gone.items ≡ filter (λ key. is_none (row_at (all_edits history.now) target (option_copied query.entry) key)) (keys_of (map row_of earlier.now))) }
 {
     let mut gone = Vec::new(alloc);
-    for key in keys {
-        let is_gone = row(history, target, query, *key).is_none();
-        push_if(&mut gone, *key, is_gone)?;
+    for old in earlier {
+        let is_gone = row(history, target, query, old.0).is_none();
+        push_if(&mut gone, old.0, is_gone)?;
     }
     Ok(gone)
 }
 
-fn delta_of(
+fn delta_with(
     alloc: Global,
     revision: u32,
     target: Target,
-    look: &Look,
+    meta: &Meta,
     listed: &[(u32, &Row)],
     gone: Vec<u32>,
 ) -> Result<Listing, AllocError>
     requires { length listed.now < 2 ^ 32 }
-    ensures { IfOk result (λ l. listing_of l ≡ delta_of revision target look.now (map row_of listed.now) gone.items) }
+    ensures { IfOk result (λ l. listing_of l ≡ delta_with revision (shown_rows target meta.now (map row_of listed.now)) gone.items) }
 {
-    let rows = shown_rows(alloc, target, &look.meta, listed)?;
+    let rows = shown_rows(alloc, target, meta, listed)?;
     Ok(Listing {
         is_delta: true,
         revision,
@@ -176,7 +194,8 @@ fn delta_of(
     })
 }
 
-/// The change of a listing since a base.
+/// The change of a listing since a base: the rows that it did not show then, or showed otherwise, and the keys
+/// that are gone.
 pub fn delta_listing(
     alloc: Global,
     history: &[Entry],
@@ -189,15 +208,16 @@ pub fn delta_listing(
     ensures { IfOk result (λ l. listing_of l ≡ delta_listing (batches history.now) target look.now base) }
 {
     let query = look.query.as_ref();
+    let earlier = at_revision(history, base);
     let all = rows(alloc, history, target, query)?;
-    let listed = touched_rows(alloc, history, target, after(history, base), all.as_slice())?;
-    let keys = touched(alloc, history, target, base)?;
-    let gone = gone_keys(alloc, history, target, query, keys.as_slice())?;
-    let delta = delta_of(
+    let listed = new_rows(alloc, earlier, target, query, &look.meta, all.as_slice())?;
+    let old = rows(alloc, earlier, target, query)?;
+    let gone = gone_keys(alloc, history, target, query, old.as_slice())?;
+    let delta = delta_with(
         alloc,
         revision(history),
         target,
-        look,
+        &look.meta,
         listed.as_slice(),
         gone,
     )?;

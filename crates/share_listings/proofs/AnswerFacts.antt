@@ -1,10 +1,9 @@
 -- The rows that are asked for, taken one key after another.
-use Rattle.std.proofs.Common.{◌≡◌, ◌<◌, ◌≤◌, ◌+◌, ◌++◌, ◌∷◌, [], ◌==◌, ℕ, suc, List, Bool, true, false, cond, Option, Some, None, is_some, is_none, filter, map, take, All, length, get_or, unwrap_or, not, if◌then◌else◌, refl, sym, subst, ap, ◌∙◌, arith, length-append, append-nil}
+use Rattle.std.proofs.Common.{◌≡◌, ◌<◌, ◌≤◌, ◌+◌, ◌++◌, ◌∷◌, [], ◌==◌, ℕ, suc, List, Bool, true, false, cond, Option, Some, None, is_some, filter, map, take, All, length, get_or, unwrap_or, if◌then◌else◌, refl, sym, subst, ap, ◌∙◌, arith, length-append, append-nil}
 use Rattle.std.specs.Option.{option_map, option_and_then}
 use Rattle.std.specs.List.{cons_option}
 use Rattle.std.specs.Map.{keys_of}
 use Rattle.std.specs.Ordering.{nat_cmp}
-use Rattle.std.proofs.lemmas.Bool.{false≢true}
 use Rattle.std.proofs.lemmas.List.{length-map, take_more}
 use Rattle.std.proofs.lemmas.List.Elements.{filter-append, filter_map-append, All-cons}
 use Rattle.item_model.specs.declared.changes.Edit.{Edit}
@@ -15,18 +14,18 @@ use Rattle.item_model.specs.declared.request.Look.{Look}
 use Rattle.item_model.specs.declared.request.Target.{Target}
 use Rattle.item_model.specs.declared.request.Target.TheVariants.{Items, Container}
 use Rattle.share_history.specs.Histories.{edits, revision, later}
-use Rattle.share_history.specs.Keyed.{at, AreAscending, ascending, pairs_at}
+use Rattle.share_history.specs.Keyed.{AreAscending, ascending, pairs_at}
 use Rattle.share_history.specs.Kept.{touches, touched}
 use Rattle.share_history.specs.LastSaid.{Playlist, Plain, Ruled, only_if, item_at, list_at, member_at}
-use Rattle.share_history.specs.Listings.{member_of, full_of, delta_of, full_listing, delta_listing}
+use Rattle.share_history.specs.Listings.{member_of, full_of, full_listing}
 use Rattle.share_history.specs.Named.{named_keys, keys_in}
 use Rattle.share_history.specs.Numbers.{base_list}
 use Rattle.share_history.specs.Rows.{rows, row_at, library, is_asked, if_asked, in_list, in_target}
 use Rattle.share_history.proofs.KeyedFacts.{has, has-keys_of, at-pairs_at, ascending-pairs_at, sorted-filter, sorted-ascending}
 use Rattle.share_history.proofs.OwnFacts.{item_id}
-use Rattle.share_history.proofs.RowFacts.{at-rows, at-library, ascending-library, ascending-rows, rows_are, length-rows, folded-longer}
+use Rattle.share_history.proofs.RowFacts.{at-rows, ascending-rows, rows_are, length-rows, folded-longer}
 use Rattle.listing_plan.specs.declared.row.PlanRow.{PlanRow}
-use Rattle.listing_plan.specs.Plans.{key_of, keys_of_rows, keyed, AreRowsOf, AreGone}
+use Rattle.listing_plan.specs.Plans.{key_of, keyed, AreRowsOf, AreGone}
 use Rattle.playlist_store.specs.Words.{pair_of}
 use Rattle.playlist_store.specs.declared.head.Member.{Member}
 use Rattle.share_listings.specs.Answers.{AreCandidates, is_library}
@@ -58,7 +57,7 @@ abbrev one_pair : ℕ → Option Row → List (ℕ × Row)
 one_pair key found = cons_option (option_map (λ row. (key, row)) found) []
 
 -- a row tells the key under which it stands
-key_shown : (es : List Edit) (t : Target) (key : ℕ) (row : Row) → in_target es t key ≡ Some row → unwrap_or (member_of t key) row.id ≡ key
+pub key_shown : (es : List Edit) (t : Target) (key : ℕ) (row : Row) → in_target es t key ≡ Some row → unwrap_or (member_of t key) row.id ≡ key
 key_shown es Items key row is = item_id es key row is
 key_shown es (Container c) key row is = refl
 
@@ -139,7 +138,7 @@ pub members_start : (es : List Edit) (t : Target) (q : Option Query) (members : 
 members_start es t q members h = subst (Starts es t q) (sym (member_keys members (rows es t None) h)) (rows_start es t q)
 
 -- a row is found under its own id
-asked_some : (q : Option Query) (found : Option Row) (row : Row) → option_and_then (if_asked q) found ≡ Some row → found ≡ Some row
+pub asked_some : (q : Option Query) (found : Option Row) (row : Row) → option_and_then (if_asked q) found ≡ Some row → found ≡ Some row
 asked_some q None row is = absurd (cc)
 asked_some q (Some other) row is = kept (is_asked q other) is
   where
@@ -159,7 +158,7 @@ own_listed es None c key row is = absurd (cc)
 own_listed es (Some (Plain name)) c key row is = own_member es (member_at es c key) row is
 own_listed es (Some (Ruled name rule)) c key row is = own_item es key row (asked_some (Some rule) (item_at es key) row is)
 
-own_row : (es : List Edit) (t : Target) (key : ℕ) (row : Row) → in_target es t key ≡ Some row → item_at es row.id ≡ Some row
+pub own_row : (es : List Edit) (t : Target) (key : ℕ) (row : Row) → in_target es t key ≡ Some row → item_at es row.id ≡ Some row
 own_row es Items key row is = own_item es key row is
 own_row es (Container c) key row is = either (c == base_list) is
   where
@@ -219,16 +218,7 @@ no_members es c members other none unlisted =
     ap (map pair_of) none
     ∙ sym (ap (map id_pair) (rows_unlisted es c other (none_there (map id_pair (rows es (Container c) None)) (list_at es c) unlisted)))
 
--- ---- the keys that are no rows
-
--- what a key adds that is a row, and one that is none
-pub none_gone : (gone : List ℕ) (key : ℕ) (is_row is_gone : Bool) → is_row ≡ true → is_row ≡ not is_gone → gone ≡ gone ++ cond is_gone (key ∷ []) []
-none_gone gone key is_row true is told = absurd (false≢true (sym told ∙ is))
-none_gone gone key is_row false is told = sym (append-nil gone)
-
-pub one_gone : (gone : List ℕ) (key : ℕ) (is_row is_gone : Bool) → is_row ≡ false → is_row ≡ not is_gone → gone ++ key ∷ [] ≡ gone ++ cond is_gone (key ∷ []) []
-one_gone gone key is_row true is told = refl
-one_gone gone key is_row false is told = absurd (false≢true (sym is ∙ told))
+-- ---- the keys that are deleted
 
 pub gone_more : (p : ℕ → Bool) (keys : List ℕ) (i key : ℕ) → i < length keys → key ≡ get_or keys i key
     → filter p (take (i + 1) keys) ≡ filter p (take i keys) ++ filter p (key ∷ [])
@@ -268,7 +258,7 @@ pub few_touched : (bs : List (List Edit)) (t : Target) (base : ℕ) → length (
 few_touched bs t base =
     omega (arith, few_filtered (touches (edits bs) t (later bs base)) (ascending (named_keys (edits bs))), folded-longer nat_cmp [] (named_keys (edits bs)), few_keys (edits bs))
 
-sorted-touched : (bs : List (List Edit)) (t : Target) (base : ℕ) → AreAscending (touched bs t base)
+pub sorted-touched : (bs : List (List Edit)) (t : Target) (base : ℕ) → AreAscending (touched bs t base)
 sorted-touched bs t base = sorted-filter (touches (edits bs) t (later bs base)) (ascending (named_keys (edits bs))) (sorted-ascending (named_keys (edits bs)))
 
 -- ---- rows that can be planned
@@ -287,11 +277,12 @@ pub full_fit : (es : List Edit) (t : Target) (q : Option Query) (keys : List ℕ
 full_fit es t q keys found start is members few =
     fit_at t (row_at es t q) keys found is members start.ascending (omega (arith, ap length (is ∙ rows_from es t q keys start), length-rows es t q, few))
 
-pub delta_fit : (bs : List (List Edit)) (t : Target) (q : Option Query) (base : ℕ) (keys : List ℕ) (found : List PlanRow) → keys ≡ touched bs t base
-    → keyed found ≡ pairs_at (row_at (edits bs) t q) keys → All (λ row. row.member ≡ member_of t (key_of row)) found → length (edits bs) ≤ 262144 → AreRowsOf t found
-delta_fit bs t q base keys found all is members few =
-    fit_at t (row_at (edits bs) t q) keys found is members (subst AreAscending (sym all) (sorted-touched bs t base))
-    (omega (arith, ap length is, few_pairs (row_at (edits bs) t q) keys, ap length all, few_touched bs t base, few))
+-- rows under touched keys can be planned, whatever is listed under each
+pub delta_fit : (bs : List (List Edit)) (t : Target) (f : ℕ → Option Row) (base : ℕ) (keys : List ℕ) (found : List PlanRow) → keys ≡ touched bs t base
+    → keyed found ≡ pairs_at f keys → All (λ row. row.member ≡ member_of t (key_of row)) found → length (edits bs) ≤ 262144 → AreRowsOf t found
+delta_fit bs t f base keys found all is members few =
+    fit_at t f keys found is members (subst AreAscending (sym all) (sorted-touched bs t base))
+    (omega (arith, ap length is, few_pairs f keys, ap length all, few_touched bs t base, few))
 
 pub gone_fit : (bs : List (List Edit)) (t : Target) (p : ℕ → Bool) (base : ℕ) (keys gone : List ℕ) → keys ≡ touched bs t base → gone ≡ filter p keys
     → length (edits bs) ≤ 262144 → AreGone gone
@@ -307,38 +298,3 @@ pub full_is : (bs : List (List Edit)) (t : Target) (look : Look) (q : Option Que
 full_is bs t look q v keys found asked now start is =
     let all : keyed found ≡ rows (edits bs) t look.query = is ∙ rows_from (edits bs) t q keys start ∙ ap (rows (edits bs) t) asked in
     λ i. full_of (now i) t look (all i)
-
--- the pairs at those keys that pass a test are the pairs whose keys pass it
-pairs-filter : {A : Type 0} (f : ℕ → Option A) (p : ℕ → Bool) (ks : List ℕ) → pairs_at f (filter p ks) ≡ filter (λ pair. p pair.0) (pairs_at f ks)
-pairs-filter f p [] = refl
-pairs-filter {A = A} f p (k ∷ ks) = by_test (p k) refl (f k) refl (pairs-filter f p ks)
-  where
-    by_test : (b : Bool) → p k ≡ b → (v : Option A) → f k ≡ v → pairs_at f (filter p ks) ≡ filter (λ pair. p pair.0) (pairs_at f ks)
-        → pairs_at f (cond b (k ∷ filter p ks) (filter p ks)) ≡ filter (λ pair. p pair.0) (cons_option (option_map (λ x. (k, x)) v) (pairs_at f ks))
-    by_test true test None found more = ap (λ v. cons_option (option_map (λ x. (k, x)) v) (pairs_at f (filter p ks))) found ∙ more
-    by_test true test (Some x) found more =
-        ap (λ v. cons_option (option_map (λ x. (k, x)) v) (pairs_at f (filter p ks))) found ∙ ap (λ l. (k, x) ∷ l) more
-        ∙ sym (ap (λ b. cond b ((k, x) ∷ filter (λ pair. p pair.0) (pairs_at f ks)) (filter (λ pair. p pair.0) (pairs_at f ks))) test)
-    by_test false test None found more = more
-    by_test false test (Some x) found more =
-        more ∙ sym (ap (λ b. cond b ((k, x) ∷ filter (λ pair. p pair.0) (pairs_at f ks)) (filter (λ pair. p pair.0) (pairs_at f ks))) test)
-
-pub delta_is : (bs : List (List Edit)) (t : Target) (look : Look) (q : Option Query) (v base : ℕ) (keys gone : List ℕ) (found : List PlanRow) → q ≡ look.query → v ≡ revision bs
-    → keys ≡ touched bs t base → keyed found ≡ pairs_at (row_at (edits bs) t q) keys → gone ≡ filter (λ key. is_none (row_at (edits bs) t q key)) keys
-    → delta_of v t look (keyed found) gone ≡ delta_listing bs t look base
-delta_is bs t look q v base keys gone found asked now all is left =
-    (λ i. delta_of v t look (listed_are i) (left i))
-    ∙ ap (λ n. delta_of n t look listed_now (filter (λ key. is_none (row_at (edits bs) t q key)) keys)) now
-    ∙ ap (λ ks. delta_of (revision bs) t look listed_now (filter (λ key. is_none (row_at (edits bs) t q key)) ks)) all
-    ∙ ap (λ o. delta_of (revision bs) t look (filter touches_row (rows (edits bs) t o)) (filter (λ key. is_none (row_at (edits bs) t o key)) (touched bs t base))) asked
-  where
-    touches_row : ℕ × Row → Bool
-    touches_row row = touches (edits bs) t (later bs base) row.0
-
-    listed_now : List (ℕ × Row)
-    listed_now = filter touches_row (rows (edits bs) t q)
-
-    listed_are : keyed found ≡ listed_now
-    listed_are =
-        is ∙ ap (pairs_at (row_at (edits bs) t q)) all
-        ∙ pairs-filter (row_at (edits bs) t q) (touches (edits bs) t (later bs base)) (ascending (named_keys (edits bs)))

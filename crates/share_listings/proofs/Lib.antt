@@ -3,3 +3,4 @@ pub mod MembershipFacts
 pub mod PlanFacts
 pub mod AnswerFacts
 pub mod Samples
+pub mod ChangeFacts

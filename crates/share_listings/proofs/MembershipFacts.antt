@@ -1,7 +1,8 @@
 -- What the stores tell of the members of a target.
-use Rattle.std.proofs.Common.{◌≡◌, ◌≤◌, ◌+◌, ◌-◌, ◌++◌, ◌∷◌, [], ◌==◌, ◌&&◌, ◌||◌, ℕ, List, Bool, true, false, cond, not, nat_le, Option, Some, None, max, length, map, drop, take, All, refl, sym, subst, ap, ◌∙◌, arith}
-use Rattle.std.specs.Option.{option_map, option_and_then}
+use Rattle.std.proofs.Common.{◌≡◌, ◌≤◌, ◌+◌, ◌-◌, [], ◌==◌, ◌&&◌, ◌||◌, ℕ, List, Bool, true, false, cond, not, nat_le, Option, Some, None, length, refl, sym, subst, ap, ◌∙◌, arith}
+use Rattle.std.specs.Option.{option_and_then}
 use Rattle.std.specs.Map.{keys_of}
+use Rattle.std.specs.List.{list_any}
 use Rattle.std.proofs.lemmas.Bool.{eqb-true, and_parts, and_from, leb-true, le-leb}
 use Rattle.std.proofs.Math.ListN.{drop_of_length-le}
 use Rattle.std.proofs.lemmas.List.{take_all, length-map}
@@ -12,14 +13,17 @@ use Rattle.item_model.specs.declared.request.Target.{Target}
 use Rattle.item_model.specs.declared.request.Target.TheVariants.{Items, Container}
 use Rattle.share_history.specs.Histories.{revision, edits, up_to, later}
 use Rattle.share_history.specs.Kept.{is_kept, is_left, touched}
-use Rattle.share_history.specs.LastSaid.{Playlist, Plain, Ruled, only_if, item_at, list_at, member_at}
+use Rattle.share_history.specs.LastSaid.{Playlist, Plain, Ruled, only_if, item_at, list_at}
+use Rattle.share_history.specs.Named.{names_list}
 use Rattle.share_history.specs.Numbers.{first_revision, base_list}
 use Rattle.share_history.specs.Rows.{is_asked, if_asked, in_list, in_target, row_at, rows, library}
+use Rattle.share_history.proofs.EditFacts.{edits-split, list_stays}
+use Rattle.share_history.proofs.DeltaFacts.{kept_left}
 use Rattle.item_store.specs.Stands.{floor_of}
 use Rattle.item_store.specs.Store.{Store}
 use Rattle.playlist_store.specs.Words.{ruled, standing}
 use Rattle.share_listings.specs.Answers.{is_library}
-use Rattle.share_listings.specs.Memberships.{IsBeside, IsMembership, Tells, TellsFew, item_under}
+use Rattle.share_listings.specs.Memberships.{IsBeside, IsMembership, TellsFew, item_under}
 use Rattle.share_listings.specs.declared.membership.Membership.{Membership}
 use Rattle.share_listings.specs.declared.membership.Membership.TheVariants.{Library, Members}
 
@@ -55,13 +59,37 @@ standing_item None es c k = refl
 standing_item (Some (Plain name)) es c k = refl
 standing_item (Some (Ruled name rule)) es c k = ruled_item es rule k (item_at es k) refl
 
+-- the item under a key of a list is the one of the container's row
+list_target : (es : List Edit) (list k : ℕ) → (list == base_list) ≡ false
+    → option_and_then (item_at es) (standing (list_at es list) es list k) ≡ in_target es (Container list) k
+list_target es list k other =
+    standing_item (list_at es list) es list k ∙ ap (λ b. cond b (item_at es k) (in_list (list_at es list) es list k)) (sym other)
+
 pub under_target : (keep : ℕ) (bs : List (List Edit)) (t : Target) (m : Membership) (k : ℕ) → IsMembership keep bs t m
     → option_and_then (item_at (edits bs)) (item_under (edits bs) m k) ≡ in_target (edits bs) t k
 under_target keep bs t Library k h = sym (library_items (edits bs) t k h)
-under_target keep bs t (Members lists list) k h =
-    standing_item (list_at (edits bs) list) (edits bs) list k
-    ∙ ap (λ b. cond b (item_at (edits bs) k) (in_list (list_at (edits bs) list) (edits bs) list k)) (sym h.beside)
-    ∙ ap (λ t. in_target (edits bs) t k) (sym h.container)
+under_target keep bs t (Members lists list) k h = list_target (edits bs) list k h.beside ∙ ap (λ t. in_target (edits bs) t k) (sym h.container)
+
+left_unnamed : (is_base is_named : Bool) → is_base ≡ false → (is_base || not is_named) ≡ true → is_named ≡ false
+left_unnamed true named h k = absurd (cc)
+left_unnamed false true h k = absurd (cc)
+left_unnamed false false h k = refl
+
+-- a list with a kept base was the same list then
+list_then : (keep : ℕ) (bs : List (List Edit)) (list base : ℕ) → (list == base_list) ≡ false → is_kept keep bs (Container list) base ≡ true
+    → list_at (edits bs) list ≡ list_at (edits (up_to bs base)) list
+list_then keep bs list base other kept =
+    ap (λ es. list_at es list) (edits-split bs base)
+    ∙ list_stays (edits (up_to bs base)) (later bs base) list
+    (left_unnamed (list == base_list) (list_any (names_list list) (later bs base)) other (kept_left keep bs (Container list) base kept))
+
+-- so what the store of lists has under a key then is the item of then
+pub target_then : (keep : ℕ) (bs : List (List Edit)) (list key base : ℕ) (found : Option ℕ) → (list == base_list) ≡ false → is_kept keep bs (Container list) base ≡ true
+    → found ≡ standing (list_at (edits bs) list) (edits (up_to bs base)) list key
+    → option_and_then (item_at (edits (up_to bs base))) found ≡ in_target (edits (up_to bs base)) (Container list) key
+target_then keep bs list key base found other kept h =
+    ap (option_and_then (item_at (edits (up_to bs base)))) (h ∙ ap (λ l. standing l (edits (up_to bs base)) list key) (list_then keep bs list base other kept))
+    ∙ list_target (edits (up_to bs base)) list key other
 
 -- the present revision is kept, of each target
 later_now : (bs : List (List Edit)) → later bs (revision bs) ≡ []

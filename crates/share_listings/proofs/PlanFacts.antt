@@ -1,21 +1,20 @@
 -- Rows that can be planned, and the listings that they make.
-use Rattle.std.proofs.Common.{◌≡◌, ◌≤◌, ◌+◌, ◌-◌, ◌∷◌, [], ℕ, zero, suc, List, true, false, take, drop, All, length, refl, sym, subst, ap, ◌∙◌, arith}
+use Rattle.std.proofs.Common.{◌≡◌, ◌≤◌, ◌+◌, ◌-◌, ◌∷◌, [], ℕ, zero, suc, List, false, take, drop, All, length, refl, sym, subst, ap, ◌∙◌, arith}
 use Rattle.std.specs.List.{AllByRecursion}
 use Rattle.std.specs.List.Sorted.{IsStrictlySortedBy}
 use Rattle.std.specs.Map.{keys_of}
 use Rattle.std.proofs.lemmas.List.{length-map, length-take, length-drop}
 use Rattle.std.proofs.lemmas.List.Elements.{All-take, All-drop}
-use Rattle.item_model.specs.declared.item.Row.{Row}
 use Rattle.item_model.specs.declared.request.Look.{Look}
 use Rattle.item_model.specs.declared.request.Range.{Range}
 use Rattle.item_model.specs.declared.request.Range.TheVariants.{All as whole_range, One, From, Span, Last}
 use Rattle.item_model.specs.declared.request.Target.{Target}
 use Rattle.share_history.specs.Keyed.{AreAscending}
-use Rattle.share_history.specs.Listings.{member_of, shown_rows, full_of, delta_of}
+use Rattle.share_history.specs.Listings.{member_of, shown_rows, full_of}
 use Rattle.share_history.specs.Ranges.{in_range}
 use Rattle.share_history.proofs.RangeFacts.{in_range-map}
 use Rattle.listing_plan.specs.declared.row.PlanRow.{PlanRow}
-use Rattle.listing_plan.specs.Plans.{key_of, keys_of_rows, keyed, full_plan, delta_plan, AreRowsOf}
+use Rattle.listing_plan.specs.Plans.{key_of, keys_of_rows, keyed, full_plan, AreRowsOf}
 
 pub keys_keyed : (found : List PlanRow) → keys_of_rows found ≡ keys_of (keyed found)
 keys_keyed [] = refl
@@ -86,15 +85,4 @@ full_made t v total look found listed count cut =
       total = (count ∙ sym (counted found)) i;
       rows = shown_rows t look.meta (part i);
       gone = [];
-    }
-
-pub delta_made : (t : Target) (v : ℕ) (look : Look) (found : List PlanRow) (gone : List ℕ)
-    → delta_plan t v found gone look.meta ≡ delta_of v t look (keyed found) gone
-delta_made t v look found gone =
-    λ i. record {
-      is_delta = true;
-      revision = v;
-      total = (sym (counted found)) i;
-      rows = shown_rows t look.meta (keyed found);
-      gone = gone;
     }

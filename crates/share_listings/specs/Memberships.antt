@@ -1,6 +1,5 @@
 -- Which items the members of a target are.
 use Rattle.std.specs.Prelude.{◌≡◌, ◌≤◌, ◌==◌, ℕ, List, true, false, length, All, Option, Some}
-use Rattle.std.specs.Option.{option_and_then}
 use Rattle.item_model.specs.declared.changes.Edit.{Edit}
 use Rattle.item_model.specs.declared.request.Target.{Target}
 use Rattle.item_model.specs.declared.request.Target.TheVariants.{Container}

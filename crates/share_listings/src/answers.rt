@@ -1,19 +1,18 @@
 //! What the stores of a share answer to a look.
 
-ghost use Rattle.std.specs.Prelude.{◌≡◌, ◌≤◌, ◌+◌, ◌*◌, List, length, option_copied, IfOk};
+ghost use Rattle.std.specs.Prelude.{◌≡◌, ◌≤◌, ◌+◌, ◌*◌, List, true, length, option_copied, IfOk};
 ghost use Rattle.item_model.specs.declared.changes.Edit.{Edit};
 ghost use Rattle.item_store.specs.Stands.{StandsFor, floor_of};
 ghost use Rattle.listing_plan.specs.declared.plan.Plan.TheVariants.{Rows};
 ghost use Rattle.playlist_store.specs.Stands as lists_stand;
 ghost use Rattle.share_history.specs.Histories.{edits};
-ghost use Rattle.share_history.specs.Kept.{touched};
+ghost use Rattle.share_history.specs.Kept.{is_kept, touched};
 ghost use Rattle.share_history.specs.Listings.{listing, full_listing, delta_listing};
 ghost use Rattle.share_listings.specs.Answers.{HaveFew, StartFrom, looked_at, most_ticks};
 ghost use Rattle.share_listings.specs.Memberships.{Tells, TellsFew};
 
-use crate::asked::{gone_at, rows_at};
+use crate::changed::changed_at;
 use crate::membership::{Membership, is_kept, membership_of, touched_keys};
-use crate::plans::delta_plan;
 use crate::whole::full;
 use item_model::{Look, Target};
 use item_store::ItemStore;
@@ -90,7 +89,7 @@ pub(crate) fn answer<L: Ledger>(
     }
 }
 
-/// What changed since the base of the look.
+/// What changed since the base of the look, which is kept.
 fn delta<L: Ledger>(
     alloc: Global,
     items: &ItemStore,
@@ -100,6 +99,7 @@ fn delta<L: Ledger>(
     steps: &mut Steps<L>,
 ) -> Result<Plan, AllocError>
     requires few { TellsFew items.now target membership }
+    requires kept { (bs : List (List Edit)) → Tells bs items.now target membership → is_kept items.now.keep bs target look.base ≡ true }
     requires from { floor_of items.now.keep items.now.revision ≤ look.base }
     requires to { look.base ≤ items.now.revision }
     ensures listing { IfOk result (λ plan. (bs : List (List Edit)) → Tells bs items.now target membership.entry
@@ -107,16 +107,20 @@ fn delta<L: Ledger>(
     ensures cost { (bs : List (List Edit)) → Tells bs items.now target membership.entry → steps.new ≤ steps.old + 4 * length (touched bs target look.base) }
 {
     let keys = touched_keys(items, membership, look.base)?;
-    let query = look.query.as_ref();
-    let rows = rows_at(
+    let changed = changed_at(
         alloc,
         items,
         membership,
         target,
+        &look,
         keys.as_slice(),
-        query,
         steps,
     )?;
-    let gone = gone_at(alloc, items, membership, keys.as_slice(), query, steps)?;
-    Ok(delta_plan(target, items.revision(), look, rows, gone))
+    Ok(Plan::delta(
+        target,
+        items.revision(),
+        changed.rows,
+        changed.gone,
+        look.meta,
+    ))
 }

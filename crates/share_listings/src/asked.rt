@@ -1,7 +1,6 @@
-//! The rows that a look asks for, and what looking at them costs.
+//! The rows that a look selects, and what trying its query costs.
 
-ghost use Rattle.std.specs.Prelude.{◌≡◌, ◌≤◌, ◌+◌, ◌++◌, ◌∷◌, [], List, All as AllOf, is_none, not, filter, length, map, option_copied, unwrap_or, if◌then◌else◌, IfOk, OnOk};
-ghost use Rattle.std.specs.Option.{option_and_then};
+ghost use Rattle.std.specs.Prelude.{◌≡◌, ◌≤◌, ◌+◌, ◌++◌, ◌∷◌, [], List, All as AllOf, length, map, option_copied, unwrap_or, if◌then◌else◌, IfOk, OnOk};
 ghost use Rattle.item_model.specs.declared.changes.Edit.{Edit};
 ghost use Rattle.item_model.specs.declared.request.Target.{Target};
 ghost use Rattle.item_store.specs.Stands.{StandsFor};
@@ -10,7 +9,7 @@ ghost use Rattle.share_history.specs.Histories.{edits};
 ghost use Rattle.share_history.specs.Keyed.{pairs_at};
 ghost use Rattle.share_history.specs.LastSaid.{item_at};
 ghost use Rattle.share_history.specs.Listings.{member_of};
-ghost use Rattle.share_history.specs.Rows.{in_target, row_at, if_asked, is_asked};
+ghost use Rattle.share_history.specs.Rows.{in_target, row_at, is_asked};
 ghost use Rattle.share_listings.specs.Memberships.{IsBeside, Tells, AreMembersOf};
 
 use crate::membership::{Membership, item_under};
@@ -64,83 +63,6 @@ pub(crate) fn rows_of<L: Ledger>(
         push_member(&mut rows, items, target, *member, query, steps)?;
     }
     Ok(rows)
-}
-
-/// Those of the keys that are no rows.
-pub(crate) fn gone_at<L: Ledger>(
-    alloc: Global,
-    items: &ItemStore,
-    membership: Membership<'_>,
-    keys: &[u32],
-    query: Option<&Query>,
-    steps: &mut Steps<L>,
-) -> Result<Vec<u32>, AllocError>
-    requires { IsBeside membership }
-    ensures gone { IfOk result (λ gone. (bs : List (List Edit)) (target : Target) → Tells bs items.now target membership.entry
-        → gone.items ≡ filter (λ key. is_none (row_at (edits bs) target (option_copied query.entry) key)) keys.now) }
-    ensures cost { steps.new ≤ steps.old + length keys.now }
-{
-    let mut gone = Vec::new(alloc);
-    for key in keys {
-        push_gone(&mut gone, items, membership, *key, query, steps)?;
-    }
-    Ok(gone)
-}
-
-/// Adds a key that is no row.
-fn push_gone<L: Ledger>(
-    gone: &mut Vec<u32>,
-    items: &ItemStore,
-    membership: Membership<'_>,
-    key: u32,
-    query: Option<&Query>,
-    steps: &mut Steps<L>,
-) -> Result<(), AllocError>
-    requires { IsBeside membership }
-    ensures gone { OnOk result ((bs : List (List Edit)) (target : Target) → Tells bs items.now target membership.entry
-        → gone.new.items ≡ gone.old.items ++ filter (λ key. is_none (row_at (edits bs) target (option_copied query.entry) key)) (key ∷ [])) }
-    ensures cost { steps.new ≤ steps.old + 1 }
-{
-    if is_row(items, membership, key, query, steps) {
-        return Ok(());
-    }
-    gone.push(key)?;
-    Ok(())
-}
-
-fn is_row<L: Ledger>(
-    items: &ItemStore,
-    membership: Membership<'_>,
-    key: u32,
-    query: Option<&Query>,
-    steps: &mut Steps<L>,
-) -> bool
-    requires { IsBeside membership }
-    ensures row { (bs : List (List Edit)) (target : Target) → Tells bs items.now target membership.entry
-        → result ≡ not (is_none (row_at (edits bs) target (option_copied query.entry) key)) }
-    ensures cost { steps.new ≤ steps.old + 1 }
-{
-    match item_under(items, membership, key) {
-        Some(item) => is_there(items, item, query, steps),
-        None => false,
-    }
-}
-
-/// Whether an item is there and asked for.
-fn is_there<L: Ledger>(
-    items: &ItemStore,
-    id: u32,
-    query: Option<&Query>,
-    steps: &mut Steps<L>,
-) -> bool
-    ensures there { (bs : List (List Edit)) → StandsFor bs items.now
-        → result ≡ not (is_none (option_and_then (if_asked (option_copied query.entry)) (item_at (edits bs) id))) }
-    ensures cost { steps.new ≤ steps.old + 1 }
-{
-    match items.get(id) {
-        Some(row) => is_asked(query, row, steps),
-        None => false,
-    }
 }
 
 /// Adds the row under a key, if it is there and asked for.
@@ -207,7 +129,7 @@ fn push_asked<L: Ledger>(
 }
 
 /// The key that a row tells: in a container its own as a member.
-fn member_of(target: Target, key: u32) -> Option<u32>
+pub(crate) fn member_of(target: Target, key: u32) -> Option<u32>
     ensures { result ≡ member_of target key }
 {
     match target {
@@ -217,7 +139,7 @@ fn member_of(target: Target, key: u32) -> Option<u32>
 }
 
 /// Whether a look with that query asks for the row.
-fn is_asked<L: Ledger>(query: Option<&Query>, row: &Row, steps: &mut Steps<L>) -> bool
+pub(crate) fn is_asked<L: Ledger>(query: Option<&Query>, row: &Row, steps: &mut Steps<L>) -> bool
     ensures asked { result ≡ is_asked (option_copied query.entry) row.now }
     ensures cost { steps.new ≤ steps.old + 1 }
 {

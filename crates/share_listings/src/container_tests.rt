@@ -5,7 +5,7 @@ ghost use Rattle.item_model.specs.Valid.{IsValid, AreValid, is_list_name};
 ghost use Rattle.listing_plan.specs.Plans.{IsWritable};
 ghost use Rattle.share_listings.specs.Answers.{HaveEdits, HaveFew};
 
-use crate::tests::{SIX_SONGS, Song, batch, look, media_kinds, written};
+use crate::tests::{NO_CHANGE, SIX_SONGS, Song, batch, look, media_kinds, written};
 use crate::{full_target, is_there, listing};
 use dmap_tags::Text;
 use item_model::{Edit, Look, Meta, Range, Target};
@@ -237,10 +237,6 @@ const TALK: [u8; 117] =
 const SONGS: [u8; 209] =
     *b"apso\0\0\0\xc9mstt\0\0\0\x04\0\0\0\xc8muty\0\0\0\x01\0musr\0\0\0\x04\0\0\0\x04mtco\0\0\0\x04\0\0\0\x03mrco\0\0\0\x04\0\0\0\x03mlcl\0\0\0\x88mlit\0\0\0#mcti\0\0\0\x04\0\0\0\x01miid\0\0\0\x04\0\0\0\x01minm\0\0\0\x03Heymlit\0\0\0)mcti\0\0\0\x04\0\0\0\x02miid\0\0\0\x04\0\0\0\x02minm\0\0\0\x09it's latemlit\0\0\0$mcti\0\0\0\x04\0\0\0\x06miid\0\0\0\x04\0\0\0\x06minm\0\0\0\x04Late";
 
-/// The delta at revision 5 in which no item changed.
-const NO_ITEMS: [u8; 81] =
-    *b"adbs\0\0\0Imstt\0\0\0\x04\0\0\0\xc8muty\0\0\0\x01\x01musr\0\0\0\x04\0\0\0\x05mtco\0\0\0\x04\0\0\0\0mrco\0\0\0\x04\0\0\0\0mlcl\0\0\0\0mudl\0\0\0\0";
-
 /// The delta at revision 5 of the rule list that has a song more and one less.
 const ONE_FOR_ONE: [u8; 137] =
     *b"apso\0\0\0\x81mstt\0\0\0\x04\0\0\0\xc8muty\0\0\0\x01\x01musr\0\0\0\x04\0\0\0\x05mtco\0\0\0\x04\0\0\0\x01mrco\0\0\0\x04\0\0\0\x01mlcl\0\0\0,mlit\0\0\0$mcti\0\0\0\x04\0\0\0\x03miid\0\0\0\x04\0\0\0\x03minm\0\0\0\x04Talkmudl\0\0\0\x0cmcti\0\0\0\x04\0\0\0\x01";
@@ -309,7 +305,7 @@ fn a_rule_that_is_put_again_has_no_kept_base(rt: HostRuntime) -> Result<(), Fail
     let talks = told(alloc, &stores, rule, names(alloc, 4, Range::All)?)?;
     assert!(rt; talks.as_slice() == TALK.as_slice());
     let items = told(alloc, &stores, Target::Items, names(alloc, 4, Range::All)?)?;
-    assert!(rt; items.as_slice() == NO_ITEMS.as_slice());
+    assert!(rt; items.as_slice() == NO_CHANGE.as_slice());
     Ok(())
 }
 

@@ -4,6 +4,7 @@
 
 mod answers;
 mod asked;
+mod changed;
 #[cfg(test)]
 mod container_tests;
 mod membership;

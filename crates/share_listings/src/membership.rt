@@ -8,10 +8,12 @@ ghost use Rattle.item_model.specs.declared.request.Target.TheVariants.{Items};
 ghost use Rattle.item_store.specs.Stands as item_stands;
 ghost use Rattle.item_store.specs.Stands.{floor_of};
 ghost use Rattle.playlist_store.specs.Stands.{StandsFor};
-ghost use Rattle.share_history.specs.Histories.{edits};
+ghost use Rattle.item_store.specs.Store.{Store};
+ghost use Rattle.share_history.specs.Histories.{edits, up_to};
 ghost use Rattle.share_history.specs.Kept.{is_kept, touched};
 ghost use Rattle.share_history.specs.LastSaid.{item_at};
 ghost use Rattle.share_history.specs.Rows.{in_target};
+ghost use Rattle.share_listings.specs.Changes.{TellsSince};
 ghost use Rattle.share_listings.specs.Memberships.{IsBeside, IsMembership, Tells, TellsFew};
 
 use item_model::Target;
@@ -48,6 +50,18 @@ pub(crate) fn item_under(items: &ItemStore, membership: Membership<'_>, key: u32
     match membership {
         Membership::Library => Some(key),
         Membership::Members { lists, list } => lists.member_at(list, key, items.revision()),
+    }
+}
+
+/// The item that a key had at a kept base.
+pub(crate) fn item_then(membership: Membership<'_>, key: u32, base: u32) -> Option<u32>
+    requires { IsBeside membership }
+    ensures { (bs : List (List Edit)) (items : Store) (target : Target) → TellsSince bs items target membership.entry base
+        → option_and_then (item_at (edits (up_to bs base))) result ≡ in_target (edits (up_to bs base)) target key }
+{
+    match membership {
+        Membership::Library => Some(key),
+        Membership::Members { lists, list } => lists.member_at(list, key, base),
     }
 }
 

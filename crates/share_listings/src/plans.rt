@@ -1,9 +1,9 @@
-//! The plans that rows make.
+//! The plan that the rows of a full listing make.
 
 ghost use Rattle.std.specs.Prelude.{◌≡◌};
-ghost use Rattle.listing_plan.specs.Plans.{AreRowsOf, AreGone, keyed};
+ghost use Rattle.listing_plan.specs.Plans.{AreRowsOf, keyed};
 ghost use Rattle.listing_plan.specs.declared.plan.Plan.TheVariants.{Rows};
-ghost use Rattle.share_history.specs.Listings.{full_of, delta_of};
+ghost use Rattle.share_history.specs.Listings.{full_of};
 
 use crate::ranges::in_range;
 use item_model::{Look, Target};
@@ -17,20 +17,4 @@ pub(crate) fn full_plan(target: Target, revision: u32, look: Look, rows: Vec<Pla
     let total = rows.len() as u32;
     let listed = in_range(look.range, rows);
     Plan::full(target, revision, total, listed, look.meta)
-}
-
-/// The delta that lists these rows and deletes these keys, whatever the range.
-#[tactic(auto, using(crate::proofs::PlanFacts::delta_made))]
-pub(crate) fn delta_plan(
-    target: Target,
-    revision: u32,
-    look: Look,
-    rows: Vec<PlanRow>,
-    gone: Vec<u32>,
-) -> Plan
-    requires rows { AreRowsOf target rows.items }
-    requires gone { AreGone gone.items }
-    ensures { result ≡ Rows (record { target = target; listing = delta_of revision target look (keyed rows.items) gone.items }) }
-{
-    Plan::delta(target, revision, rows, gone, look.meta)
 }

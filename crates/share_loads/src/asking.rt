@@ -4,7 +4,7 @@ ghost use Rattle.std.specs.Prelude.{◌≡◌, ◌<◌, IfOk};
 ghost use Rattle.listing_plan.specs.Plans.{IsWritable};
 ghost use Rattle.share_asks.specs.Valid.{IsValidWant};
 
-use crate::wants::{SONGS, Step, songs, want};
+use crate::wants::{Step, all_songs, put_again, rename, want};
 use anyhow::{bail, ensure};
 use share_asks::{Ask, Role, Want};
 use share_core::{Answer, Reply, Share};
@@ -16,33 +16,50 @@ use std::sync::ledger::{Blank, Ledger};
 /// For how many revisions back the share keeps what changed.
 const KEEP: u32 = 256;
 
-/// How many bytes the bodies have that answer a step, taken so many times behind a history of so many entries and a login.
-pub fn bytes_told(alloc: Global, step: Step, entries: u32, times: u32) -> anyhow::Result<u64> {
-    bytes_by::<Brand>(Blank::new(1), alloc, step, entries, times)
+/// What is asked, and how often, of how large a share, behind a history of how many entries.
+#[derive(Clone, Copy)]
+pub struct Load {
+    pub step: Step,
+    pub songs: u32,
+    pub entries: u32,
+    pub times: u32,
 }
 
-fn bytes_by<L: Ledger>(
-    blank: Blank,
-    alloc: Global,
-    step: Step,
-    entries: u32,
-    times: u32,
-) -> anyhow::Result<u64>
+/// How many bytes the bodies of the answers have.
+pub fn bytes_told(alloc: Global, load: Load) -> anyhow::Result<u64> {
+    bytes_by::<Brand>(Blank::new(1), alloc, load)
+}
+
+fn bytes_by<L: Ledger>(blank: Blank, alloc: Global, load: Load) -> anyhow::Result<u64>
     requires name { blank.name ≡ L.name }
     requires parts { blank.parts ≡ L.parts }
     requires any { 0 < blank.parts }
 {
     let mut steps = Steps::<L>::open(blank);
-    let mut share = Share::open(alloc, "Share", KEEP, songs(alloc, 0, SONGS)?)?;
-    for number in 1..entries {
-        let edit = want(alloc, Step::Edit, 0, 0, number)?;
+    let mut share = Share::open(alloc, "Share", KEEP, all_songs(alloc, load.songs)?)?;
+    for number in 1..load.entries {
+        let edit = put_again(alloc, load.songs, number)?;
         told(&mut share, edit, &mut steps)?;
     }
-    let session = told(&mut share, Want::Login, &mut steps)?.session;
+    if let Step::Changes = load.step {
+        told(&mut share, rename(alloc, load.songs)?, &mut steps)?;
+    }
+    asked(alloc, &mut share, load, &mut steps)
+}
+
+/// The same, of a share that is open.
+fn asked<L: Ledger>(
+    alloc: Global,
+    share: &mut Share,
+    load: Load,
+    steps: &mut Steps<L>,
+) -> anyhow::Result<u64> {
+    let Load { step, songs, .. } = load;
+    let session = told(share, Want::Login, steps)?.session;
     let mut bytes = 0u64;
-    for number in 0..times {
-        let wanted = want(alloc, step, session, share.revision(), number)?;
-        let reply = told(&mut share, wanted, &mut steps)?;
+    for number in 0..load.times {
+        let wanted = want(alloc, step, songs, session, share.revision(), number)?;
+        let reply = told(share, wanted, steps)?;
         ensure!(reply.said.status == 200, "refused");
         bytes = bytes.saturating_add(reply.said.plan.body_len());
     }

@@ -5,16 +5,20 @@
 mod asking;
 mod wants;
 
-use crate::asking::bytes_told;
+use crate::asking::{Load, bytes_told};
 use crate::wants::Step;
-use anyhow::{Context, bail};
+use anyhow::Context;
 use std::env;
 
-const STEPS: [(&str, Step); 5] = [
+/// How many songs there are if no word says it.
+const SONGS: u32 = 1000;
+
+const STEPS: [(&str, Step); 6] = [
     ("edit", Step::Edit),
     ("login", Step::Login),
     ("update", Step::Update),
     ("delta", Step::Delta),
+    ("changes", Step::Changes),
     ("query", Step::Query),
 ];
 
@@ -27,23 +31,34 @@ fn step_named(word: &str) -> Option<Step> {
     None
 }
 
+/// The number at a place of the words, `other` if there is none.
+fn number_at(words: &[String], place: usize, other: u32) -> anyhow::Result<u32> {
+    match words.get(place) {
+        Some(word) => Ok(word.parse()?),
+        None => Ok(other),
+    }
+}
+
 fn main(rt: HostRuntime) -> anyhow::Result<()> {
     let words: Vec<String> = env::args(&rt)?.skip(1).collect(rt.alloc())?;
-    match words.as_slice() {
-        [] => {
-            for (name, step) in STEPS {
-                println!(rt; "{name} {}", bytes_told(rt.alloc(), step, 20, 3)?)?;
-            }
+    let Some(word) = words.first() else {
+        for (name, step) in STEPS {
+            let load = Load {
+                step,
+                songs: SONGS,
+                entries: 20,
+                times: 3,
+            };
+            println!(rt; "{name} {}", bytes_told(rt.alloc(), load)?)?;
         }
-        [step, entries, times] => {
-            let step = step_named(step).context("no such step")?;
-            let entries = entries.parse()?;
-            println!(rt;
-                "{}",
-                bytes_told(rt.alloc(), step, entries, times.parse()?)?
-            )?;
-        }
-        _ => bail!("a step, a number of entries and a number of times are wanted"),
-    }
+        return Ok(());
+    };
+    let load = Load {
+        step: step_named(word).context("no such step")?,
+        entries: number_at(words.as_slice(), 1, 1)?,
+        times: number_at(words.as_slice(), 2, 1)?,
+        songs: number_at(words.as_slice(), 3, SONGS)?,
+    };
+    println!(rt; "{}", bytes_told(rt.alloc(), load)?)?;
     Ok(())
 }

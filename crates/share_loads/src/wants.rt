@@ -5,14 +5,17 @@ ghost use Rattle.item_model.specs.Valid.{AreValid};
 ghost use Rattle.share_asks.specs.Valid.{IsValidWant, MayAsk};
 ghost use Rattle.share_history.specs.Numbers.{most_edits};
 
+use anyhow::ensure;
 use item_model::{Batch, Look, Meta, Query, Range, Target};
 use records_import::read_batch;
 use share_asks::Want;
 use song_query::read;
 use std::alloc::{AllocError, Global};
 
-/// How many songs there are.
-pub const SONGS: u32 = 1000;
+/// How many songs have one artist.
+const SONGS_EACH: u32 = 10;
+/// How many songs are given another name.
+const RENAMED: u32 = 10;
 
 /// What is wanted over and over.
 #[derive(Clone, Copy)]
@@ -24,14 +27,17 @@ pub enum Step {
     Update,
     /// What changed since the last revision: nothing.
     Delta,
+    /// What changed since the revision before: ten songs were given another name.
+    Changes,
     /// The ten songs of an artist.
     Query,
 }
 
-/// What a session wants, by a number, where the library has a revision.
+/// What a session wants of a share of `songs` songs, by a number, where the library has a revision.
 pub fn want(
     alloc: Global,
     step: Step,
+    songs: u32,
     session: u32,
     revision: u32,
     number: u32,
@@ -39,25 +45,38 @@ pub fn want(
     ensures { IfOk result IsValidWant }
 {
     match step {
-        Step::Edit => edit(alloc, number),
+        Step::Edit => put_again(alloc, songs, number),
         Step::Login => Ok(Want::Login),
         Step::Update => Ok(Want::Update {
             session,
             revision: 1,
         }),
         Step::Delta => Ok(rows(session, None, revision)),
+        Step::Changes => Ok(rows(session, None, revision.saturating_sub(1))),
         Step::Query => {
-            let text = format!(in alloc; "'daap.songartist:Artist {}'", number % (SONGS / 10))?;
+            let artist = number % (songs / SONGS_EACH).max(1);
+            let text = format!(in alloc; "'daap.songartist:Artist {artist}'")?;
             Ok(rows(session, Some(read(alloc, text.as_str())?), 0))
         }
     }
 }
 
-fn edit(alloc: Global, number: u32) -> anyhow::Result<Want>
+/// An edit that puts one song as it is.
+pub fn put_again(alloc: Global, songs: u32, number: u32) -> anyhow::Result<Want>
+    ensures { IfOk result IsValidWant }
+{
+    let song = song_at(songs, number)?;
+    Ok(Want::Edit {
+        body: Ok(batch(alloc, "Song", song, 1, 1)?),
+    })
+}
+
+/// An edit that gives ten songs from all over the library another name.
+pub fn rename(alloc: Global, songs: u32) -> anyhow::Result<Want>
     ensures { IfOk result IsValidWant }
 {
     Ok(Want::Edit {
-        body: Ok(songs(alloc, number, 1)?),
+        body: Ok(batch(alloc, "Tune", 0, songs / RENAMED, RENAMED)?),
     })
 }
 
@@ -77,22 +96,37 @@ fn rows(session: u32, query: Option<Query>, base: u32) -> Want
     }
 }
 
-/// The batch that puts so many songs from a number on.
-pub fn songs(alloc: Global, first: u32, count: u32) -> anyhow::Result<Batch>
+/// The batch that a share of so many songs begins with.
+pub fn all_songs(alloc: Global, songs: u32) -> anyhow::Result<Batch>
+    ensures valid { IfOk result (λ batch. AreValid batch) }
+    ensures few { IfOk result (λ batch. length batch ≤ most_edits) }
+{
+    batch(alloc, "Song", 0, 1, songs)
+}
+
+/// The batch that puts `count` songs, the first one and then each `apart` songs later, with names that begin with a word.
+fn batch(alloc: Global, word: &str, first: u32, apart: u32, count: u32) -> anyhow::Result<Batch>
     ensures valid { IfOk result (λ batch. AreValid batch) }
     ensures few { IfOk result (λ batch. length batch ≤ most_edits) }
 {
     let mut records = String::from_str(alloc, "op,kind,id,dmap.itemname,daap.songartist\n")?;
-    for number in first..first.saturating_add(count) {
-        records.push_str(record(alloc, number % SONGS)?.as_str())?;
+    let mut song = first;
+    for _ in 0..count {
+        records.push_str(record(alloc, word, song)?.as_str())?;
+        song = song.saturating_add(apart);
     }
     Ok(read_batch(alloc, records.as_bytes())?)
 }
 
-fn record(alloc: Global, song: u32) -> Result<String, AllocError> {
+fn record(alloc: Global, word: &str, song: u32) -> Result<String, AllocError> {
     format!(in alloc;
-        "put,item,{},Song {song},Artist {}\n",
+        "put,item,{},{word} {song},Artist {}\n",
         song.saturating_add(1),
-        song / 10
+        song / SONGS_EACH
     )
+}
+
+fn song_at(songs: u32, number: u32) -> anyhow::Result<u32> {
+    ensure!(songs > 0, "no songs");
+    Ok(number % songs)
 }

@@ -1,5 +1,5 @@
 -- One request more: it was answered, and its reply was written or not.
-use Rattle.std.proofs.Common.{◌≡◌, ℕ, ◌+◌, List, [], ◌∷◌, ◌++◌, length, take, refl, sym, ap, ◌∙◌, subst, inl, inr, Bool, true, cond, ◌==◌, is_some, Option, Some, None, arith}
+use Rattle.std.proofs.Common.{◌≡◌, ℕ, ◌+◌, List, [], ◌∷◌, ◌++◌, length, take, refl, sym, ap, ◌∙◌, subst, inl, inr, Bool, true, cond, ◌==◌, is_some, Option, Some, None, append-nil, arith}
 use Rattle.std.specs.Io.KnownBytes.{Appends}
 use Rattle.std.proofs.KnownBytes.{Appends-trans}
 use Rattle.std.proofs.lemmas.Bool.{eq-eqb}
@@ -24,7 +24,7 @@ use Rattle.link_answers.specs.Answering.{Says}
 use Rattle.share_server.specs.Written.{IsGivenUp, IsSayable, WasWritten, said_bytes, whole, broken, left_out, replaced}
 use Rattle.share_server.specs.Steps.{Goes, Exchanges}
 use Rattle.share_server.proofs.Joined.{goes_on_joined, replies_joined}
-use Rattle.share_server.proofs.Outcomes.{cut_behind, due_inside, ended_at, ended_with, up_given}
+use Rattle.share_server.proofs.Outcomes.{cut_behind, cut_whole, due_inside, ended_at, ended_with, up_given}
 
 -- all replies but the last stand on the connection, which went on behind them
 record AllButLast (limit : ℕ) (k k' : Pass) (taken taken' : Option (List ℕ)) (asks : List Ask) (ask : Ask) (served : List Served) (s : Served) : Type 0 where
@@ -143,3 +143,27 @@ pub unserved : (limit : ℕ) (k k' : Pass) (taken taken' taken'' : Option (List 
 unserved limit k k' taken taken' taken'' asks ask served end goes up = λ role bytes begin.
     up_given role bytes limit k k' taken taken' taken'' asks served begin.behind (replies k.settings limit k'.seen asks served) begin.first goes.serves
     goes.written end (inl goes.goes_on) (all_told refl) up
+
+-- the pass saw more while nothing was served: what went on goes on
+goes_longer : (limit : ℕ) (k k1 k2 : Pass) (taken taken' : Option (List ℕ)) (asks : List Ask) (served : List Served)
+    → Goes limit k k1 taken taken' asks served → Serves k1 k2 [] [] → Goes limit k k2 taken taken' asks served
+goes_longer limit k k1 k2 taken taken' asks served goes none =
+    let grows : k2.seen ≡ k1.seen ++ none.fresh.more = none.fresh.grows in
+    let later : Stays k.settings k.number limit k1.seen none.fresh.more 1 asks served =
+    stays k.settings k.number limit k1.seen none.fresh.more 1 asks served goes.serves.are_served in
+    record {
+      serves =
+          subst (λ served. Serves k k2 asks served) (append-nil served)
+          (subst (λ asks. Serves k k2 asks (served ++ [])) (append-nil asks) (serves_in_turn k k1 k2 asks [] served [] goes.serves none));
+      goes_on = subst (λ h. GoOn limit h 1 asks served) (sym grows) (later.goes_on goes.goes_on);
+      written = subst (λ bytes. Appends taken taken' bytes) (sym (ap (λ h. replies k.settings limit h asks served) grows ∙ later.bytes)) goes.written;
+    }
+
+-- its peer went while it was held: all replies stand on the connection
+pub gone : (limit : ℕ) (k k1 k2 : Pass) (taken taken' taken'' : Option (List ℕ)) (asks : List Ask) (ask : Ask) (served : List Served)
+    → Goes limit k k1 taken taken' asks served → Serves k1 k2 [] [] → taken'' ≡ taken'
+    → Exchanges limit k k2 taken taken'' asks ask served (Some LinkFault)
+gone limit k k1 k2 taken taken' taken'' asks ask served goes none same = λ role bytes begin.
+    let longer : Goes limit k k2 taken taken' asks served = goes_longer limit k k1 k2 taken taken' asks served goes none in
+    ended_at role bytes limit k k2 taken taken' taken'' asks served begin.behind (replies k.settings limit k2.seen asks served) begin.first longer.serves
+    longer.written LinkFault same (replying (inl longer.goes_on) (cut_whole (replies k.settings limit k2.seen asks served)))

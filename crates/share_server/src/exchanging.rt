@@ -1,24 +1,26 @@
 //! One request and its reply.
 
-ghost use Rattle.std.specs.Prelude.{◌≡◌, ℕ, List, Option};
+ghost use Rattle.std.specs.Prelude.{◌≡◌, ◌<◌, ℕ, List, Option, vec_len, vec_capacity};
 ghost use Rattle.share_asks.specs.Valid.{IsValidWant};
 ghost use Rattle.share_asks.specs.declared.ask.Ask.{Ask as AskSeen};
 ghost use Rattle.share_lock.specs.Passes.{lock_id, known, IsReady};
 ghost use Rattle.served_links.specs.Passes.{Pass as PassSeen};
 ghost use Rattle.served_links.specs.Replies.{end_behind};
-ghost use Rattle.share_server.specs.Written.{CountsMaybe, IsCalm};
+ghost use Rattle.link_answers.specs.Answering.{IsAnswered};
+ghost use Rattle.share_server.specs.Written.{CountsMaybe, IsCalm, IsSayable};
 ghost use Rattle.share_server.specs.Steps.{Goes, Exchanges};
 
 use crate::ending::given_up;
 use crate::writing::reply;
 use daap_outside::Link;
-use link_answers::{Answered, answer_request};
+use link_answers::{Answered, Unanswered, answer_request};
 use served_links::{LinkEnd, Served};
 use share_asks::Ask;
 use share_core::Share;
 use share_lock::{Bell, Pass, ShareLock};
 use std::alloc::Global;
 use std::sync::Wait;
+use std::time::Clock;
 
 /// What a connection is served with, for at most `limit` requests.
 #[derive(Drop)]
@@ -31,8 +33,8 @@ pub(crate) struct Service<'a, R> {
 }
 
 /// Answers a request, and writes the reply. The room for its report is taken first, so that what was answered is
-/// reported.
-pub(crate) fn exchange<K: Link, R: Wait>(
+/// reported. A peer that went while its update was held is a fault of the link.
+pub(crate) fn exchange<K: Link, R: Wait + Clock>(
     service: &Service<'_, R>,
     pass: &mut Pass<Share>,
     link: &mut K,
@@ -50,11 +52,33 @@ pub(crate) fn exchange<K: Link, R: Wait>(
     if served.reserve(1).is_err() {
         return Some(given_up(link));
     }
+    match answer_request(service.rt, service.lock, service.bell, pass, link, ask) {
+        Ok(answered) => tell(service, link, served, ask, answered),
+        Err(Unanswered::Gone) => Some(LinkEnd::LinkFault),
+    }
+}
+
+// Reports a request that was answered, for which there is room, and writes the reply.
+fn tell<K: Link, R>(
+    service: &Service<'_, R>,
+    link: &mut K,
+    served: &mut Vec<Served>,
+    ask: &Ask,
+    answered: Answered,
+) -> Option<LinkEnd>
+    requires room { vec_len served.old < vec_capacity served.old }
+    requires sayable { IsSayable answered.said }
+    ensures exchanges { (k k1 k2 : PassSeen) (taken : Option (List ℕ)) (asks : List AskSeen) → Goes service.now.limit k k1 taken (K.taken link.old) asks served.old.items
+        → IsAnswered k1 k2 ask.now answered
+        → Exchanges service.now.limit k k2 taken (K.taken link.new) asks ask.now served.new.items result }
+    ensures beside { K.beside_taken link.new ≡ K.beside_taken link.old }
+    ensures count { CountsMaybe (K.faults link.old) (K.faults link.new) result }
+{
     let Answered {
         served: request,
         said,
         stopped,
-    } = answer_request(service.rt, service.lock, service.bell, pass, ask);
+    } = answered;
     served.push_reserved(request);
     let due = end_behind(service.limit, served.len(), ask.close, stopped);
     reply(service.alloc, link, said, request.added, due)

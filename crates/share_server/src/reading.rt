@@ -16,6 +16,7 @@ use served_links::{LinkEnd, Served};
 use share_core::Share;
 use share_lock::Pass;
 use std::sync::Wait;
+use std::time::Clock;
 
 // How many bytes one read asks for.
 const PIECE: usize = 8_192;
@@ -28,7 +29,7 @@ pub(crate) struct Serving {
 }
 
 /// Reads once, and serves what is then whole. An answer is the end of the connection.
-pub(crate) fn pump<K: Link, R: Wait>(
+pub(crate) fn pump<K: Link, R: Wait + Clock>(
     service: &Service<'_, R>,
     pass: &mut Pass<Share>,
     link: &mut K,
@@ -69,7 +70,7 @@ fn end_of_input(serving: &Serving, consumed: u64) -> LinkEnd
 }
 
 // Serves the requests that are whole in a piece.
-fn feed<K: Link, R: Wait>(
+fn feed<K: Link, R: Wait + Clock>(
     service: &Service<'_, R>,
     pass: &mut Pass<Share>,
     link: &mut K,
@@ -97,7 +98,7 @@ fn feed<K: Link, R: Wait>(
 }
 
 // Reads up to the end of the next request, and serves it where it is whole. An error is the end of the connection.
-fn step<K: Link, R: Wait>(
+fn step<K: Link, R: Wait + Clock>(
     service: &Service<'_, R>,
     pass: &mut Pass<Share>,
     link: &mut K,

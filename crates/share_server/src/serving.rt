@@ -16,6 +16,7 @@ use share_core::Share;
 use share_lock::{Bell, Pass, ShareLock};
 use std::alloc::Global;
 use std::sync::Wait;
+use std::time::Clock;
 
 // How many requests are served on one connection at most.
 const MAX_REQUESTS: u32 = 65_536;
@@ -23,7 +24,7 @@ const MAX_REQUESTS: u32 = 65_536;
 /// Serves a connection to its end, for at most `budget` requests and never more than 65,536, as a pass of the share's
 /// lock. Requests that came at once are answered in their order, each in a turn of its own; an update that is yet to
 /// come is waited for at the bell, at which each added entry is rung. The link stays the caller's, who ends it.
-pub fn serve_link<K: Link, R: Wait>(
+pub fn serve_link<K: Link, R: Wait + Clock>(
     rt: &R,
     alloc: Global,
     lock: &ShareLock<Share>,
@@ -54,7 +55,7 @@ pub fn serve_link<K: Link, R: Wait>(
     }
 }
 
-fn serve_to_end<K: Link, R: Wait>(
+fn serve_to_end<K: Link, R: Wait + Clock>(
     service: &Service<'_, R>,
     pass: &mut Pass<Share>,
     link: &mut K,

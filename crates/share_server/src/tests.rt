@@ -14,6 +14,7 @@ use std::alloc::{AllocError, Global};
 use std::process::Abort;
 use std::sync::Wait;
 use std::test::Fail;
+use std::time::Clock;
 
 /// What comes over a connection, in pieces of which size, for how many bytes it has room, and which of its writes fail.
 #[derive(Drop)]
@@ -53,7 +54,7 @@ fn opened(alloc: Global) -> Result<(ShareLock<Share>, Pass<Share>), AllocError>
 }
 
 /// Serves the connection, and gives what is told of it and what it took.
-fn tried<R: Wait>(
+fn tried<R: Wait + Clock>(
     rt: &R,
     alloc: Global,
     trial: &Trial<'_>,
@@ -79,7 +80,7 @@ fn tried<R: Wait>(
 }
 
 /// Serves the connection, and compares how it ended, the status of each request and the bytes.
-fn tells<R: Wait + Abort>(
+fn tells<R: Wait + Clock + Abort>(
     rt: &R,
     alloc: Global,
     trial: &Trial<'_>,

@@ -1,13 +1,19 @@
 //! Two passes, threads, and the bell.
 
-use crate::crew::crew;
+ghost use Rattle.std.specs.Prelude.{All};
+ghost use Rattle.share_lock.specs.Passes.{lock_id, IsReady};
+
+use crate::crew::{crew, hired};
 use crate::numbers::Numbers;
-use crate::work::add;
-use share_lock::{Bell, ShareLock};
+use crate::threads::work_all;
+use crate::work::{Worker, add};
+use share_lock::{Bell, Pass, ShareLock};
 use std::alloc::{AllocError, Global};
 use std::sync::Wait;
+use std::sync::atomic::{AtomicU64, Ordering};
 use std::test::Fail;
-use std::thread::join;
+use std::thread::{Threads, join, sleep};
+use std::time::{Clock, CpuClock, Duration};
 
 // Pass 0 is split, pass 1 adds 5, pass 0 takes a turn, takes pass 1 in, and takes the list out.
 fn two_passes<R: Wait>(rt: &R, alloc: Global) -> Result<(Numbers, u32, u64), AllocError> {
@@ -79,4 +85,65 @@ fn the_bell_forgets_no_ring(rt: HostRuntime) {
     bell.ring(&rt, 3);
     bell.ring(&rt, 1);
     bell.wait(&rt, 2);
+}
+
+// Keeps a turn for a second, and tells once it has it.
+fn keep_a_turn<R: Wait + Clock>(
+    rt: &R,
+    lock: &ShareLock<Numbers>,
+    pass: &mut Pass<Numbers>,
+    taken: &AtomicU64,
+)
+    requires ready { IsReady (lock_id lock.now) pass.old }
+{
+    let turn = lock.take(rt, pass);
+    taken.store(1, Ordering::SeqCst);
+    sleep(rt, Duration::from_secs(1));
+    lock.give(turn);
+}
+
+// Lets each worker take its turns, in a thread of its own, once another has a turn.
+fn work_behind<R: Threads + Wait + Clock + Sync>(
+    rt: &R,
+    lock: &ShareLock<Numbers>,
+    workers: &mut [Worker],
+    taken: &AtomicU64,
+)
+    requires ready { All (λ w. IsReady (lock_id lock.now) w.pass) workers.old }
+{
+    for _ in 0..10_000 {
+        if taken.load(Ordering::SeqCst) == 1 {
+            break;
+        }
+        sleep(rt, Duration::from_millis(1));
+    }
+    work_all(rt, lock, workers, 9);
+}
+
+// For how long this program has the processor while eight threads wait a second for their turns.
+fn time_of_waiting<R: Threads + Wait + Clock + CpuClock + Sync>(
+    rt: &R,
+    alloc: Global,
+) -> Result<Duration, Fail> {
+    let (lock, mut first) = ShareLock::open(alloc, Numbers::new(alloc), 9)?;
+    let mut workers = hired(rt, alloc, &lock, &mut first, 8, 1)?;
+    let workers = workers.as_mut_slice();
+    let taken = AtomicU64::new(0);
+    let before = rt.process_cpu_time()?;
+    join(
+        rt,
+        || keep_a_turn(rt, &lock, &mut first, &taken),
+        ||
+            requires { All (λ w. IsReady (lock_id lock) w.pass) workers.now }
+        { work_behind(rt, &lock, workers, &taken) },
+    );
+    Ok(rt.process_cpu_time()?.saturating_sub(before))
+}
+
+// Eight threads that looked again and again would have the processor for a second and more.
+#[test]
+fn eight_threads_wait_for_their_turns_asleep(rt: HostRuntime) -> Result<(), Fail> {
+    let time = time_of_waiting(&rt, rt.alloc())?;
+    assert!(rt; time < Duration::from_millis(300));
+    Ok(())
 }

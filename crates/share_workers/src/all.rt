@@ -14,9 +14,10 @@ use std::alloc::Global;
 use std::sync::Wait;
 use std::thread;
 use std::thread::Threads;
+use std::time::Clock;
 
 /// Lets each worker serve its links in a thread of its own, beside the others, and returns when all have ended.
-pub fn serve_all<D: Door + Drop + Send, R: Threads + Wait + Sync>(
+pub fn serve_all<D: Door + Drop + Send, R: Threads + Wait + Clock + Sync>(
     rt: &R,
     alloc: Global,
     lock: &ShareLock<Share>,
@@ -35,7 +36,7 @@ pub fn serve_all<D: Door + Drop + Send, R: Threads + Wait + Sync>(
 }
 
 /// The workers' work in at most so many threads.
-pub(crate) fn serve_each<D: Door + Drop + Send, R: Threads + Wait + Sync>(
+pub(crate) fn serve_each<D: Door + Drop + Send, R: Threads + Wait + Clock + Sync>(
     rt: &R,
     alloc: Global,
     lock: &ShareLock<Share>,

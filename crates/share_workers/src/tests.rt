@@ -4,8 +4,11 @@ ghost use Rattle.daap_outside.specs.MemLink.{IsNew};
 ghost use Rattle.share_lock.specs.Passes.{lock_id, IsReady};
 ghost use Rattle.share_replies.specs.Laws.{maker};
 
+mod crowd;
 mod gated;
 mod held;
+mod many;
+mod together;
 
 use crate::all::serve_each;
 use crate::tests::gated::{Gated, GatedDoor};
@@ -22,6 +25,7 @@ use std::sync::Wait;
 use std::sync::atomic::AtomicU64;
 use std::test::Fail;
 use std::thread::Threads;
+use std::time::Clock;
 
 // So often a call looks whether it may go on: longer than any turn takes, and not as long as a test may.
 const MANY_LOOKS: u64 = 10_000_000;
@@ -140,14 +144,14 @@ fn door_of<'a>(
 }
 
 /// One more worker, at a door.
-fn hire<'a, R: Wait>(
+fn hire<D: Drop, R: Wait>(
     rt: &R,
     alloc: Global,
     lock: &ShareLock<Share>,
     first: &mut Pass<Share>,
     role: Role,
-    door: GatedDoor<'a>,
-    workers: &mut Vec<Worker<GatedDoor<'a>>>,
+    door: D,
+    workers: &mut Vec<Worker<D>>,
 ) -> Result<(), AllocError>
     requires first { IsReady (lock_id lock.now) first.old }
     requires ready { All (λ w. IsReady (lock_id lock.now) w.pass) workers.old.items }
@@ -216,7 +220,7 @@ fn told_of_both(workers: &[Worker<GatedDoor<'_>>]) -> Result<(Told, Told), Alloc
 }
 
 /// Two workers, each in a thread of its own.
-fn in_threads<R: Threads + Wait + Sync>(
+fn in_threads<R: Threads + Wait + Clock + Sync>(
     rt: &R,
     alloc: Global,
     plans: &(WorkerPlan, WorkerPlan),
@@ -232,7 +236,7 @@ fn in_threads<R: Threads + Wait + Sync>(
 }
 
 /// The same two workers in one thread, and so one behind the other.
-fn in_one_thread<R: Threads + Wait + Sync>(
+fn in_one_thread<R: Threads + Wait + Clock + Sync>(
     rt: &R,
     alloc: Global,
     plans: &(WorkerPlan, WorkerPlan),
@@ -323,7 +327,7 @@ fn one_thread_meets_nobody(rt: HostRuntime) -> Result<(), Fail> {
 const STOP: &str = "POST /stop HTTP/1.1\r\n\r\n";
 
 /// A worker that served links with these inputs at a door whose waits with the numbers `failing` fail.
-fn served_in_turn<R: Wait>(
+fn served_in_turn<R: Wait + Clock>(
     rt: &R,
     alloc: Global,
     inputs: &[&str],

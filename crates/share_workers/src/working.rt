@@ -17,6 +17,7 @@ use share_lock::{Bell, Pass, ShareLock};
 use share_server::serve_link;
 use std::alloc::Global;
 use std::sync::Wait;
+use std::time::Clock;
 
 // How many links a worker serves at most.
 const MOST_LINKS: usize = 65_536;
@@ -26,7 +27,7 @@ const MOST_REQUESTS: u32 = 262_144;
 
 /// Serves links until the share is stopped, no more will come, the worker has served as many as it may, its door fails, or
 /// there is no memory. Behind each link it takes one turn that adds nothing.
-pub fn serve_worker<D: Door, R: Wait>(
+pub fn serve_worker<D: Door, R: Wait + Clock>(
     rt: &R,
     alloc: Global,
     lock: &ShareLock<Share>,
@@ -45,7 +46,7 @@ pub fn serve_worker<D: Door, R: Wait>(
 }
 
 // Serves links to the worker's end.
-fn work<D: Door, R: Wait>(
+fn work<D: Door, R: Wait + Clock>(
     rt: &R,
     alloc: Global,
     lock: &ShareLock<Share>,
@@ -67,7 +68,7 @@ fn work<D: Door, R: Wait>(
 }
 
 // Waits for a link and serves it. Tells the worker's end, if it has come. Room for the report is taken before the link is.
-fn serve_next<D: Door, R: Wait>(
+fn serve_next<D: Door, R: Wait + Clock>(
     rt: &R,
     alloc: Global,
     lock: &ShareLock<Share>,
@@ -95,7 +96,7 @@ fn serve_next<D: Door, R: Wait>(
 }
 
 // Serves a link that was accepted. A worker that sees a stop lets others stop waiting.
-fn serve_accepted<D: Door, R: Wait>(
+fn serve_accepted<D: Door, R: Wait + Clock>(
     rt: &R,
     alloc: Global,
     lock: &ShareLock<Share>,
@@ -127,7 +128,7 @@ fn serve_accepted<D: Door, R: Wait>(
 }
 
 // Serves a link, gives it back, and takes a turn. Tells whether the share was stopped by then.
-fn serve_one<D: Door, R: Wait>(
+fn serve_one<D: Door, R: Wait + Clock>(
     rt: &R,
     alloc: Global,
     lock: &ShareLock<Share>,

@@ -4,7 +4,7 @@ use Rattle.std.proofs.lemmas.Bool.{and_parts, cond-true, cond-false, false≢tru
 use Rattle.item_model.specs.Proper.{are_name_bytes}
 use Rattle.item_model.specs.QueryTree.{QueryTree, condition, or_of}
 use Rattle.item_model.specs.declared.condition.Op.{Op}
-use Rattle.item_model.specs.declared.condition.Op.TheVariants.{Is, IsNot}
+use Rattle.item_model.specs.declared.condition.Op.TheVariants.{Is, IsNot, Less, More}
 use Rattle.song_query.specs.Grammar.{Blank, space, plus, blank, blanks, Mark, quote, backslash, star, mark, is_mark, Atom, plain, escaped, lone, print_atoms, piece_of, are_atoms, print_starred, are_pieces, Value, print_value, value_pieces, print_op, CondForm, print_cond, cond_meaning, is_cond, UnitForm, cond as condition_form, group, AndForm, one, more, OrForm, only, either, print_unit, print_and, print_or, joined, unit_meaning, units, members, is_unit, is_and, is_or, QueryForm, print_query}
 use Rattle.song_query.specs.declared.levels.Level.{Level}
 use Rattle.song_query.specs.Machine.{Place, due, close, apart, opened, named, valued, slashed, State, start, with_unit, with_member, level_query, here, cond_of, go, bind, run}
@@ -96,6 +96,8 @@ name_runs n (c ∷ cs) l ls h =
 op_runs : (n : List ℕ) (o : Op) (l : Level) (ls : List Level) → Runs (here (named n) l ls) (print_op o) (here (valued n o [] []) l ls)
 op_runs n Is l ls = next refl stay
 op_runs n IsNot l ls = next refl (next refl stay)
+op_runs n Less l ls = next refl (next refl stay)
+op_runs n More l ls = next refl (next refl stay)
 
 no_mark : (a b d : Bool) (x y z w : Option State) → (a || (b || d)) ≡ false → cond a x (cond b y (cond d z w)) ≡ w
 no_mark true b d x y z w h = absurd (false≢true (sym h))

@@ -5,9 +5,10 @@ use Rattle.std.proofs.lemmas.Bool.{and_parts, and_from}
 use Rattle.item_model.specs.Proper.{is_name_byte, are_name_bytes}
 use Rattle.item_model.specs.QueryTree.{QueryTree, and_of}
 use Rattle.item_model.specs.declared.condition.Op.{Op}
+use Rattle.item_model.specs.declared.condition.Op.TheVariants.{Is, IsNot, Less, More}
 use Rattle.song_query.specs.Grammar.{Blank, blank, blanks, Atom, print_atom, atom_meaning, print_atoms, piece_of, are_atoms, print_starred, are_pieces, print_op, UnitForm, AndForm, one, more, OrForm, only, either, print_unit, print_and, print_or, joined, unit_meaning, units, members, is_unit, is_and, is_or}
 use Rattle.song_query.specs.declared.levels.Level.{Level}
-use Rattle.song_query.specs.Machine.{Place, due, opened, named, bang, valued, slashed, State, here}
+use Rattle.song_query.specs.Machine.{Place, due, opened, named, begun, valued, slashed, State, here}
 use Rattle.song_query.proofs.Complete.{lv, behind}
 
 -- what stands before the member of an `or` that is being read: blanks, or blanks, members and a comma
@@ -62,32 +63,46 @@ abbrev pub lead_and : Lead → UnitForm → AndForm
 lead_and first u = one u
 lead_and (next_to a b g) u = more a b g u
 
+-- the first of an operator's two marks
+abbrev pub op_mark : Op → List ℕ
+op_mark Is = []
+op_mark IsNot = 33 ∷ []
+op_mark Less = 60 ∷ []
+op_mark More = 62 ∷ []
+
+-- the colon comes behind it
+pub op_marked : (o : Op) → print_op o ++ [] ≡ op_mark o ++ 58 ∷ []
+op_marked Is = refl
+op_marked IsNot = refl
+op_marked Less = refl
+op_marked More = refl
+
 -- the beginning of a condition
 pub data Stub : Type 0 where
   quoted : Stub
   naming : ℕ → List ℕ → Stub
-  banged : ℕ → List ℕ → Stub
+  operating : ℕ → List ℕ → Op → Stub
   valuing : ℕ → List ℕ → Op → List (List Atom) → List Atom → Stub
   slashing : ℕ → List ℕ → Op → List (List Atom) → List Atom → Stub
 
 abbrev pub print_stub : Stub → List ℕ
 print_stub quoted = 39 ∷ []
 print_stub (naming c cs) = 39 ∷ c ∷ cs
-print_stub (banged c cs) = 39 ∷ c ∷ (cs ++ 33 ∷ [])
+print_stub (operating c cs o) = 39 ∷ c ∷ (cs ++ op_mark o)
 print_stub (valuing c cs o ps p) = 39 ∷ c ∷ (cs ++ (print_op o ++ (print_starred ps ++ print_atoms p)))
 print_stub (slashing c cs o ps p) = 39 ∷ c ∷ (cs ++ (print_op o ++ (print_starred ps ++ (print_atoms p ++ 92 ∷ []))))
 
 abbrev pub stub_place : Stub → Place
 stub_place quoted = opened
 stub_place (naming c cs) = named (c ∷ cs)
-stub_place (banged c cs) = bang (c ∷ cs)
+stub_place (operating c cs o) = begun (c ∷ cs) o
 stub_place (valuing c cs o ps p) = valued (c ∷ cs) o (map piece_of ps) (piece_of p)
 stub_place (slashing c cs o ps p) = slashed (c ∷ cs) o (map piece_of ps) (piece_of p)
 
 abbrev pub is_stub : Stub → Bool
 is_stub quoted = true
 is_stub (naming c cs) = are_name_bytes (c ∷ cs)
-is_stub (banged c cs) = are_name_bytes (c ∷ cs)
+is_stub (operating c cs o) = are_name_bytes (c ∷ cs)
 is_stub (valuing c cs o ps p) = are_name_bytes (c ∷ cs) && (are_pieces ps && are_atoms p)
 is_stub (slashing c cs o ps p) = are_name_bytes (c ∷ cs) && (are_pieces ps && are_atoms p)
 

@@ -139,7 +139,7 @@ record CondFor (c : Cond) : Type 0 where
   pub spelled : print_cond form ≡ printed_cond c
   pub means : cond_meaning form ≡ c
 
-cond_by : (name : List ℕ) (pieces : List (List ℕ)) (c : Cond) → c.name ≡ name → c.pattern.pieces ≡ pieces → (has_one name && are_name_bytes name) ≡ true → has_one pieces ≡ true → CondFor c
+cond_by : (name : List ℕ) (pieces : List (List ℕ)) (c : Cond) → c.name ≡ name → c.pattern ≡ pieces → (has_one name && are_name_bytes name) ≡ true → has_one pieces ≡ true → CondFor c
 cond_by [] pieces c n p h k = absurd (false≢true h)
 cond_by (d ∷ ds) [] c n p h k = absurd (false≢true k)
 cond_by (d ∷ ds) (q ∷ qs) c n p h k =
@@ -150,16 +150,16 @@ cond_by (d ∷ ds) (q ∷ qs) c n p h k =
       valid = and_from _ _ parts.0 (and_from _ _ parts.1 v.valid);
       spelled =
           ap (λ s. 39 ∷ d ∷ (ds ++ (print_op c.op ++ (s ++ 39 ∷ [])))) (v.spelled ∙ ap printed_pieces (sym p))
-          ∙ ap (λ s. 39 ∷ (s ++ (print_op c.op ++ (printed_pieces c.pattern.pieces ++ 39 ∷ [])))) (sym n);
+          ∙ ap (λ s. 39 ∷ (s ++ (print_op c.op ++ (printed_pieces c.pattern ++ 39 ∷ [])))) (sym n);
       means =
-          ap (λ (x : List (List ℕ)). let y : Cond = record { name = d ∷ ds; op = c.op; pattern = record { pieces = x } } in y) (v.means ∙ sym p)
+          ap (λ (x : List (List ℕ)). let y : Cond = record { name = d ∷ ds; op = c.op; pattern = x } in y) (v.means ∙ sym p)
           ∙ ap (λ (x : List ℕ). let y : Cond = record { name = x; op = c.op; pattern = c.pattern } in y) (sym n);
     }
 
 cond_for : (c : Cond) → is_proper (condition c) ≡ true → CondFor c
 cond_for c h =
-    let parts = and_parts (has_one c.name && are_name_bytes c.name) (has_one c.pattern.pieces) h in
-    cond_by c.name c.pattern.pieces c refl refl parts.0 parts.1
+    let parts = and_parts (has_one c.name && are_name_bytes c.name) (has_one c.pattern) h in
+    cond_by c.name c.pattern c refl refl parts.0 parts.1
 
 -- forms of a query as a unit, as a member and as a whole
 record UnitFor (q : QueryTree) : Type 0 where

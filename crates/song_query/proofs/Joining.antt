@@ -5,10 +5,11 @@ use Rattle.std.proofs.lemmas.List.{take-append-drop}
 use Rattle.std.proofs.lemmas.Bool.{and_right, and_left, and_parts, and_from, or_parts, or_from, or_left, or_right, false_from_ne_true, false≢true, cases_Bool, cases_lt}
 use Rattle.std.proofs.lemmas.Slice.Eq.{bytes_eq-Decides}
 use Rattle.std.specs.Str.{bytes_eq}
-use Rattle.std.proofs.lemmas.Bool.Decides.{same_from_decides, Decides-at, nat_tests}
+use Rattle.std.proofs.lemmas.Bool.Decides.{same_from_decides, nat_tests}
 use Rattle.std.proofs.lemmas.List.{length-map, drop-map}
 use Rattle.std.specs.Char.{to_ascii_lowercase}
-use Rattle.song_query.specs.Glob.{folded, Joins, joins, from_some, Glob, glob}
+use Rattle.item_model.specs.Folding.{lowered}
+use Rattle.song_query.specs.Glob.{Joins, joins, from_some}
 
 -- other bytes are not equal
 pub eq_false : (xs ys : List ℕ) → xs ≢ ys → bytes_eq xs ys ≡ false
@@ -103,7 +104,7 @@ abbrev SomeRest : (List ℕ → Type 0) → List ℕ → Type 0
 SomeRest P text = (run : List ℕ) × (rest : List ℕ) × (text ≡ run ++ rest) × P rest
 
 -- the second of two tests holds where the first does not
-or_second : (a b : Bool) → a ≡ false → (a || b) ≡ true → b ≡ true
+pub or_second : (a b : Bool) → a ≡ false → (a || b) ≡ true → b ≡ true
 or_second true b e h = absurd (false≢true (sym e))
 or_second false b e h = h
 
@@ -148,79 +149,72 @@ joins_decides (p ∷ q ∷ ps) text =
     )
 
 -- the letters of a piece that is found
-pub found : (piece left rest : List ℕ) (q : List ℕ) (ps : List (List ℕ)) → take (length piece) (folded left) ≡ folded piece → folded rest ≡ drop (length piece) (folded left)
-    → from_some (joins (folded piece ∷ q ∷ ps)) (folded left) ≡ from_some (joins (q ∷ ps)) (folded rest)
+pub found : (piece left rest : List ℕ) (q : List ℕ) (ps : List (List ℕ)) → take (length piece) (lowered left) ≡ lowered piece → lowered rest ≡ drop (length piece) (lowered left)
+    → from_some (joins (lowered piece ∷ q ∷ ps)) (lowered left) ≡ from_some (joins (q ∷ ps)) (lowered rest)
 found piece left rest q ps h e =
-    let n : length (folded piece) ≡ length piece = length-map piece to_ascii_lowercase in
-    behind_piece (folded piece) q ps (folded left) (ap (λ k. take k (folded left)) n ∙ h)
-    ∙ ap (from_some (joins (q ∷ ps))) (ap (λ k. drop k (folded left)) n ∙ sym e)
+    let n : length (lowered piece) ≡ length piece = length-map piece to_ascii_lowercase in
+    behind_piece (lowered piece) q ps (lowered left) (ap (λ k. take k (lowered left)) n ∙ h)
+    ∙ ap (from_some (joins (q ∷ ps))) (ap (λ k. drop k (lowered left)) n ∙ sym e)
 
 -- a piece that is not found here is looked for from the next place on
-pub not_found : (piece left tail : List ℕ) (q : List ℕ) (ps : List (List ℕ)) → take (length piece) (folded left) ≢ folded piece → false ≡ (length left == 0) → tail ≡ drop 1 left
-    → from_some (joins (folded piece ∷ q ∷ ps)) (folded left) ≡ from_some (joins (folded piece ∷ q ∷ ps)) (folded tail)
+pub not_found : (piece left tail : List ℕ) (q : List ℕ) (ps : List (List ℕ)) → take (length piece) (lowered left) ≢ lowered piece → false ≡ (length left == 0) → tail ≡ drop 1 left
+    → from_some (joins (lowered piece ∷ q ∷ ps)) (lowered left) ≡ from_some (joins (lowered piece ∷ q ∷ ps)) (lowered tail)
 not_found piece [] tail q ps h k e = absurd (false≢true k)
 not_found piece (c ∷ cs) tail q ps h k e =
-    let n : length (folded piece) ≡ length piece = length-map piece to_ascii_lowercase in
-    behind_next (folded piece) q ps (to_ascii_lowercase c) (folded cs) (λ e. h (ap (λ k. take k (folded (c ∷ cs))) (sym n) ∙ e))
-    ∙ ap (λ s. from_some (joins (folded piece ∷ q ∷ ps)) (folded s)) (sym e)
+    let n : length (lowered piece) ≡ length piece = length-map piece to_ascii_lowercase in
+    behind_next (lowered piece) q ps (to_ascii_lowercase c) (lowered cs) (λ e. h (ap (λ k. take k (lowered (c ∷ cs))) (sym n) ∙ e))
+    ∙ ap (λ s. from_some (joins (lowered piece ∷ q ∷ ps)) (lowered s)) (sym e)
 
 -- and is found nowhere where no place is left
-pub not_at_end : (piece left : List ℕ) (q : List ℕ) (ps : List (List ℕ)) → take (length piece) (folded left) ≢ folded piece → length left ≡ 0
-    → from_some (joins (folded piece ∷ q ∷ ps)) (folded left) ≡ false
+pub not_at_end : (piece left : List ℕ) (q : List ℕ) (ps : List (List ℕ)) → take (length piece) (lowered left) ≢ lowered piece → length left ≡ 0
+    → from_some (joins (lowered piece ∷ q ∷ ps)) (lowered left) ≡ false
 not_at_end piece [] q ps h k =
-    let n : length (folded piece) ≡ length piece = length-map piece to_ascii_lowercase in
-    behind_none (folded piece) q ps (λ e. h (ap (λ k. take k []) (sym n) ∙ e))
+    let n : length (lowered piece) ≡ length piece = length-map piece to_ascii_lowercase in
+    behind_none (lowered piece) q ps (λ e. h (ap (λ k. take k []) (sym n) ∙ e))
 not_at_end piece (c ∷ cs) q ps h k = absurd (omega arith)
 
 -- a text that is shorter than a piece does not end with it
-pub not_the_end : (piece text : List ℕ) → length text < length piece → from_some (joins (folded piece ∷ [])) (folded text) ≡ false
+pub not_the_end : (piece text : List ℕ) → length text < length piece → from_some (joins (lowered piece ∷ [])) (lowered text) ≡ false
 not_the_end piece text h =
-    too_short (folded piece) (folded text) (omega (arith, length-map piece to_ascii_lowercase, length-map text to_ascii_lowercase))
+    too_short (lowered piece) (lowered text) (omega (arith, length-map piece to_ascii_lowercase, length-map text to_ascii_lowercase))
 
 -- what the text ends with
 pub the_end : (piece text end : List ℕ) (r : Bool) → length piece ≤ length text → end ≡ drop (length text - length piece) text
-    → Decides r (folded end ≡ folded piece) → r ≡ from_some (joins (folded piece ∷ [])) (folded text)
+    → Decides r (lowered end ≡ lowered piece) → r ≡ from_some (joins (lowered piece ∷ [])) (lowered text)
 the_end piece text end r h e d =
-    let m : length (folded piece) ≡ length piece = length-map piece to_ascii_lowercase in
-    let n : length (folded text) ≡ length text = length-map text to_ascii_lowercase in
-    let place : length text - length piece ≡ length (folded text) - length (folded piece) = omega arith in
-    let same : folded end ≡ drop (length (folded text) - length (folded piece)) (folded text) =
-    ap folded e ∙ sym (drop-map to_ascii_lowercase (length text - length piece) text) ∙ ap (λ k. drop k (folded text)) place in
-    same_from_decides r (bytes_eq (folded end) (folded piece)) d (bytes_eq-Decides (folded end) (folded piece))
-    ∙ ap (λ s. bytes_eq s (folded piece)) same
-    ∙ sym (at_end (folded piece) (folded text) (omega arith))
+    let m : length (lowered piece) ≡ length piece = length-map piece to_ascii_lowercase in
+    let n : length (lowered text) ≡ length text = length-map text to_ascii_lowercase in
+    let place : length text - length piece ≡ length (lowered text) - length (lowered piece) = omega arith in
+    let same : lowered end ≡ drop (length (lowered text) - length (lowered piece)) (lowered text) =
+    ap lowered e ∙ sym (drop-map to_ascii_lowercase (length text - length piece) text) ∙ ap (λ k. drop k (lowered text)) place in
+    same_from_decides r (bytes_eq (lowered end) (lowered piece)) d (bytes_eq-Decides (lowered end) (lowered piece))
+    ∙ ap (λ s. bytes_eq s (lowered piece)) same
+    ∙ sym (at_end (lowered piece) (lowered text) (omega arith))
 
 -- no piece is found nowhere
-pub none_behind : (pieces : List (List ℕ)) (text : List ℕ) → length pieces ≡ 0 → from_some (joins (map folded pieces)) text ≡ false
+pub none_behind : (pieces : List (List ℕ)) (text : List ℕ) → length pieces ≡ 0 → from_some (joins (map lowered pieces)) text ≡ false
 none_behind [] text h = no_pieces text
 none_behind (p ∷ ps) text h = absurd (omega arith)
 
 -- one piece is the whole text
-pub joins_one : (first text : List ℕ) (others : List (List ℕ)) (r : Bool) → true ≡ (length others == 0) → Decides r (folded text ≡ folded first)
-    → r ≡ joins (folded first ∷ map folded others) (folded text)
-joins_one first text [] r e d = same_from_decides r _ d (bytes_eq-Decides (folded text) (folded first))
+pub joins_one : (first text : List ℕ) (others : List (List ℕ)) (r : Bool) → true ≡ (length others == 0) → Decides r (lowered text ≡ lowered first)
+    → r ≡ joins (lowered first ∷ map lowered others) (lowered text)
+joins_one first text [] r e d = same_from_decides r _ d (bytes_eq-Decides (lowered text) (lowered first))
 joins_one first text (p ∷ ps) r e d = grind (arith, nat_tests)
 
 -- the text begins with the first piece
-pub joins_more : (first text rest : List ℕ) (others : List (List ℕ)) → false ≡ (length others == 0) → take (length first) (folded text) ≡ folded first → folded rest ≡ drop (length first) (folded text)
-    → from_some (joins (map folded others)) (folded rest) ≡ joins (folded first ∷ map folded others) (folded text)
+pub joins_more : (first text rest : List ℕ) (others : List (List ℕ)) → false ≡ (length others == 0) → take (length first) (lowered text) ≡ lowered first → lowered rest ≡ drop (length first) (lowered text)
+    → from_some (joins (map lowered others)) (lowered rest) ≡ joins (lowered first ∷ map lowered others) (lowered text)
 joins_more first text rest [] h e d = absurd (false≢true h)
 joins_more first text rest (p ∷ ps) h e d =
-    let n : length (folded first) ≡ length first = length-map first to_ascii_lowercase in
-    ap (λ s. from_some (joins (map folded (p ∷ ps))) s) (d ∙ ap (λ k. drop k (folded text)) (sym n))
-    ∙ sym (ap (λ b. b && from_some (joins (map folded (p ∷ ps))) (drop (length (folded first)) (folded text))) (eq_true _ _ (ap (λ k. take k (folded text)) n ∙ e)))
+    let n : length (lowered first) ≡ length first = length-map first to_ascii_lowercase in
+    ap (λ s. from_some (joins (map lowered (p ∷ ps))) s) (d ∙ ap (λ k. drop k (lowered text)) (sym n))
+    ∙ sym (ap (λ b. b && from_some (joins (map lowered (p ∷ ps))) (drop (length (lowered first)) (lowered text))) (eq_true _ _ (ap (λ k. take k (lowered text)) n ∙ e)))
 
 -- and else it is not joined
-pub joins_none : (first text : List ℕ) (others : List (List ℕ)) → false ≡ (length others == 0) → take (length first) (folded text) ≢ folded first
-    → joins (folded first ∷ map folded others) (folded text) ≡ false
+pub joins_none : (first text : List ℕ) (others : List (List ℕ)) → false ≡ (length others == 0) → take (length first) (lowered text) ≢ lowered first
+    → joins (lowered first ∷ map lowered others) (lowered text) ≡ false
 joins_none first text [] h e = absurd (false≢true h)
 joins_none first text (p ∷ ps) h e =
-    let n : length (folded first) ≡ length first = length-map first to_ascii_lowercase in
-    and_left _ _ (eq_false _ _ (λ k. e (ap (λ k. take k (folded text)) (sym n) ∙ k)))
-
--- the test tells where the pattern describes the text
-pub glob_is_Glob : (pieces : List (List ℕ)) (text : List ℕ) → Decides (glob pieces text) (Glob pieces text)
-glob_is_Glob pieces text = joins_decides (map folded pieces) (folded text)
-
-pub glob_decides : (pieces : List (List ℕ)) (text : List ℕ) (r : Bool) → r ≡ glob pieces text → Decides r (Glob pieces text)
-glob_decides pieces text r e = Decides-at r _ e (glob_is_Glob pieces text)
+    let n : length (lowered first) ≡ length first = length-map first to_ascii_lowercase in
+    and_left _ _ (eq_false _ _ (λ k. e (ap (λ k. take k (lowered text)) (sym n) ∙ k)))

@@ -1,4 +1,7 @@
 pub mod Joining
+pub mod Characters
+pub mod Folded
+pub mod Asked
 pub mod Sizes
 pub mod Digits
 pub mod Complete

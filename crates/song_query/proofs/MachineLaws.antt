@@ -6,10 +6,10 @@ use Rattle.std.proofs.lemmas.Bool.{and_parts, and_from, cases_lt, false≢true}
 use Rattle.item_model.specs.QueryTree.{QueryTree, or_of}
 use Rattle.song_query.specs.declared.levels.Level.{Level}
 use Rattle.song_query.specs.Grammar.{Blank, blanks, print_and, print_or, joined}
-use Rattle.song_query.specs.Machine.{Place, due, close, apart, opened, named, bang, valued, slashed, State, start, with_unit, level_query, here, bind, run, is_behind_unit, is_outside, is_end}
+use Rattle.song_query.specs.Machine.{Place, due, close, apart, opened, named, begun, valued, slashed, State, start, with_unit, level_query, here, bind, run, is_behind_unit, is_outside, is_end}
 use Rattle.song_query.specs.Reading.{QueryReads, HasNoReading, Begins, IsStuck}
 use Rattle.song_query.proofs.Complete.{behind, run_append, after_or, after_query, query_runs}
-use Rattle.song_query.proofs.Draft.{front_gap, front_or, quoted, naming, banged, valuing, slashing, Draft, starts, after, within, print_front, draft_place, draft_level, is_draft, Out, out_level, are_outs, print_whole, front_printed, front_read, front_valid}
+use Rattle.song_query.proofs.Draft.{front_gap, front_or, quoted, naming, operating, valuing, slashing, Draft, starts, after, within, print_front, draft_place, draft_level, is_draft, Out, out_level, are_outs, print_whole, front_printed, front_read, front_valid}
 use Rattle.song_query.proofs.Sound.{some_is, drafted, regrouped}
 
 -- a draft behind a unit outside of parentheses is a form
@@ -18,7 +18,7 @@ whole_reads : (x : Draft) (outs : List Out) → is_draft x ≡ true → is_behin
 whole_reads (starts f) outs v e o = absurd (false≢true e)
 whole_reads (within f d quoted) outs v e o = absurd (false≢true e)
 whole_reads (within f d (naming n ns)) outs v e o = absurd (false≢true e)
-whole_reads (within f d (banged n ns)) outs v e o = absurd (false≢true e)
+whole_reads (within f d (operating n ns op)) outs v e o = absurd (false≢true e)
 whole_reads (within f d (valuing n ns op ps p)) outs v e o = absurd (false≢true e)
 whole_reads (within f d (slashing n ns op ps p)) outs v e o = absurd (false≢true e)
 whole_reads (after f a g) (x ∷ outs) v e o = absurd (false≢true o)
@@ -74,7 +74,7 @@ ending close = []
 ending apart = []
 ending opened = 97 ∷ 58 ∷ 39 ∷ []
 ending (named n) = 58 ∷ 39 ∷ []
-ending (bang n) = 58 ∷ 39 ∷ []
+ending (begun n o) = 58 ∷ 39 ∷ []
 ending (valued n o ps p) = 39 ∷ []
 ending (slashed n o ps p) = 39 ∷ 39 ∷ []
 
@@ -98,7 +98,7 @@ close_all apart l (m ∷ ls) h =
 close_all due l (m ∷ ls) h = absurd (false≢true h)
 close_all opened l (m ∷ ls) h = absurd (false≢true h)
 close_all (named n) l (m ∷ ls) h = absurd (false≢true h)
-close_all (bang n) l (m ∷ ls) h = absurd (false≢true h)
+close_all (begun n o) l (m ∷ ls) h = absurd (false≢true h)
 close_all (valued n o ps p) l (m ∷ ls) h = absurd (false≢true h)
 close_all (slashed n o ps p) l (m ∷ ls) h = absurd (false≢true h)
 
@@ -109,7 +109,7 @@ end_all close l ls = close_all close l ls refl
 end_all apart l ls = close_all apart l ls refl
 end_all opened l ls = let e = close_all close _ ls refl in record { state = e.state; ran = e.ran; ends = e.ends }
 end_all (named n) l ls = let e = close_all close _ ls refl in record { state = e.state; ran = e.ran; ends = e.ends }
-end_all (bang n) l ls = let e = close_all close _ ls refl in record { state = e.state; ran = e.ran; ends = e.ends }
+end_all (begun n o) l ls = let e = close_all close _ ls refl in record { state = e.state; ran = e.ran; ends = e.ends }
 end_all (valued n o ps p) l ls = let e = close_all close _ ls refl in record { state = e.state; ran = e.ran; ends = e.ends }
 end_all (slashed n o ps p) l ls = let e = close_all close _ ls refl in record { state = e.state; ran = e.ran; ends = e.ends }
 

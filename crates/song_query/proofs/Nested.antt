@@ -4,7 +4,7 @@ use Rattle.std.proofs.lemmas.Bool.{cond-true, cond-false, eqb-true, ne_eqb, fals
 use Rattle.item_model.specs.Proper.{is_name_byte}
 use Rattle.song_query.specs.declared.levels.Level.{Level}
 use Rattle.song_query.specs.Grammar.{Blank, space, plus, blank, is_mark}
-use Rattle.song_query.specs.Machine.{Place, due, close, apart, opened, named, bang, valued, slashed, State, start, here, is_blank, begin, follow, shut, step, go, bind, run}
+use Rattle.song_query.specs.Machine.{Place, due, close, apart, opened, named, begun, valued, slashed, State, start, here, is_blank, begin, follow, shut, step, go, bind, run}
 use Rattle.song_query.specs.Nesting.{Where, outside, inside, behind, where_next, open_next, open_behind, open_at_end}
 use Rattle.song_query.proofs.Sound.{some_is, chosen, blank_at}
 use Rattle.song_query.proofs.Wide.{AreWide}
@@ -16,7 +16,7 @@ where_at close = outside
 where_at apart = outside
 where_at opened = inside
 where_at (named n) = inside
-where_at (bang n) = inside
+where_at (begun n o) = inside
 where_at (valued n o ps p) = inside
 where_at (slashed n o ps p) = behind
 
@@ -104,11 +104,17 @@ step_counts (named n) l ls c t h =
         | inl k ↦ counted inside (length ls) c _ l ls t (ap (where_next inside) (eqb-true c 58 k.0)) refl k.1
         | inr k ↦ elim (chosen (eqb c 33) _ _ _ k.1) [
           | inl x ↦ counted inside (length ls) c _ l ls t (ap (where_next inside) (eqb-true c 33 x.0)) refl x.1
-          | inr x ↦ absurd (cc)
+          | inr x ↦ elim (chosen (eqb c 60) _ _ _ x.1) [
+            | inl y ↦ counted inside (length ls) c _ l ls t (ap (where_next inside) (eqb-true c 60 y.0)) refl y.1
+            | inr y ↦ elim (chosen (eqb c 62) _ _ _ y.1) [
+              | inl z ↦ counted inside (length ls) c _ l ls t (ap (where_next inside) (eqb-true c 62 z.0)) refl z.1
+              | inr z ↦ absurd (cc)
+            ]
+          ]
         ]
       ]
     ]
-step_counts (bang n) l ls c t h =
+step_counts (begun n o) l ls c t h =
     elim (chosen (eqb c 58) _ _ _ h) [
       | inl k ↦ counted inside (length ls) c _ l ls t (ap (where_next inside) (eqb-true c 58 k.0)) refl k.1
       | inr k ↦ absurd (cc)

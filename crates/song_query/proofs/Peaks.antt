@@ -5,7 +5,7 @@ use Rattle.item_model.specs.Proper.{is_name_byte, are_name_bytes}
 use Rattle.item_model.specs.QueryTree.{QueryTree, or_of}
 use Rattle.item_model.specs.Proper.{is_proper}
 use Rattle.item_model.specs.declared.condition.Op.{Op}
-use Rattle.item_model.specs.declared.condition.Op.TheVariants.{Is, IsNot}
+use Rattle.item_model.specs.declared.condition.Op.TheVariants.{Is, IsNot, Less, More}
 use Rattle.song_query.specs.Grammar.{Blank, space, plus, blank, blanks, mark, is_mark, Atom, plain, escaped, lone, print_atoms, are_atoms, print_starred, are_pieces, Value, print_value, is_value, print_op, CondForm, print_cond, is_cond, UnitForm, cond as condition_form, group, AndForm, one, more, OrForm, only, either, print_unit, print_and, print_or, is_unit, is_and, is_or, QueryForm, print_query, joined, members}
 use Rattle.song_query.specs.Reading.{QueryReads}
 use Rattle.song_query.specs.Nesting.{Where, outside, inside, behind, where_next, open_next, most_open, deepest}
@@ -46,6 +46,8 @@ name_peak (c ∷ cs) n rest h =
 op_peak : (o : Op) (n : ℕ) (rest : List ℕ) → most_open inside n (print_op o ++ rest) ≡ most_open inside n rest
 op_peak Is n rest = stays inside inside n 58 rest refl refl
 op_peak IsNot n rest = stays inside inside n 33 (58 ∷ rest) refl refl ∙ stays inside inside n 58 rest refl refl
+op_peak Less n rest = stays inside inside n 60 (58 ∷ rest) refl refl ∙ stays inside inside n 58 rest refl refl
+op_peak More n rest = stays inside inside n 62 (58 ∷ rest) refl refl ∙ stays inside inside n 58 rest refl refl
 
 plain_inside : (c : ℕ) → is_mark c ≡ false → where_next inside c ≡ inside
 plain_inside c h =

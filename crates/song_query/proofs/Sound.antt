@@ -4,11 +4,11 @@ use Rattle.std.proofs.lemmas.Bool.{and_parts, and_from, or_from, eqb-true, false
 use Rattle.item_model.specs.Proper.{is_name_byte, are_name_bytes}
 use Rattle.item_model.specs.QueryTree.{or_of}
 use Rattle.item_model.specs.declared.condition.Op.{Op}
-use Rattle.item_model.specs.declared.condition.Op.TheVariants.{Is, IsNot}
+use Rattle.item_model.specs.declared.condition.Op.TheVariants.{Is, IsNot, Less, More}
 use Rattle.song_query.specs.Grammar.{Blank, space, plus, blank, blanks, Mark, quote, backslash, star, mark, is_mark, Atom, plain, escaped, lone, print_atoms, piece_of, are_atoms, print_starred, are_pieces, print_op, CondForm, is_and, UnitForm, cond as condition_form, group, AndForm, print_and, print_or, joined, units}
 use Rattle.song_query.specs.Machine.{due, close, valued, slashed, State, start, with_unit, here, cond_of, is_blank, begin, follow, shut, step, go, bind, run}
 use Rattle.song_query.proofs.Complete.{lv}
-use Rattle.song_query.proofs.Draft.{Front, fresh, after_comma, print_front, front_members, is_front, front_gap, front_or, front_blank, Lead, first, next_to, print_lead, lead_units, is_lead, lead_and, Stub, quoted, naming, banged, valuing, slashing, print_stub, stub_place, is_stub, Draft, starts, after, within, print_draft, draft_place, draft_level, is_draft, Out, out_level, print_outs, are_outs, Whole, print_whole, is_whole, state_of, blanks_append, atoms_append, piece_append, are_atoms_append, starred_append, are_pieces_append, names_append, pieces_map_append, front_printed, front_read, front_valid, front_blank_printed, front_blank_read, front_blank_valid, lead_printed, lead_read, lead_valid}
+use Rattle.song_query.proofs.Draft.{Front, fresh, after_comma, print_front, front_members, is_front, front_gap, front_or, front_blank, Lead, first, next_to, print_lead, lead_units, is_lead, lead_and, Stub, quoted, naming, operating, op_mark, op_marked, valuing, slashing, print_stub, stub_place, is_stub, Draft, starts, after, within, print_draft, draft_place, draft_level, is_draft, Out, out_level, print_outs, are_outs, Whole, print_whole, is_whole, state_of, blanks_append, atoms_append, piece_append, are_atoms_append, starred_append, are_pieces_append, names_append, pieces_map_append, front_printed, front_read, front_valid, front_blank_printed, front_blank_read, front_blank_valid, lead_printed, lead_read, lead_valid}
 
 -- the choice that a test makes
 pub chosen : (b : Bool) (x y z : Option State) → cond b x y ≡ z → ((b ≡ true) × (x ≡ z)) ⊎ ((b ≡ false) × (y ≡ z))
@@ -234,16 +234,24 @@ stub_step f d (naming n ns) outs c t v w o k h =
         | inl x ↦ stub_grows f d (naming n ns) (valuing n ns Is [] []) outs c t v w o (and_from _ _ k refl)
             (ap (λ y. 39 ∷ n ∷ (ns ++ y ∷ [])) (sym (eqb-true c 58 x.0))) x.1
         | inr x ↦ elim (chosen (eqb c 33) _ _ _ x.1) [
-          | inl y ↦ stub_grows f d (naming n ns) (banged n ns) outs c t v w o k
+          | inl y ↦ stub_grows f d (naming n ns) (operating n ns IsNot) outs c t v w o k
               (ap (λ y. 39 ∷ n ∷ (ns ++ y ∷ [])) (sym (eqb-true c 33 y.0))) y.1
-          | inr y ↦ absurd (cc)
+          | inr y ↦ elim (chosen (eqb c 60) _ _ _ y.1) [
+            | inl z ↦ stub_grows f d (naming n ns) (operating n ns Less) outs c t v w o k
+                (ap (λ y. 39 ∷ n ∷ (ns ++ y ∷ [])) (sym (eqb-true c 60 z.0))) z.1
+            | inr z ↦ elim (chosen (eqb c 62) _ _ _ z.1) [
+              | inl u ↦ stub_grows f d (naming n ns) (operating n ns More) outs c t v w o k
+                  (ap (λ y. 39 ∷ n ∷ (ns ++ y ∷ [])) (sym (eqb-true c 62 u.0))) u.1
+              | inr u ↦ absurd (cc)
+            ]
+          ]
         ]
       ]
     ]
-stub_step f d (banged n ns) outs c t v w o k h =
+stub_step f d (operating n ns op) outs c t v w o k h =
     elim (chosen (eqb c 58) _ _ _ h) [
-      | inl x ↦ stub_grows f d (banged n ns) (valuing n ns IsNot [] []) outs c t v w o (and_from _ _ k refl)
-          (ap (λ y. 39 ∷ n ∷ (ns ++ 33 ∷ y ∷ [])) (sym (eqb-true c 58 x.0)) ∙ ap (λ y. 39 ∷ n ∷ y) (sym (append_assoc ns (33 ∷ []) (c ∷ [])))) x.1
+      | inl x ↦ stub_grows f d (operating n ns op) (valuing n ns op [] []) outs c t v w o (and_from _ _ k refl)
+          (ap (λ y. 39 ∷ n ∷ (ns ++ y)) (op_marked op ∙ ap (λ y. op_mark op ++ y ∷ []) (sym (eqb-true c 58 x.0))) ∙ ap (λ y. 39 ∷ n ∷ y) (sym (append_assoc ns (op_mark op) (c ∷ [])))) x.1
       | inr x ↦ absurd (cc)
     ]
 stub_step f d (valuing n ns op ps p) outs c t v w o k h = value_grows f d n ns op ps p outs c t v w o k h

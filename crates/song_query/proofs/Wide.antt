@@ -9,7 +9,7 @@ use Rattle.item_model.specs.declared.condition.Op.{Op}
 use Rattle.song_query.specs.declared.levels.Level.{Level}
 use Rattle.song_query.specs.declared.parts.Partial.{Partial}
 use Rattle.song_query.specs.declared.parts.Place.{Place as PlaceName}
-use Rattle.song_query.specs.declared.parts.Place.TheVariants.{Due, Close, Apart, Opened, Named, Bang, Valued, Slashed}
+use Rattle.song_query.specs.declared.parts.Place.TheVariants.{Due, Close, Apart, Opened, Named, Begun, Valued, Slashed}
 use Rattle.song_query.specs.Grammar.{is_mark}
 use Rattle.song_query.specs.Machine.{valued, slashed, here, go, run}
 use Rattle.song_query.specs.Seen.{place_at}
@@ -70,8 +70,8 @@ refuses b Due part l ls h x y = grind (arith, nat_tests)
 refuses b Close part l ls h x y = grind (arith, nat_tests)
 refuses b Apart part l ls h x y = grind (arith, nat_tests)
 refuses b Opened part l ls h x y = cond-false _ _ _ (no_name b h)
-refuses b Named part l ls h x y = cond-false _ _ _ (no_name b h) ∙ cond-false _ _ _ (ne_eqb b 58 (omega arith)) ∙ cond-false _ _ _ (ne_eqb b 33 (omega arith))
-refuses b Bang part l ls h x y = cond-false _ _ _ (ne_eqb b 58 (omega arith))
+refuses b Named part l ls h x y = cond-false _ _ _ (no_name b h) ∙ cond-false _ _ _ (ne_eqb b 58 (omega arith)) ∙ cond-false _ _ _ (ne_eqb b 33 (omega arith)) ∙ cond-false _ _ _ (ne_eqb b 60 (omega arith)) ∙ cond-false _ _ _ (ne_eqb b 62 (omega arith))
+refuses b Begun part l ls h x y = cond-false _ _ _ (ne_eqb b 58 (omega arith))
 refuses b Valued part l ls h x y = absurd (x refl)
 refuses b Slashed part l ls h x y = absurd (y refl)
 

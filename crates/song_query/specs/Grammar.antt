@@ -3,7 +3,8 @@
 --
 --   query = gap or gap                    or   = and { gap "," gap and }
 --   and   = unit { blanks unit }          unit = condition | "(" gap or gap ")"
---   condition = "'" name (":" | "!:") value "'"
+--   condition = "'" name op value "'"
+--   op    = ":" | "!:" | "<:" | ">:"
 --
 -- A gap is any number of blanks, and a blank is a space or a plus.
 use Rattle.std.specs.Prelude.{ℕ, List, [], ◌∷◌, ◌++◌, map, Bool, true, not, ◌&&◌, ◌||◌, ◌==◌}
@@ -11,7 +12,7 @@ use Rattle.item_model.specs.Proper.{is_name_byte, are_name_bytes}
 use Rattle.item_model.specs.QueryTree.{QueryTree, condition, and_of, or_of, QueryTrees, no_queries, queries_of}
 use Rattle.item_model.specs.declared.condition.Cond.{Cond}
 use Rattle.item_model.specs.declared.condition.Op.{Op}
-use Rattle.item_model.specs.declared.condition.Op.TheVariants.{Is, IsNot}
+use Rattle.item_model.specs.declared.condition.Op.TheVariants.{Is, IsNot, Less, More}
 
 pub data Blank : Type 0 where
   space : Blank
@@ -97,6 +98,8 @@ is_value v = are_pieces v.starred && are_atoms v.last
 abbrev pub print_op : Op → List ℕ
 print_op Is = 58 ∷ []
 print_op IsNot = 33 ∷ 58 ∷ []
+print_op Less = 60 ∷ 58 ∷ []
+print_op More = 62 ∷ 58 ∷ []
 
 -- a condition, with the first byte of its name and the others
 pub record CondForm : Type 0 where
@@ -109,7 +112,7 @@ abbrev pub print_cond : CondForm → List ℕ
 print_cond c = 39 ∷ c.first ∷ (c.rest ++ (print_op c.op ++ (print_value c.value ++ 39 ∷ [])))
 
 abbrev pub cond_meaning : CondForm → Cond
-cond_meaning c = record { name = c.first ∷ c.rest; op = c.op; pattern = record { pieces = value_pieces c.value } }
+cond_meaning c = record { name = c.first ∷ c.rest; op = c.op; pattern = value_pieces c.value }
 
 abbrev pub is_cond : CondForm → Bool
 is_cond c = is_name_byte c.first && (are_name_bytes c.rest && is_value c.value)

@@ -10,7 +10,7 @@ use Rattle.item_model.specs.Items.{value_of}
 use Rattle.item_model.specs.QueryTree.{QueryTree, condition, and_of, or_of, QueryTrees, no_queries, more_queries}
 use Rattle.item_model.specs.declared.condition.Cond.{Cond}
 use Rattle.item_model.specs.declared.condition.Op.{Op}
-use Rattle.item_model.specs.declared.condition.Op.TheVariants.{Is, IsNot}
+use Rattle.item_model.specs.declared.condition.Op.TheVariants.{Is, IsNot, Less, More}
 use Rattle.item_model.specs.declared.property.Property.{Property}
 use Rattle.item_model.specs.declared.item.PropValue.{PropValue}
 use Rattle.item_model.specs.declared.item.PropValue.TheVariants.{Number, Text}
@@ -46,26 +46,46 @@ number_of [] = None
 number_of (c ∷ cs) =
     if are_digits (c ∷ cs) && nat_lt (number_from 0 (c ∷ cs)) (2 ^ 64) then Some (number_from 0 (c ∷ cs)) else None
 
-abbrev pub is_same_number : Option ℕ → ℕ → Bool
-is_same_number None n = false
-is_same_number (Some m) n = m == n
+-- the number that a pattern asks for, which it does without a wildcard
+abbrev pub number_asked : List (List ℕ) → Option ℕ
+number_asked [] = None
+number_asked (p ∷ []) = number_of p
+number_asked (p ∷ q ∷ ps) = None
 
--- a number is asked for without a wildcard
-abbrev pub asks_number : List (List ℕ) → ℕ → Bool
-asks_number [] n = false
-asks_number (p ∷ []) n = is_same_number (number_of p) n
-asks_number (p ∷ q ∷ ps) n = false
+abbrev pub is_number : Option ℕ → ℕ → Bool
+is_number None n = false
+is_number (Some m) n = m == n
 
+abbrev pub is_below : Option ℕ → ℕ → Bool
+is_below None n = false
+is_below (Some m) n = nat_lt n m
+
+abbrev pub is_above : Option ℕ → ℕ → Bool
+is_above None n = false
+is_above (Some m) n = nat_lt m n
+
+-- a text matches where the pattern describes it, a number where it is the one that is asked for
 unfoldable pub matches_value : List (List ℕ) → PropValue → Bool
 matches_value pieces (Text bytes) = glob pieces bytes
-matches_value pieces (Number n) = asks_number pieces n
+matches_value pieces (Number n) = is_number (number_asked pieces) n
 
-abbrev pub asked : Op → Bool → Bool
-asked Is b = b
-asked IsNot b = not b
+-- numbers alone are less or more than what is asked for
+unfoldable pub is_less : List (List ℕ) → PropValue → Bool
+is_less pieces (Text bytes) = false
+is_less pieces (Number n) = is_below (number_asked pieces) n
+
+unfoldable pub is_more : List (List ℕ) → PropValue → Bool
+is_more pieces (Text bytes) = false
+is_more pieces (Number n) = is_above (number_asked pieces) n
+
+abbrev pub is_met : Op → List (List ℕ) → PropValue → Bool
+is_met Is pieces v = matches_value pieces v
+is_met IsNot pieces v = not (matches_value pieces v)
+is_met Less pieces v = is_less pieces v
+is_met More pieces v = is_more pieces v
 
 abbrev pub meets : Cond → Row → Bool
-meets c row = asked c.op (matches_value c.pattern.pieces (named_value c.name row))
+meets c row = is_met c.op c.pattern (named_value c.name row)
 
 abbrev mutual
   pub holds : QueryTree → Row → Bool
@@ -80,8 +100,3 @@ abbrev mutual
   pub some_hold : QueryTrees → Row → Bool
   some_hold no_queries row = false
   some_hold (more_queries q qs) row = holds q row || some_hold qs row
-
--- a query that is absent holds everywhere
-abbrev pub holds_if_any : Option QueryTree → Row → Bool
-holds_if_any None row = true
-holds_if_any (Some q) row = holds q row

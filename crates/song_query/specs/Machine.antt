@@ -3,19 +3,19 @@ use Rattle.std.specs.Prelude.{ℕ, List, [], ◌∷◌, ◌++◌, Option, Some, 
 use Rattle.item_model.specs.Proper.{is_name_byte}
 use Rattle.item_model.specs.QueryTree.{QueryTree, condition, and_of, or_of}
 use Rattle.item_model.specs.declared.condition.Op.{Op}
-use Rattle.item_model.specs.declared.condition.Op.TheVariants.{Is, IsNot}
+use Rattle.item_model.specs.declared.condition.Op.TheVariants.{Is, IsNot, Less, More}
 use Rattle.song_query.specs.Grammar.{joined, is_mark}
 use Rattle.song_query.specs.declared.levels.Level.{Level}
 
 -- where in a query the next byte stands: a unit is due, behind a unit, behind a unit and blanks, behind an
--- opening quote, in a name, behind its exclamation mark, in a value, behind a backslash of a value
+-- opening quote, in a name, behind the first of an operator's two marks, in a value, behind a backslash of a value
 pub data Place : Type 0 where
   due : Place
   close : Place
   apart : Place
   opened : Place
   named : List ℕ → Place
-  bang : List ℕ → Place
+  begun : List ℕ → Op → Place
   valued : List ℕ → Op → List (List ℕ) → List ℕ → Place
   slashed : List ℕ → Op → List (List ℕ) → List ℕ → Place
 
@@ -60,7 +60,15 @@ begin l ls c other =
     if c == 39 then Some (here opened l ls) else (if c == 40 then Some (here due empty_level (l ∷ ls)) else other)
 
 abbrev pub cond_of : List ℕ → Op → List (List ℕ) → QueryTree
-cond_of n o ps = condition (record { name = n; op = o; pattern = record { pieces = ps } })
+cond_of n o ps = condition (record { name = n; op = o; pattern = ps })
+
+-- a mark behind a name
+abbrev pub operate : List ℕ → Level → List Level → ℕ → Option State
+operate n l ls c =
+    if c == 58 then Some (here (valued n Is [] []) l ls)
+    else (if c == 33 then Some (here (begun n IsNot) l ls)
+    else (if c == 60 then Some (here (begun n Less) l ls)
+    else (if c == 62 then Some (here (begun n More) l ls) else None)))
 
 abbrev pub step : Place → Level → List Level → ℕ → Option State
 step due l ls c = if is_blank c then Some (here due l ls) else begin l ls c None
@@ -68,9 +76,8 @@ step close l ls c = if is_blank c then Some (here apart l ls) else follow l ls c
 step apart l ls c = if is_blank c then Some (here apart l ls) else begin l ls c (follow l ls c)
 step opened l ls c = if is_name_byte c then Some (here (named (c ∷ [])) l ls) else None
 step (named n) l ls c =
-    if is_name_byte c then Some (here (named (n ++ c ∷ [])) l ls)
-    else (if c == 58 then Some (here (valued n Is [] []) l ls) else (if c == 33 then Some (here (bang n) l ls) else None))
-step (bang n) l ls c = if c == 58 then Some (here (valued n IsNot [] []) l ls) else None
+    if is_name_byte c then Some (here (named (n ++ c ∷ [])) l ls) else operate n l ls c
+step (begun n o) l ls c = if c == 58 then Some (here (valued n o [] []) l ls) else None
 step (valued n o ps p) l ls c =
     if c == 39 then Some (here close (with_unit (cond_of n o (ps ++ p ∷ [])) l) ls)
     else (if c == 92 then Some (here (slashed n o ps p) l ls)
@@ -96,7 +103,7 @@ is_behind_unit apart = true
 is_behind_unit due = false
 is_behind_unit opened = false
 is_behind_unit (named n) = false
-is_behind_unit (bang n) = false
+is_behind_unit (begun n o) = false
 is_behind_unit (valued n o ps p) = false
 is_behind_unit (slashed n o ps p) = false
 

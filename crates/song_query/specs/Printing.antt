@@ -37,7 +37,7 @@ abbrev mutual
   printed_more (p ∷ ps) = 42 ∷ (printed_piece p ++ printed_more ps)
 
 abbrev pub printed_cond : Cond → List ℕ
-printed_cond c = 39 ∷ (c.name ++ (print_op c.op ++ (printed_pieces c.pattern.pieces ++ 39 ∷ [])))
+printed_cond c = 39 ∷ (c.name ++ (print_op c.op ++ (printed_pieces c.pattern ++ 39 ∷ [])))
 
 abbrev mutual
   -- as a whole text

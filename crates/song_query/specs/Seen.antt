@@ -4,11 +4,11 @@ use Rattle.std.specs.Char.{encode_utf8}
 use Rattle.item_model.specs.declared.refusal.QueryError.{QueryError}
 use Rattle.item_model.specs.declared.refusal.QueryError.TheVariants.{TooDeep, At, Memory as QueryMemory}
 use Rattle.item_model.specs.declared.refusal.QueryWhy.TheVariants.{Byte as QueryByte}
-use Rattle.song_query.specs.Machine.{Place, due, close, apart, opened, named, bang, valued, slashed, State, here, go, run}
+use Rattle.song_query.specs.Machine.{Place, due, close, apart, opened, named, begun, valued, slashed, State, here, go, run}
 use Rattle.song_query.specs.Limits.{open_parentheses}
 use Rattle.song_query.specs.declared.parts.Partial.{Partial}
 use Rattle.song_query.specs.declared.parts.Place.{Place as PlaceName}
-use Rattle.song_query.specs.declared.parts.Place.TheVariants.{Due, Close, Apart, Opened, Named, Bang, Valued, Slashed}
+use Rattle.song_query.specs.declared.parts.Place.TheVariants.{Due, Close, Apart, Opened, Named, Begun, Valued, Slashed}
 use Rattle.song_query.specs.declared.parts.Refusal.{Refusal}
 use Rattle.song_query.specs.declared.parts.Refusal.TheVariants.{Byte, Deep, Memory}
 use Rattle.song_query.specs.declared.parts.Reader.{Reader}
@@ -19,7 +19,7 @@ place_at Close p = close
 place_at Apart p = apart
 place_at Opened p = opened
 place_at Named p = named (string_bytes p.name)
-place_at Bang p = bang (string_bytes p.name)
+place_at Begun p = begun (string_bytes p.name) p.op
 place_at Valued p = valued (string_bytes p.name) p.op p.pieces (string_bytes p.piece)
 place_at Slashed p = slashed (string_bytes p.name) p.op p.pieces (string_bytes p.piece)
 

@@ -1,21 +1,24 @@
 //! Patterns over texts.
 
 ghost use Rattle.std.specs.Prelude.{◌≡◌, ℕ, List, [], ◌∷◌, map, length, take, drop, Decides, MatchOption, false, ◌≢◌};
-ghost use Rattle.song_query.specs.Glob.{folded, Glob, glob, joins, from_some};
+ghost use Rattle.item_model.specs.Folding.{lowered, IsSearchedFor};
+ghost use Rattle.song_query.specs.Glob.{Glob, glob, joins, from_some};
 
 use dmap_tags::Text;
+use item_model::Pattern;
 
-/// Whether the text is the pieces in order with any runs between them, where the letters A to Z count as a to
-/// z. No place of the text is tried twice, and nothing is allocated.
-pub fn is_glob(pieces: &[Text], text: &[u8]) -> bool
-    ensures joined { Decides result (Glob pieces.now text.now) }
-    ensures test { result ≡ glob pieces.now text.now }
+/// Whether the pattern describes the text for which this one is searched (`Item::sought`): the pieces stand in it in order
+/// with any runs between them, once the letters are folded. No place is tried twice, and nothing is allocated.
+pub fn is_glob(pattern: &Pattern, searched: &str) -> bool
+    ensures joined { (text : List ℕ) → IsSearchedFor text searched.now → Decides result (Glob pattern.now text) }
+    ensures test { (text : List ℕ) → IsSearchedFor text searched.now → result ≡ glob pattern.now text }
 {
-    is_described(pieces, text)
+    is_described(pattern.folded(), searched.as_bytes())
 }
 
+// Whether the lowered text is the lowered pieces, joined by some runs.
 fn is_described(pieces: &[Text], text: &[u8]) -> bool
-    ensures { result ≡ glob pieces.now text.now }
+    ensures { result ≡ joins (map lowered pieces.now) (lowered text.now) }
 {
     match pieces {
         [] => false,
@@ -25,7 +28,7 @@ fn is_described(pieces: &[Text], text: &[u8]) -> bool
 
 // Whether the text is the first piece, a run, the next piece, and so on.
 fn is_joined(first: &[u8], others: &[Text], text: &[u8]) -> bool
-    ensures { result ≡ joins (folded first.now ∷ map folded others.now) (folded text.now) }
+    ensures { result ≡ joins (lowered first.now ∷ map lowered others.now) (lowered text.now) }
 {
     if others.is_empty() {
         return text.eq_ignore_ascii_case(first);
@@ -39,9 +42,9 @@ fn is_joined(first: &[u8], others: &[Text], text: &[u8]) -> bool
 // What stands behind a piece that the text begins with.
 fn behind_front<'a>(text: &'a [u8], piece: &[u8]) -> Option<&'a [u8]>
     ensures { MatchOption result
-        (take (length piece.now) (folded text.now) ≢ folded piece.now)
-        (λ rest. (take (length piece.now) (folded text.now) ≡ folded piece.now)
-        × (folded rest.now ≡ drop (length piece.now) (folded text.now))) }
+        (take (length piece.now) (lowered text.now) ≢ lowered piece.now)
+        (λ rest. (take (length piece.now) (lowered text.now) ≡ lowered piece.now)
+        × (lowered rest.now ≡ drop (length piece.now) (lowered text.now))) }
 {
     if text.len() < piece.len() {
         return None;
@@ -57,9 +60,9 @@ fn behind_front<'a>(text: &'a [u8], piece: &[u8]) -> Option<&'a [u8]>
 // behind that place if they are found behind any.
 fn behind_first<'a>(text: &'a [u8], piece: &[u8]) -> Option<&'a [u8]>
     ensures { MatchOption result
-        ((q : List ℕ) (ps : List (List ℕ)) → from_some (joins (folded piece.now ∷ q ∷ ps)) (folded text.now) ≡ false)
+        ((q : List ℕ) (ps : List (List ℕ)) → from_some (joins (lowered piece.now ∷ q ∷ ps)) (lowered text.now) ≡ false)
         (λ rest. (q : List ℕ) (ps : List (List ℕ)) →
-        from_some (joins (folded piece.now ∷ q ∷ ps)) (folded text.now) ≡ from_some (joins (q ∷ ps)) (folded rest.now)) }
+        from_some (joins (lowered piece.now ∷ q ∷ ps)) (lowered text.now) ≡ from_some (joins (q ∷ ps)) (lowered rest.now)) }
 {
     let mut left = text;
     loop {
@@ -76,7 +79,7 @@ fn behind_first<'a>(text: &'a [u8], piece: &[u8]) -> Option<&'a [u8]>
 
 // Whether the pieces stand in the text in order, and the last one at its end.
 fn are_behind(pieces: &[Text], text: &[u8]) -> bool
-    ensures { result ≡ from_some (joins (map folded pieces.now)) (folded text.now) }
+    ensures { result ≡ from_some (joins (map lowered pieces.now)) (lowered text.now) }
 {
     let mut left = pieces;
     let mut rest = text;
@@ -95,7 +98,7 @@ fn are_behind(pieces: &[Text], text: &[u8]) -> bool
 
 // Whether the text ends with the piece.
 fn is_end(text: &[u8], piece: &[u8]) -> bool
-    ensures { result ≡ from_some (joins (folded piece.now ∷ [])) (folded text.now) }
+    ensures { result ≡ from_some (joins (lowered piece.now ∷ [])) (lowered text.now) }
 {
     if text.len() < piece.len() {
         return false;

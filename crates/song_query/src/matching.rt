@@ -3,15 +3,17 @@
 ghost use Rattle.std.specs.Prelude.{◌≡◌, ◌+◌, ◌*◌, ◌-◌, ◌^◌, ℕ, List, map, true, Decides, Some, None, nat_lt, if◌then◌else◌};
 ghost use Rattle.song_query.specs.Glob.{glob, Glob};
 ghost use Rattle.std.specs.Char.{is_ascii_digit};
-ghost use Rattle.item_model.specs.Properties.{property_kind};
+ghost use Rattle.item_model.specs.Folding.{IsSearchedFor};
+ghost use Rattle.item_model.specs.Folds.{IsSought};
+ghost use Rattle.item_model.specs.declared.item.PropValue.TheVariants.{Number, Text as Words};
 ghost use Rattle.item_model.specs.QueryTree.{queries_of};
 ghost use Rattle.item_model.specs.QuerySeen.{tree_of};
-ghost use Rattle.song_query.specs.Holds.{absent, all_hold, asked, asks_number, holds, matches_value, meets, named_value, number_of, some_hold};
+ghost use Rattle.song_query.specs.Holds.{absent, all_hold, holds, is_met, meets, named_value, number_asked, number_of, some_hold};
 
 use crate::globs::is_glob;
 use crate::steps::Steps;
 use dmap_tags::{Kind, Text};
-use item_model::{Cond, Op, PropValue, Property, Query, Row};
+use item_model::{Cond, Op, Pattern, Property, Query, Row, Sought};
 use std::sync::ledger::Ledger;
 
 /// The name of a row's id in queries.
@@ -68,68 +70,73 @@ fn does_one_hold(members: &[Query], row: &Row) -> bool
 fn does_meet(cond: &Cond, row: &Row) -> bool
     ensures { result ≡ meets cond.now row.now }
 {
-    let found = is_found(cond.pattern.pieces.as_slice(), cond.name.as_str(), row);
-    is_asked(cond.op, found)
-}
-
-// Whether a condition with that operator is met.
-fn is_asked(op: Op, found: bool) -> bool
-    ensures { result ≡ asked op found }
-{
-    match op {
-        Op::Is => found,
-        Op::IsNot => !found,
+    match sought(cond.name.as_str(), row) {
+        Sought::Number(n) => is_met_by_number(cond.op, &cond.pattern, n),
+        Sought::Text(text) => is_met_by_text(cond.op, &cond.pattern, text),
     }
 }
 
-// Whether what the name stands for is what the pattern asks for.
-#[tactic(auto, unfolding(crate::specs::Holds::named_value, crate::specs::Holds::matches_value))]
-fn is_found(pieces: &[Text], name: &str, row: &Row) -> bool
-    ensures { result ≡ matches_value pieces.now (named_value name.now row.now) }
+// What a condition with the name compares.
+fn sought<'a>(name: &str, row: &'a Row) -> Sought<'a>
+    ensures { IsSought (named_value name.now row.now) result }
 {
     if name == ITEM_ID {
-        return is_number(pieces, u64::from(row.id));
+        return Sought::Number(u64::from(row.id));
     }
     let Some(property) = Property::by_name(name) else {
-        return is_glob(pieces, b"");
+        return Sought::Text("");
     };
-    match row.item.get(property) {
-        Some(value) => is_value(pieces, value),
-        None => is_absent(pieces, property),
+    match row.item.sought(property) {
+        Some(sought) => sought,
+        None => absent(property.kind()),
     }
 }
 
-#[tactic(auto, unfolding(crate::specs::Holds::matches_value))]
-fn is_value(pieces: &[Text], value: &PropValue) -> bool
-    ensures { result ≡ matches_value pieces.now value.now }
+// What a row counts as that lacks a property of the kind.
+#[tactic(auto, using(crate::proofs::Folded::nothing_searched))]
+fn absent<'a>(kind: Kind) -> Sought<'a>
+    ensures { IsSought (absent kind) result }
 {
-    match value {
-        PropValue::Number(n) => is_number(pieces, *n),
-        PropValue::Text(text) => is_glob(pieces, text.as_str().as_bytes()),
+    match kind {
+        Kind::Text => Sought::Text(""),
+        _ => Sought::Number(0),
     }
 }
 
-// Whether a pattern asks for what a row has that lacks the property.
-#[tactic(auto, unfolding(crate::specs::Holds::matches_value))]
-fn is_absent(pieces: &[Text], property: Property) -> bool
-    ensures { result ≡ matches_value pieces.now (absent (property_kind property)) }
+#[tactic(auto, unfolding(crate::specs::Holds::matches_value, crate::specs::Holds::is_less, crate::specs::Holds::is_more))]
+fn is_met_by_number(op: Op, pattern: &Pattern, n: u64) -> bool
+    ensures { result ≡ is_met op pattern.now (Number n) }
 {
-    match property.kind() {
-        Kind::Text => is_glob(pieces, b""),
-        _ => is_number(pieces, 0),
+    let Some(asked) = number_asked(pattern.pieces()) else {
+        return matches!(op, Op::IsNot);
+    };
+    match op {
+        Op::Is => n == asked,
+        Op::IsNot => n != asked,
+        Op::Less => n < asked,
+        Op::More => n > asked,
     }
 }
 
-// Whether a pattern asks for the number.
-fn is_number(pieces: &[Text], n: u64) -> bool
-    ensures { result ≡ asks_number pieces.now n }
+// The text stands for each for which it may be searched.
+#[tactic(auto, unfolding(crate::specs::Holds::matches_value, crate::specs::Holds::is_less, crate::specs::Holds::is_more))]
+fn is_met_by_text(op: Op, pattern: &Pattern, searched: &str) -> bool
+    ensures { (text : List ℕ) → IsSearchedFor text searched.now → result ≡ is_met op pattern.now (Words text) }
+{
+    match op {
+        Op::Is => is_glob(pattern, searched),
+        Op::IsNot => !is_glob(pattern, searched),
+        Op::Less | Op::More => false,
+    }
+}
+
+// The number that a pattern without a wildcard spells.
+fn number_asked(pieces: &[Text]) -> Option<u64>
+    ensures { result ≡ number_asked pieces.now }
 {
     match pieces {
-        [digits] => match number(digits.as_str().as_bytes()) {
-            Some(asked) => asked == n,
-            None => false,
-        },
-        _ => false,
+        [digits] => number(digits.as_str().as_bytes()),
+        _ => None,
     }
 }
 

@@ -1,7 +1,7 @@
 //! What a reader of queries keeps.
 
 ghost use Rattle.song_query.specs.Limits.{open_parentheses};
-ghost use Rattle.std.specs.Prelude.{◌≡◌, ◌≤◌, [], ◌++◌, ◌∷◌, OnOk, IfOk, string_bytes, length};
+ghost use Rattle.std.specs.Prelude.{◌≡◌, ◌≤◌, ◌<◌, [], ◌++◌, ◌∷◌, OnOk, IfOk, string_bytes, length};
 
 use crate::levels::{Level, Levels};
 use dmap_tags::Text;
@@ -22,8 +22,8 @@ pub enum Place {
     Opened,
     /// In a name.
     Named,
-    /// Behind the exclamation mark after a name.
-    Bang,
+    /// Behind the first of an operator's two marks.
+    Begun,
     /// In a value.
     Valued,
     /// Behind a backslash in a value.
@@ -96,14 +96,15 @@ impl Partial {
 
     /// The condition, whose pieces are taken out.
     pub fn cond(&mut self, alloc: Global) -> Result<Cond, AllocError>
-        ensures { IfOk result (λ c. (c.name ≡ string_bytes self.old.name) × (c.op ≡ self.old.op) × (c.pattern.pieces ≡ self.old.pieces)) }
+        requires { 0 < length self.old.pieces }
+        ensures { IfOk result (λ c. (c.name ≡ string_bytes self.old.name) × (c.op ≡ self.old.op) × (c.pattern ≡ self.old.pieces)) }
     {
         let name = Text::of(alloc, self.name.as_str())?;
         let pieces = replace(&mut self.pieces, Texts::new(alloc));
         Ok(Cond {
             name,
             op: self.op,
-            pattern: Pattern { pieces },
+            pattern: Pattern::new(alloc, pieces.into_vec())?,
         })
     }
 }

@@ -143,7 +143,7 @@ fn push_cond(out: &mut String, cond: &Cond) -> Result<(), AllocError>
     out.push('\'')?;
     out.push_str(cond.name.as_str())?;
     push_op(out, cond.op)?;
-    push_pieces(out, cond.pattern.pieces.as_slice())?;
+    push_pieces(out, cond.pattern.pieces())?;
     out.push('\'')
 }
 
@@ -154,6 +154,14 @@ fn push_op(out: &mut String, op: Op) -> Result<(), AllocError>
         Op::Is => out.push(':'),
         Op::IsNot => {
             out.push('!')?;
+            out.push(':')
+        }
+        Op::Less => {
+            out.push('<')?;
+            out.push(':')
+        }
+        Op::More => {
+            out.push('>')?;
             out.push(':')
         }
     }

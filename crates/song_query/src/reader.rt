@@ -4,7 +4,7 @@ ghost use Rattle.std.specs.Prelude.{◌≡◌, ◌≤◌, ◌<◌, [], ◌∷◌
 ghost use Rattle.item_model.specs.Proper.{is_name_byte};
 ghost use Rattle.item_model.specs.QuerySeen.{tree_of};
 ghost use Rattle.song_query.specs.Grammar.{is_mark};
-ghost use Rattle.song_query.specs.Machine.{close, cond_of, due, empty_level, follow, go, here, is_blank, is_end, level_query, shut, start, valued, with_unit};
+ghost use Rattle.song_query.specs.Machine.{begun, close, cond_of, due, empty_level, follow, go, here, is_blank, is_end, level_query, operate, shut, start, valued, with_unit};
 ghost use Rattle.song_query.specs.Seen.{state_of, Stepped, Taken};
 
 use crate::levels::{Level, Levels};
@@ -48,7 +48,7 @@ impl Reader {
             Place::Apart => self.apart(c),
             Place::Opened => self.opened(c),
             Place::Named => self.named(c),
-            Place::Bang => self.bang(c),
+            Place::Begun => self.begun(c),
             Place::Valued => self.valued(c),
             Place::Slashed => self.slashed(c),
         }
@@ -164,25 +164,39 @@ impl Reader {
             self.partial.name.push(c)?;
             return Ok(());
         }
-        if c == ':' {
-            self.begin_value(Op::Is);
-            return Ok(());
-        }
-        if c == '!' {
-            self.place = Place::Bang;
-            return Ok(());
-        }
-        Err(Refusal::Byte)
+        self.operate(c)
     }
 
-    fn bang(&mut self, c: char) -> Result<(), Refusal>
-        requires { self.old.place ≡ Place.Bang }
+    // The first mark of the operator, which is the only one where it is a colon.
+    fn operate(&mut self, c: char) -> Result<(), Refusal>
+        ensures { Stepped (operate (string_bytes self.old.partial.name) self.old.level self.old.outer c) (state_of self.new) result }
+    {
+        match c {
+            ':' => self.begin_value(Op::Is),
+            '!' => self.begin_op(Op::IsNot),
+            '<' => self.begin_op(Op::Less),
+            '>' => self.begin_op(Op::More),
+            _ => return Err(Refusal::Byte),
+        }
+        Ok(())
+    }
+
+    // A colon is due.
+    fn begin_op(&mut self, op: Op)
+        ensures { state_of self.new ≡ here (begun (string_bytes self.old.partial.name) op) self.old.level self.old.outer }
+    {
+        self.partial.op = op;
+        self.place = Place::Begun;
+    }
+
+    fn begun(&mut self, c: char) -> Result<(), Refusal>
+        requires { self.old.place ≡ Place.Begun }
         ensures { Stepped (go (state_of self.old) c) (state_of self.new) result }
     {
         if c != ':' {
             return Err(Refusal::Byte);
         }
-        self.begin_value(Op::IsNot);
+        self.begin_value(self.partial.op);
         Ok(())
     }
 

@@ -5,6 +5,7 @@
 mod changing;
 mod edits;
 mod finding;
+mod matching;
 mod planning;
 mod song;
 mod stores;
@@ -12,6 +13,7 @@ mod stores;
 use crate::changing::{deltas_len, revision_after};
 use crate::edits::Kind;
 use crate::finding::{candidates_found, ids_found, look_ups, values_found};
+use crate::matching::{Letters, matched, named_songs};
 use crate::planning::{planned, rows, written};
 use anyhow::Context;
 use std::alloc::Global;
@@ -39,13 +41,17 @@ enum Step {
     Candidates,
     /// All artists are told.
     Values,
+    /// The songs are made, with names by those letters.
+    Named(Letters),
+    /// A query with wildcards is tried against each, so many times.
+    Matches(Letters),
     /// A share of lists of the songs is edited.
     Edit(Kind),
     /// The deltas of its lists are told.
     Deltas,
 }
 
-const STEPS: [(&str, Step); 11] = [
+const STEPS: [(&str, Step); 15] = [
     ("rows", Step::Rows),
     ("plan", Step::Plan),
     ("write", Step::Write),
@@ -53,6 +59,10 @@ const STEPS: [(&str, Step); 11] = [
     ("ids", Step::Ids),
     ("candidates", Step::Candidates),
     ("values", Step::Values),
+    ("named", Step::Named(Letters::Latin)),
+    ("matches", Step::Matches(Letters::Latin)),
+    ("cyrillic", Step::Named(Letters::Cyrillic)),
+    ("folded", Step::Matches(Letters::Cyrillic)),
     ("songs", Step::Edit(Kind::Songs)),
     ("members", Step::Edit(Kind::Members)),
     ("rules", Step::Edit(Kind::Rules)),
@@ -63,7 +73,7 @@ const STEPS: [(&str, Step); 11] = [
 #[derive(Clone, Copy)]
 struct Load {
     songs: u32,
-    /// How many batches of edits, or how often the deltas.
+    /// How many batches of edits, or how often the deltas or the query.
     times: u32,
     /// The edits of a batch.
     size: u32,
@@ -89,6 +99,11 @@ fn taken(alloc: Global, step: Step, load: Load) -> anyhow::Result<u64> {
         Step::Ids => ids_found(&look_ups(alloc, songs)?),
         Step::Candidates => candidates_found(&look_ups(alloc, songs)?),
         Step::Values => values_found(&look_ups(alloc, songs)?),
+        Step::Named(letters) => Ok(named_songs(alloc, songs, letters)?.len()),
+        Step::Matches(letters) => {
+            let searched = named_songs(alloc, songs, letters)?;
+            matched::<Brand>(Blank::new(1), alloc, &searched, times)
+        }
         Step::Edit(kind) => {
             revision_after::<Brand>(Blank::new(1), alloc, songs, kind, times, size)
         }

@@ -14,22 +14,54 @@ pub fn artist(alloc: Global, number: u32) -> Result<String, AllocError> {
     format!(in alloc; "Artist {number}")
 }
 
+/// The words that begin the texts of a song.
+#[derive(Clone, Copy)]
+pub struct Words {
+    song: &'static str,
+    artist: &'static str,
+    album: &'static str,
+    genre: &'static str,
+}
+
+/// Words of ASCII.
+pub const LATIN: Words = Words {
+    song: "Song number",
+    artist: "Artist",
+    album: "Album",
+    genre: "Genre",
+};
+
+/// Words with capital letters beyond ASCII, whose texts an item keeps folded as well.
+pub const CYRILLIC: Words = Words {
+    song: "Песня Номер",
+    artist: "Артист",
+    album: "Альбом",
+    genre: "Жанр",
+};
+
 /// The song with an id: the six properties that a listing shows where nothing is asked for, and its genre and year.
 pub fn song(alloc: Global, id: u32) -> anyhow::Result<Row>
     ensures { IfOk result (λ row. row.id ≡ id) }
 {
-    song_like(alloc, id, id)
+    song_in(alloc, id, id, LATIN)
 }
 
 /// A song with an id, and with the properties of the song of a number.
 pub fn song_like(alloc: Global, id: u32, number: u32) -> anyhow::Result<Row>
     ensures { IfOk result (λ row. row.id ≡ id) }
 {
+    song_in(alloc, id, number, LATIN)
+}
+
+/// The same with other words.
+pub fn song_in(alloc: Global, id: u32, number: u32, words: Words) -> anyhow::Result<Row>
+    ensures { IfOk result (λ row. row.id ≡ id) }
+{
     let mut item = Item::new(alloc);
-    let name = format!(in alloc; "Song number {number}")?;
-    let artist = artist(alloc, number / SONGS_EACH)?;
-    let album = format!(in alloc; "Album {}", number / 12)?;
-    let genre = format!(in alloc; "Genre {}", number % 20)?;
+    let name = format!(in alloc; "{} {number}", words.song)?;
+    let artist = format!(in alloc; "{} {}", words.artist, number / SONGS_EACH)?;
+    let album = format!(in alloc; "{} {}", words.album, number / 12)?;
+    let genre = format!(in alloc; "{} {}", words.genre, number % 20)?;
     for (property, text) in [
         (Property::Minm, name.as_str()),
         (Property::Asar, artist.as_str()),

@@ -150,7 +150,7 @@ shows_whole fed written lines r tops h going quiet =
     h.shown ∙ ap (shown_events 0) (sym events)
 
 -- bytes within the limit are read whole
-within_whole : (bytes : List ℕ) → length bytes ≤ tags_limit → shown_text bytes ≡ shown_events 0 (walked bytes).events
+pub within_whole : (bytes : List ℕ) → length bytes ≤ tags_limit → shown_text bytes ≡ shown_events 0 (walked bytes).events
 within_whole bytes within = ap (λ l. shown_events 0 (walked l).events) (take_all tags_limit bytes within)
 
 pub showing_text : (fed written : List ℕ) (shower : Shower) → IsShowing fed written shower → length fed ≤ tags_limit → written ++ shower.lines.items ≡ shown_text fed
@@ -313,7 +313,7 @@ show_nothing input = record {
   all = tt;
 }
 
-written_text : (fed written : List ℕ) (shower : Shower) → IsShowing fed written shower → shower.lines.items ≡ [] → length fed ≤ tags_limit → written ≡ shown_text fed
+pub written_text : (fed written : List ℕ) (shower : Shower) → IsShowing fed written shower → shower.lines.items ≡ [] → length fed ≤ tags_limit → written ≡ shown_text fed
 written_text fed written shower h empty within =
     sym (append-nil written) ∙ ap (λ l. written ++ l) (sym empty) ∙ showing_text fed written shower h within
 
@@ -347,7 +347,7 @@ step_stops input_before input_after before mid after bytes written more (Input f
     (cause.0, (written ++ more, cause.1, written_more before mid after written more told stops.1))
 step_stops input_before input_after before mid after bytes written more Output read faultless on told stops = (
   written ++ more,
-  record { shown = record { bytes = bytes; read = read; shown = stops.0 }; read_on = on; unopened = refl },
+  record { shown = record { bytes = bytes; read = read; shown = stops.0 }; read_on = on; faultless = faultless; unopened = refl },
   cut_more before mid after written more told stops.1,
 )
 

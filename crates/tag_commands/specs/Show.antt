@@ -1,14 +1,14 @@
 -- The command `show`: the lines of the tags that the input's bytes are, written as the bytes come.
-use Rattle.std.specs.Prelude.{◌≡◌, ◌≤◌, ℕ, List, length, take, true, IfSome}
-use Rattle.std.specs.Io.KnownBytes.{Consumes, IsAtEnd}
+use Rattle.std.specs.Prelude.{◌≡◌, ◌≤◌, ◌⊎◌, ◌++◌, [], ℕ, List, length, take, true, IfSome}
+use Rattle.std.specs.Io.KnownBytes.{Appends, Consumes, IsAtEnd}
 use Rattle.dmap_tags.specs.Tree.{Tree, trees_of}
 use Rattle.dmap_stream.specs.declared.event.Event.{Event}
 use Rattle.dmap_show.specs.Events.{shown_events}
 use Rattle.dmap_show.specs.Shown.{shown_tags}
 use Rattle.command_core.specs.declared.fault.Fault.{Fault}
 use Rattle.command_core.specs.declared.fault.Fault.TheVariants.{Own, Read, Memory}
-use Rattle.command_core.specs.Seen.{InputSeen, ShareSeen, no_share}
-use Rattle.command_core.specs.Causes.{HasReadOn}
+use Rattle.command_core.specs.Seen.{InputSeen, OutputSeen, ShareSeen, no_share}
+use Rattle.command_core.specs.Causes.{HasReadOn, piece_limit}
 use Rattle.command_core.specs.Meanings.{Meaning, leaves_no_share, may_read}
 use Rattle.tag_commands.specs.declared.tags_fault.TagsFault.{TagsFault}
 use Rattle.tag_commands.specs.TopTags.{tags_limit, walked, AreTopTags, IsSound, IsSoundSoFar, tags_line, tags_status, tags_cause}
@@ -43,10 +43,11 @@ pub record IsShownFront (before after : InputSeen) (lines : List ℕ) : Type 0 w
   pub read : Consumes before.left after.left bytes
   pub shown : BeginsShown bytes lines
 
--- where the output fails within those, no more was read than there was cause to
+-- where the output fails within those, no more was read than there was cause to, and no read failed
 pub record IsShownCut (before after : InputSeen) (share : ShareSeen) (lines : List ℕ) : Type 0 where
   pub shown : IsShownFront before after lines
   pub read_on : HasReadOn IsSoundSoFar before after
+  pub faultless : after.faults ≡ before.faults
   pub unopened : share ≡ no_share
 
 -- all events before a fault are shown: of the input up to its faulty place or the limit, or of what was read when a
@@ -60,6 +61,17 @@ ShowsAll Memory before after lines = Unit {0}
 pub record IsShownBefore (before after : InputSeen) (fault : Fault TagsFault) (lines : List ℕ) : Type 0 where
   pub some : IsShownFront before after lines
   pub all : ShowsAll fault before after lines
+
+-- Reading and writing keep step: all lines of what was read were taken by the output, but perhaps those of a last part, no
+-- longer than one read brings; and where there is such a part, no read failed.
+pub record IsInStep (before after : InputSeen) (output_before output_after : OutputSeen) : Type 0 where
+  pub front : List ℕ
+  pub last : List ℕ
+  pub read : Consumes before.left after.left (front ++ last)
+  pub short : length last ≤ piece_limit
+  pub more : List ℕ
+  pub taken : Appends output_before.taken output_after.taken (shown_text front ++ more)
+  pub steady : (last ≡ []) ⊎ (after.faults ≡ before.faults)
 
 abbrev pub show_meaning : Meaning
 show_meaning = record {

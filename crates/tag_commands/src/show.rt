@@ -6,7 +6,7 @@ ghost use Rattle.dmap_stream.specs.Reader.{ready};
 ghost use Rattle.command_core.specs.Seen.{Around, input_seen, output_seen, told_beside, no_share};
 ghost use Rattle.command_core.specs.Endings.{IsWritten, IsAnswered};
 ghost use Rattle.tag_commands.specs.TopTags.{tags_limit};
-ghost use Rattle.tag_commands.specs.Show.{show_meaning, IsShownWhole};
+ghost use Rattle.tag_commands.specs.Show.{show_meaning, IsInStep, IsShownWhole};
 ghost use Rattle.tag_commands.specs.Showing.{HasShown, IsShowing, ShowsSome, IsLast, StopsShowing, StepStops, ShowStops};
 
 use crate::counting::{Counter, PIECE, TAGS_LIMIT};
@@ -19,13 +19,18 @@ use std::alloc::{AllocError, Global};
 
 /// Does `show`: the lines of the input's tags, written as they are read.
 pub fn show_tags<I: Source, W: Sink>(alloc: Global, input: &mut I, output: &mut W) -> Outcome
-    ensures { (around : Around) → IsAnswered show_meaning
+    ensures answered { (around : Around) → IsAnswered show_meaning
         (told_beside around
         (input_seen (I.left input.old) (I.faults input.old))
         (input_seen (I.left input.new) (I.faults input.new))
         (output_seen (W.taken output.old) (W.faults output.old))
         (output_seen (W.taken output.new) (W.faults output.new)))
         result }
+    ensures in_step { IsInStep
+        (input_seen (I.left input.old) (I.faults input.old))
+        (input_seen (I.left input.new) (I.faults input.new))
+        (output_seen (W.taken output.old) (W.faults output.old))
+        (output_seen (W.taken output.new) (W.faults output.new)) }
 {
     match shown(alloc, input, output) {
         Ok(()) => Outcome {
@@ -175,6 +180,11 @@ fn streamed<I: Source, W: Sink>(
         (output_seen (W.taken output.old) (W.faults output.old))
         (output_seen (W.taken output.new) (W.faults output.new))
         stop) }
+    ensures in_step { IsInStep
+        (input_seen (I.left input.old) (I.faults input.old))
+        (input_seen (I.left input.new) (I.faults input.new))
+        (output_seen (W.taken output.old) (W.faults output.old))
+        (output_seen (W.taken output.new) (W.faults output.new)) }
 {
     let mut shower = match Shower::new(alloc) {
         Ok(shower) => shower,
@@ -211,6 +221,11 @@ fn shown<I: Source, W: Sink>(alloc: Global, input: &mut I, output: &mut W) -> Re
         (output_seen (W.taken output.old) (W.faults output.old))
         (output_seen (W.taken output.new) (W.faults output.new))
         stop) }
+    ensures in_step { IsInStep
+        (input_seen (I.left input.old) (I.faults input.old))
+        (input_seen (I.left input.new) (I.faults input.new))
+        (output_seen (W.taken output.old) (W.faults output.old))
+        (output_seen (W.taken output.new) (W.faults output.new)) }
 {
     let shower = match streamed(alloc, input, output) {
         Ok(shower) => shower,

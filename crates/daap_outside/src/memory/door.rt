@@ -6,11 +6,11 @@ ghost use Rattle.daap_outside.specs.Told.{BeginsEmpty, GrowsByTold};
 ghost use Rattle.daap_outside.specs.Places.{Accepts, returned};
 ghost use Rattle.daap_outside.specs.MemLink.{IsNew};
 
-use crate::faulted::{Failed, Faulted, counted};
 use crate::memory::copied;
 use crate::memory::kept::Kept;
 use crate::memory::link::{MemLink, Returned};
 use crate::net::Door;
+use outside_disks::{Failed, Faulted, counted};
 use std::alloc::{AllocError, Global};
 use std::collections::VecDeque;
 

@@ -1,40 +1,77 @@
 //! A link in memory.
-ghost use Rattle.std.specs.Prelude.{◌≡◌, ◌↔◌, ◌⊎◌, ◌<◌, ◌≤◌, ◌+◌, ℕ, min, Some, IfOk, IsOk, IsErr, MatchResult, Contains, length, refl};
+ghost use Rattle.std.specs.Prelude.{◌≡◌, ◌↔◌, ◌⊎◌, ◌<◌, ◌≤◌, ◌+◌, ℕ, min, [], Some, IfOk, IsOk, IsErr, MatchResult, Contains, length, refl};
 ghost use Rattle.std.specs.Io.{ReadsAtMost};
 ghost use Rattle.std.specs.Io.KnownBytes.{ReadConsumes, WriteAppends};
 ghost use Rattle.daap_outside.specs.Counts.{CountsFaults};
 ghost use Rattle.daap_outside.specs.Told.{AnswersEnd};
 
-use crate::faulted::{Failed, Faulted, counted};
 use crate::link::Link;
+use crate::memory::copied;
 use crate::memory::sink::MemSink;
 use crate::memory::source::MemSource;
 use crate::sink::Sink;
 use crate::source::Source;
+use outside_disks::{Failed, Faulted, counted};
+use std::alloc::{AllocError, Global};
 use std::marker::Model;
 
 /// Gives the bytes of a source, takes bytes into the room of a sink, and tells both.
-/// Which reads and which writes fail is set by the two.
+/// Which reads and which writes fail is set by the two, and which probes by a list of the link's
+/// own. The first probe has the number 1.
 #[derive(Drop)]
 pub struct MemLink {
     input: MemSource,
     output: MemSink,
+    failing: Option<Vec<u64>>,
+    probes: u64,
     faults: u64,
 }
 
 impl MemLink {
-    ghost use Rattle.daap_outside.specs.MemLink.{input_of, output_of, returned_link};
+    ghost use Rattle.daap_outside.specs.MemLink.{input_of, output_of, failing_probes, next_probe, returned_link};
 
-    /// A link with no fault counted.
+    /// A link with no fault counted, of which no probe fails.
     pub fn new(input: MemSource, output: MemSink) -> MemLink
         ensures input { input_of result ≡ input }
         ensures output { output_of result ≡ output }
+        ensures failing_probes { failing_probes result ≡ [] }
+        ensures first_probe { next_probe result ≡ 1 }
         ensures faults { ⟦<MemLink as Faulted>⟧.faults result ≡ 0 }
     {
         MemLink {
             input,
             output,
+            failing: None,
+            probes: 0,
             faults: 0,
+        }
+    }
+
+    /// A link with no fault counted. The probes with the numbers `failing` fail.
+    pub fn with_failing_probes(
+        alloc: Global,
+        input: MemSource,
+        output: MemSink,
+        failing: &[u64],
+    ) -> Result<MemLink, AllocError>
+        ensures input { IfOk result (λ link. input_of link ≡ input) }
+        ensures output { IfOk result (λ link. output_of link ≡ output) }
+        ensures failing_probes { IfOk result (λ link. failing_probes link ≡ failing.now) }
+        ensures first_probe { IfOk result (λ link. next_probe link ≡ 1) }
+        ensures faults { IfOk result (λ link. ⟦<MemLink as Faulted>⟧.faults link ≡ 0) }
+    {
+        let mut link = MemLink::new(input, output);
+        link.failing = Some(copied(alloc, failing)?);
+        Ok(link)
+    }
+
+    // The numbers of the probes that fail.
+    fn failing(&self) -> &[u64]
+        ensures { result.now ≡ failing_probes self.now }
+    {
+        match &self.failing {
+            Some(failing) => failing.as_slice(),
+            None => &[],
         }
     }
 
@@ -63,7 +100,7 @@ impl Faulted for MemLink {
 impl Source for MemLink {
     ghost use Rattle.daap_outside.specs.MemSource.{left_of, per_call as pieces_of, failing_calls, next_call, CountsCall};
     ghost use Rattle.daap_outside.specs.MemSink.{taken_of};
-    ghost use Rattle.daap_outside.specs.MemLink.{input_of, output_of};
+    ghost use Rattle.daap_outside.specs.MemLink.{input_of, output_of, ProbesStay};
 
     ghost left = { λ link. Some (left_of link.input) };
 
@@ -79,6 +116,7 @@ impl Source for MemLink {
         ensures amount { IfOk result (λ n.
             n ≡ min (min (length (left_of (input_of self.old))) (length room.old)) (pieces_of (input_of self.old))) }
         ensures called { CountsCall (input_of self.old) (input_of self.new) }
+        ensures probes_stay { ProbesStay self.old self.new }
         ensures fails { IsErr result
             ↔ Contains (failing_calls (input_of self.old)) (next_call (input_of self.old)) }
     {
@@ -92,7 +130,7 @@ impl Source for MemLink {
 impl Sink for MemLink {
     ghost use Rattle.daap_outside.specs.MemSource.{left_of};
     ghost use Rattle.daap_outside.specs.MemSink.{taken_of, room_left, per_call as pieces_of, failing_calls, next_call, sure_room as sure_room_of, CountsCall};
-    ghost use Rattle.daap_outside.specs.MemLink.{input_of, output_of};
+    ghost use Rattle.daap_outside.specs.MemLink.{input_of, output_of, ProbesStay};
 
     ghost taken = { λ link. Some (taken_of link.output) };
 
@@ -115,6 +153,7 @@ impl Sink for MemLink {
             (λ n. room_left (output_of self.new) + n ≡ room_left (output_of self.old))
             (λ _. room_left (output_of self.new) ≡ room_left (output_of self.old)) }
         ensures called { CountsCall (output_of self.old) (output_of self.new) }
+        ensures probes_stay { ProbesStay self.old self.new }
         ensures fails { IsErr result
             ↔ (Contains (failing_calls (output_of self.old)) (next_call (output_of self.old)) ⊎ (room_left (output_of self.old) ≡ 0)) }
     {
@@ -126,6 +165,22 @@ impl Sink for MemLink {
 }
 
 impl Link for MemLink {
+    ghost use Rattle.daap_outside.specs.MemLink.{input_of, output_of, failing_probes, next_probe, CountsProbe};
+
+    fn probe(&mut self) -> Result<(), Failed>
+        ensures taken { output_of self.new ≡ output_of self.old }
+        ensures beside { input_of self.new ≡ input_of self.old }
+        ensures count { CountsFaults self.old.faults self.new.faults result }
+        ensures called { CountsProbe self.old self.new }
+        ensures fails { IsErr result ↔ Contains (failing_probes self.old) (next_probe self.old) }
+    {
+        self.probes = self.probes.saturating_add(1);
+        if self.failing().contains(&self.probes) {
+            return Err(counted(&mut self.faults));
+        }
+        Ok(())
+    }
+
     ghost read_leaves_taken = { λ _. refl };
 
     ghost write_leaves_left = { λ _. refl };

@@ -3,18 +3,19 @@ ghost use Rattle.std.specs.Prelude.{◌≡◌, ◌↔◌, ◌⊎◌, ◌∷◌, 
 ghost use Rattle.std.specs.Option.{option_copied};
 ghost use Rattle.daap_outside.specs.Counts.{CountsFaults, RisesWith};
 ghost use Rattle.daap_outside.specs.NetCounts.{CountsNetFaults};
+ghost use Rattle.daap_outside.specs.Open.{Opens, Closes};
 ghost use Rattle.daap_outside.specs.Told.{BeginsEmpty, Grows, GrowsByTold};
 ghost use Rattle.daap_outside.specs.Places.{OpensDoors, returned};
 ghost use Rattle.daap_outside.specs.MemLink.{IsNew as is_new_link};
 ghost use Rattle.daap_outside.specs.MemDoor.{IsNew as is_new_door};
 
-use crate::faulted::{Failed, Faulted, counted};
 use crate::memory::asked::{Asked, PLACE_ROOM};
 use crate::memory::copied;
 use crate::memory::door::MemDoor;
 use crate::memory::kept::Kept;
 use crate::memory::link::{MemLink, Returned};
 use crate::net::{Net, NetError};
+use outside_disks::{Failed, Faulted, counted};
 use std::alloc::{AllocError, Global};
 use std::collections::VecDeque;
 use std::mem;
@@ -32,13 +33,14 @@ pub struct MemNet {
     calls: u64,
     asked: Kept<Asked>,
     written: Kept<Returned>,
+    open_count: u64,
     faults: u64,
     ghost new_doors: { All is_new_door doors.items },
     ghost new_links: { All is_new_link links.items },
 }
 
 impl MemNet {
-    ghost use Rattle.daap_outside.specs.MemNet.{doors_of, links_of, asked_of, asked_room, written_of, written_room, failing_calls, next_call, with_place, CountsCall, IsSetAlike};
+    ghost use Rattle.daap_outside.specs.MemNet.{doors_of, links_of, asked_of, asked_room, written_of, written_room, open_of, failing_calls, next_call, with_place, CountsCall, IsSetAlike};
 
     /// A net that reaches nothing, without room for what it tells.
     pub fn new(alloc: Global) -> MemNet
@@ -46,6 +48,7 @@ impl MemNet {
         ensures links { links_of result ≡ [] }
         ensures asked { asked_of result ≡ Some [] }
         ensures written { written_of result ≡ Some [] }
+        ensures open_count { open_of result ≡ 0 }
         ensures faults { ⟦<MemNet as Faulted>⟧.faults result ≡ 0 }
         ensures failing_calls { failing_calls result ≡ [] }
         ensures first_call { next_call result ≡ 1 }
@@ -57,6 +60,7 @@ impl MemNet {
             calls: 0,
             asked: Kept::new(alloc),
             written: Kept::new(alloc),
+            open_count: 0,
             faults: 0,
         }
     }
@@ -75,6 +79,7 @@ impl MemNet {
         ensures asked_room { IfOk result (λ net. asked_room net ≡ places) }
         ensures written { IfOk result (λ net. written_of net ≡ Some []) }
         ensures written_room { IfOk result (λ net. written_room net ≡ links) }
+        ensures open_count { IfOk result (λ net. open_of net ≡ 0) }
         ensures faults { IfOk result (λ net. ⟦<MemNet as Faulted>⟧.faults net ≡ 0) }
         ensures failing_calls { IfOk result (λ net. failing_calls net ≡ failing.now) }
         ensures first_call { IfOk result (λ net. next_call net ≡ 1) }
@@ -119,6 +124,7 @@ impl MemNet {
         ensures written_stays { self.new.written ≡ self.old.written }
         ensures doors_stay { self.new.doors ≡ self.old.doors }
         ensures links_stay { self.new.links ≡ self.old.links }
+        ensures open_stays { self.new.open_count ≡ self.old.open_count }
         ensures count { CountsFaults self.old.faults self.new.faults result }
     {
         self.calls = self.calls.saturating_add(1);
@@ -158,7 +164,7 @@ impl Net for MemNet {
     type D = MemDoor;
 
     ghost use Rattle.std.specs.Prelude.{Some};
-    ghost use Rattle.daap_outside.specs.MemNet.{doors_of, links_of, door_inputs, input_next, asked_of, asked_room, written_of, written_room, failing_calls, next_call, with_place, CountsCall};
+    ghost use Rattle.daap_outside.specs.MemNet.{doors_of, links_of, door_inputs, input_next, asked_of, asked_room, written_of, written_room, open_of, failing_calls, next_call, with_place, CountsCall};
     ghost use Rattle.daap_outside.specs.MemDoor.{coming_of, written_of as written_at, faults_of as faults_at};
     ghost use Rattle.daap_outside.specs.MemLink.{input_of, output_of, faults_of, returned_link};
     ghost use Rattle.daap_outside.specs.MemSource.{left_of};
@@ -172,6 +178,8 @@ impl Net for MemNet {
     ghost door_links = { λ net. Some (door_inputs net) };
 
     ghost next_input = { input_next };
+
+    ghost open_count = { open_of };
 
     fn listen(&mut self, place: &str, number: u32) -> Result<Vec<MemDoor>, NetError>
         ensures as_many { IfOk result (λ ds. length ds.items ≡ number) }
@@ -190,6 +198,7 @@ impl Net for MemNet {
         ensures written_stays { written_of self.new ≡ written_of self.old }
         ensures written_room_stays { written_room self.new ≡ written_room self.old }
         ensures links_stay { links_of self.new ≡ links_of self.old }
+        ensures opens { Opens (open_of self.old) (open_of self.new) number result }
         ensures count { CountsNetFaults self.old.faults self.new.faults result }
     {
         self.ask(place, number)?;
@@ -197,6 +206,7 @@ impl Net for MemNet {
             return Err(NetError::from(counted(&mut self.faults)));
         }
         let later = self.doors.split_off(number as usize)?;
+        self.open_count = self.open_count.saturating_add(u64::from(number));
         Ok(mem::replace(&mut self.doors, later))
     }
 
@@ -216,11 +226,15 @@ impl Net for MemNet {
         ensures written_stays { written_of self.new ≡ written_of self.old }
         ensures written_room_stays { written_room self.new ≡ written_room self.old }
         ensures links_stay { doors_of self.new ≡ doors_of self.old }
+        ensures opens { Opens (open_of self.old) (open_of self.new) 1 result }
         ensures count { CountsFaults self.old.faults self.new.faults result }
     {
         self.ask(place, 0)?;
         match self.links.pop_front() {
-            Some(link) => Ok(link),
+            Some(link) => {
+                self.open_count = self.open_count.saturating_add(1);
+                Ok(link)
+            }
             None => Err(counted(&mut self.faults)),
         }
     }
@@ -233,8 +247,10 @@ impl Net for MemNet {
             ≡ option_and_then (keeps (written_of self.old) (written_room self.old)) (written_at door) }
         ensures links_stay { doors_of self.new ≡ doors_of self.old }
         ensures next_stays { links_of self.new ≡ links_of self.old }
+        ensures closes { Closes (open_of self.old) (open_of self.new) }
         ensures count { RisesWith self.old.faults self.new.faults (faults_at door) }
     {
+        self.open_count = self.open_count.saturating_sub(1);
         if door.is_faulted() {
             counted(&mut self.faults);
         }
@@ -251,8 +267,10 @@ impl Net for MemNet {
         ensures written_room { written_room self.new ≡ written_room self.old - 1 }
         ensures links_stay { doors_of self.new ≡ doors_of self.old }
         ensures next_stays { links_of self.new ≡ links_of self.old }
+        ensures closes { Closes (open_of self.old) (open_of self.new) }
         ensures count { RisesWith self.old.faults self.new.faults (faults_of link) }
     {
+        self.open_count = self.open_count.saturating_sub(1);
         let back = link.returned();
         if back.faulted {
             counted(&mut self.faults);

@@ -3,9 +3,9 @@ ghost use Rattle.std.specs.Prelude.{◌≡◌, ◌↔◌, ◌⊎◌, ◌<◌, �
 ghost use Rattle.std.specs.Io.KnownBytes.{WriteAppends};
 ghost use Rattle.daap_outside.specs.Counts.{CountsFaults};
 
-use crate::faulted::{Failed, Faulted, counted};
 use crate::memory::copied;
 use crate::sink::Sink;
+use outside_disks::{Failed, Faulted, counted};
 use std::alloc::{AllocError, Global};
 
 /// Takes bytes into room that was taken when it was made, and tells them.

@@ -5,9 +5,9 @@ ghost use Rattle.std.specs.Io.KnownBytes.{ReadConsumes};
 ghost use Rattle.daap_outside.specs.Counts.{CountsFaults};
 ghost use Rattle.daap_outside.specs.Told.{AnswersEnd};
 
-use crate::faulted::{Failed, Faulted, counted};
 use crate::memory::copied;
 use crate::source::Source;
+use outside_disks::{Failed, Faulted, counted};
 use std::alloc::{AllocError, Global};
 
 /// Gives the bytes that it was made with, and tells those that are left.

@@ -111,6 +111,13 @@ impl Sink for GatedLink<'_> {
 }
 
 impl Link for GatedLink<'_> {
+    fn probe(&mut self) -> Result<(), Failed> {
+        match self.gated.link.probe() {
+            Ok(()) => Ok(()),
+            Err(Failed) => Err(failed(&mut self.faults)),
+        }
+    }
+
     ghost read_leaves_taken = { λ _. refl };
 
     ghost write_leaves_left = { λ _. refl };

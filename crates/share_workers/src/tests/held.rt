@@ -15,6 +15,7 @@ use std::sync::Wait;
 use std::sync::atomic::AtomicU64;
 use std::test::Fail;
 use std::thread::Threads;
+use std::time::{Clock, Duration};
 
 // A login, and updates for the revisions 1, 2 and 3: the first is answered at once, the second when the edit comes, and the
 // third when the stop does.
@@ -137,7 +138,7 @@ fn told_of(
 }
 
 /// A player and an editor at one share, each in a thread of its own.
-fn served<R: Threads + Wait + Sync>(
+fn served<R: Threads + Wait + Clock + Sync>(
     rt: &R,
     alloc: Global,
     plans: &(WorkerPlan, WorkerPlan),
@@ -161,7 +162,7 @@ fn served<R: Threads + Wait + Sync>(
 }
 
 /// Whether a report tells these statuses, and this end.
-fn tells(report: Option<&LinkReport>, statuses: &[u16], end: LinkEnd) -> bool {
+pub fn tells(report: Option<&LinkReport>, statuses: &[u16], end: LinkEnd) -> bool {
     match report {
         Some(report) => {
             report.end == end
@@ -185,15 +186,56 @@ fn owns(told: &Told, points: &[u64]) -> bool {
 const WOKEN: &[u8] =
     b"HTTP/1.1 200 OK\r\nContent-Type: application/x-dmap-tagged\r\nContent-Length: 32\r\n\r\nmupd\0\0\0\x18mstt\0\0\0\x04\0\0\0\xc8musr\0\0\0\x04\0\0\0\x03HTTP/1.1 503 Service Unavailable\r\nContent-Length: 0\r\nConnection: close\r\n\r\n";
 
+fn read_clock<C: Clock>(clock: &C) -> Result<Duration, AllocError> {
+    match clock.monotonic() {
+        Ok(time) => Ok(time),
+        Err(_) => Err(AllocError),
+    }
+}
+
+/// The same, and whether it took less than the five seconds after which a held update looks without a bell.
+fn woken<R: Threads + Wait + Clock + Sync>(
+    rt: &R,
+    alloc: Global,
+    plans: &(WorkerPlan, WorkerPlan),
+) -> Result<(Told, Told, bool), AllocError> {
+    let begun = read_clock(rt)?;
+    let (player, other) = served(rt, alloc, plans)?;
+    let spent = read_clock(rt)?.saturating_sub(begun);
+    Ok((player, other, spent < Duration::from_secs(5)))
+}
+
 #[test]
 fn an_edit_and_a_stop_wake_what_is_held(rt: HostRuntime) -> Result<(), Fail> {
     let plans = (player(0), editor(0, 0, &[]));
-    let (player, editor) = served(&rt, rt.alloc(), &plans)?;
+    let (player, editor, prompt) = woken(&rt, rt.alloc(), &plans)?;
+    assert!(rt; prompt);
     assert!(rt; tells(player.reports.first(), &ALL_HEARD, LinkEnd::Stopped));
     assert!(rt; player.bytes.len() == 410 && player.bytes.as_slice().ends_with(WOKEN));
     assert!(rt; tells(editor.reports.first(), &[200, 204], LinkEnd::Stopped));
     assert!(rt; editor.reports.len() == 1 && editor.end == WorkerEnd::Stopped);
     assert!(rt; owns(&player, &[1]) && owns(&editor, &[2, 3]));
+    Ok(())
+}
+
+#[test]
+fn a_logout_wakes_what_is_held(rt: HostRuntime) -> Result<(), Fail> {
+    let other = LinkPlan {
+        reads_wait: &[BEFORE_EDIT],
+        ..plain("GET /logout?session-id=1 HTTP/1.1\r\n\r\n")
+    };
+    let plans = (player(0), of_one(Role::Listen, other));
+    let (player, other, prompt) = woken(&rt, rt.alloc(), &plans)?;
+    assert!(rt; prompt);
+    assert!(rt;
+        tells(
+            player.reports.first(),
+            &[200, 200, 403, 403],
+            LinkEnd::Closed
+        )
+    );
+    assert!(rt; tells(other.reports.first(), &[204], LinkEnd::Closed));
+    assert!(rt; owns(&player, &[1]) && owns(&other, &[2]));
     Ok(())
 }
 

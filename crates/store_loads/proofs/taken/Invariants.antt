@@ -6,3 +6,6 @@ ghosts-revision_after a = record { name = a.blank.name; parts = a.blank.parts }
 
 abbrev pub ghosts-deltas_len : goal.ghosts-deltas_len
 ghosts-deltas_len a = record { name = a.blank.name; parts = a.blank.parts }
+
+abbrev pub ghosts-matched : goal.ghosts-matched
+ghosts-matched a = record { name = a.blank.name; parts = a.blank.parts }

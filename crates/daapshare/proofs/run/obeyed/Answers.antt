@@ -8,7 +8,7 @@ use Rattle.share_commands.specs.ListShare.{list_meaning}
 use Rattle.daapshare_words.specs.Replay.{AreReplayWords}
 use Rattle.daapshare_words.specs.Words.{IsLocalRanged}
 use Rattle.daapshare_words.specs.declared.command.LocalCommand.{LocalCommand}
-use Rattle.daapshare.specs.Table.{shows, tells_codes, meaning_of}
+use Rattle.daapshare.specs.Table.{shows, jsons, tells_codes, meaning_of}
 use Rattle.daapshare.proofs.run.obeyed.Goals as goal
 
 pub returns-in-List : goal.returns-in-List
@@ -42,7 +42,27 @@ returns-in-Show-false g c =
     (input_seen (g.I.Source.left c.args.input.now) (g.I.Faulted.faults c.args.input.now)) (input_seen (g.I.Source.left c.show_tags.new.input) (g.I.Faulted.faults c.show_tags.new.input))
     (output_seen (g.W.Sink.taken c.args.output.now) (g.W.Faulted.faults c.args.output.now)) (output_seen (g.W.Sink.taken c.show_tags.new.output) (g.W.Faulted.faults c.show_tags.new.output)) in
     subst (λ (asked : LocalCommand). IsAnswered (meaning_of asked) told c.show_tags.result) (sym c.in-Show-false.is)
-    (subst (λ (b : Bool). IsAnswered (shows b) told c.show_tags.result) (sym back) (c.show_tags.ensures around))
+    (subst (λ (b : Bool). IsAnswered (shows b) told c.show_tags.result) (sym back) (c.show_tags.ensures.answered around))
+
+pub returns-in-Json-true : goal.returns-in-Json-true
+returns-in-Json-true g c =
+    let back : c.in-Json-true.field-0.back ≡ true = search rules in
+    λ around.
+    let told : Told = told_beside around
+    (input_seen (g.I.Source.left c.args.input.now) (g.I.Faulted.faults c.args.input.now)) (input_seen (g.I.Source.left c.read_json.new.input) (g.I.Faulted.faults c.read_json.new.input))
+    (output_seen (g.W.Sink.taken c.args.output.now) (g.W.Faulted.faults c.args.output.now)) (output_seen (g.W.Sink.taken c.read_json.new.output) (g.W.Faulted.faults c.read_json.new.output)) in
+    subst (λ (asked : LocalCommand). IsAnswered (meaning_of asked) told c.read_json.result) (sym c.in-Json-true.is)
+    (subst (λ (b : Bool). IsAnswered (jsons b) told c.read_json.result) (sym back) (c.read_json.ensures around))
+
+pub returns-in-Json-false : goal.returns-in-Json-false
+returns-in-Json-false g c =
+    let back : c.in-Json-false.field-0.back ≡ false = search rules in
+    λ around.
+    let told : Told = told_beside around
+    (input_seen (g.I.Source.left c.args.input.now) (g.I.Faulted.faults c.args.input.now)) (input_seen (g.I.Source.left c.write_json.new.input) (g.I.Faulted.faults c.write_json.new.input))
+    (output_seen (g.W.Sink.taken c.args.output.now) (g.W.Faulted.faults c.args.output.now)) (output_seen (g.W.Sink.taken c.write_json.new.output) (g.W.Faulted.faults c.write_json.new.output)) in
+    subst (λ (asked : LocalCommand). IsAnswered (meaning_of asked) told c.write_json.result) (sym c.in-Json-false.is)
+    (subst (λ (b : Bool). IsAnswered (jsons b) told c.write_json.result) (sym back) (c.write_json.ensures around))
 
 pub returns-in-Check : goal.returns-in-Check
 returns-in-Check g c =

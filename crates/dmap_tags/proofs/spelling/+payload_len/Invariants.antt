@@ -1,6 +1,6 @@
-use Rattle.std.proofs.Common.{◌≡◌, ◌≤◌, ◌+◌, ◌&&◌, nat_le, length, drop, Some, None, if◌then◌else◌}
+use Rattle.std.proofs.Common.{◌≡◌, ◌≤◌, drop}
 use Rattle.dmap_tags.specs.Tree.{trees_of, size_of, sizes_of}
-use Rattle.dmap_tags.specs.Spelling.{spellings, longest, are_spellable}
+use Rattle.dmap_tags.specs.Spelling.{longest}
 use Rattle.dmap_tags.proofs.Lengths.{length_from}
 use Rattle.dmap_tags.proofs.spelling.+payload_len.Given as goal
 

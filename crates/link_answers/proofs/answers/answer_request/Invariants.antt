@@ -1,5 +1,5 @@
--- The turn was given back, and the pass served nothing yet.
-use Rattle.std.specs.Prelude.{[]}
+-- The turn was given back, the pass served nothing yet, and the link is as it was.
+use Rattle.std.specs.Prelude.{◌≡◌, []}
 use Rattle.share_lock.specs.Passes.{lock_id, known, IsReady}
 use Rattle.served_links.specs.Passes.{Serves}
 use Rattle.link_answers.proofs.answers.answer_request.Given as goal
@@ -8,4 +8,7 @@ abbrev pub invariant-loop : goal.invariant-loop
 invariant-loop g l = record {
   ready : IsReady (lock_id l.lock) l.pass;
   quiet : Serves (known l.fn.pass) (known l.pass) [] [];
+  taken : g.K.Sink.taken l.link ≡ g.K.Sink.taken l.initial.link;
+  beside : g.K.Sink.beside_taken l.link ≡ g.K.Sink.beside_taken l.initial.link;
+  count : g.K.Faulted.faults l.link ≡ g.K.Faulted.faults l.initial.link;
 }

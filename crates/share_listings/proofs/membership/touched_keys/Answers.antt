@@ -1,6 +1,5 @@
-use Rattle.std.proofs.Common.{sym, ap, subst, ◌∙◌, ◌≤◌}
+use Rattle.std.proofs.Common.{sym, ap, subst, ◌∙◌}
 use Rattle.share_history.specs.Kept.{touched}
-use Rattle.item_store.specs.Stands.{floor_of}
 use Rattle.share_listings.specs.Memberships.{IsMembership}
 use Rattle.share_listings.proofs.MembershipFacts.{library_touched}
 use Rattle.share_listings.proofs.OnSuccess.{if_ok}

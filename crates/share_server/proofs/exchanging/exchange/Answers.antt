@@ -1,9 +1,15 @@
-use Rattle.std.proofs.Common.{◌≡◌, ℕ, ◌+◌, List, [], ◌∷◌, ◌++◌, length, Some, sym, ap, ◌∙◌, subst, length-append, arith}
+use Rattle.std.proofs.Common.{◌≡◌, List, Some, rules, sym, subst}
+use Rattle.std.specs.Prelude.{Result, Err}
 use Rattle.share_lock.specs.Passes.{known}
 use Rattle.served_links.specs.declared.report.Served.{Served}
-use Rattle.served_links.specs.Replies.{end_behind}
-use Rattle.share_server.specs.Steps.{Exchanges}
-use Rattle.share_server.proofs.Requests.{exchanged, unserved}
+use Rattle.served_links.specs.declared.report.LinkEnd.TheVariants.{LinkFault}
+use Rattle.link_answers.specs.Answering.{IsOutcome}
+use Rattle.link_answers.specs.declared.outcome.Answered.{Answered}
+use Rattle.link_answers.specs.declared.outcome.Unanswered.{Unanswered}
+use Rattle.link_answers.specs.declared.outcome.Unanswered.TheVariants.{Gone}
+use Rattle.served_links.specs.Served.{at_point}
+use Rattle.share_server.specs.Steps.{Goes, Exchanges}
+use Rattle.share_server.proofs.Requests.{gone, sayable, unserved}
 use Rattle.share_server.proofs.exchanging.exchange.Goals as goal
 
 -- there was no room for the report
@@ -15,20 +21,27 @@ returns-then-is_err-clause-exchanges g c = λ k taken asks goes.
     (unserved c.args.service.now.limit k (known c.args.pass.now) taken (g.K.Sink.taken c.args.link.now) (g.K.Sink.taken c.given_up.new.link) asks c.args.ask.now
     c.args.served.now.items c.given_up.result goes c.given_up.ensures.told)
 
-pub returns-clause-exchanges : goal.returns-clause-exchanges
-returns-clause-exchanges g c = λ k taken asks goes.
-    let pushed : c.push_reserved.new.self.items ≡ c.args.served.now.items ++ c.answer_request-said.result.served ∷ [] =
-    ◌∙◌ {b = c.reserve.new.self.items ++ c.answer_request-said.result.served ∷ []} c.push_reserved.ensures.items
-    (ap (λ (l : List Served). l ++ c.answer_request-said.result.served ∷ []) c.reserve.ensures.items) in
-    let count : c.len.result ≡ length c.args.served.now.items + 1 =
-    omega (arith, c.len.ensures, c.push_reserved.new.self.ok.0, ap length pushed, length-append c.args.served.now.items (c.answer_request-said.result.served ∷ [])) in
-    let due : c.end_behind-due.result ≡ end_behind c.args.service.now.limit (length c.args.served.now.items + 1) c.args.ask.now.close c.answer_request-said.result.stopped =
-    c.end_behind-due.ensures.end ∙ ap (λ (n : ℕ). end_behind c.args.service.now.limit n c.args.ask.now.close c.answer_request-said.result.stopped) count in
+-- what is said of an answer can be written
+pub tell-requires-clause-sayable : goal.tell-requires-clause-sayable
+tell-requires-clause-sayable g c = sayable (known c.args.pass.now).settings (at_point (known c.answer_request.new.pass).seen c.in-Ok.answered.served) c.args.ask.now c.in-Ok.answered.served
+    c.in-Ok.answered.said c.in-Ok.ensures.outcome.said
+
+-- it was answered
+pub returns-in-Ok-clause-exchanges : goal.returns-in-Ok-clause-exchanges
+returns-in-Ok-clause-exchanges g c = λ k taken asks goes.
+    c.tell.ensures.exchanges k (known c.args.pass.now) (known c.answer_request.new.pass) taken asks
+    (subst (λ (served : List Served). Goes c.args.service.now.limit k (known c.args.pass.now) taken (g.K.Sink.taken c.answer_request.new.link) asks served) (sym c.reserve.ensures.items)
+    (subst (λ now. Goes c.args.service.now.limit k (known c.args.pass.now) taken now asks c.args.served.now.items) (sym c.answer_request.ensures.taken) goes))
+    c.in-Ok.ensures.outcome
+
+-- its peer went
+pub returns-in-Err-Gone-clause-exchanges : goal.returns-in-Err-Gone-clause-exchanges
+returns-in-Err-Gone-clause-exchanges g c = λ k taken asks goes.
+    let is : ◌≡◌ {A = Result Answered Unanswered} c.answer_request.result (Err Gone) = search rules in
     subst
-    (λ (served : List Served). Exchanges c.args.service.now.limit k (known c.answer_request-said.new.pass) taken (g.K.Sink.taken c.reply.new.link) asks c.args.ask.now served c.reply.result)
-    (sym pushed)
-    (exchanged c.args.service.now.limit k (known c.args.pass.now) (known c.answer_request-said.new.pass) taken (g.K.Sink.taken c.args.link.now)
-    (g.K.Sink.taken c.reply.new.link) asks c.args.ask.now c.args.served.now.items c.answer_request-said.result.served c.answer_request-said.result.said
-    c.answer_request-said.result.stopped c.end_behind-due.result c.reply.result goes c.answer_request-said.ensures.serves c.answer_request-said.ensures.said
-    c.answer_request-said.ensures.stopped
-    due c.reply.ensures.written)
+    (λ (served : List Served). Exchanges c.args.service.now.limit k (known c.answer_request.new.pass) taken (g.K.Sink.taken c.answer_request.new.link) asks c.args.ask.now served (Some LinkFault))
+    (sym c.reserve.ensures.items)
+    (gone c.args.service.now.limit k (known c.args.pass.now) (known c.answer_request.new.pass) taken (g.K.Sink.taken c.args.link.now)
+    (g.K.Sink.taken c.answer_request.new.link) asks c.args.ask.now c.args.served.now.items goes
+    (subst (IsOutcome (known c.args.pass.now) (known c.answer_request.new.pass) c.args.ask.now) is c.answer_request.ensures.outcome)
+    c.answer_request.ensures.taken)

@@ -1,13 +1,15 @@
 use Rattle.std.proofs.Common.{None, refl, subst}
-use Rattle.command_core.specs.Seen.{Told, OutputSeen, input_seen, output_seen, told_beside}
+use Rattle.command_core.specs.Seen.{Told, InputSeen, OutputSeen, input_seen, output_seen, told_beside}
 use Rattle.command_core.proofs.Ended.{by_done, by_cut, by_fault}
 use Rattle.tag_commands.specs.Show.{show_meaning}
 use Rattle.tag_commands.specs.Showing.{ShowStops}
+use Rattle.tag_commands.specs.TopTags.{tags_line, tags_status}
+use Rattle.tag_commands.proofs.InStep.{step_fault}
 use Rattle.tag_commands.proofs.Senses.{show_sense}
 use Rattle.tag_commands.proofs.show.show_tags.Goals as goal
 
-pub returns-in-Ok : goal.returns-in-Ok
-returns-in-Ok g c =
+pub returns-in-Ok-clause-answered : goal.returns-in-Ok-clause-answered
+returns-in-Ok-clause-answered g c =
     let shown = c.in-Ok.ensures.shown in
     λ around.
     let told : Told = told_beside around
@@ -15,8 +17,8 @@ returns-in-Ok g c =
     (output_seen (g.W.Sink.taken c.args.output.now) (g.W.Faulted.faults c.args.output.now)) (output_seen (g.W.Sink.taken c.shown.new.output) (g.W.Faulted.faults c.shown.new.output)) in
     by_done show_meaning show_sense told (record { status = 0; history = None }) shown.0 shown.1 refl shown.2
 
-pub returns-in-Err-Input : goal.returns-in-Err-Input
-returns-in-Err-Input g c =
+pub returns-in-Err-Input-clause-answered : goal.returns-in-Err-Input-clause-answered
+returns-in-Err-Input-clause-answered g c =
     λ around.
     let told : Told = told_beside around
     (input_seen (g.I.Source.left c.args.input.now) (g.I.Faulted.faults c.args.input.now)) (input_seen (g.I.Source.left c.shown.new.input) (g.I.Faulted.faults c.shown.new.input))
@@ -25,11 +27,20 @@ returns-in-Err-Input g c =
     let stops = subst (ShowStops told.before.input told.after.input told.output_before mid) c.in-Err-Input.field-0-is c.in-Err-Input.ensures.stopped in
     by_fault show_meaning show_sense told mid c.refused.result stops.1.0 c.in-Err-Input.fault stops.0 refl stops.1.1 stops.1.2 c.refused.ensures
 
-pub returns-in-Err-Output : goal.returns-in-Err-Output
-returns-in-Err-Output g c =
+pub returns-in-Err-Output-clause-answered : goal.returns-in-Err-Output-clause-answered
+returns-in-Err-Output-clause-answered g c =
     λ around.
     let told : Told = told_beside around
     (input_seen (g.I.Source.left c.args.input.now) (g.I.Faulted.faults c.args.input.now)) (input_seen (g.I.Source.left c.shown.new.input) (g.I.Faulted.faults c.shown.new.input))
     (output_seen (g.W.Sink.taken c.args.output.now) (g.W.Faulted.faults c.args.output.now)) (output_seen (g.W.Sink.taken c.shown.new.output) (g.W.Faulted.faults c.shown.new.output)) in
     let stops = subst (ShowStops told.before.input told.after.input told.output_before told.output_after) c.in-Err-Output.field-0-is c.in-Err-Output.ensures.stopped in
     by_cut show_meaning show_sense told (record { status = 5; history = None }) stops.0 stops.1 refl stops.2
+
+pub returns-in-Err-Input-clause-in_step : goal.returns-in-Err-Input-clause-in_step
+returns-in-Err-Input-clause-in_step g c =
+    let before : InputSeen = input_seen (g.I.Source.left c.args.input.now) (g.I.Faulted.faults c.args.input.now) in
+    let after : InputSeen = input_seen (g.I.Source.left c.shown.new.input) (g.I.Faulted.faults c.shown.new.input) in
+    let output : OutputSeen = output_seen (g.W.Sink.taken c.args.output.now) (g.W.Faulted.faults c.args.output.now) in
+    let mid : OutputSeen = output_seen (g.W.Sink.taken c.shown.new.output) (g.W.Faulted.faults c.shown.new.output) in
+    let output' : OutputSeen = output_seen (g.W.Sink.taken c.refused.new.output) (g.W.Faulted.faults c.refused.new.output) in
+    step_fault tags_line tags_status c.in-Err-Input.fault before after output mid output' c.refused.result c.shown.ensures.in_step c.refused.ensures

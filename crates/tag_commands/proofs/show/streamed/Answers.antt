@@ -1,11 +1,12 @@
-use Rattle.std.proofs.Common.{rules, ◌<◌, ◌≤◌, ◌++◌, ℕ, List, [], length, sym, subst, ◌∙◌, arith, length-append}
+use Rattle.std.proofs.Common.{rules, ◌≡◌, ◌<◌, ◌≤◌, ◌++◌, ℕ, List, [], length, sym, subst, ◌∙◌, arith, length-append}
 use Rattle.std.specs.Io.KnownBytes.{Consumes}
 use Rattle.std.proofs.KnownBytes.{Consumes-trans, Consumes-kept}
 use Rattle.daap_outside.specs.Counts.{Rose}
 use Rattle.command_core.specs.Seen.{InputSeen}
 use Rattle.command_core.specs.Causes.{piece_limit}
 use Rattle.command_core.proofs.Appending.{written_more, none_written}
-use Rattle.tag_commands.proofs.Showing.{show_nothing, show_failed, show_read, on_shown, step_stops}
+use Rattle.tag_commands.proofs.InStep.{consumes_none, step_none, step_shown, step_stopped}
+use Rattle.tag_commands.proofs.Showing.{show_nothing, show_failed, show_read, on_shown, step_stops, written_text}
 use Rattle.tag_commands.proofs.show.streamed.Goals as goal
 
 pub returns-in-Err-clause-stopped : goal.returns-in-Err-clause-stopped
@@ -77,3 +78,45 @@ loop-n-preserved g c =
           (record { taken = g.W.Sink.taken c.loop-n.output; faults = g.W.Faulted.faults c.loop-n.output })
           (record { taken = g.W.Sink.taken c.step.new.output; faults = g.W.Faulted.faults c.step.new.output }) now.written went.0 now.told went.3;
     }
+
+pub returns-in-Err-clause-in_step : goal.returns-in-Err-clause-in_step
+returns-in-Err-clause-in_step g c =
+    step_none (record { left = g.I.Source.left c.args.input.now; faults = g.I.Faulted.faults c.args.input.now })
+    (record { taken = g.W.Sink.taken c.args.output.now; faults = g.W.Faulted.faults c.args.output.now })
+
+pub returns-in-Err-read-clause-in_step : goal.returns-in-Err-read-clause-in_step
+returns-in-Err-read-clause-in_step g c =
+    let now = c.loop-n.invariant in
+    step_shown (record { left = g.I.Source.left c.args.input.now; faults = g.I.Faulted.faults c.args.input.now })
+    (record { left = g.I.Source.left c.read.new.self; faults = g.I.Faulted.faults c.read.new.self })
+    (record { taken = g.W.Sink.taken c.args.output.now; faults = g.W.Faulted.faults c.args.output.now })
+    (record { taken = g.W.Sink.taken c.loop-n.output; faults = g.W.Faulted.faults c.loop-n.output }) now.fed now.written
+    (written_text now.fed now.written c.loop-n.shower now.showing now.idle now.within) (Consumes-kept _ _ _ now.fed now.read c.in-Err-read.ensures.moved) now.told.taken
+
+pub returns-in-Err-step-clause-in_step : goal.returns-in-Err-step-clause-in_step
+returns-in-Err-step-clause-in_step g c =
+    let now = c.loop-n.invariant in
+    let piece = c.split_at.result.0.now in
+    let stopped = c.in-Err-step.ensures.stopped now.fed now.written now.showing in
+    let read =
+    subst (λ (bytes : List ℕ). Consumes (g.I.Source.left c.args.input.now) (g.I.Source.left c.read.new.self) (now.fed ++ bytes)) (sym c.split_at.ensures.front)
+    (Consumes-trans _ _ _ _ _ now.read c.in-Ok-read.ensures.moved.0) in
+    let short : length piece ≤ piece_limit = search rules in
+    step_stopped (record { left = g.I.Source.left c.args.input.now; faults = g.I.Faulted.faults c.args.input.now })
+    (record { left = g.I.Source.left c.read.new.self; faults = g.I.Faulted.faults c.read.new.self })
+    (record { taken = g.W.Sink.taken c.args.output.now; faults = g.W.Faulted.faults c.args.output.now })
+    (record { taken = g.W.Sink.taken c.loop-n.output; faults = g.W.Faulted.faults c.loop-n.output })
+    (record { taken = g.W.Sink.taken c.step.new.output; faults = g.W.Faulted.faults c.step.new.output }) now.fed piece now.written (now.written ++ stopped.0) stopped.0 c.in-Err-step.stop
+    (written_text now.fed now.written c.loop-n.shower now.showing now.idle now.within) read short (c.in-Ok-read.ensures.count ∙ now.faultless) now.told.taken stopped.1
+
+-- the end of the input
+pub returns-then-n-eq0-clause-in_step : goal.returns-then-n-eq0-clause-in_step
+returns-then-n-eq0-clause-in_step g c =
+    let now = c.loop-n.invariant in
+    let end : c.in-Ok-read.n ≡ 0 = omega (arith, c.if-n-eq0.true) in
+    step_shown (record { left = g.I.Source.left c.args.input.now; faults = g.I.Faulted.faults c.args.input.now })
+    (record { left = g.I.Source.left c.read.new.self; faults = g.I.Faulted.faults c.read.new.self })
+    (record { taken = g.W.Sink.taken c.args.output.now; faults = g.W.Faulted.faults c.args.output.now })
+    (record { taken = g.W.Sink.taken c.loop-n.output; faults = g.W.Faulted.faults c.loop-n.output }) now.fed now.written
+    (written_text now.fed now.written c.loop-n.shower now.showing now.idle now.within) (consumes_none _ _ _ now.fed _ c.in-Ok-read.n end now.read c.in-Ok-read.ensures.moved.0)
+    now.told.taken

@@ -7,4 +7,4 @@ pub returns-clause-fits : goal.returns-clause-fits
 returns-clause-fits c =
     through (λ v. is_value_of c.args.property v ≡ true) _ _
     (c.find_value.ensures ∙ ap (value_of c.args.property) c.as_slice.ensures.value)
-    (value_fits c.args.property 0 _ c.self.invariant)
+    (value_fits c.args.property 0 _ c.self.invariant.0)

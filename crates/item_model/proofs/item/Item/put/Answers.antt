@@ -1,11 +1,17 @@
-use Rattle.std.proofs.Common.{◌≡◌, ◌≤◌, true, rules, arith}
+use Rattle.std.proofs.Common.{◌≡◌, ◌≤◌, ◌∙◌, ap, true, rules, arith}
 use Rattle.item_model.specs.Properties.{rank_of}
-use Rattle.item_model.specs.Items.{is_value_of}
+use Rattle.item_model.specs.Items.{is_value_of, with_value}
 use Rattle.item_model.proofs.Places.{stays_item}
+use Rattle.item_model.proofs.KeptFolds.{folds_with}
 use Rattle.item_model.proofs.item.Item.put.Goals as goal
 
 pub invariant_of-self-2 : goal.invariant_of-self-2
 invariant_of-self-2 c =
-    let value : is_value_of c.args.property c.args.value ≡ true = search rules in
-    let first : 0 ≤ rank_of c.args.property = omega arith in
-    rw c.in_ok-set.ensures.set (stays_item c.args.property c.args.value 0 _ value first c.self.invariant)
+    let p = c.args.property in
+    let v = c.args.value in
+    let value : is_value_of p v ≡ true = search rules in
+    let first : 0 ≤ rank_of p = omega arith in
+    let put : c.set.new.entries.items ≡ with_value p v c.self.inside.entries.items = c.set.ensures ∙ ap (with_value p v) c.reserve.ensures.items in (
+      rw put (stays_item p v 0 _ value first c.self.invariant.0),
+      folds_with p v c.in_ok-fold.fold _ _ c.self.inside.folds.items _ put (c.in_ok-keep.ensures.kept) c.in_ok-fold.ensures c.self.invariant.1,
+    )

@@ -1,6 +1,0 @@
-use Rattle.std.proofs.Common.{◌≡◌}
-use Rattle.daap_outside.proofs.tcp.TcpLinkSource.read.Given as goal
-
--- an interrupted wait is no fault
-abbrev pub invariant-loop : goal.invariant-loop
-invariant-loop l = l.self.faults ≡ l.initial.self.faults

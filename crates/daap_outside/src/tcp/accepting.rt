@@ -1,0 +1,60 @@
+//! Waiting for a link at a listener, over errors that end no more than one link.
+use crate::tcp::link::{READ_SECONDS, set_options};
+use std::net::{TcpListener, TcpStream};
+use std::time::{Clock, Duration};
+use std::{io, thread};
+
+// How often in a row it is tried again where the system lacks descriptors, buffers or memory.
+const MOST_PAUSES: u32 = 60;
+
+// How long each of these pauses is.
+const PAUSE_SECONDS: u64 = 1;
+
+// Linux's numbers of errors that belong to one link, or to none: EINTR, EPERM (a rule of the
+// firewall), ENONET, EPROTO, ENOPROTOOPT, EOPNOTSUPP, ENETDOWN, ENETUNREACH, ECONNABORTED,
+// ECONNRESET, ETIMEDOUT, EHOSTDOWN, EHOSTUNREACH.
+static LINK_ERRORS: [i32; 13] = [1, 4, 64, 71, 92, 95, 100, 101, 103, 104, 110, 112, 113];
+
+// Those for want of memory, descriptors or buffers: ENOMEM, ENFILE, EMFILE, ENOBUFS.
+static WANTS: [i32; 4] = [12, 23, 24, 105];
+
+// What an error of `accept` asks for.
+#[derive(Clone, Copy, Debug, PartialEq, Eq)]
+pub(super) enum Remedy {
+    TryAgain,
+    PauseFirst,
+    GiveUp,
+}
+
+pub(super) fn remedy_of(error: &io::Error) -> Remedy {
+    match error.raw_os_error() {
+        Some(number) if LINK_ERRORS.contains(&number) => Remedy::TryAgain,
+        Some(number) if WANTS.contains(&number) => Remedy::PauseFirst,
+        _ => Remedy::GiveUp,
+    }
+}
+
+// The next link that comes and takes its options, or none where the listener fails.
+pub(super) fn next_stream(clock: &impl Clock, listener: &TcpListener) -> Option<TcpStream> {
+    let mut pauses = 0u32;
+    for _ in 0..u64::MAX {
+        match listener.accept() {
+            Ok((stream, _peer)) => {
+                let reads_wait = Some(Duration::from_secs(READ_SECONDS));
+                if set_options(&stream, reads_wait).is_ok() {
+                    return Some(stream);
+                }
+                pauses = 0;
+            }
+            Err(error) => match remedy_of(&error) {
+                Remedy::TryAgain => pauses = 0,
+                Remedy::PauseFirst if pauses < MOST_PAUSES => {
+                    pauses += 1;
+                    thread::sleep(clock, Duration::from_secs(PAUSE_SECONDS));
+                }
+                _ => return None,
+            },
+        }
+    }
+    None
+}

@@ -1,0 +1,192 @@
+//! A connection over TCP.
+ghost use Rattle.std.specs.Prelude.{◌≡◌, None, IfOk, refl};
+
+use crate::link::Link;
+use crate::sink::Sink;
+use crate::source::Source;
+use outside_disks::{Failed, Faulted, counted};
+use std::alloc::Global;
+use std::io;
+use std::io::{ErrorKind, Read, Write};
+use std::net::{Shutdown, TcpStream};
+use std::sync::Arc;
+use std::sync::atomic::{AtomicU64, Ordering};
+use std::time::{Clock, Duration, Instant};
+
+/// How long a read of an accepted link waits for the peer, in seconds. It is what `/server-info`
+/// announces as the time after which a silent client is let go, so that none which keeps to it is
+/// cut off, and one that has gone without a word frees its worker.
+pub const READ_SECONDS: u64 = 1_800;
+
+/// How long a write waits for the peer to take anything, in seconds. Whoever asked for a reply and
+/// takes no byte of it for a minute has gone or is stuck, and frees its worker.
+pub const WRITE_SECONDS: u64 = 60;
+
+// How long `goodbye` reads what a peer still sends.
+const GOODBYE_SECONDS: u64 = 2;
+
+// How many bytes `goodbye` reads at most, but for one read: 8 MiB.
+const GOODBYE_BYTES: usize = 8_388_608;
+
+// How many bytes one read of `goodbye` asks for.
+const GOODBYE_PIECE: usize = 32_768;
+
+// How long an update is held while no door of the link's place waits, and how many doors do.
+#[derive(Drop)]
+pub(super) struct Holding {
+    pub(super) waiting: Arc<AtomicU64, Global>,
+    pub(super) limit: Duration,
+}
+
+/// A connection over TCP. A read or a write that waits too long counts a fault.
+#[derive(Drop)]
+pub struct TcpLink<R> {
+    pub(super) rt: R,
+    pub(super) stream: TcpStream,
+    // None for a link that was connected.
+    pub(super) holding: Option<Holding>,
+    // When it was first probed since the last read or write.
+    pub(super) held_since: Option<Instant>,
+    pub(super) faults: u64,
+}
+
+impl<R> TcpLink<R> {
+    pub(super) fn new(rt: R, stream: TcpStream, holding: Option<Holding>) -> TcpLink<R>
+        ensures { result.faults ≡ 0 }
+    {
+        TcpLink {
+            rt,
+            stream,
+            holding,
+            held_since: None,
+            faults: 0,
+        }
+    }
+}
+
+// What is written goes out at once, so that the body of a reply never waits until its head is
+// acknowledged. A connected link waits for its peer as long as that takes.
+pub(super) fn set_options(stream: &TcpStream, reads_wait: Option<Duration>) -> io::Result<()> {
+    stream.set_nodelay(true)?;
+    stream.set_read_timeout(reads_wait)?;
+    stream.set_write_timeout(Some(Duration::from_secs(WRITE_SECONDS)))
+}
+
+// Whether the peer may still be there: neither an end nor an error has come from it. The call
+// doesn't wait, and leaves the bytes that have come. They hide an end that has come behind them.
+fn is_there(stream: &TcpStream) -> io::Result<bool> {
+    stream.set_nonblocking(true)?;
+    let peeked = stream.peek(&mut [0]);
+    stream.set_nonblocking(false)?;
+    match peeked {
+        Ok(n) => Ok(n > 0),
+        Err(error) => Ok(matches!(error.kind(), ErrorKind::WouldBlock | ErrorKind::Interrupted)),
+    }
+}
+
+impl<R: Clock> TcpLink<R> {
+    // Whether the probes since the last read or write go back as far as the limit, and no door
+    // of the place waits for a link. Where the clock can't be read, it isn't known, and false.
+    fn is_held_too_long(&mut self) -> bool
+        ensures { self.new.faults ≡ self.old.faults }
+    {
+        let Ok(now) = Instant::now(&self.rt) else {
+            return false;
+        };
+        let Some(since) = self.held_since else {
+            self.held_since = Some(now);
+            return false;
+        };
+        match &self.holding {
+            Some(holding) => {
+                now.duration_since(since) >= holding.limit
+                    && holding.waiting.load(Ordering::SeqCst) == 0
+            }
+            None => false,
+        }
+    }
+
+    // Ends the writing side, and drops what the peer still sends until it ends: a peer that was
+    // still sending would lose the last reply to a reset.
+    pub(super) fn goodbye(&mut self) {
+        let limit = Duration::from_secs(GOODBYE_SECONDS);
+        let Ok(start) = Instant::now(&self.rt) else {
+            return;
+        };
+        if self.stream.shutdown(Shutdown::Write).is_err() {
+            return;
+        }
+        let mut room = [0; GOODBYE_PIECE];
+        let mut dropped = 0;
+        while dropped < GOODBYE_BYTES {
+            let Ok(spent) = start.elapsed(&self.rt) else {
+                return;
+            };
+            let rest = limit.saturating_sub(spent);
+            if rest.is_zero() || self.stream.set_read_timeout(Some(rest)).is_err() {
+                return;
+            }
+            match self.stream.read(&mut room) {
+                Ok(n) if n > 0 => dropped += n,
+                _ => return,
+            }
+        }
+    }
+}
+
+impl<R> Faulted for TcpLink<R> {
+    ghost faults = { λ link. link.faults };
+}
+
+impl<R> Source for TcpLink<R> {
+    ghost left = { λ _. None };
+
+    ghost beside_left = { λ _. None };
+
+    // A program that was stopped and goes on finds its waits interrupted: they begin again.
+    fn read(&mut self, room: &mut [u8]) -> Result<usize, Failed> {
+        self.held_since = None;
+        for _ in 0..u64::MAX {
+            match self.stream.read(room) {
+                Ok(n) => return Ok(n),
+                Err(error) if error.kind() == ErrorKind::Interrupted => {}
+                Err(_) => break,
+            }
+        }
+        Err(counted(&mut self.faults))
+    }
+}
+
+impl<R> Sink for TcpLink<R> {
+    ghost taken = { λ _. None };
+
+    ghost beside_taken = { λ _. None };
+
+    fn write(&mut self, piece: &[u8]) -> Result<usize, Failed> {
+        self.held_since = None;
+        for _ in 0..u64::MAX {
+            match self.stream.write(piece) {
+                Ok(n) if n > 0 => return Ok(n),
+                Err(error) if error.kind() == ErrorKind::Interrupted => {}
+                _ => break,
+            }
+        }
+        Err(counted(&mut self.faults))
+    }
+}
+
+impl<R: Clock> Link for TcpLink<R> {
+    fn probe(&mut self) -> Result<(), Failed> {
+        if self.is_held_too_long() {
+            return Err(counted(&mut self.faults));
+        }
+        match is_there(&self.stream) {
+            Ok(true) => Ok(()),
+            _ => Err(counted(&mut self.faults)),
+        }
+    }
+
+    ghost read_leaves_taken = { λ _. refl };
+
+    ghost write_leaves_left = { λ _. refl };
+}

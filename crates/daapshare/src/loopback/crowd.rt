@@ -1,0 +1,99 @@
+//! As many players as a share has workers for them, and an editor, all connected at once: the updates of all are held
+//! until an edit, and again until a stop.
+
+use crate::loopback::{LIBRARY, await_open, brings, free_place, player, status_of};
+use daap_outside::{Link, MemSink, Net, TcpNet, put_all};
+use std::alloc::Global;
+use std::test::Fail;
+use std::thread;
+use std::time::Clock;
+
+const AT_FIRST: &[u8] = b"GET /update?session-id=1&revision-number=3 HTTP/1.1\r\n\r\n";
+
+const BEHIND_EDIT: &[u8] = b"GET /update?session-id=1&revision-number=4 HTTP/1.1\r\n\r\n";
+
+const EDIT: &[u8] =
+    b"POST /edit HTTP/1.1\r\nContent-Length: 38\r\n\r\nop,kind,id,dmap.itemname\nput,item,9,B\n";
+
+const STOP: &[u8] = b"POST /stop HTTP/1.1\r\n\r\n";
+
+// What the edit is answered with, and each update that was held until then.
+const REVISED: &[u8] =
+    b"HTTP/1.1 200 OK\r\nContent-Type: application/x-dmap-tagged\r\nContent-Length: 32\r\n\r\n\
+mupd\0\0\0\x18mstt\0\0\0\x04\0\0\0\xc8musr\0\0\0\x04\0\0\0\x04";
+
+const STOPPED: &[u8] = b"HTTP/1.1 204 No Content\r\nConnection: close\r\n\r\n";
+
+const REFUSED: &[u8] =
+    b"HTTP/1.1 503 Service Unavailable\r\nContent-Length: 0\r\nConnection: close\r\n\r\n";
+
+/// Five players that logged in, and asked for an update.
+fn five_players<N: Net>(alloc: Global, net: &mut N, place: &str) -> Option<Vec<N::L>> {
+    let mut players = Vec::new(alloc);
+    for session in 1..6 {
+        let link = player(net, place, session, AT_FIRST)?;
+        players.push(link).ok()?;
+    }
+    Some(players)
+}
+
+/// Whether each link brings these bytes. Then more is asked on each.
+fn all_bring<K: Link>(links: &mut [K], bytes: &[u8], more: &[u8]) -> bool {
+    for link in links {
+        if !brings(link, bytes) || put_all(link, more).is_err() {
+            return false;
+        }
+    }
+    true
+}
+
+/// Whether a link brings these bytes once it was asked.
+fn replies<K: Link>(link: &mut K, request: &[u8], bytes: &[u8]) -> bool {
+    put_all(link, request).is_ok() && brings(link, bytes)
+}
+
+/// Whether five players hear of an edit and of a stop, with the editor connected before they are.
+fn all_hear<C: Clock, N: Net>(
+    clock: &C,
+    alloc: Global,
+    net: &mut N,
+    listen: &str,
+    edit: &str,
+) -> Option<bool> {
+    await_open(clock, net, edit);
+    let mut editor = net.connect(edit).ok()?;
+    let mut players = five_players(alloc, net, listen)?;
+    let links = players.as_mut_slice();
+    let edited = replies(&mut editor, EDIT, REVISED) && all_bring(links, REVISED, BEHIND_EDIT);
+    let stopped = replies(&mut editor, STOP, STOPPED) && all_bring(links, REFUSED, b"");
+    Some(edited && stopped)
+}
+
+#[test]
+fn five_players_hear_of_an_edit_and_a_stop(rt: HostRuntime) -> Result<(), Fail> {
+    let alloc = rt.alloc();
+    let listen = free_place(&rt, alloc)?;
+    let edit = free_place(&rt, alloc)?;
+    let mut lines = MemSink::new(alloc, 256, 256, &[])?;
+    let (served, heard) = thread::join(
+        &rt,
+        || {
+            let words = [
+                "serve",
+                listen.as_str(),
+                edit.as_str(),
+                "--workers=5",
+                "--editors=1",
+            ];
+            let mut net = TcpNet::new(&rt, alloc);
+            status_of(&rt, alloc, &mut net, &words, LIBRARY, &mut lines)
+        },
+        || {
+            let mut net = TcpNet::new(&rt, alloc);
+            all_hear(&rt, alloc, &mut net, listen.as_str(), edit.as_str())
+        },
+    );
+    assert_eq!(rt; (served, heard), (Some(0), Some(true)));
+    assert!(rt; lines.taken().ends_with(b", requests 17\n"));
+    Ok(())
+}

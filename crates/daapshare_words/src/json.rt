@@ -1,0 +1,30 @@
+//! The words of `json`.
+
+ghost use Rattle.std.specs.Prelude.{IfOk};
+ghost use Rattle.daapshare_words.specs.Grammar.{texts_of};
+ghost use Rattle.daapshare_words.specs.Json.{json_command};
+ghost use Rattle.daapshare_words.specs.Words.{Reads, IsRanged};
+
+use crate::command::{Command, LocalCommand, WordsError};
+use crate::grammar::{Part, has_flag, matches_for};
+use std::alloc::Global;
+
+pub const USAGE: &str = "json [--back]";
+
+/// The words of `json`: `back` if tags are to be read from JSON.
+#[derive(Debug, Drop)]
+pub struct JsonWords {
+    pub back: bool,
+}
+
+static PARTS: [(&str, Part); 1] = [("back", Part::Flag)];
+
+pub fn read(alloc: Global, words: &[&str]) -> Result<Command, WordsError>
+    ensures read { Reads (json_command (texts_of words.now)) result }
+    ensures ranged { IfOk result IsRanged }
+{
+    let matches = matches_for(alloc, "json", &PARTS, words)?;
+    Ok(Command::Local(LocalCommand::Json(JsonWords {
+        back: has_flag(&matches, "back"),
+    })))
+}

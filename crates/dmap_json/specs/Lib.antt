@@ -1,0 +1,6 @@
+pub mod TagObject
+pub mod Reads
+pub mod Places
+pub mod Faults
+pub mod Parts
+pub mod Walk

@@ -1,0 +1,10 @@
+pub mod Once
+pub mod Moments
+pub mod Behind
+pub mod Appended
+pub mod Unfinished
+pub mod Fronts
+pub mod Headed
+pub mod Quiet
+pub mod Settled
+pub mod Opened

@@ -1,0 +1,50 @@
+-- One frame more was read, or the closing byte, or neither is there.
+use Rattle.std.proofs.Common.{rules, ℕ, ◌+◌, [], ◌∷◌, ◌++◌, drop, refl, ◌∙◌, subst, arith}
+use Rattle.std.proofs.lemmas.Grind.{common_steps}
+use Rattle.edit_file.specs.Opening.{HasRead}
+use Rattle.edit_file.specs.Reading.{IsFound}
+use Rattle.edit_file.specs.Standing.{IsNoFrame}
+use Rattle.edit_file.proofs.Quiet.{told_of, quiet_self, quiet_then}
+use Rattle.edit_file.proofs.Settled.{none_read, more_read, closed_read, broken_read}
+use Rattle.edit_file.proofs.opening.read_frames.Goals as goal
+
+pub frames-init : goal.frames-init
+frames-init g c = record {
+  read = λ b rest size told e. let start : HasRead b 9 [] = none_read b rest e in search rules;
+  near = grind (arith, common_steps);
+  bytes = refl;
+  quiet = quiet_self g.D.Disk _;
+  told = refl;
+  name = refl;
+  faultless = refl;
+}
+
+pub frames-preserved : goal.frames-preserved
+frames-preserved g c = record {
+  read = λ b rest size told e.
+      let before = c.frames.invariant.read b rest size told e in
+      let found = subst (λ f. IsFound (drop c.frames.at b) f) c.in-Frame.is
+      (told_of _ _ b (c.frames.invariant.bytes ∙ told) c.in_ok-batch.ensures.exact size) in
+      let more : HasRead b (c.frames.at + c.in-Frame.size) (c.frames.batches.items ++ c.in-Frame.batch ∷ []) =
+      more_read b c.frames.at c.in-Frame.size c.frames.batches.items c.in-Frame.batch before found.0 found.1 in
+      search rules;
+  near = grind (arith, common_steps);
+  bytes = c.in_ok-batch.ensures.bytes_stay ∙ c.frames.invariant.bytes;
+  quiet = quiet_then g.D.Disk _ _ _ c.frames.invariant.quiet c.read_frame.ensures.quiet;
+  told = c.read_frame.ensures.told_stays ∙ c.frames.invariant.told;
+  name = c.read_frame.ensures.name_stays ∙ c.frames.invariant.name;
+  faultless = c.in_ok-batch.ensures.count ∙ c.frames.invariant.faultless;
+}
+
+pub returns-in-Closed-clause-found : goal.returns-in-Closed-clause-found
+returns-in-Closed-clause-found g c b rest size told e =
+    closed_read b c.frames.at c.frames.batches.items (c.frames.invariant.read b rest size told e)
+    (subst (λ f. IsFound (drop c.frames.at b) f) c.in-Closed.is
+    (told_of _ _ b (c.frames.invariant.bytes ∙ told) c.in_ok-batch.ensures.exact size))
+
+pub returns-in-Broken-clause-breaks : goal.returns-in-Broken-clause-breaks
+returns-in-Broken-clause-breaks g c b rest at size told e same =
+    subst (λ (n : ℕ). IsNoFrame b n) (search rules)
+    (broken_read b c.frames.at c.frames.batches.items (c.frames.invariant.read b rest size told e)
+    (subst (λ f. IsFound (drop c.frames.at b) f) c.in-Broken.is
+    (told_of _ _ b (c.frames.invariant.bytes ∙ told) c.in_ok-batch.ensures.exact size)))

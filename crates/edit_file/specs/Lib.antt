@@ -1,0 +1,9 @@
+pub mod Standing
+pub mod Laws
+pub mod Moments
+pub mod Adding
+pub mod Frames
+pub mod Files
+pub mod Making
+pub mod Reading
+pub mod Opening

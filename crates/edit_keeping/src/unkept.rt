@@ -1,0 +1,30 @@
+//! A keeper that keeps nothing.
+ghost use Rattle.std.specs.Prelude.{⊤, false};
+
+use crate::keeps::{Keeps, Lost};
+use item_model::Batch;
+use std::alloc::{AllocError, Global};
+
+/// Keeps nothing, and so never fails.
+#[derive(Clone, Copy, Debug)]
+pub struct Unkept;
+
+impl Keeps for Unkept {
+    type Ready = ();
+
+    ghost keeps = { λ _ _. ⊤ };
+
+    ghost is_lost = { λ _. false };
+
+    ghost faults = { λ _. 0 };
+
+    ghost is_for = { λ _ _. ⊤ };
+
+    fn ready(&self, _alloc: Global, _batch: &Batch) -> Result<(), AllocError> {
+        Ok(())
+    }
+
+    fn keep(&mut self, _ready: ()) -> Result<(), Lost> {
+        Ok(())
+    }
+}

@@ -1,0 +1,138 @@
+//! `http_client`: bytes with the replies that they are known to be.
+
+ghost use Rattle.std.specs.Prelude.{◌≡◌, ◌≤◌, ◌<◌, ◌+◌, ◌^◌, length, None, true, IfOk};
+
+use http_client::ReplyReader;
+use std::alloc::{AllocError, Global};
+use std::process::Abort;
+use std::test::Fail;
+
+/// Feeds a piece whole, and tells the replies that come and the error that ends it.
+fn feed(
+    alloc: Global,
+    reader: &mut ReplyReader,
+    piece: &[u8],
+    told: &mut String,
+) -> Result<bool, AllocError>
+    requires ready { reader.old.ready ≡ None }
+    requires few { reader.old.taken + length piece.now < 2 ^ 64 }
+    ensures { IfOk result (λ goes_on. goes_on ≡ true → (reader.new.ready ≡ None) × (reader.new.taken ≡ reader.old.taken + length piece.now)) }
+{
+    let mut rest = piece;
+    while !rest.is_empty() {
+        match reader.feed(rest) {
+            Ok(taken) => {
+                let (_, behind) = rest.split_at(taken);
+                rest = behind;
+            }
+            Err(error) => {
+                told.push_str(format!(in alloc; "{error:?}")?.as_str())?;
+                return Ok(false);
+            }
+        }
+        if let Some((status, body)) = reader.next() {
+            let len = body.as_slice().len();
+            told.push_str(format!(in alloc; "{status} {len};")?.as_str())?;
+        }
+    }
+    Ok(true)
+}
+
+/// The statuses and the lengths of the bodies of replies that come in two pieces.
+fn read(alloc: Global, bytes: &[u8], at: usize) -> Result<String, AllocError>
+    requires within { at ≤ length bytes.now }
+    requires few { length bytes.now < 2 ^ 32 }
+{
+    let mut reader = ReplyReader::new(alloc);
+    let mut told = String::new(alloc);
+    let (front, back) = bytes.split_at(at);
+    if !feed(alloc, &mut reader, front, &mut told)? || !feed(alloc, &mut reader, back, &mut told)? {
+        return Ok(told);
+    }
+    if !reader.between() {
+        told.push_str("..")?;
+    }
+    Ok(told)
+}
+
+/// Compares what replies are, wherever they are cut.
+fn are_read(
+    rt: &impl Abort,
+    alloc: Global,
+    rows: &[(&'static str, &'static str)],
+) -> Result<(), Fail> {
+    for (text, told) in rows {
+        let bytes = text.as_bytes();
+        if bytes.len() > 1_000 {
+            return Err(AllocError.into());
+        }
+        for at in 0..bytes.len() + 1 {
+            assert_eq!(rt; read(alloc, bytes, at)?.as_str(), *told, "at {at}");
+        }
+    }
+    Ok(())
+}
+
+const REPLIES: [(&str, &str); 4] = [
+    ("", ""),
+    (
+        "HTTP/1.1 200 OK\r\nContent-Length: 3\r\n\r\nabcHTTP/1.1 204 No Content\r\n\r\n",
+        "200 3;204 0;",
+    ),
+    (
+        "HTTP/1.1 204 No Content\r\nContent-Length: 1\r\n\r\na",
+        "204 1;",
+    ),
+    ("HTTP/1.0 503 \nContent-Length: 0\n\nHTTP", "503 0;.."),
+];
+
+#[test]
+fn replies_cut_anywhere(rt: HostRuntime) -> Result<(), Fail> {
+    are_read(&rt, rt.alloc(), &REPLIES)
+}
+
+const BAD_REPLIES: [(&str, &str); 5] = [
+    ("HTTP/1.1 200 OK\r\n\r\nrest", "Bad { at: 19 }"),
+    (
+        "HTTP/1.1 200 OK\nContent-Length: 1\nContent-Length: 1\n\na",
+        "Bad { at: 53 }",
+    ),
+    (
+        "HTTP/1.1 204 None\nTransfer-Encoding: chunked\n\n",
+        "Bad { at: 46 }",
+    ),
+    (
+        "HTTP/1.1 200 OK\nContent-Length: 1073741833\n\n",
+        "Bad { at: 44 }",
+    ),
+    (
+        "HTTP/1.1 204 None\n\nGET / HTTP/1.1\n\nmore",
+        "204 0;Bad { at: 35 }",
+    ),
+];
+
+#[test]
+fn bad_replies_tell_their_place(rt: HostRuntime) -> Result<(), Fail> {
+    are_read(&rt, rt.alloc(), &BAD_REPLIES)
+}
+
+/// A reply that waits, and nothing if none does.
+fn next(alloc: Global, reader: &mut ReplyReader) -> Result<String, AllocError> {
+    match reader.next() {
+        Some((status, body)) => {
+            let text = String::from_utf8_lossy(alloc, body.as_slice())?;
+            format!(in alloc; "{status} {text}")
+        }
+        None => Ok(String::new(alloc)),
+    }
+}
+
+#[test]
+fn a_body_is_handed_out(rt: HostRuntime) -> Result<(), Fail> {
+    let mut reader = ReplyReader::new(rt.alloc());
+    assert!(rt; reader.feed(b"HTTP/1.1 200 OK\nContent-Length: 2\n\nab") == Ok(37));
+    assert!(rt; reader.held() == 0);
+    assert_eq!(rt; next(rt.alloc(), &mut reader)?.as_str(), "200 ab");
+    assert!(rt; reader.between());
+    Ok(())
+}

@@ -1,0 +1,13 @@
+//! Tests of HTTP's heads, requests, clients and replies. Nothing here is for other crates.
+#![tactic(auto)]
+
+#[cfg(test)]
+mod clients;
+#[cfg(test)]
+mod heads;
+#[cfg(test)]
+mod replies;
+#[cfg(test)]
+mod requests;
+#[cfg(test)]
+mod wants;

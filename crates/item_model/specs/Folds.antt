@@ -1,0 +1,41 @@
+-- The folded texts that an item keeps beside its values, and what a condition is handed of an item.
+use Rattle.std.specs.Prelude.{◌≡◌, ℕ, List, [], ◌∷◌, Option, Some, None, unwrap_or, ⊤, if◌then◌else◌}
+use Rattle.item_model.specs.declared.property.Property.{Property}
+use Rattle.item_model.specs.declared.item.PropValue.{PropValue}
+use Rattle.item_model.specs.declared.item.PropValue.TheVariants.{Number, Text}
+use Rattle.item_model.specs.declared.folds.Sought.{Sought}
+use Rattle.item_model.specs.declared.folds.Sought.TheVariants.{Number as SoughtNumber, Text as SoughtText}
+use Rattle.item_model.specs.Properties.{is_same}
+use Rattle.item_model.specs.Items.{value_of}
+use Rattle.item_model.specs.Folding.{IsSearchedFor}
+
+-- the text that is kept for a property
+abbrev pub kept_for : Property → List (Property × List ℕ) → Option (List ℕ)
+kept_for p [] = None
+kept_for p (f ∷ folds) = if is_same f.0 p then Some f.1 else kept_for p folds
+
+-- what is kept for a text is searched in its place; where nothing is kept the text serves itself
+abbrev pub Serves : Option (List ℕ) → PropValue → Type 0
+Serves kept (Number n) = ⊤
+Serves kept (Text text) = IsSearchedFor text (unwrap_or kept text)
+
+abbrev pub ServesIfAny : Option (List ℕ) → Option PropValue → Type 0
+ServesIfAny kept None = ⊤
+ServesIfAny kept (Some v) = Serves kept v
+
+-- each value has what serves it; what is kept for a property without a value serves nobody
+unfoldable pub AreFolds : List (Property × PropValue) → List (Property × List ℕ) → Type 0
+AreFolds entries folds = (p : Property) → ServesIfAny (kept_for p folds) (value_of p entries)
+
+-- what is handed out for a value: the number, or what may be searched for the text
+abbrev pub IsSought : PropValue → Sought → Type 0
+IsSought (Number n) (SoughtNumber m) = m ≡ n
+IsSought (Number n) (SoughtText s) = ⊥
+IsSought (Text text) (SoughtNumber m) = ⊥
+IsSought (Text text) (SoughtText s) = IsSearchedFor text s.now
+
+abbrev pub IsSoughtIfAny : Option PropValue → Option Sought → Type 0
+IsSoughtIfAny None None = ⊤
+IsSoughtIfAny None (Some s) = ⊥
+IsSoughtIfAny (Some v) None = ⊥
+IsSoughtIfAny (Some v) (Some s) = IsSought v s

@@ -1,0 +1,4 @@
+pub mod Stopping
+pub mod Fed
+pub mod TagsRead
+pub mod Senses

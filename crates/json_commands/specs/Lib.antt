@@ -1,0 +1,4 @@
+pub mod Whole
+pub mod Json
+pub mod JsonBack
+pub mod Fed

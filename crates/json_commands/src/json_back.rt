@@ -1,0 +1,152 @@
+//! The command `json --back`: the bytes of the tags whose JSON the input's lines are.
+
+ghost use Rattle.std.specs.Prelude.{◌≡◌, ◌≢◌, ◌++◌, [], IfOk, IfErr, MatchOption, OnOk};
+ghost use Rattle.code_table.specs.Standard.{standard_rows};
+ghost use Rattle.dmap_tags.specs.Spelling.{spelling};
+ghost use Rattle.command_core.specs.Seen.{Around, input_seen, output_seen, told_beside, no_share};
+ghost use Rattle.command_core.specs.Endings.{IsAnswered};
+ghost use Rattle.json_commands.specs.Whole.{IsWithin, IsGiven};
+ghost use Rattle.json_commands.specs.JsonBack.{line_text, line_status, GivesTags, IsLinesFault, StopsAfter, StopsBack, TakesLine, json_back_meaning, read_fault};
+
+use crate::lines::{split_line, tag_of};
+use crate::whole::INPUT_LIMIT;
+use code_table::CodeTable;
+use command_core::{Fault, Outcome, Refusal, written};
+use daap_outside::{ReadError, Sink, Source, read_within};
+use dmap_tags::{Tag, encode_into};
+use fault_lines::push_number;
+use std::alloc::{AllocError, Global};
+
+/// Why an input is not taken as lines of JSON.
+#[derive(Debug, Drop)]
+pub enum LineFault {
+    /// This line, counted from 1, is the first that reads as no tag or has no line feed.
+    Line { line: u64 },
+    /// It has more bytes than are read.
+    TooLong,
+}
+
+impl Refusal for LineFault {
+    ghost told_line = { line_text };
+
+    ghost told_status = { line_status };
+
+    fn line(&self, alloc: Global) -> Result<Vec<u8>, AllocError> {
+        match self {
+            LineFault::Line { line } => numbered_line(alloc, *line),
+            LineFault::TooLong => Vec::from_slice(alloc, b"limit: input\n"),
+        }
+    }
+
+    fn status(&self) -> u8 {
+        match self {
+            LineFault::Line { .. } => 3,
+            LineFault::TooLong => 8,
+        }
+    }
+}
+
+fn numbered_line(alloc: Global, number: u64) -> Result<Vec<u8>, AllocError>
+    ensures { IfOk result (λ line. line.items ≡ line_text (LineFault.Line number)) }
+{
+    let mut line = Vec::new(alloc);
+    push_number(&mut line, b"json: line ", number)?;
+    line.push(b'\n')?;
+    Ok(line)
+}
+
+/// Does `json --back`: writes the bytes of the tags that the input's lines read as, once all of it has been read.
+pub fn read_json<I: Source, W: Sink>(alloc: Global, input: &mut I, output: &mut W) -> Outcome
+    ensures { (around : Around) → IsAnswered json_back_meaning
+        (told_beside around
+        (input_seen (I.left input.old) (I.faults input.old))
+        (input_seen (I.left input.new) (I.faults input.new))
+        (output_seen (W.taken output.old) (W.faults output.old))
+        (output_seen (W.taken output.new) (W.faults output.new)))
+        result }
+{
+    let answer = input_tags(alloc, input);
+    written(alloc, output, answer)
+}
+
+/// Reads the input to its end, and returns the bytes of the tags that its lines read as.
+fn input_tags<I: Source>(alloc: Global, input: &mut I) -> Result<Vec<u8>, Fault<LineFault>>
+    ensures given { IfOk result (λ bytes. IsGiven GivesTags
+        (input_seen (I.left input.old) (I.faults input.old))
+        (input_seen (I.left input.new) (I.faults input.new))
+        no_share bytes.items) }
+    ensures cause { IfErr result (λ fault. StopsBack
+        (input_seen (I.left input.old) (I.faults input.old))
+        (input_seen (I.left input.new) (I.faults input.new))
+        fault) }
+{
+    let text = match read_within(alloc, input, INPUT_LIMIT) {
+        Ok(text) => text,
+        Err(error) => return Err(read_fault(error)),
+    };
+    text_tags(alloc, text.as_slice())
+}
+
+/// What a refusal of the input is to the command.
+fn read_fault(error: ReadError) -> Fault<LineFault>
+    ensures { result ≡ read_fault error }
+{
+    match error {
+        ReadError::Failed => Fault::Read,
+        ReadError::TooLong => Fault::Own(LineFault::TooLong),
+        ReadError::Memory => Fault::Memory,
+    }
+}
+
+/// The bytes of the tags that the lines of a text read as.
+fn text_tags(alloc: Global, text: &[u8]) -> Result<Vec<u8>, Fault<LineFault>>
+    requires { IsWithin text.now }
+    ensures given { IfOk result (λ bytes. GivesTags text.now bytes.items) }
+    ensures refused { IfErr result (λ fault. IsLinesFault text.now fault) }
+{
+    let table = CodeTable::standard(alloc)?;
+    let mut bytes = Vec::new(alloc);
+    let mut left = text;
+    let mut line = 0;
+    while !left.is_empty() {
+        line += 1;
+        let Some(rest) = push_first(alloc, &table, left, &mut bytes)? else {
+            return Err(Fault::Own(LineFault::Line { line }));
+        };
+        left = rest;
+    }
+    Ok(bytes)
+}
+
+/// Adds the bytes of the tag that the first line of a text reads as, and returns what is behind the line; `None` if the
+/// line reads as none or has no line feed.
+fn push_first<'a>(
+    alloc: Global,
+    table: &CodeTable,
+    text: &'a [u8],
+    bytes: &mut Vec<u8>,
+) -> Result<Option<&'a [u8]>, AllocError>
+    requires rows { table.now ≡ standard_rows }
+    requires some { text.now ≢ [] }
+    ensures { IfOk result (λ r. MatchOption r (StopsAfter 0 text.now)
+        (λ rest. TakesLine text.now rest.now bytes.old.items bytes.new.items)) }
+{
+    let Some((line, rest)) = split_line(text) else {
+        return Ok(None);
+    };
+    let Some(tag) = tag_of(alloc, table, line)? else {
+        return Ok(None);
+    };
+    push_tag(tag, bytes)?;
+    Ok(Some(rest))
+}
+
+/// Adds the bytes of a tag. A line within the limit spells no payload that is too long, so only an allocation fails.
+fn push_tag(tag: Tag, bytes: &mut Vec<u8>) -> Result<(), AllocError>
+    ensures { OnOk result (bytes.new.items ≡ bytes.old.items ++ spelling tag) }
+{
+    match encode_into(&tag, bytes) {
+        Ok(()) => Ok(()),
+        Err(_) => Err(AllocError),
+    }
+}

@@ -1,0 +1,9 @@
+pub mod Counts
+pub mod Told
+pub mod Contents
+pub mod Disks
+pub mod MemDisk
+pub mod Calls
+pub mod Times
+pub mod Closed
+pub mod Shelf

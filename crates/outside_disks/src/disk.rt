@@ -1,0 +1,119 @@
+//! Bytes that outlast a crash, in part.
+ghost use Rattle.std.specs.Prelude.{◌≡◌, ℕ, ◌+◌, ◌-◌, ◌^◌, ◌<◌, ◌≤◌, List, length, take, IfOk, IsErr, IfSome, OnOk, Option, option_map, is_some, Some};
+ghost use Rattle.std.specs.Io.{ReadsAtMost};
+ghost use Rattle.outside_disks.specs.Counts.{CountsFaults};
+ghost use Rattle.outside_disks.specs.Disks.{overlaid, ReadsFrom, Torn, CutShort, Follows, NoMore, Only, Elapses};
+
+use crate::faulted::{Failed, Faulted};
+
+/// Bytes with places from 0 on, fewer than 2^63, which can be overwritten, extended and cut.
+///
+/// A crash leaves an image of them. What was written before the last `sync` is in each image;
+/// what was written since may be there whole, in part or not at all.
+pub trait Disk: Faulted {
+    // The bytes that reads give, where they are told.
+    ghost bytes: { Self → Option (List ℕ) };
+
+    // The name by which it was opened, where it is told.
+    ghost opened_as: { Self → Option (List ℕ) };
+
+    // What a crash now may leave. A disk that tells no bytes has no image.
+    ghost images: { Self → List ℕ → Type 0 };
+
+    // The time, as a number that doesn't fall.
+    ghost clock: { Self → ℕ };
+
+    // What a crash at some time from that one on might have left, in a call or between two.
+    ghost since: { Self → ℕ → List ℕ → Type 0 };
+
+    /// The number of bytes, below 2^63.
+    ///
+    /// # Errors
+    ///
+    /// Returns `Failed` if the length could not be had; the disk counts a fault.
+    fn len(&mut self) -> Result<u64, Failed>
+        ensures length { IfOk result (λ n. IfSome (bytes self.old) (λ b. n ≡ length b)) }
+        ensures short { IfOk result (λ n. n < 2 ^ 63) }
+        ensures bytes_stay { OnOk result (bytes self.new ≡ bytes self.old) }
+        ensures images_stay { NoMore (images self.old) (images self.new) }
+        ensures told_stays { is_some (bytes self.new) ≡ is_some (bytes self.old) }
+        ensures name_stays { opened_as self.new ≡ opened_as self.old }
+        ensures time { Elapses (clock self.old) (clock self.new) (since self.old) (since self.new) (images self.new) }
+        ensures count { CountsFaults (Self.faults self.old) (Self.faults self.new) result };
+
+    /// Reads bytes from the place `at` on into the front of `room`, and returns how many: none
+    /// exactly where `at` is at or past the end.
+    ///
+    /// # Errors
+    ///
+    /// Returns `Failed` if the bytes could not be read; the disk counts a fault.
+    fn read_at(&mut self, at: u64, room: &mut [u8]) -> Result<usize, Failed>
+        requires some { 0 < length room.old }
+        ensures within { ReadsAtMost result room.new }
+        ensures reads { IfOk result (λ n. IfSome (bytes self.old) (λ b. ReadsFrom b at n room.new)) }
+        ensures bytes_stay { OnOk result (bytes self.new ≡ bytes self.old) }
+        ensures images_stay { NoMore (images self.old) (images self.new) }
+        ensures told_stays { is_some (bytes self.new) ≡ is_some (bytes self.old) }
+        ensures name_stays { opened_as self.new ≡ opened_as self.old }
+        ensures time { Elapses (clock self.old) (clock self.new) (since self.old) (since self.new) (images self.new) }
+        ensures count { CountsFaults (Self.faults self.old) (Self.faults self.new) result };
+
+    /// Writes the whole piece from the place `at` on, over what stands there and past the end.
+    ///
+    /// # Errors
+    ///
+    /// Returns `Failed` if some of it may not be written, and if it would end past 2^63 - 1, where
+    /// nothing is done; the disk counts a fault.
+    fn write_at(&mut self, at: u64, piece: &[u8]) -> Result<(), Failed>
+        requires some { 0 < length piece.now }
+        requires inside { IfSome (bytes self.old) (λ b. at ≤ length b) }
+        ensures written { OnOk result (bytes self.new ≡ option_map (λ b. overlaid b at piece.now) (bytes self.old)) }
+        ensures torn { Follows (Torn at (length piece.now)) (images self.old) (images self.new) }
+        ensures far { 2 ^ 63 ≤ at + length piece.now → IsErr result }
+        ensures undone { 2 ^ 63 ≤ at + length piece.now
+            → (bytes self.new ≡ bytes self.old) × NoMore (images self.old) (images self.new) }
+        ensures told_stays { is_some (bytes self.new) ≡ is_some (bytes self.old) }
+        ensures name_stays { opened_as self.new ≡ opened_as self.old }
+        ensures time { Elapses (clock self.old) (clock self.new) (since self.old) (since self.new) (images self.new) }
+        ensures count { CountsFaults (Self.faults self.old) (Self.faults self.new) result };
+
+    /// Cuts the bytes off behind the first `len`.
+    ///
+    /// # Errors
+    ///
+    /// Returns `Failed` if they may not be cut off; the disk counts a fault.
+    fn cut(&mut self, len: u64) -> Result<(), Failed>
+        requires inside { IfSome (bytes self.old) (λ b. len ≤ length b) }
+        ensures shorter { OnOk result (bytes self.new ≡ option_map (take len) (bytes self.old)) }
+        ensures torn { Follows (CutShort len) (images self.old) (images self.new) }
+        ensures told_stays { is_some (bytes self.new) ≡ is_some (bytes self.old) }
+        ensures name_stays { opened_as self.new ≡ opened_as self.old }
+        ensures time { Elapses (clock self.old) (clock self.new) (since self.old) (since self.new) (images self.new) }
+        ensures count { CountsFaults (Self.faults self.old) (Self.faults self.new) result };
+
+    /// Returns once all that was written and cut is safe from a crash.
+    ///
+    /// # Errors
+    ///
+    /// Returns `Failed` if some of it may not be safe; the disk counts a fault.
+    fn sync(&mut self) -> Result<(), Failed>
+        ensures safe { OnOk result (Only (bytes self.new) (images self.new)) }
+        ensures bytes_stay { OnOk result (bytes self.new ≡ bytes self.old) }
+        ensures images_stay { NoMore (images self.old) (images self.new) }
+        ensures told_stays { is_some (bytes self.new) ≡ is_some (bytes self.old) }
+        ensures name_stays { opened_as self.new ≡ opened_as self.old }
+        ensures time { Elapses (clock self.old) (clock self.new) (since self.old) (since self.new) (images self.new) }
+        ensures count { CountsFaults (Self.faults self.old) (Self.faults self.new) result };
+
+    // The bytes are an image, also after `Failed`.
+    ghost bytes_count: { (disk : Self) (told : List ℕ) → bytes disk ≡ Some told → images disk told };
+
+    ghost images_are_short: { (disk : Self) (image : List ℕ) → images disk image → length image < 2 ^ 63 };
+
+    // What a crash now may leave is among what one since an earlier time might have left.
+    ghost now_counts: { (disk : Self) (time : ℕ) (image : List ℕ) → time ≤ clock disk → images disk image
+        → since disk time image };
+
+    // Since now there is nothing else.
+    ghost now_alone: { (disk : Self) (image : List ℕ) → since disk (clock disk) image → images disk image };
+}

@@ -1,0 +1,164 @@
+//! A disk that is a file of the system: the edge that is trusted to tell the truth.
+ghost use Rattle.std.specs.Prelude.{◌≡◌, ◌⊎◌, IfOk, None};
+
+use crate::disk::Disk;
+use crate::faulted::{Failed, Faulted, counted};
+use crate::files::Files;
+use std::fs::{File, OpenOptions};
+use std::os::unix::fs::FileExt;
+use std::path::Path;
+use std::{fs, io};
+
+// The first length that no file has.
+const LEN_LIMIT: u64 = 1 << 63;
+
+/// A file of the system, which tells contracts nothing of its bytes. Each of the system's errors
+/// is one fault, but for calls that a signal interrupts: they begin again.
+///
+/// What a power cut leaves is the word of the system and of the device below it.
+#[derive(Drop)]
+pub struct FileDisk {
+    file: File,
+    faults: u64,
+}
+
+impl FileDisk {
+    /// Opens the file at a path for reading and writing. Where it is missing, it is made, and its
+    /// name is made safe in its folder.
+    ///
+    /// # Errors
+    ///
+    /// Returns the system's error.
+    pub fn open<R: fs::Files<File = File>>(rt: &R, path: &str) -> io::Result<FileDisk>
+        ensures faults { IfOk result (λ disk. ⟦<FileDisk as Faulted>⟧.faults disk ≡ 0) }
+    {
+        let mut options = OpenOptions::new();
+        options.read(true).write(true).create(true);
+        let file = options.open(rt, path)?;
+        sync_folder(rt, path)?;
+        Ok(FileDisk { file, faults: 0 })
+    }
+}
+
+// Makes the names in the folder of a path safe from a crash.
+fn sync_folder<R: fs::Files<File = File>>(rt: &R, path: &str) -> io::Result<()> {
+    match Path::new(path).parent() {
+        Some(folder) if !folder.as_str().is_empty() => File::open(rt, folder)?.sync_all(),
+        _ => File::open(rt, ".")?.sync_all(),
+    }
+}
+
+// The length, where the system tells one that a file can have.
+fn len_of(file: &File) -> io::Result<u64> {
+    Ok(file.metadata()?.len())
+}
+
+impl Faulted for FileDisk {
+    ghost faults = { λ disk. disk.faults };
+}
+
+impl Disk for FileDisk {
+    ghost use Rattle.std.proofs.lemmas.Option.{none-some};
+
+    ghost bytes = { λ _. None };
+
+    ghost opened_as = { λ _. None };
+
+    ghost images = { λ _ _. ⊥ };
+
+    ghost clock = { λ _. 0 };
+
+    ghost since = { λ _ _ _. ⊥ };
+
+    fn len(&mut self) -> Result<u64, Failed> {
+        match len_of(&self.file) {
+            Ok(len) if len < LEN_LIMIT => Ok(len),
+            _ => Err(counted(&mut self.faults)),
+        }
+    }
+
+    fn read_at(&mut self, at: u64, room: &mut [u8]) -> Result<usize, Failed> {
+        if at >= LEN_LIMIT {
+            return Ok(0);
+        }
+        for _ in 0..u64::MAX {
+            match self.file.read_at(room, at) {
+                Ok(n) => return Ok(n),
+                Err(error) if error.kind() == io::ErrorKind::Interrupted => {}
+                Err(_) => break,
+            }
+        }
+        Err(counted(&mut self.faults))
+    }
+
+    fn write_at(&mut self, at: u64, piece: &[u8]) -> Result<(), Failed> {
+        let is_near = at < LEN_LIMIT && piece.len() as u64 <= LEN_LIMIT - 1 - at;
+        if is_near && self.file.write_all_at(piece, at).is_ok() {
+            return Ok(());
+        }
+        Err(counted(&mut self.faults))
+    }
+
+    fn cut(&mut self, len: u64) -> Result<(), Failed> {
+        match self.file.set_len(len) {
+            Ok(()) => Ok(()),
+            Err(_) => Err(counted(&mut self.faults)),
+        }
+    }
+
+    fn sync(&mut self) -> Result<(), Failed> {
+        match self.file.sync_all() {
+            Ok(()) => Ok(()),
+            Err(_) => Err(counted(&mut self.faults)),
+        }
+    }
+
+    ghost bytes_count = { λ disk told is. absurd (none-some told is) };
+
+    ghost images_are_short = { λ disk image is. absurd is };
+
+    ghost now_counts = { λ disk time image within is. is };
+
+    ghost now_alone = { λ disk image is. is };
+}
+
+/// The files of the system, by their paths. It tells contracts nothing of them.
+#[derive(Drop)]
+pub struct SystemFiles<R> {
+    rt: R,
+    faults: u64,
+}
+
+impl<R> SystemFiles<R> {
+    /// The files of the system, with no fault counted.
+    pub fn new(rt: R) -> SystemFiles<R>
+        ensures faults { ⟦<SystemFiles<R> as Faulted>⟧.faults result ≡ 0 }
+    {
+        SystemFiles { rt, faults: 0 }
+    }
+}
+
+impl<R> Faulted for SystemFiles<R> {
+    ghost faults = { λ files. files.faults };
+}
+
+impl<R: fs::Files<File = File>> Files for SystemFiles<R> {
+    type D = FileDisk;
+
+    ghost asked = { λ _. None };
+
+    ghost contents = { λ _. None };
+
+    fn open(&mut self, name: &str) -> Result<FileDisk, Failed> {
+        match FileDisk::open(&self.rt, name) {
+            Ok(disk) => Ok(disk),
+            Err(_) => Err(counted(&mut self.faults)),
+        }
+    }
+
+    fn close(&mut self, disk: FileDisk) {
+        if disk.faults > 0 {
+            counted(&mut self.faults);
+        }
+    }
+}

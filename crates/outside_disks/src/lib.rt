@@ -1,0 +1,18 @@
+//! Disks that keep bytes over a crash, and the count of faults that each object of the outside has.
+//! A disk may tell its bytes to contracts, and what a crash at any moment may leave of them.
+#![tactic(auto)]
+
+mod disk;
+mod faulted;
+mod file;
+mod files;
+mod memory;
+#[cfg(test)]
+mod tests;
+
+pub use disk::Disk;
+pub use faulted::{Failed, Faulted, counted};
+pub use file::{FileDisk, SystemFiles};
+pub use files::Files;
+pub use memory::disk::{DiskCall, DiskOp, MemDisk};
+pub use memory::files::MemFiles;

@@ -1,0 +1,89 @@
+//! Files in memory.
+ghost use Rattle.std.specs.Prelude.{◌≡◌, ◌∷◌, [], All, IfOk, IfSome, None, Some};
+ghost use Rattle.outside_disks.specs.Counts.{CountsFaults, RisesWith};
+
+use crate::faulted::{Failed, Faulted, counted};
+use crate::files::Files;
+use crate::memory::disk::MemDisk;
+use crate::memory::shelf::Shelf;
+use std::alloc::{AllocError, Global};
+
+/// Files whose disks were put there. Each is given once, in order, under whatever name is opened,
+/// with a copy of the bytes that were closed under that name last. Where no disk is left that has
+/// room for them, the call fails.
+///
+/// It tells the bytes of each name always, and the names asked for as long as it has room for them.
+#[derive(Drop)]
+pub struct MemFiles {
+    shelf: Option<Shelf>,
+    faults: u64,
+}
+
+impl MemFiles {
+    ghost use Rattle.std.specs.FinMap as finite;
+    ghost use Rattle.outside_disks.specs.Shelf.{files_asked, files_contents};
+
+    /// Files without disks, so that none can be opened. They tell nothing.
+    pub fn new() -> MemFiles
+        ensures { ⟦<MemFiles as Faulted>⟧.faults result ≡ 0 }
+    {
+        MemFiles {
+            shelf: None,
+            faults: 0,
+        }
+    }
+
+    /// Files with the disks, to be opened in order, and with room for so many names asked for.
+    ///
+    /// # Errors
+    ///
+    /// Returns `AllocError` if memory is short.
+    pub fn with_disks(
+        alloc: Global,
+        disks: Vec<MemDisk>,
+        opens: usize,
+    ) -> Result<MemFiles, AllocError>
+        ensures asked { IfOk result (λ files. files_asked files ≡ Some []) }
+        ensures contents { IfOk result (λ files. files_contents files ≡ Some finite.empty) }
+        ensures faults { IfOk result (λ files. ⟦<MemFiles as Faulted>⟧.faults files ≡ 0) }
+    {
+        Ok(MemFiles {
+            shelf: Some(Shelf::new(alloc, disks, opens)?),
+            faults: 0,
+        })
+    }
+}
+
+impl Faulted for MemFiles {
+    ghost faults = { λ files. files.faults };
+}
+
+impl Files for MemFiles {
+    type D = MemDisk;
+
+    ghost use Rattle.outside_disks.specs.Shelf.{files_asked, files_contents};
+
+    ghost asked = { files_asked };
+
+    ghost contents = { files_contents };
+
+    fn open(&mut self, name: &str) -> Result<MemDisk, Failed> {
+        let Some(shelf) = &mut self.shelf else {
+            return Err(counted(&mut self.faults));
+        };
+        shelf.ask(name);
+        match shelf.take(name) {
+            Some(disk) => Ok(disk),
+            None => Err(counted(&mut self.faults)),
+        }
+    }
+
+    fn close(&mut self, disk: MemDisk) {
+        if disk.is_faulted() {
+            counted(&mut self.faults);
+        }
+        if let Some(shelf) = &mut self.shelf {
+            shelf.close(disk);
+        }
+    }
+}
