@@ -1,1 +1,2 @@
 pub mod ReplayShare
+pub mod Moments

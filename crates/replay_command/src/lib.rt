@@ -3,7 +3,5 @@
 #![tactic(auto)]
 
 mod replaying;
-#[cfg(test)]
-mod tests;
 
 pub use replaying::{ReplayFault, replay_script};

@@ -1,10 +1,15 @@
 //! The command `replay`: a script is played to a new share, and what it is answered is written.
 
-ghost use Rattle.std.specs.Prelude.{◌≡◌, ◌≤◌, ◌++◌, ◌∷◌, [], length, codes, decimal, IfOk, IfErr};
+ghost use Rattle.std.specs.Prelude.{◌≡◌, ◌≤◌, ◌++◌, ◌∷◌, [], List, Some, length, codes, decimal, IfOk, IfErr, MatchOption};
 ghost use Rattle.item_model.specs.Limits.{text_limit};
+ghost use Rattle.item_model.specs.declared.changes.Entry.{Entry};
+ghost use Rattle.command_core.specs.declared.fault.Fault.{Fault};
+ghost use Rattle.command_core.specs.Answers.{TellsFault};
 ghost use Rattle.command_core.specs.Causes.{StopsBy};
 ghost use Rattle.command_core.specs.Endings.{IsAnswered};
-ghost use Rattle.command_core.specs.Seen.{Around, InputSeen, input_seen, output_seen, told_beside};
+ghost use Rattle.command_core.specs.Seen.{Around, input_seen, output_seen, told_beside};
+ghost use Rattle.replay_command.specs.declared.replaying.ReplayFault.{ReplayFault};
+ghost use Rattle.replay_command.specs.Moments.{EndsPlay, IsOfOneMoment};
 ghost use Rattle.replay_command.specs.ReplayShare.{IsRead, ReplayReadsOn, read_fault, replay_cause, replay_line, replay_meaning, replay_status, settings_of};
 
 use command_core::{Fault, Outcome, Refusal, out_of_memory, refused};
@@ -69,13 +74,26 @@ pub fn replay_script<I: Source, W: Sink>(
     requires some { 1 ≤ keep }
     requires window { keep ≤ 65536 }
     requires short { length name.now ≤ text_limit }
-    ensures { (around : Around) → IsAnswered (replay_meaning keep name.now)
+    ensures answered { (around : Around) → IsAnswered (replay_meaning keep name.now)
         (told_beside around
         (input_seen (I.left input.old) (I.faults input.old))
         (input_seen (I.left input.new) (I.faults input.new))
         (output_seen (W.taken output.old) (W.faults output.old))
         (output_seen (W.taken output.new) (W.faults output.new)))
         result }
+
+    // Where no share was opened, the line of a fault is all that is written.
+    ensures played { MatchOption result.history
+        ((fault : Fault ReplayFault) × TellsFault replay_line replay_status fault
+        (output_seen (W.taken output.old) (W.faults output.old))
+        (output_seen (W.taken output.new) (W.faults output.new))
+        result)
+        (λ history. IsOfOneMoment (settings_of keep name.now)
+        (input_seen (I.left input.old) (I.faults input.old))
+        (input_seen (I.left input.new) (I.faults input.new))
+        (output_seen (W.taken output.old) (W.faults output.old))
+        (output_seen (W.taken output.new) (W.faults output.new))
+        result.status history) }
 {
     let script = match script_of(alloc, input) {
         Ok(script) => script,
@@ -136,12 +154,11 @@ fn opened(alloc: Global, keep: u32, name: &str) -> Result<Share, AllocError>
 /// Plays the script, and answers the status and what the share is left with.
 fn played<W: Sink>(alloc: Global, script: &Script, mut share: Share, output: &mut W) -> Outcome
     requires { share.history ≡ [] }
-    ensures { (around : Around) (before after : InputSeen) → IsRead script.now before after
-        → IsAnswered (replay_meaning share.settings.keep share.settings.name)
-        (told_beside around before after
+    ensures { (history : List Entry) × (result.history ≡ Some history)
+        × EndsPlay share.settings script.now
         (output_seen (W.taken output.old) (W.faults output.old))
-        (output_seen (W.taken output.new) (W.faults output.new)))
-        result }
+        (output_seen (W.taken output.new) (W.faults output.new))
+        result.status history }
 {
     match replay(alloc, script, &mut share, output) {
         Ok(()) => Outcome {
