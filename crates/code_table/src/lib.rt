@@ -8,8 +8,6 @@ mod reply;
 mod row;
 mod standard;
 mod table;
-#[cfg(test)]
-mod tests;
 
 pub use reply::CodeError;
 pub use row::CodeRow;

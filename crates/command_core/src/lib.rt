@@ -4,8 +4,6 @@
 
 mod fault;
 mod outcome;
-#[cfg(test)]
-mod tests;
 
 pub use fault::{Fault, Refusal};
 pub use outcome::{Outcome, done, out_of_memory, refused, written};

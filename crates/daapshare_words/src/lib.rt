@@ -16,8 +16,6 @@ mod rehearse;
 mod replay;
 mod serve;
 mod show;
-#[cfg(test)]
-mod tests;
 mod texts;
 mod usage;
 

@@ -9,8 +9,6 @@ pub mod laws;
 mod object;
 mod parts;
 mod reading;
-#[cfg(test)]
-mod tests;
 mod writing;
 
 pub use error::JsonError;

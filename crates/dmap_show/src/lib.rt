@@ -9,8 +9,6 @@ mod pieces;
 mod reading;
 mod row;
 mod spelled;
-#[cfg(test)]
-mod tests;
 mod values;
 
 pub use lines::{show, show_code, show_event};

@@ -12,8 +12,6 @@ pub mod laws;
 mod position;
 mod reader;
 mod refusal;
-#[cfg(test)]
-mod tests;
 mod whole_tag;
 mod written_tag;
 

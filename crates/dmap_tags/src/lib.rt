@@ -6,8 +6,6 @@ mod content_code;
 mod kinds;
 mod payload;
 mod spelling;
-#[cfg(test)]
-mod tests;
 mod tree;
 mod typed;
 

@@ -13,8 +13,6 @@ mod opening;
 mod reading;
 mod refusal;
 mod safely;
-#[cfg(test)]
-mod tests;
 
 pub use appending::AppendError;
 pub use file::EditFile;

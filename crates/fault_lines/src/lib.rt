@@ -6,8 +6,6 @@ mod numbers;
 mod parameters;
 mod queries;
 mod records;
-#[cfg(test)]
-mod tests;
 
 pub use numbers::push_number;
 pub use parameters::parameter_line;

@@ -18,8 +18,6 @@ mod refusal;
 mod request;
 mod shared;
 mod shown;
-#[cfg(test)]
-mod tests;
 mod texts;
 
 pub use alike::is_shown_alike;

@@ -5,7 +5,5 @@
 mod batches;
 mod edits;
 mod store;
-#[cfg(test)]
-mod tests;
 
 pub use store::ItemStore;

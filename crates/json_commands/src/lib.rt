@@ -5,8 +5,6 @@
 mod json;
 mod json_back;
 mod lines;
-#[cfg(test)]
-mod tests;
 mod whole;
 
 pub use json::write_json;

@@ -6,8 +6,6 @@ mod by_key;
 mod numbers;
 mod older;
 mod steps;
-#[cfg(test)]
-mod tests;
 mod version;
 mod versions;
 mod walks;

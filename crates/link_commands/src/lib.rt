@@ -8,8 +8,6 @@ mod follow;
 mod look;
 mod rounds;
 mod shown;
-#[cfg(test)]
-mod tests;
 
 pub use edit::{EditFault, edit_share};
 pub use follow::{FollowFault, follow_share};

@@ -10,8 +10,6 @@ mod plan;
 mod row;
 mod rows;
 mod tags;
-#[cfg(test)]
-mod tests;
 
 pub use plan::{MAX_ROWS, Plan, RowPlan};
 pub use row::PlanRow;

@@ -12,8 +12,6 @@ pub mod laws;
 mod pushing;
 mod receiving;
 mod refusal;
-#[cfg(test)]
-mod tests;
 
 pub use follower::Follower;
 pub use following::follow_link;

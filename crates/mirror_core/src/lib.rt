@@ -9,8 +9,6 @@ mod mirror;
 mod reading;
 mod steps;
 mod tags;
-#[cfg(test)]
-mod tests;
 mod told;
 
 pub use mirror::{Applied, Mirror, MirrorError};

@@ -7,8 +7,6 @@ mod faulted;
 mod file;
 mod files;
 mod memory;
-#[cfg(test)]
-mod tests;
 
 pub use disk::Disk;
 pub use faulted::{Failed, Faulted, counted};

@@ -17,8 +17,6 @@ mod prune;
 mod reads;
 mod rules;
 mod store;
-#[cfg(test)]
-mod tests;
 mod tops;
 mod touched;
 

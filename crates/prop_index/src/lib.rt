@@ -8,8 +8,6 @@ mod forms;
 mod index;
 mod keys;
 pub mod laws;
-#[cfg(test)]
-mod tests;
 mod texts;
 
 pub use changes::Change;

@@ -21,6 +21,3 @@ pub use refusal::RecordError;
 pub use table::{cell, rows_of, width};
 pub use table_text::{table_writer, write_row, write_rows, written_text};
 pub use writing::write_batch;
-
-#[cfg(test)]
-mod tests;

@@ -13,8 +13,6 @@ mod queries;
 mod rehearsing;
 mod run;
 mod summary;
-#[cfg(test)]
-mod tests;
 
 pub use plan::Rehearsal;
 pub use rehearsing::{Rehearsed, rehearse};

@@ -13,8 +13,6 @@ mod opening;
 mod outcome;
 mod places;
 mod terms;
-#[cfg(test)]
-mod tests;
 mod verdict;
 
 pub use command::serve;

@@ -4,7 +4,5 @@
 
 pub mod laws;
 mod report;
-#[cfg(test)]
-mod tests;
 
 pub use report::{LinkEnd, LinkReport, Served, ServedRequests};

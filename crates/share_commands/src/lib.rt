@@ -7,8 +7,6 @@ mod look;
 mod opening;
 mod reading;
 mod rehearse;
-#[cfg(test)]
-mod tests;
 
 pub use list::{ListFault, list_share};
 pub use reading::{InputFault, read_records};

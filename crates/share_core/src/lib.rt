@@ -16,8 +16,6 @@ mod share;
 mod small;
 mod stores;
 mod tags;
-#[cfg(test)]
-mod tests;
 mod texts;
 
 pub use answer::{Answer, Reply, Said};

@@ -18,8 +18,6 @@ mod ranges;
 mod revisions;
 mod selection;
 mod sessions;
-#[cfg(test)]
-mod tests;
 
 pub use bodies::{body, body_code, delta_body, full_body, key_code, listing_body};
 pub use browse::{browse_body, browse_values};

@@ -5,14 +5,10 @@
 mod answers;
 mod asked;
 mod changed;
-#[cfg(test)]
-mod container_tests;
 mod membership;
 mod plans;
 mod ranges;
 mod targets;
-#[cfg(test)]
-mod tests;
 mod uncounted;
 mod whole;
 

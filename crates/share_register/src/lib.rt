@@ -3,7 +3,5 @@
 #![tactic(auto)]
 
 mod register;
-#[cfg(test)]
-mod tests;
 
 pub use register::Register;

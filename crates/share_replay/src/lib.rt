@@ -10,16 +10,12 @@ mod ends;
 mod intake;
 pub mod laws;
 mod line;
-#[cfg(test)]
-mod play_tests;
 mod playing;
 mod reaching;
 mod replay_error;
 mod replaying;
 mod script;
 mod telling;
-#[cfg(test)]
-mod tests;
 
 pub use delivery::Delivery;
 pub use ends::End;

@@ -6,8 +6,6 @@ mod ending;
 mod exchanging;
 mod reading;
 mod serving;
-#[cfg(test)]
-mod tests;
 mod writing;
 
 pub use serving::serve_link;

@@ -3,8 +3,6 @@
 #![tactic(auto)]
 
 mod all;
-#[cfg(test)]
-mod tests;
 mod worker;
 mod working;
 

@@ -12,8 +12,6 @@ mod printing;
 mod reader;
 mod reading;
 mod steps;
-#[cfg(test)]
-mod tests;
 
 pub use globs::is_glob;
 pub use limits::{OPEN_PARENTHESES, QUERY_BYTES};

@@ -10,8 +10,6 @@ mod learn;
 mod show;
 mod show_back;
 mod tags_fault;
-#[cfg(test)]
-mod tests;
 mod tops;
 
 pub use check::check_tags;

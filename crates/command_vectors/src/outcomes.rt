@@ -1,0 +1,64 @@
+//! `command_core`: what is written of answers and of faults.
+
+use command_core::{Fault, Outcome, Refusal, out_of_memory, refused, written};
+use daap_outside::MemSink;
+use std::alloc::{AllocError, Global};
+use std::process::Abort;
+use std::test::Fail;
+
+/// A fault that has a line of its own.
+#[derive(Debug, Drop)]
+struct Torn;
+
+impl Refusal for Torn {
+    ghost use Rattle.std.specs.Prelude.{codes, ◌++◌, ◌∷◌, []};
+
+    ghost told_line = { λ _. codes "torn" ++ 10 ∷ [] };
+
+    ghost told_status = { λ _. 3 };
+
+    fn line(&self, alloc: Global) -> Result<Vec<u8>, AllocError> {
+        Vec::from_slice(alloc, b"torn\n")
+    }
+
+    fn status(&self) -> u8 {
+        3
+    }
+}
+
+/// The outcome has the status, and the output these bytes.
+fn is_told(
+    rt: &impl Abort,
+    outcome: &Outcome,
+    output: &MemSink,
+    status: u8,
+    line: &str,
+) -> Result<(), Fail> {
+    assert_eq!(rt; outcome.status, status);
+    assert_eq!(rt; output.taken(), line.as_bytes());
+    Ok(())
+}
+
+#[test]
+fn an_answer_is_written_or_the_line_of_its_fault(rt: HostRuntime) -> Result<(), Fail> {
+    let alloc = rt.alloc();
+    let mut output = MemSink::new(alloc, 64, 64, &[])?;
+    let answer: Result<Vec<u8>, Fault<Torn>> = Ok(Vec::from_slice(alloc, b"ok\n")?);
+    let outcome = written(alloc, &mut output, answer);
+    is_told(&rt, &outcome, &output, 0, "ok\n")?;
+    let outcome = refused(alloc, &mut output, &Fault::Own(Torn));
+    is_told(&rt, &outcome, &output, 3, "ok\ntorn\n")?;
+    let failed: Fault<Torn> = Fault::Read;
+    let outcome = refused(alloc, &mut output, &failed);
+    is_told(&rt, &outcome, &output, 4, "ok\ntorn\nread failed\n")?;
+    let outcome = out_of_memory(&mut output, None);
+    is_told(&rt, &outcome, &output, 9, "ok\ntorn\nread failed\nmemory\n")
+}
+
+#[test]
+fn an_output_that_fails_gives_its_status(rt: HostRuntime) -> Result<(), Fail> {
+    let alloc = rt.alloc();
+    let mut output = MemSink::new(alloc, 3, 3, &[])?;
+    let outcome = refused(alloc, &mut output, &Fault::Own(Torn));
+    is_told(&rt, &outcome, &output, 5, "tor")
+}

@@ -1,0 +1,107 @@
+//! `replay_command`: scripts, and what they are answered.
+
+use crate::runs::{Pieces, Ran, WHOLE, has_left, left, sink, source};
+use command_core::Outcome;
+use daap_outside::{Sink, Source};
+use replay_command::replay_script;
+use std::alloc::{AllocError, Global};
+use std::process::Abort;
+use std::test::Fail;
+
+/// A login, and a stop behind it.
+const SCRIPT: &[u8] =
+    b"open 1 edit\ntext 1 GET /login HTTP/1.1\\r\\n\\r\\n\ntext 1 POST /stop HTTP/1.1\\r\\n\\r\\n\n";
+
+/// What they are answered.
+const ANSWERS: &[u8] =
+    b"> 1 112\nHTTP/1.1 200 OK\r\nContent-Type: application/x-dmap-tagged\r\nContent-Length: 32\r\n\r\nmlog\0\0\0\x18mstt\0\0\0\x04\0\0\0\xc8mlid\0\0\0\x04\0\0\0\x01\n> 1 46\nHTTP/1.1 204 No Content\r\nConnection: close\r\n\r\n\n# 1 stopped\n";
+
+/// The first reply, without the line feed behind it.
+const FIRST_REPLY: &[u8] =
+    b"> 1 112\nHTTP/1.1 200 OK\r\nContent-Type: application/x-dmap-tagged\r\nContent-Length: 32\r\n\r\nmlog\0\0\0\x18mstt\0\0\0\x04\0\0\0\xc8mlid\0\0\0\x04\0\0\0\x01";
+
+// Without clauses, so that no other proof looks into what the command means.
+fn replayed<I: Source, W: Sink>(alloc: Global, input: &mut I, output: &mut W) -> Outcome {
+    replay_script(alloc, 256, "daapshare", input, output)
+}
+
+fn run_over(alloc: Global, script: &[u8], pieces: Pieces) -> Result<Ran, AllocError> {
+    let mut input = source(alloc, script, pieces)?;
+    let mut output = sink(alloc, pieces)?;
+    let outcome = replayed(alloc, &mut input, &mut output);
+    Ok(left(outcome, output))
+}
+
+/// A script and its pieces, with the status, the output and the number of entries that the share has.
+type Replay = (&'static [u8], Pieces, u8, &'static [u8], Option<usize>);
+
+fn all_end(rt: &impl Abort, alloc: Global, replays: &[Replay]) -> Result<(), Fail> {
+    for (script, pieces, status, output, entries) in replays {
+        let ran = run_over(alloc, script, *pieces)?;
+        has_left(rt, &ran, *status, output)?;
+        assert_eq!(rt; ran.entries, *entries);
+    }
+    Ok(())
+}
+
+const SHORT: Pieces = Pieces {
+    read: 7,
+    write: 50,
+    ..WHOLE
+};
+
+const ANSWERED: [Replay; 2] = [
+    (SCRIPT, SHORT, 0, ANSWERS, Some(2)),
+    (b"", SHORT, 0, b"", Some(0)),
+];
+
+#[test]
+fn a_script_is_answered(rt: HostRuntime) -> Result<(), Fail> {
+    all_end(&rt, rt.alloc(), &ANSWERED)
+}
+
+const BAD_LINE: [Replay; 1] = [(
+    b"open 1 edit\nclose 2\nclose 3\n",
+    Pieces {
+        read: 99,
+        write: 50,
+        ..WHOLE
+    },
+    3,
+    b"script: line 2\n",
+    None,
+)];
+
+#[test]
+fn a_bad_line_is_told(rt: HostRuntime) -> Result<(), Fail> {
+    all_end(&rt, rt.alloc(), &BAD_LINE)
+}
+
+const FAILED: [Replay; 2] = [
+    (
+        SCRIPT,
+        Pieces {
+            failed_read: 2,
+            ..SHORT
+        },
+        4,
+        b"read failed\n",
+        None,
+    ),
+    (
+        SCRIPT,
+        Pieces {
+            read: 7,
+            failed_write: 3,
+            ..WHOLE
+        },
+        5,
+        FIRST_REPLY,
+        Some(1),
+    ),
+];
+
+#[test]
+fn faults_of_the_outside_are_told(rt: HostRuntime) -> Result<(), Fail> {
+    all_end(&rt, rt.alloc(), &FAILED)
+}

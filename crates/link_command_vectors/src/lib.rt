@@ -1,0 +1,13 @@
+//! Tests of the commands that use the network. Nothing here is for other crates.
+#![tactic(auto)]
+
+#[cfg(test)]
+mod edits;
+#[cfg(test)]
+mod follows;
+#[cfg(test)]
+mod known;
+#[cfg(test)]
+mod nets;
+#[cfg(test)]
+mod shares;

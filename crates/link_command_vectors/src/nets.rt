@@ -1,0 +1,56 @@
+//! Nets in memory, and what a command leaves there.
+
+use daap_outside::{MemLink, MemNet, MemSink, MemSource};
+use std::alloc::{AllocError, Global};
+use std::process::Abort;
+use std::test::Fail;
+
+/// A net with one link, which gives these bytes and takes some, in pieces of 50. The read and the write with these numbers
+/// fail (0: none does).
+pub(crate) fn net_of(
+    alloc: Global,
+    input: &[u8],
+    failed_read: u64,
+    failed_write: u64,
+) -> Result<MemNet, AllocError> {
+    let mut net = MemNet::with_room(alloc, &[], 2, 2)?;
+    let input = MemSource::new(alloc, input, 50, &[failed_read])?;
+    let output = MemSink::new(alloc, 4096, 50, &[failed_write])?;
+    net.add_link(MemLink::new(input, output))?;
+    Ok(net)
+}
+
+/// A net that reaches nothing.
+pub(crate) fn no_net(alloc: Global) -> Result<MemNet, AllocError> {
+    MemNet::with_room(alloc, &[], 1, 1)
+}
+
+/// An output that can hold so many bytes, and takes up to so many by one write.
+pub(crate) fn output_of(alloc: Global, room: usize, piece: usize) -> Result<MemSink, AllocError> {
+    MemSink::new(alloc, room, piece.max(1), &[])
+}
+
+/// What a command left: its status, its output, and the net.
+#[derive(Drop)]
+pub(crate) struct Ran {
+    pub(crate) status: u8,
+    pub(crate) output: Vec<u8>,
+    pub(crate) net: MemNet,
+}
+
+/// The command ended with this status and these lines.
+pub(crate) fn has_told(rt: &impl Abort, ran: &Ran, status: u8, lines: &[u8]) -> Result<(), Fail> {
+    assert_eq!(rt; ran.status, status);
+    assert_eq!(rt; ran.output.as_slice(), lines);
+    Ok(())
+}
+
+/// The one place asked for is the one of these tests, and one link was given back, which took these bytes.
+pub(crate) fn has_sent(net: &MemNet, bytes: &[u8]) -> bool {
+    let (Some([asked]), Some([returned])) = (net.asked(), net.written()) else {
+        return false;
+    };
+    asked.place() == b"here:3689".as_slice()
+        && asked.doors() == 0
+        && returned.bytes.as_slice() == bytes
+}

@@ -1,0 +1,15 @@
+//! Tests of the listings of a share, and of what a mirror takes in. Nothing here is for other crates.
+#![tactic(auto)]
+
+#[cfg(test)]
+mod batches;
+#[cfg(test)]
+mod listings;
+#[cfg(test)]
+mod mirrors;
+#[cfg(test)]
+mod plans;
+#[cfg(test)]
+mod rehearsals;
+#[cfg(test)]
+mod stores;

@@ -1,5 +1,0 @@
--- The counter of the call is the one that is made for it.
-use Rattle.playlist_store.proofs.tests.next.Given as goal
-
-abbrev pub ghosts-next_by : goal.ghosts-next_by
-ghosts-next_by a = record { name = a.blank.name; parts = a.blank.parts }

@@ -1,5 +1,0 @@
--- The counter of the call is the one that is made for it.
-use Rattle.share_core.proofs.tests.told.Given as goal
-
-abbrev pub ghosts-answered : goal.ghosts-answered
-ghosts-answered a = record { name = a.blank.name; parts = a.blank.parts }

@@ -1,9 +1,0 @@
--- Each batch takes a place, and there are few places.
-use Rattle.share_history.proofs.SessionFacts.{few_revisions, few_edits}
-use Rattle.share_history.proofs.tests.is_small.Goals as goal
-
-pub returns : goal.returns
-returns c = record {
-  revision = λ _. few_revisions c.args.history.now c.has_place.result c.has_place.ensures c.if-not-has_place.false;
-  edits = λ h. few_edits c.args.history.now c.has_room_for.result c.has_room_for.ensures h;
-}

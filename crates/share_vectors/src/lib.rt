@@ -1,0 +1,13 @@
+//! Tests of a share, of replayed scripts and of clients that follow a share. Nothing here is for other crates.
+#![tactic(auto)]
+
+#[cfg(test)]
+mod followers;
+#[cfg(test)]
+mod plays;
+#[cfg(test)]
+mod pushes;
+#[cfg(test)]
+mod scripts;
+#[cfg(test)]
+mod shares;

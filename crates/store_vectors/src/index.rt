@@ -1,0 +1,223 @@
+//! `prop_index`: six items and what they are found by, and changes that are taken in all or not at all.
+
+use dmap_tags::Text;
+use item_model::{Browse, Item, ItemError, PropValue, Property, Row, SharedRow, Texts};
+use prop_index::{Change, PropIndex};
+use song_query::read;
+use std::alloc::{AllocError, Global};
+use std::process::Abort;
+use std::test::Fail;
+
+/// An item's id, artist and album. An empty text is left out.
+type Song = (u32, &'static str, &'static str);
+
+fn put(alloc: Global, item: &mut Item, property: Property, text: &str) -> Result<(), ItemError> {
+    if text.is_empty() {
+        return Ok(());
+    }
+    item.put(property, PropValue::Text(Text::of(alloc, text)?))?;
+    Ok(())
+}
+
+fn row(alloc: Global, song: &Song) -> Result<Row, ItemError> {
+    let mut item = Item::new(alloc);
+    put(alloc, &mut item, Property::Asar, song.1)?;
+    put(alloc, &mut item, Property::Asal, song.2)?;
+    Ok(Row { id: song.0, item })
+}
+
+fn add(alloc: Global, index: &mut PropIndex, songs: &[Song]) -> Result<(), Fail> {
+    for song in songs {
+        let row = row(alloc, song)?;
+        index.apply(None, Some(&row))?;
+    }
+    Ok(())
+}
+
+fn indexed(alloc: Global, songs: &[Song]) -> Result<PropIndex, Fail> {
+    let mut index = PropIndex::new(alloc);
+    add(alloc, &mut index, songs)?;
+    Ok(index)
+}
+
+/// The items that may meet the query of a text.
+fn candidates(alloc: Global, index: &PropIndex, text: &str) -> Result<String, Fail> {
+    let query = read(alloc, text)?;
+    let found = index.candidates(&query)?;
+    Ok(format!(in alloc; "{found:?}")?)
+}
+
+fn finds(
+    rt: &impl Abort,
+    alloc: Global,
+    index: &PropIndex,
+    rows: &[(&'static str, &'static str)],
+) -> Result<(), Fail> {
+    for (query, wanted) in rows {
+        assert_eq!(rt;
+            candidates(alloc, index, query)?.as_str(),
+            *wanted,
+            "at {query}"
+        );
+    }
+    Ok(())
+}
+
+/// The values of a property by which a library is browsed, each before a semicolon.
+fn values(alloc: Global, index: &PropIndex, browse: Browse) -> Result<String, AllocError> {
+    let values: Texts = index.values(browse)?;
+    let mut text = String::new(alloc);
+    for value in values.as_slice() {
+        text.push_str(value.as_str())?;
+        text.push_str(";")?;
+    }
+    Ok(text)
+}
+
+/// The items with one of two texts.
+fn ids(
+    alloc: Global,
+    index: &PropIndex,
+    browse: Browse,
+    first: &str,
+    second: &str,
+) -> Result<String, AllocError> {
+    let first = index.ids_of(browse, first)?;
+    let second = index.ids_of(browse, second)?;
+    format!(in alloc; "{:?} {:?}", first.as_slice(), second.as_slice())
+}
+
+const SIX: [Song; 6] = [
+    (1, "Ann", "One"),
+    (2, "Bob", ""),
+    (3, "Cy", "Pod"),
+    (4, "Di", "Film"),
+    (5, "Ed", "Two"),
+    (6, "ann", "two"),
+];
+
+const SEVEN: [Song; 7] = [
+    (1, "Ann", "One"),
+    (2, "Bob", ""),
+    (3, "Cy", "Pod"),
+    (4, "Di", "Film"),
+    (5, "Ed", "Two"),
+    (6, "ann", "two"),
+    (7, "gro\u{df}e", ""),
+];
+
+const FOUND: [(&str, &str); 11] = [
+    ("'daap.songartist:ANN'", "Some([1, 6])"),
+    ("'daap.songalbum:TWO'", "Some([5, 6])"),
+    ("'daap.songartist:nobody'", "Some([])"),
+    (
+        "('dmap.itemname:x' 'daap.songalbum:two' 'daap.songartist:ann')",
+        "Some([5, 6])",
+    ),
+    ("'daap.songartist:A*'", "None"),
+    ("'daap.songartist!:ann'", "None"),
+    ("'daap.songartist<:ann'", "None"),
+    (
+        "'daap.songartist:GROSSE*' 'daap.songartist:GROSSE'",
+        "Some([7])",
+    ),
+    ("'daap.songalbum:'", "None"),
+    ("'dmap.itemname:Hey'", "None"),
+    ("'daap.songartist:ann','daap.songartist:bob'", "None"),
+];
+
+#[test]
+fn queries_that_need_a_text_have_candidates(rt: HostRuntime) -> Result<(), Fail> {
+    let index = indexed(rt.alloc(), &SEVEN)?;
+    finds(&rt, rt.alloc(), &index, &FOUND)
+}
+
+/// The artists, the albums and the genres.
+fn all_values(alloc: Global, index: &PropIndex) -> Result<String, AllocError> {
+    let artists = values(alloc, index, Browse::Artists)?;
+    let albums = values(alloc, index, Browse::Albums)?;
+    let genres = values(alloc, index, Browse::Genres)?;
+    format!(in alloc; "{artists} {albums} {genres}")
+}
+
+fn six_are_spelled(rt: &impl Abort, alloc: Global, index: &PropIndex) -> Result<(), Fail> {
+    assert_eq!(rt;
+        all_values(alloc, index)?.as_str(),
+        "Ann;Bob;Cy;Di;Ed;ann; Film;One;Pod;Two;two; "
+    );
+    assert_eq!(rt;
+        ids(alloc, index, Browse::Artists, "ann", "")?.as_str(),
+        "[6] []"
+    );
+    assert_eq!(rt;
+        ids(alloc, index, Browse::Albums, "", "two")?.as_str(),
+        "[] [6]"
+    );
+    Ok(())
+}
+
+#[test]
+fn values_are_spelled_as_they_are(rt: HostRuntime) -> Result<(), Fail> {
+    let index = indexed(rt.alloc(), &SIX)?;
+    six_are_spelled(&rt, rt.alloc(), &index)
+}
+
+/// A change of the item of an id: its artist and album before and after, empty if it is not there.
+type Turn = (
+    u32,
+    (&'static str, &'static str),
+    (&'static str, &'static str),
+);
+
+const TURNS: [Turn; 4] = [
+    (6, ("ann", "two"), ("Bob", "two")),
+    (6, ("Bob", "two"), ("Zoe", "")),
+    (1, ("Ann", "One"), ("", "")),
+    (7, ("", ""), ("Zoe", "One")),
+];
+
+fn shared(
+    alloc: Global,
+    id: u32,
+    texts: &(&'static str, &'static str),
+) -> Result<Option<SharedRow>, ItemError> {
+    if texts.0.is_empty() {
+        return Ok(None);
+    }
+    let row = row(alloc, &(id, texts.0, texts.1))?;
+    Ok(Some(SharedRow::new(alloc, row)?))
+}
+
+fn changes(alloc: Global, turns: &[Turn]) -> Result<Vec<Change>, ItemError> {
+    let mut changes = Vec::new(alloc);
+    for (id, old, new) in turns {
+        let old = shared(alloc, *id, old)?;
+        let new = shared(alloc, *id, new)?;
+        changes.push(Change { old, new })?;
+    }
+    Ok(changes)
+}
+
+fn are_changed(rt: &impl Abort, alloc: Global, index: &PropIndex) -> Result<(), Fail> {
+    assert_eq!(rt;
+        all_values(alloc, index)?.as_str(),
+        "Bob;Cy;Di;Ed;Zoe; Film;One;Pod;Two; "
+    );
+    assert_eq!(rt;
+        ids(alloc, index, Browse::Artists, "Bob", "Zoe")?.as_str(),
+        "[2] [6, 7]"
+    );
+    Ok(())
+}
+
+fn change(rt: &impl Abort, alloc: Global, index: &mut PropIndex) -> Result<(), Fail> {
+    let changes = changes(alloc, &TURNS)?;
+    index.apply_all(changes.as_slice())?;
+    are_changed(rt, alloc, index)
+}
+
+#[test]
+fn changes_are_taken_in_in_order(rt: HostRuntime) -> Result<(), Fail> {
+    let mut index = indexed(rt.alloc(), &SIX)?;
+    change(&rt, rt.alloc(), &mut index)
+}

@@ -1,0 +1,151 @@
+//! `key_versions`: versions of texts and of numbers, and one call of each function that allocates.
+
+use key_versions::{Versions, next_key};
+use std::alloc::{AllocError, Global};
+use std::collections::BTreeMap;
+use std::process::Abort;
+use std::test::Fail;
+
+/// A key, a revision and a value, none if it is empty, and whether the key had a value before.
+type PutRow = (u32, u32, &'static str, bool);
+
+fn text(alloc: Global, word: &str) -> Result<Option<String>, AllocError> {
+    if word.is_empty() {
+        return Ok(None);
+    }
+    Ok(Some(String::from_str(alloc, word)?))
+}
+
+fn put(
+    rt: &impl Abort,
+    alloc: Global,
+    held: &mut Versions<String>,
+    rows: &[PutRow],
+) -> Result<(), Fail> {
+    for (key, revision, word, had) in rows {
+        let was = held.put_value(*key, *revision, text(alloc, word)?)?;
+        assert_eq!(rt; was, *had);
+    }
+    Ok(())
+}
+
+/// The values of a key at `count` revisions from the first on, with a dash if there is none.
+fn values(
+    alloc: Global,
+    held: &Versions<String>,
+    key: u32,
+    first: u32,
+    count: u32,
+) -> Result<String, AllocError> {
+    let mut values = String::new(alloc);
+    for base in first..first.saturating_add(count) {
+        match held.value_at(key, base) {
+            Some(word) => values.push_str(word.as_str())?,
+            None => values.push_str("-")?,
+        }
+    }
+    Ok(values)
+}
+
+/// The values of the key 7 from the revision 2 on and of the key 2 from 3 on, and the keys.
+fn shown(alloc: Global, held: &Versions<String>) -> Result<String, AllocError> {
+    let seven = values(alloc, held, 7, 2, 5)?;
+    let two = values(alloc, held, 2, 3, 3)?;
+    let keys = held.keys()?;
+    format!(in alloc; "{seven} {two} {:?}", keys.as_slice())
+}
+
+const PUTS: [PutRow; 6] = [
+    (9, 3, "", false),
+    (7, 3, "a", false),
+    (7, 5, "b", true),
+    (7, 5, "c", true),
+    (7, 6, "", true),
+    (2, 4, "d", false),
+];
+
+/// What is held after puts, and after each of two takings back.
+fn look_up(rt: &impl Abort, alloc: Global, held: &mut Versions<String>) -> Result<(), Fail> {
+    put(rt, alloc, held, &PUTS)?;
+    assert!(rt; held.newest(7).is_none());
+    assert_eq!(rt; shown(alloc, held)?.as_str(), "-aac- -dd [2]");
+    held.take_back_all(&[7, 2, 9], 5);
+    assert_eq!(rt; shown(alloc, held)?.as_str(), "-aaaa -dd [2, 7]");
+    held.take_back(2, 4);
+    assert_eq!(rt; shown(alloc, held)?.as_str(), "-aaaa --- [7]");
+    Ok(())
+}
+
+#[test]
+fn a_look_up_reads_what_stood_then(rt: HostRuntime) -> Result<(), Fail> {
+    let mut held = Versions::new(rt.alloc());
+    look_up(&rt, rt.alloc(), &mut held)
+}
+
+const OLD_PUTS: [PutRow; 3] = [(1, 3, "a", false), (1, 5, "b", true), (1, 8, "", true)];
+
+fn prune(rt: &impl Abort, alloc: Global, held: &mut Versions<String>) -> Result<(), Fail> {
+    put(rt, alloc, held, &OLD_PUTS)?;
+    held.prune_all(&[1], 6);
+    assert_eq!(rt; values(alloc, held, 1, 4, 5)?.as_str(), "-bbb-");
+    assert!(rt; held.pop_past(1, 7).is_none());
+    assert!(rt; held.pop_past(1, 8).is_some());
+    assert_eq!(rt; values(alloc, held, 1, 6, 3)?.as_str(), "---");
+    held.prune(1, 8);
+    assert_eq!(rt; held.keys()?.len(), 0);
+    Ok(())
+}
+
+#[test]
+fn what_is_past_goes(rt: HostRuntime) -> Result<(), Fail> {
+    let mut held = Versions::new(rt.alloc());
+    prune(&rt, rt.alloc(), &mut held)
+}
+
+const NUMBERS: [(u32, u32, Option<u32>); 4] = [
+    (4, 3, Some(6)),
+    (4, 5, Some(6)),
+    (4, 7, Some(8)),
+    (5, 7, None),
+];
+
+fn with_numbers(
+    alloc: Global,
+    rows: &[(u32, u32, Option<u32>)],
+) -> Result<Versions<u32>, AllocError> {
+    let mut held = Versions::new(alloc);
+    for (key, revision, number) in rows {
+        held.put_number(*key, *revision, *number)?;
+    }
+    Ok(held)
+}
+
+fn are_numbered(rt: &impl Abort, held: &mut Versions<u32>) {
+    assert_eq!(rt; held.value_at(4, 6).copied(), Some(6));
+    assert!(rt; held.has_number(4, 6) && held.has_number(4, 8) && !held.has_number(4, 7));
+    assert!(rt; !held.has_number(5, 6));
+    held.prune(4, 7);
+    assert!(rt; !held.has_number(4, 6));
+}
+
+#[test]
+fn a_number_is_put_where_it_is_another(rt: HostRuntime) -> Result<(), Fail> {
+    let mut held = with_numbers(rt.alloc(), &NUMBERS)?;
+    are_numbered(&rt, &mut held);
+    Ok(())
+}
+
+fn follow(rt: &impl Abort, map: &BTreeMap<u32, ()>) {
+    assert_eq!(rt; next_key(map, None), Some(2));
+    assert_eq!(rt; next_key(map, Some(2)), Some(7));
+    assert_eq!(rt; next_key(map, Some(7)), None);
+}
+
+#[test]
+fn keys_follow_each_other(rt: HostRuntime) -> Result<(), Fail> {
+    let mut map = BTreeMap::new(rt.alloc());
+    map.insert(7, ())?;
+    map.insert(2, ())?;
+    follow(&rt, &map);
+    Ok(())
+}

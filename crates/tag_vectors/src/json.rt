@@ -1,0 +1,279 @@
+//! `dmap_json`: tags, by the lines that show them, with their JSON texts, and texts with the reason why they are refused.
+
+use crate::tables::{learned, standard, tag};
+use code_table::CodeTable;
+use dmap_json::{JsonError, from_json, to_json};
+use dmap_show::{read_show, show};
+use dmap_tags::{Code, Tags, Text, Value};
+use std::alloc::{AllocError, Global};
+use std::process::Abort;
+use std::test::Fail;
+
+/// Lines of a tag, and its JSON text.
+type Pair = (&'static str, &'static str);
+
+/// Tags of the standard table.
+const STANDARD: [Pair; 9] = [
+    (
+        "mlog list\n  mstt u32 200\n  mlid u32 1\n",
+        "{\"code\":\"mlog\",\"kind\":\"list\",\"value\":[{\"code\":\"mstt\",\"kind\":\"u32\",\"value\":200},{\"code\":\"mlid\",\"kind\":\"u32\",\"value\":1}]}",
+    ),
+    (
+        "miid opaque #000001\n",
+        "{\"code\":\"miid\",\"kind\":\"opaque\",\"value\":\"000001\"}",
+    ),
+    (
+        "minm opaque #ff\n",
+        "{\"code\":\"minm\",\"kind\":\"opaque\",\"value\":\"ff\"}",
+    ),
+    (
+        "zzzz opaque #0a9f\n",
+        "{\"code\":\"zzzz\",\"kind\":\"opaque\",\"value\":\"0a9f\"}",
+    ),
+    (
+        "xff0001ab opaque #\n",
+        "{\"code\":\"xff0001ab\",\"kind\":\"opaque\",\"value\":\"\"}",
+    ),
+    (
+        "minm text \"a\\\"b\\\\c\\x0a\\x00\\x1f /\u{e9}\"\n",
+        "{\"code\":\"minm\",\"kind\":\"text\",\"value\":\"a\\\"b\\\\c\\n\\u0000\\u001f /\u{e9}\"}",
+    ),
+    (
+        "abro list\n  abar list\n    mlit text \"X\"\n    mlit text \"\"\n",
+        "{\"code\":\"abro\",\"kind\":\"list\",\"value\":[{\"code\":\"abar\",\"kind\":\"list\",\"value\":[{\"code\":\"mlit\",\"kind\":\"text\",\"value\":\"X\"},{\"code\":\"mlit\",\"kind\":\"text\",\"value\":\"\"}]}]}",
+    ),
+    (
+        "asda date 1700000000\n",
+        "{\"code\":\"asda\",\"kind\":\"date\",\"value\":1700000000}",
+    ),
+    (
+        "mpro version 2.0.3\n",
+        "{\"code\":\"mpro\",\"kind\":\"version\",\"value\":131075}",
+    ),
+];
+
+/// Tags of the learned table.
+const LEARNED: [Pair; 9] = [
+    (
+        "zzz1 u8 255\n",
+        "{\"code\":\"zzz1\",\"kind\":\"u8\",\"value\":255}",
+    ),
+    (
+        "zzz2 i8 -128\n",
+        "{\"code\":\"zzz2\",\"kind\":\"i8\",\"value\":-128}",
+    ),
+    (
+        "zzz3 u16 258\n",
+        "{\"code\":\"zzz3\",\"kind\":\"u16\",\"value\":258}",
+    ),
+    (
+        "zzz4 i16 -1\n",
+        "{\"code\":\"zzz4\",\"kind\":\"i16\",\"value\":-1}",
+    ),
+    (
+        "zzz4 i16 32767\n",
+        "{\"code\":\"zzz4\",\"kind\":\"i16\",\"value\":32767}",
+    ),
+    (
+        "zzz6 i32 -2147483648\n",
+        "{\"code\":\"zzz6\",\"kind\":\"i32\",\"value\":-2147483648}",
+    ),
+    (
+        "zzz7 u64 18446744073709551615\n",
+        "{\"code\":\"zzz7\",\"kind\":\"u64\",\"value\":18446744073709551615}",
+    ),
+    (
+        "zzz8 i64 -9223372036854775808\n",
+        "{\"code\":\"zzz8\",\"kind\":\"i64\",\"value\":-9223372036854775808}",
+    ),
+    (
+        "zzzc list\n",
+        "{\"code\":\"zzzc\",\"kind\":\"list\",\"value\":[]}",
+    ),
+];
+
+/// Other texts of a tag's JSON value, with its lines.
+const OTHER_TEXTS: [Pair; 3] = [
+    (
+        "miid u32 7\n",
+        " { \"value\" : 7 , \"kind\" : \"u32\" , \"code\" : \"miid\" } \n",
+    ),
+    (
+        "miid u32 7\n",
+        "{\"code\":\"zzzz\",\"kind\":\"list\",\"value\":{},\"code\":\"m\\u0069id\",\"kind\":\"u32\",\"value\":7}",
+    ),
+    (
+        "minm text \"\u{e9}\"\n",
+        "{\"code\":\"minm\",\"kind\":\"text\",\"value\":\"\\u00e9\"}",
+    ),
+];
+
+/// Texts that are not JSON.
+const NO_JSON: [&str; 5] = ["", "{", "{\"code\":\"miid\"}x", "\"\\ud800\"", "1e999"];
+
+/// Texts that are refused at their first value.
+const NO_TAG: [&str; 18] = [
+    "7",
+    "[]",
+    "{}",
+    "{\"code\":\"miid\",\"kind\":\"u32\"}",
+    "{\"code\":\"miid\",\"kind\":\"u32\",\"value\":7,\"x\":0}",
+    "{\"code\":\"miid\",\"kind\":\"u32\",\"valu\":7}",
+    "{\"code\":7,\"kind\":\"u32\",\"value\":7}",
+    "{\"code\":\"mii\",\"kind\":\"u32\",\"value\":7}",
+    "{\"code\":\"x6d696964\",\"kind\":\"u32\",\"value\":7}",
+    "{\"code\":\"miid\",\"kind\":\"date\",\"value\":7}",
+    "{\"code\":\"miid\",\"kind\":\"opaque\",\"value\":\"00000001\"}",
+    "{\"code\":\"miid\",\"kind\":\"u32\",\"value\":-1}",
+    "{\"code\":\"miid\",\"kind\":\"u32\",\"value\":4294967296}",
+    "{\"code\":\"miid\",\"kind\":\"u32\",\"value\":7.0}",
+    "{\"code\":\"miid\",\"kind\":\"u32\",\"value\":\"7\"}",
+    "{\"code\":\"minm\",\"kind\":\"opaque\",\"value\":\"FF\"}",
+    "{\"code\":\"minm\",\"kind\":\"opaque\",\"value\":\"fff\"}",
+    "{\"code\":\"mlcl\",\"kind\":\"list\",\"value\":\"\"}",
+];
+
+/// The lines of the tag that a text is read as.
+fn lines_of(alloc: Global, table: &CodeTable, json: &str) -> Result<Text, Fail> {
+    let tag = from_json(alloc, json, table)?;
+    Ok(show(alloc, &[tag])?)
+}
+
+/// Each text is read as the tag of its lines.
+fn all_are_read(
+    rt: &impl Abort,
+    alloc: Global,
+    table: &CodeTable,
+    pairs: &[Pair],
+) -> Result<(), Fail> {
+    for pair in pairs {
+        let lines = lines_of(alloc, table, pair.1)?;
+        assert_eq!(rt; lines.as_str(), pair.0);
+    }
+    Ok(())
+}
+
+/// Each tag of these lines is written as its text.
+fn all_are_written(
+    rt: &impl Abort,
+    alloc: Global,
+    table: &CodeTable,
+    pairs: &[Pair],
+) -> Result<(), Fail> {
+    for pair in pairs {
+        let tags = read_show(alloc, pair.0, table)?;
+        for tag in tags.as_slice() {
+            let text = to_json(alloc, tag, table)?;
+            assert_eq!(rt; text.as_str(), pair.1);
+        }
+    }
+    Ok(())
+}
+
+/// Each text is refused so.
+fn all_are_refused(
+    rt: &impl Abort,
+    alloc: Global,
+    table: &CodeTable,
+    texts: &[&str],
+    error: &JsonError,
+) -> Result<(), Fail> {
+    for text in texts {
+        match from_json(alloc, text, table) {
+            Ok(_) => panic!(rt; "{text} is read"),
+            Err(cause) => assert!(rt; cause == *error),
+        }
+    }
+    Ok(())
+}
+
+/// Lists in one another.
+fn nested(alloc: Global, levels: u32) -> Result<String, AllocError> {
+    let mut text = String::new(alloc);
+    for _ in 0..levels {
+        text.push_str("{\"code\":\"mlcl\",\"kind\":\"list\",\"value\":[")?;
+    }
+    for _ in 0..levels {
+        text.push_str("]}")?;
+    }
+    Ok(text)
+}
+
+/// Why a text is not read.
+fn refusal(alloc: Global, table: &CodeTable, text: &str) -> Option<JsonError> {
+    from_json(alloc, text, table).err()
+}
+
+#[test]
+fn tags_of_each_kind_go_there_and_back(rt: HostRuntime) -> Result<(), Fail> {
+    let alloc = rt.alloc();
+    let table = standard(alloc)?;
+    all_are_written(&rt, alloc, &table, &STANDARD)?;
+    all_are_read(&rt, alloc, &table, &STANDARD)?;
+    all_are_read(&rt, alloc, &table, &OTHER_TEXTS)?;
+    let table = learned(alloc)?;
+    all_are_written(&rt, alloc, &table, &LEARNED)?;
+    all_are_read(&rt, alloc, &table, &LEARNED)
+}
+
+/// A text of members that are tags, in part of the second, and not at all.
+const BAD_MEMBERS: &str =
+    "{\"code\":\"mlog\",\"kind\":\"list\",\"value\":[{\"code\":\"mlcl\",\"kind\":\"list\",\"value\":[{\"code\":\"mstt\",\"kind\":\"u32\",\"value\":1}]},{\"code\":\"mlid\",\"kind\":\"u32\",\"value\":-1},7]}";
+
+#[test]
+fn other_texts_are_refused_at_their_first_error(rt: HostRuntime) -> Result<(), Fail> {
+    let alloc = rt.alloc();
+    let table = standard(alloc)?;
+    all_are_refused(&rt, alloc, &table, &NO_JSON, &JsonError::Syntax)?;
+    all_are_refused(&rt, alloc, &table, &NO_TAG, &JsonError::Shape { index: 0 })?;
+    let third = refusal(alloc, &table, BAD_MEMBERS);
+    assert!(rt; third == Some(JsonError::Shape { index: 3 }));
+    Ok(())
+}
+
+/// The text of the tag that a text is read as.
+fn written_again(alloc: Global, table: &CodeTable, text: &str) -> Result<Text, JsonError> {
+    let tag = from_json(alloc, text, table)?;
+    to_json(alloc, &tag, table)
+}
+
+/// The text of a list of the tag that a text is read as.
+fn written_deeper(alloc: Global, table: &CodeTable, text: &str) -> Result<Text, JsonError> {
+    let mut members = Tags::new(alloc);
+    members.push(from_json(alloc, text, table)?)?;
+    to_json(alloc, &tag(Code(*b"mlcl"), Value::List(members)), table)
+}
+
+/// Texts of lists of these levels are refused so.
+fn levels_are_refused(
+    rt: &impl Abort,
+    alloc: Global,
+    table: &CodeTable,
+    cases: &[(u32, JsonError)],
+) -> Result<(), Fail> {
+    for (levels, error) in cases {
+        let text = nested(alloc, *levels)?;
+        match refusal(alloc, table, text.as_str()) {
+            Some(cause) => assert!(rt; cause == *error, "{levels}"),
+            None => panic!(rt; "{levels}"),
+        }
+    }
+    Ok(())
+}
+
+const TOO_DEEP: [(u32, JsonError); 3] = [
+    (33, JsonError::Shape { index: 32 }),
+    (63, JsonError::Shape { index: 32 }),
+    (64, JsonError::Syntax),
+];
+
+#[test]
+fn a_tag_has_32_levels_at_most(rt: HostRuntime) -> Result<(), Fail> {
+    let alloc = rt.alloc();
+    let table = standard(alloc)?;
+    let text = nested(alloc, 32)?;
+    let again = written_again(alloc, &table, text.as_str())?;
+    assert_eq!(rt; again.as_str(), text.as_str());
+    assert!(rt; written_deeper(alloc, &table, text.as_str()).err() == Some(JsonError::Unfit));
+    levels_are_refused(&rt, alloc, &table, &TOO_DEEP)
+}

@@ -1,0 +1,386 @@
+//! A player whose updates are held, and an editor, each in a thread of its own, with calls that fail.
+ghost use Rattle.share_lock.specs.Passes.{lock_id, IsReady};
+
+use crate::gated::GatedDoor;
+use crate::hiring::{LinkPlan, STOP, WorkerPlan, Written, hired, new_share, of_one, plain};
+use item_model::Entry;
+use served_links::{LinkEnd, LinkReport};
+use share_asks::Role;
+use share_lock::{Bell, ShareLock};
+use share_workers::{Worker, WorkerEnd, serve_all};
+use std::alloc::{AllocError, Global};
+use std::process::Abort;
+use std::sync::Wait;
+use std::test::Fail;
+use std::thread::Threads;
+use std::time::{Clock, Duration};
+
+// A login, and updates for the revisions 1, 2 and 3: the first is answered at once, the second when the edit comes, and the
+// third when the stop does.
+const PLAYERS_REQUESTS: &str =
+    "GET /login HTTP/1.1\r\n\r\nGET /update?session-id=1&revision-number=1 HTTP/1.1\r\n\r\nGET /update?session-id=1&revision-number=2 HTTP/1.1\r\n\r\nGET /update?session-id=1&revision-number=3 HTTP/1.1\r\n\r\n";
+
+// An edit, whose last byte is in the third piece, and a stop, whose last byte is in the fourth.
+const EDITORS_REQUESTS: &str =
+    "POST /edit HTTP/1.1\r\nContent-Length: 38\r\n\r\nop,kind,id,dmap.itemname\nput,item,7,A\nPOST /stop HTTP/1.1\r\n\r\n";
+
+// How many bytes the player's replies are: up to the one before the edit, and with the one after it.
+const BEFORE_EDIT: u64 = 224;
+
+const AFTER_EDIT: u64 = 336;
+
+// What the player's requests are answered.
+const ALL_HEARD: [u16; 4] = [200, 200, 200, 503];
+
+/// What a worker leaves.
+#[derive(Drop)]
+struct Told {
+    end: WorkerEnd,
+    reports: Vec<LinkReport>,
+    /// The bytes on its first link.
+    bytes: Vec<u8>,
+    /// The points at which the share's history has entries of its number.
+    own: Vec<u64>,
+    /// The points of those requests in its reports that added an entry.
+    named: Vec<u64>,
+}
+
+/// The player, of whose writes one may fail.
+fn player(failing_write: u64) -> WorkerPlan {
+    of_one(
+        Role::Listen,
+        LinkPlan {
+            failing_write,
+            ..plain(PLAYERS_REQUESTS)
+        },
+    )
+}
+
+/// The editor, of whose calls on its first link some may fail. The stop on its second link waits for so much of the player's.
+fn editor(failing_read: u64, failing_write: u64, stop_waits: &'static [u64]) -> WorkerPlan {
+    WorkerPlan {
+        role: Role::Edit,
+        first: LinkPlan {
+            reads_wait: &[BEFORE_EDIT, 0, 0, AFTER_EDIT],
+            failing_read,
+            failing_write,
+            ..plain(EDITORS_REQUESTS)
+        },
+        second: Some(LinkPlan {
+            reads_wait: stop_waits,
+            ..plain(STOP)
+        }),
+    }
+}
+
+fn maker(entry: &Entry) -> u32 {
+    match entry {
+        Entry::Edits { by, .. }
+        | Entry::Login { by, .. }
+        | Entry::Logout { by, .. }
+        | Entry::Stop { by } => *by,
+    }
+}
+
+/// The points at which the history has entries of a number.
+fn points_of(alloc: Global, history: &[Entry], number: u32) -> Result<Vec<u64>, AllocError> {
+    let mut points = Vec::new(alloc);
+    let mut point: u64 = 0;
+    for entry in history {
+        point = point.saturating_add(1);
+        if maker(entry) == number {
+            points.push(point)?;
+        }
+    }
+    Ok(points)
+}
+
+/// The points of the requests that added an entry.
+fn named_points(alloc: Global, reports: &[LinkReport]) -> Result<Vec<u64>, AllocError> {
+    let mut points = Vec::new(alloc);
+    for report in reports {
+        for served in report.served.as_slice() {
+            if served.added {
+                points.push(served.point)?;
+            }
+        }
+    }
+    Ok(points)
+}
+
+fn told_of(
+    alloc: Global,
+    worker: Worker<GatedDoor<'_>>,
+    history: &[Entry],
+) -> Result<Told, AllocError> {
+    let Worker {
+        pass,
+        door,
+        role: _,
+        reports,
+        end,
+    } = worker;
+    let own = points_of(alloc, history, pass.number())?;
+    let named = named_points(alloc, reports.as_slice())?;
+    let mut bytes = Vec::new(alloc);
+    if let Some(link) = door.given_back.first() {
+        bytes.extend_from_slice(link.taken())?;
+    }
+    Ok(Told {
+        end,
+        reports,
+        bytes,
+        own,
+        named,
+    })
+}
+
+/// A player and an editor at one share, each in a thread of its own.
+fn served<R: Threads + Wait + Clock + Sync>(
+    rt: &R,
+    alloc: Global,
+    plans: &(WorkerPlan, WorkerPlan),
+) -> Result<(Told, Told), AllocError> {
+    let (lock, mut first) = ShareLock::open(alloc, new_share(alloc)?, 3)?;
+    let written = Written::new();
+    let mut workers = hired(rt, alloc, &lock, &mut first, plans, &written)?;
+    serve_all(rt, alloc, &lock, &Bell::new(), &mut workers);
+    let turn = lock.take(rt, &mut first);
+    let history = lock.end(turn).into_history();
+    let (Some(editor), Some(player)) = (workers.pop(), workers.pop()) else {
+        return Err(AllocError);
+    };
+    Ok((
+        told_of(alloc, player, history.as_slice())?,
+        told_of(alloc, editor, history.as_slice())?,
+    ))
+}
+
+/// Whether a report tells these statuses, and this end.
+pub fn tells(report: Option<&LinkReport>, statuses: &[u16], end: LinkEnd) -> bool {
+    match report {
+        Some(report) => {
+            report.end == end
+                && report
+                    .served
+                    .as_slice()
+                    .iter()
+                    .map(|s| s.status)
+                    .eq(statuses.iter().copied())
+        }
+        None => false,
+    }
+}
+
+/// Whether the history has entries of the worker at these points alone, and its reports name them.
+fn owns(told: &Told, points: &[u64]) -> bool {
+    told.own.as_slice() == points && told.named.as_slice() == points
+}
+
+// What the player gets last: revision 3, and the refusal of an update at a share that was stopped.
+const WOKEN: &[u8] =
+    b"HTTP/1.1 200 OK\r\nContent-Type: application/x-dmap-tagged\r\nContent-Length: 32\r\n\r\nmupd\0\0\0\x18mstt\0\0\0\x04\0\0\0\xc8musr\0\0\0\x04\0\0\0\x03HTTP/1.1 503 Service Unavailable\r\nContent-Length: 0\r\nConnection: close\r\n\r\n";
+
+fn read_clock<C: Clock>(clock: &C) -> Result<Duration, AllocError> {
+    match clock.monotonic() {
+        Ok(time) => Ok(time),
+        Err(_) => Err(AllocError),
+    }
+}
+
+/// The same, and whether it took less than the five seconds after which a held update looks without a bell.
+fn woken<R: Threads + Wait + Clock + Sync>(
+    rt: &R,
+    alloc: Global,
+    plans: &(WorkerPlan, WorkerPlan),
+) -> Result<(Told, Told, bool), AllocError> {
+    let begun = read_clock(rt)?;
+    let (player, other) = served(rt, alloc, plans)?;
+    let spent = read_clock(rt)?.saturating_sub(begun);
+    Ok((player, other, spent < Duration::from_secs(5)))
+}
+
+#[test]
+fn an_edit_and_a_stop_wake_what_is_held(rt: HostRuntime) -> Result<(), Fail> {
+    let plans = (player(0), editor(0, 0, &[]));
+    let (player, editor, prompt) = woken(&rt, rt.alloc(), &plans)?;
+    assert!(rt; prompt);
+    assert!(rt; tells(player.reports.first(), &ALL_HEARD, LinkEnd::Stopped));
+    assert!(rt; player.bytes.len() == 410 && player.bytes.as_slice().ends_with(WOKEN));
+    assert!(rt; tells(editor.reports.first(), &[200, 204], LinkEnd::Stopped));
+    assert!(rt; editor.reports.len() == 1 && editor.end == WorkerEnd::Stopped);
+    assert!(rt; owns(&player, &[1]) && owns(&editor, &[2, 3]));
+    Ok(())
+}
+
+#[test]
+fn a_logout_wakes_what_is_held(rt: HostRuntime) -> Result<(), Fail> {
+    let other = LinkPlan {
+        reads_wait: &[BEFORE_EDIT],
+        ..plain("GET /logout?session-id=1 HTTP/1.1\r\n\r\n")
+    };
+    let plans = (player(0), of_one(Role::Listen, other));
+    let (player, other, prompt) = woken(&rt, rt.alloc(), &plans)?;
+    assert!(rt; prompt);
+    assert!(rt;
+        tells(
+            player.reports.first(),
+            &[200, 200, 403, 403],
+            LinkEnd::Closed
+        )
+    );
+    assert!(rt; tells(other.reports.first(), &[204], LinkEnd::Closed));
+    assert!(rt; owns(&player, &[1]) && owns(&other, &[2]));
+    Ok(())
+}
+
+/// A call on the editor's first link that fails, and what comes of it: the statuses on this link, how many links the editor
+/// then serves, and the statuses on the player's.
+#[derive(Clone, Copy)]
+struct Failure {
+    read: u64,
+    write: u64,
+    stop_waits: &'static [u64],
+    statuses: &'static [u16],
+    links: usize,
+    heard: &'static [u16],
+}
+
+/// A read that fails before the edit is whole: the stop on the second link is all that the player hears.
+fn before_edit(read: u64) -> Failure {
+    Failure {
+        read,
+        write: 0,
+        stop_waits: &[BEFORE_EDIT],
+        statuses: &[],
+        links: 2,
+        heard: &[200, 200, 503],
+    }
+}
+
+/// A read or a write that fails after the edit: the player hears of the edit, and of the stop on the second link.
+fn after_edit(read: u64, write: u64) -> Failure {
+    Failure {
+        read,
+        write,
+        stop_waits: &[AFTER_EDIT],
+        statuses: &[200],
+        links: 2,
+        heard: &ALL_HEARD,
+    }
+}
+
+// Of the first link there are four reads, three writes of the edit's reply and one of the stop's.
+fn failures() -> [Failure; 8] {
+    [
+        before_edit(1),
+        before_edit(2),
+        before_edit(3),
+        after_edit(4, 0),
+        after_edit(0, 1),
+        after_edit(0, 2),
+        after_edit(0, 3),
+        Failure {
+            statuses: &[200, 204],
+            links: 1,
+            ..after_edit(0, 4)
+        },
+    ]
+}
+
+/// Lets a call on the editor's first link fail, and compares what the editor and the player leave.
+fn fails<R: Threads + Wait + Clock + Sync + Abort>(
+    rt: &R,
+    alloc: Global,
+    failure: &Failure,
+) -> Result<(), AllocError> {
+    let editor = editor(failure.read, failure.write, failure.stop_waits);
+    let (player, editor) = served(rt, alloc, &(player(0), editor))?;
+    let place = (failure.read, failure.write);
+    assert!(rt;
+        editor.own == editor.named && player.own == player.named,
+        "{place:?}"
+    );
+    assert!(rt;
+        tells(editor.reports.first(), failure.statuses, LinkEnd::LinkFault),
+        "{place:?}"
+    );
+    assert!(rt; editor.reports.len() == failure.links, "{place:?}");
+    assert!(rt; editor.end == WorkerEnd::Stopped, "{place:?}");
+    assert!(rt;
+        tells(player.reports.first(), failure.heard, LinkEnd::Stopped),
+        "{place:?}"
+    );
+    Ok(())
+}
+
+fn fail<R: Threads + Wait + Clock + Sync + Abort>(
+    rt: &R,
+    alloc: Global,
+    failures: &[Failure],
+) -> Result<(), AllocError> {
+    for failure in failures {
+        fails(rt, alloc, failure)?;
+    }
+    Ok(())
+}
+
+#[test]
+fn what_the_editor_added_before_a_call_failed_is_named(rt: HostRuntime) -> Result<(), Fail> {
+    fail(&rt, rt.alloc(), &failures())?;
+    Ok(())
+}
+
+// The player's writes, and what was served when they failed: three are the login's reply, three each those of the updates, and
+// two the refusal at the stop.
+const UNWRITTEN: [(u64, &[u16]); 11] = [
+    (1, &[200]),
+    (2, &[200]),
+    (3, &[200]),
+    (4, &[200, 200]),
+    (5, &[200, 200]),
+    (6, &[200, 200]),
+    (7, &[200, 200, 200]),
+    (8, &[200, 200, 200]),
+    (9, &[200, 200, 200]),
+    (10, &ALL_HEARD),
+    (11, &ALL_HEARD),
+];
+
+/// Lets a write of the player's link fail, and compares what the player and the editor leave.
+fn is_unwritten<R: Threads + Wait + Clock + Sync + Abort>(
+    rt: &R,
+    alloc: Global,
+    failing: u64,
+    statuses: &[u16],
+) -> Result<(), AllocError> {
+    let plans = (player(failing), editor(0, 0, &[]));
+    let (player, editor) = served(rt, alloc, &plans)?;
+    assert!(rt;
+        tells(player.reports.first(), statuses, LinkEnd::LinkFault),
+        "{failing}"
+    );
+    assert!(rt; owns(&player, &[1]) && owns(&editor, &[2, 3]), "{failing}");
+    assert!(rt;
+        tells(editor.reports.first(), &[200, 204], LinkEnd::Stopped),
+        "{failing}"
+    );
+    Ok(())
+}
+
+fn are_unwritten<R: Threads + Wait + Clock + Sync + Abort>(
+    rt: &R,
+    alloc: Global,
+    failures: &[(u64, &'static [u16])],
+) -> Result<(), AllocError> {
+    for (failing, statuses) in failures {
+        is_unwritten(rt, alloc, *failing, statuses)?;
+    }
+    Ok(())
+}
+
+#[test]
+fn an_update_that_is_not_written_adds_nothing(rt: HostRuntime) -> Result<(), Fail> {
+    are_unwritten(&rt, rt.alloc(), &UNWRITTEN)?;
+    Ok(())
+}

@@ -1,0 +1,19 @@
+//! Tests of workers, alone and in threads of their own. Nothing here is for other crates.
+#![tactic(auto)]
+
+#[cfg(test)]
+mod alone;
+#[cfg(test)]
+mod crowd;
+#[cfg(test)]
+mod gated;
+#[cfg(test)]
+mod held;
+#[cfg(test)]
+mod hiring;
+#[cfg(test)]
+mod many;
+#[cfg(test)]
+mod pairs;
+#[cfg(test)]
+mod together;

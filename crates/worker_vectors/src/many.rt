@@ -1,0 +1,113 @@
+//! As many links as a worker serves.
+ghost use Rattle.std.specs.Prelude.{◌≡◌, ◌<◌, ◌≤◌, None, refl};
+
+use crate::hiring::new_share;
+use daap_outside::{Door, Failed, Faulted, Link, Sink, Source};
+use served_links::{LinkEnd, LinkReport};
+use share_asks::Role;
+use share_lock::{Bell, ShareLock};
+use share_workers::{Worker, WorkerEnd, serve_worker};
+use std::alloc::{AllocError, Global};
+use std::sync::Wait;
+use std::test::Fail;
+use std::time::Clock;
+
+/// A link that has ended before anything came. Contracts know nothing of its bytes, and it does not allocate.
+#[derive(Drop)]
+struct SilentLink {}
+
+impl Faulted for SilentLink {
+    ghost faults = { λ _. 0 };
+}
+
+impl Source for SilentLink {
+    ghost left = { λ _. None };
+
+    ghost beside_left = { λ _. None };
+
+    fn read(&mut self, _room: &mut [u8]) -> Result<usize, Failed> {
+        Ok(0)
+    }
+}
+
+impl Sink for SilentLink {
+    ghost taken = { λ _. None };
+
+    ghost beside_taken = { λ _. None };
+
+    fn write(&mut self, piece: &[u8]) -> Result<usize, Failed> {
+        Ok(piece.len())
+    }
+}
+
+impl Link for SilentLink {
+    fn probe(&mut self) -> Result<(), Failed> {
+        Ok(())
+    }
+
+    ghost read_leaves_taken = { λ _. refl };
+
+    ghost write_leaves_left = { λ _. refl };
+}
+
+/// A door at which `coming` such links are to come.
+#[derive(Drop)]
+struct SilentDoor {
+    coming: u32,
+}
+
+impl Faulted for SilentDoor {
+    ghost faults = { λ _. 0 };
+}
+
+impl Door for SilentDoor {
+    type L = SilentLink;
+
+    ghost coming = { λ _. None };
+
+    ghost written = { λ _. None };
+
+    fn accept(&mut self) -> Result<Option<SilentLink>, Failed> {
+        if self.coming == 0 {
+            return Ok(None);
+        }
+        self.coming -= 1;
+        Ok(Some(SilentLink {}))
+    }
+
+    fn nudge(&mut self) {}
+
+    fn done(&mut self, _link: SilentLink) {}
+}
+
+/// A worker to whose door `coming` silent links came.
+fn served<R: Wait + Clock>(
+    rt: &R,
+    alloc: Global,
+    coming: u32,
+) -> Result<Worker<SilentDoor>, AllocError> {
+    let (lock, mut first) = ShareLock::open(alloc, new_share(alloc)?, 2)?;
+    let mut worker = Worker {
+        pass: lock.split(rt, &mut first)?,
+        door: SilentDoor { coming },
+        role: Role::Listen,
+        reports: Vec::new(alloc),
+        end: WorkerEnd::Running,
+    };
+    serve_worker(rt, alloc, &lock, &Bell::new(), &mut worker);
+    Ok(worker)
+}
+
+fn is_silent(report: &LinkReport) -> bool {
+    report.end == LinkEnd::Closed && report.served.as_slice().is_empty()
+}
+
+#[test]
+fn no_worker_serves_a_65537th_link(rt: HostRuntime) -> Result<(), Fail> {
+    let worker = served(&rt, rt.alloc(), 65_537)?;
+    assert_eq!(rt; worker.end, WorkerEnd::Spent);
+    assert_eq!(rt; worker.reports.len(), 65_536);
+    assert!(rt; worker.reports.iter().all(|report| is_silent(report)));
+    assert!(rt; worker.door.coming == 1);
+    Ok(())
+}

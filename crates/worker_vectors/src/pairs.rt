@@ -1,0 +1,151 @@
+//! Two workers whose links wait for each other, in two threads and in one.
+ghost use Rattle.std.specs.Prelude.{◌≡◌, [], All, IfOk};
+ghost use Rattle.share_lock.specs.Passes.{lock_id, IsReady};
+
+use crate::gated::GatedDoor;
+use crate::hiring::{
+    INFO, LinkPlan, TWO_INFOS, WorkerPlan, Written, hire_planned, hired, new_share, of_one, plain,
+};
+use served_links::LinkEnd;
+use share_asks::Role;
+use share_lock::{Bell, ShareLock};
+use share_workers::{Worker, WorkerEnd, serve_all};
+use std::alloc::{AllocError, Global};
+use std::sync::Wait;
+use std::test::Fail;
+use std::thread::Threads;
+use std::time::Clock;
+
+/// How often a call checks whether it may go on, if nothing that it waits for can come.
+const FEW_LOOKS: u64 = 10;
+
+const EDIT: &str =
+    "POST /edit HTTP/1.1\r\nContent-Length: 45\r\n\r\nop,kind,id,dmap.itemname\nput,item,7,Hey Jude\n";
+
+/// How a worker and its first link ended, and how many requests were served on that link.
+#[derive(Clone, Copy, Debug, PartialEq, Eq)]
+struct Told {
+    end: WorkerEnd,
+    link: Option<LinkEnd>,
+    served: usize,
+}
+
+fn told_of(worker: &Worker<GatedDoor<'_>>) -> Told {
+    match worker.reports.first() {
+        Some(report) => Told {
+            end: worker.end,
+            link: Some(report.end),
+            served: report.served.as_slice().len(),
+        },
+        None => Told {
+            end: worker.end,
+            link: None,
+            served: 0,
+        },
+    }
+}
+
+fn told_of_both(workers: &[Worker<GatedDoor<'_>>]) -> Result<(Told, Told), AllocError> {
+    match workers {
+        [first, second] => Ok((told_of(first), told_of(second))),
+        _ => Err(AllocError),
+    }
+}
+
+fn told_of_only(workers: &[Worker<GatedDoor<'_>>]) -> Result<Told, AllocError> {
+    match workers {
+        [only] => Ok(told_of(only)),
+        _ => Err(AllocError),
+    }
+}
+
+/// Two workers, each in a thread of its own.
+fn in_threads<R: Threads + Wait + Clock + Sync>(
+    rt: &R,
+    alloc: Global,
+    plans: &(WorkerPlan, WorkerPlan),
+) -> Result<(Told, Told), AllocError> {
+    let (lock, mut first) = ShareLock::open(alloc, new_share(alloc)?, 3)?;
+    let written = Written::new();
+    let mut workers = hired(rt, alloc, &lock, &mut first, plans, &written)?;
+    serve_all(rt, alloc, &lock, &Bell::new(), &mut workers);
+    told_of_both(workers.as_slice())
+}
+
+/// The same two workers in at most one thread at a time: the second begins when the first has ended.
+fn in_one_thread<R: Threads + Wait + Clock + Sync>(
+    rt: &R,
+    alloc: Global,
+    plans: &(WorkerPlan, WorkerPlan),
+) -> Result<(Told, Told), AllocError> {
+    let (lock, mut first) = ShareLock::open(alloc, new_share(alloc)?, 3)?;
+    let written = Written::new();
+    let (one, two) = (&written.first, &written.second);
+    let (mut front, mut back) = (Vec::new(alloc), Vec::new(alloc));
+    hire_planned(
+        rt, alloc, &lock, &mut first, &plans.0, FEW_LOOKS, one, two, &mut front,
+    )?;
+    hire_planned(
+        rt, alloc, &lock, &mut first, &plans.1, FEW_LOOKS, two, one, &mut back,
+    )?;
+    let bell = Bell::new();
+    serve_all(rt, alloc, &lock, &bell, &mut front);
+    serve_all(rt, alloc, &lock, &bell, &mut back);
+    Ok((
+        told_of_only(front.as_slice())?,
+        told_of_only(back.as_slice())?,
+    ))
+}
+
+/// The second read waits until the other link has taken anything.
+fn meets() -> WorkerPlan {
+    of_one(
+        Role::Listen,
+        LinkPlan {
+            reads_wait: &[0, 1],
+            ..plain(TWO_INFOS)
+        },
+    )
+}
+
+/// The first write waits so.
+fn slow() -> WorkerPlan {
+    of_one(
+        Role::Listen,
+        LinkPlan {
+            writes_wait: &[1],
+            ..plain(INFO)
+        },
+    )
+}
+
+fn ended(link: LinkEnd, served: usize) -> Told {
+    Told {
+        end: WorkerEnd::NoMoreLinks,
+        link: Some(link),
+        served,
+    }
+}
+
+#[test]
+fn two_links_meet(rt: HostRuntime) -> Result<(), Fail> {
+    let told = in_threads(&rt, rt.alloc(), &(meets(), meets()))?;
+    assert!(rt; told == (ended(LinkEnd::Closed, 2), ended(LinkEnd::Closed, 2)));
+    Ok(())
+}
+
+#[test]
+fn an_edit_waits_for_no_slow_reader(rt: HostRuntime) -> Result<(), Fail> {
+    let told = in_threads(&rt, rt.alloc(), &(slow(), of_one(Role::Edit, plain(EDIT))))?;
+    assert!(rt; told == (ended(LinkEnd::Closed, 1), ended(LinkEnd::Closed, 1)));
+    Ok(())
+}
+
+#[test]
+fn one_thread_meets_nobody(rt: HostRuntime) -> Result<(), Fail> {
+    let told = in_one_thread(&rt, rt.alloc(), &(meets(), meets()))?;
+    assert!(rt; told.0 == ended(LinkEnd::LinkFault, 1));
+    let told = in_one_thread(&rt, rt.alloc(), &(slow(), of_one(Role::Edit, plain(EDIT))))?;
+    assert!(rt; told == (ended(LinkEnd::LinkFault, 1), ended(LinkEnd::Closed, 1)));
+    Ok(())
+}
