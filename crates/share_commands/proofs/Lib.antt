@@ -3,3 +3,6 @@ pub mod Unopened
 pub mod LibraryFacts
 pub mod Senses
 pub mod Listed
+pub mod ReplaySense
+pub mod ReplayEndings
+pub mod ReplayCauses

@@ -4,3 +4,5 @@ pub mod LookFaults
 pub mod Openings
 pub mod ReadRecords
 pub mod RehearseShare
+pub mod ReplayShare
+pub mod Moments

@@ -3,7 +3,7 @@ use Rattle.std.proofs.lemmas.Bool.{leb-true}
 use Rattle.item_model.specs.declared.request.Target.{Target}
 use Rattle.command_core.specs.Seen.{Told, input_seen, output_seen, told_beside}
 use Rattle.command_core.specs.Endings.{IsAnswered}
-use Rattle.replay_command.specs.ReplayShare.{replay_meaning}
+use Rattle.share_commands.specs.ReplayShare.{replay_meaning}
 use Rattle.share_commands.specs.ListShare.{list_meaning}
 use Rattle.daapshare_words.specs.Replay.{AreReplayWords}
 use Rattle.daapshare_words.specs.Words.{IsLocalRanged}

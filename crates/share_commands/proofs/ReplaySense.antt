@@ -9,9 +9,9 @@ use Rattle.command_core.proofs.Reading.{read_whole}
 use Rattle.command_core.proofs.Sensible.{IsSensible}
 use Rattle.share_replay.specs.Scripts.{script_of}
 use Rattle.share_replay.specs.declared.delivery.Delivery.{Delivery}
-use Rattle.replay_command.specs.ReplayShare.{IsScript, ReadsAs, ReplayLeaves, ReplayWrote, replay_cause, replay_meaning, replay_status}
-use Rattle.replay_command.specs.declared.replaying.ReplayFault.{ReplayFault}
-use Rattle.replay_command.specs.declared.replaying.ReplayFault.TheVariants.{TooLong, Line}
+use Rattle.share_commands.specs.ReplayShare.{IsScript, ReadsAs, ReplayLeaves, ReplayWrote, replay_cause, replay_meaning, replay_status}
+use Rattle.share_commands.specs.declared.replay.ReplayFault.{ReplayFault}
+use Rattle.share_commands.specs.declared.replay.ReplayFault.TheVariants.{TooLong, Line}
 
 -- an input that is too long has no bad line
 one_replay_status : (input : List ℕ) (one other : ReplayFault) → Says (replay_cause one) input → Says (replay_cause other) input → replay_status one ≡ replay_status other

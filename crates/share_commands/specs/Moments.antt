@@ -11,7 +11,7 @@ use Rattle.command_core.specs.Answers.{Tells}
 use Rattle.command_core.specs.Endings.{IsCut, IsWritten}
 use Rattle.command_core.specs.Faults.{memory_line}
 use Rattle.command_core.specs.Seen.{InputSeen, OutputSeen}
-use Rattle.replay_command.specs.ReplayShare.{IsRead}
+use Rattle.share_commands.specs.ReplayShare.{IsRead}
 
 -- the whole script was played, and the output took all that it is answered
 pub record EndsWhole (s : Settings) (lines : List Delivery) (before after : OutputSeen) (status : ℕ) (history : List Entry) : Type 0 where

@@ -12,10 +12,10 @@ use Rattle.share_replay.specs.Machine.{script_bytes}
 use Rattle.share_replay.specs.Played.{IsBrokenOff}
 use Rattle.share_replay.specs.declared.delivery.Delivery.{Delivery}
 use Rattle.share_replies.specs.Settings.{Settings}
-use Rattle.replay_command.specs.Moments.{EndsPlay, IsOfOneMoment}
-use Rattle.replay_command.specs.ReplayShare.{IsBegun, IsRead, ReplayLeaves, ReplayWrote, replay_line, replay_meaning, replay_status, settings_of}
-use Rattle.replay_command.specs.declared.replaying.ReplayFault.{ReplayFault}
-use Rattle.replay_command.proofs.Sense.{replay_sense}
+use Rattle.share_commands.specs.Moments.{EndsPlay, IsOfOneMoment}
+use Rattle.share_commands.specs.ReplayShare.{IsBegun, IsRead, ReplayLeaves, ReplayWrote, replay_line, replay_meaning, replay_status, settings_of}
+use Rattle.share_commands.specs.declared.replay.ReplayFault.{ReplayFault}
+use Rattle.share_commands.proofs.ReplaySense.{replay_sense}
 
 abbrev shared : Option (List Entry) → ShareSeen
 shared history = record { history = history }

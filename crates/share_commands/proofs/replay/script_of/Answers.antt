@@ -5,9 +5,9 @@ use Rattle.command_core.specs.Seen.{InputSeen, input_seen}
 use Rattle.share_replay.specs.Refusals.{IsRefused}
 use Rattle.share_replay.specs.Scripts.{script_of}
 use Rattle.share_replay.specs.declared.script.ScriptError.{ScriptError}
-use Rattle.replay_command.specs.ReplayShare.{ReplayReadsOn, replay_cause}
-use Rattle.replay_command.proofs.Causes.{no_script, unread}
-use Rattle.replay_command.proofs.replaying.script_of.Goals as goal
+use Rattle.share_commands.specs.ReplayShare.{ReplayReadsOn, replay_cause}
+use Rattle.share_commands.proofs.ReplayCauses.{no_script, unread}
+use Rattle.share_commands.proofs.replay.script_of.Goals as goal
 
 pub returns-in-Err-clause-cause : goal.returns-in-Err-clause-cause
 returns-in-Err-clause-cause g c =

@@ -8,9 +8,9 @@ ghost use Rattle.command_core.specs.Answers.{TellsFault};
 ghost use Rattle.command_core.specs.Causes.{StopsBy};
 ghost use Rattle.command_core.specs.Endings.{IsAnswered};
 ghost use Rattle.command_core.specs.Seen.{Around, input_seen, output_seen, told_beside};
-ghost use Rattle.replay_command.specs.declared.replaying.ReplayFault.{ReplayFault};
-ghost use Rattle.replay_command.specs.Moments.{EndsPlay, IsOfOneMoment};
-ghost use Rattle.replay_command.specs.ReplayShare.{IsRead, ReplayReadsOn, read_fault, replay_cause, replay_line, replay_meaning, replay_status, settings_of};
+ghost use Rattle.share_commands.specs.declared.replay.ReplayFault.{ReplayFault};
+ghost use Rattle.share_commands.specs.Moments.{EndsPlay, IsOfOneMoment};
+ghost use Rattle.share_commands.specs.ReplayShare.{IsRead, ReplayReadsOn, read_fault, replay_cause, replay_line, replay_meaning, replay_status, settings_of};
 
 use command_core::{Fault, Outcome, Refusal, out_of_memory, refused};
 use daap_outside::{ReadError, Sink, Source, read_within};

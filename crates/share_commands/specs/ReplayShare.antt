@@ -14,8 +14,8 @@ use Rattle.command_core.specs.declared.fault.Fault.TheVariants as fault
 use Rattle.command_core.specs.Seen.{InputSeen, Seen, ShareSeen, no_share, share_with}
 use Rattle.command_core.specs.Causes.{Cause, OfInput}
 use Rattle.command_core.specs.Meanings.{Meaning, may_read}
-use Rattle.replay_command.specs.declared.replaying.ReplayFault.{ReplayFault}
-use Rattle.replay_command.specs.declared.replaying.ReplayFault.TheVariants.{TooLong, Line}
+use Rattle.share_commands.specs.declared.replay.ReplayFault.{ReplayFault}
+use Rattle.share_commands.specs.declared.replay.ReplayFault.TheVariants.{TooLong, Line}
 
 -- as many bytes of a script are read: 64 MiB
 abbrev pub script_limit : ℕ

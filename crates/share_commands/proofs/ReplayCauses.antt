@@ -9,8 +9,8 @@ use Rattle.command_core.specs.declared.fault.Fault.TheVariants.{Own}
 use Rattle.command_core.specs.Seen.{InputSeen}
 use Rattle.command_core.proofs.Reading.{all_read_on, failed_within, of_input, past_limit}
 use Rattle.share_replay.specs.Scripts.{script_of}
-use Rattle.replay_command.specs.ReplayShare.{IsBad, ReplayReadsOn, read_fault, replay_cause, script_limit}
-use Rattle.replay_command.specs.declared.replaying.ReplayFault.TheVariants.{Line}
+use Rattle.share_commands.specs.ReplayShare.{IsBad, ReplayReadsOn, read_fault, replay_cause, script_limit}
+use Rattle.share_commands.specs.declared.replay.ReplayFault.TheVariants.{Line}
 
 pub unread : (before after : InputSeen) (e : ReadError) → (e ≡ reads.Failed → ConsumesUpTo script_limit before.left after.left)
     → ConsumesUpTo (script_limit + 32768) before.left after.left → (e ≡ reads.TooLong → IfSome before.left (λ input. script_limit < length input))

@@ -5,11 +5,11 @@ use Rattle.command_core.proofs.Appending.{none_written}
 use Rattle.command_core.proofs.Ended.{by_fault, by_memory}
 use Rattle.share_replies.specs.Answers.{Shared}
 use Rattle.share_replies.specs.Settings.{Settings}
-use Rattle.replay_command.specs.Moments.{EndsPlay}
-use Rattle.replay_command.specs.ReplayShare.{replay_meaning, settings_of}
-use Rattle.replay_command.proofs.Endings.{answered_by, of_one_moment, unopened, unplayed, unwritten}
-use Rattle.replay_command.proofs.Sense.{replay_sense}
-use Rattle.replay_command.proofs.replaying.replay_script.Goals as goal
+use Rattle.share_commands.specs.Moments.{EndsPlay}
+use Rattle.share_commands.specs.ReplayShare.{replay_meaning, settings_of}
+use Rattle.share_commands.proofs.ReplayEndings.{answered_by, of_one_moment, unopened, unplayed, unwritten}
+use Rattle.share_commands.proofs.ReplaySense.{replay_sense}
+use Rattle.share_commands.proofs.replay.replay_script.Goals as goal
 
 pub returns-in-Err-clause-answered : goal.returns-in-Err-clause-answered
 returns-in-Err-clause-answered g c = λ around.

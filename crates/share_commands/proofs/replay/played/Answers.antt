@@ -8,7 +8,7 @@ use Rattle.share_replay.specs.Machine.{script_bytes, script_history}
 use Rattle.share_replay.specs.Played.{IsBrokenOff}
 use Rattle.share_replay.specs.Stops.{CountsFault}
 use Rattle.share_replay.specs.declared.replay_error.ReplayError.{ReplayError}
-use Rattle.replay_command.proofs.replaying.played.Goals as goal
+use Rattle.share_commands.proofs.replay.played.Goals as goal
 
 pub returns-in-Ok : goal.returns-in-Ok
 returns-in-Ok g c =
