@@ -1,4 +1,3 @@
-pub mod ReadCauses
 pub mod Unopened
 pub mod LibraryFacts
 pub mod Senses

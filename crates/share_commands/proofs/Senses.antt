@@ -24,7 +24,7 @@ use Rattle.share_commands.specs.declared.list.ListFault.TheVariants.{Query as qu
 use Rattle.share_commands.specs.declared.rehearse.RehearseFault.{RehearseFault}
 use Rattle.share_commands.specs.declared.rehearse.RehearseFault.TheVariants.{TooMany}
 use Rattle.share_commands.specs.Looks.{AsksQuery, IsAsked, HasRefusal, IsMetaRefused}
-use Rattle.share_commands.specs.ReadRecords.{records_limit, ReadsAs, LeavesMany}
+use Rattle.command_core.specs.ReadRecords.{records_limit, ReadsAs, LeavesMany}
 use Rattle.share_commands.specs.ListShare.{IsShare, ListLeaves, IsListable, list_status, list_cause, list_meaning}
 use Rattle.share_history.specs.Numbers.{most_edits}
 use Rattle.share_commands.specs.RehearseShare.{rehearse_status, rehearse_cause, rehearse_meaning}

@@ -6,11 +6,9 @@
 mod list;
 mod look;
 mod opening;
-mod reading;
 mod rehearse;
 mod replay;
 
 pub use list::{ListFault, list_share};
-pub use reading::{InputFault, read_records};
 pub use rehearse::{RehearseFault, rehearse_share};
 pub use replay::{ReplayFault, replay_script};

@@ -14,8 +14,8 @@ use Rattle.command_core.specs.declared.fault.Fault.{Fault}
 use Rattle.command_core.specs.declared.fault.Fault.TheVariants as fault
 use Rattle.command_core.specs.Seen.{InputSeen}
 use Rattle.command_core.specs.Causes.{Cause, OfInput, StopsBy}
-use Rattle.share_commands.specs.declared.reading.InputFault.{InputFault}
-use Rattle.share_commands.specs.declared.reading.InputFault.TheVariants.{TooLong, Records}
+use Rattle.command_core.specs.declared.records.InputFault.{InputFault}
+use Rattle.command_core.specs.declared.records.InputFault.TheVariants.{TooLong, Records}
 
 -- as many bytes of records are read: 4 MiB
 abbrev pub records_limit : ℕ

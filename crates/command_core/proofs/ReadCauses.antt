@@ -11,8 +11,8 @@ use Rattle.records_import.specs.declared.refusal.RecordError.TheVariants as reco
 use Rattle.command_core.specs.declared.fault.Fault.TheVariants.{Own}
 use Rattle.command_core.specs.Seen.{InputSeen}
 use Rattle.command_core.proofs.Reading.{all_read_on, past_limit, failed_within, of_input}
-use Rattle.share_commands.specs.declared.reading.InputFault.TheVariants.{Records}
-use Rattle.share_commands.specs.ReadRecords.{records_limit, IsWithin, IsRefused, StopsReading, read_fault, record_fault}
+use Rattle.command_core.specs.declared.records.InputFault.TheVariants.{Records}
+use Rattle.command_core.specs.ReadRecords.{records_limit, IsWithin, IsRefused, StopsReading, read_fault, record_fault}
 
 pub unread_cause : (before after : InputSeen) (e : ReadError) → (e ≡ reads.Failed → ConsumesUpTo records_limit before.left after.left)
     → ConsumesUpTo (records_limit + 32768) before.left after.left → (e ≡ reads.TooLong → IfSome before.left (λ input. records_limit < length input))

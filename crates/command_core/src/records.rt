@@ -4,9 +4,9 @@ ghost use Rattle.std.specs.Prelude.{◌≡◌, ◌≤◌, length, IfOk, IfErr};
 ghost use Rattle.item_model.specs.Valid.{AreValid};
 ghost use Rattle.records_import.specs.Limits.{most_records};
 ghost use Rattle.command_core.specs.Seen.{input_seen};
-ghost use Rattle.share_commands.specs.ReadRecords.{HasReadAs, StopsReading, read_fault, record_fault};
+ghost use Rattle.command_core.specs.ReadRecords.{HasReadAs, StopsReading, read_fault, record_fault};
 
-use command_core::Fault;
+use crate::fault::Fault;
 use daap_outside::{ReadError, Source, read_within};
 use item_model::Batch;
 use records_import::{RecordError, read_batch};

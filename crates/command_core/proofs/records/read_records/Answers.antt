@@ -4,9 +4,9 @@ use Rattle.records_import.specs.Table.{table_of}
 use Rattle.records_import.specs.Records.{BatchReads}
 use Rattle.records_import.specs.declared.refusal.RecordError.TheVariants as records
 use Rattle.command_core.specs.Seen.{InputSeen, input_seen}
-use Rattle.share_commands.specs.ReadRecords.{StopsReading}
-use Rattle.share_commands.proofs.ReadCauses.{unread_cause, records_cause}
-use Rattle.share_commands.proofs.reading.read_records.Goals as goal
+use Rattle.command_core.specs.ReadRecords.{StopsReading}
+use Rattle.command_core.proofs.ReadCauses.{unread_cause, records_cause}
+use Rattle.command_core.proofs.records.read_records.Goals as goal
 
 pub returns-in-Err-clause-cause : goal.returns-in-Err-clause-cause
 returns-in-Err-clause-cause g c =
