@@ -15,7 +15,7 @@ ghost use Rattle.share_history.specs.Sessions.{is_live, is_stopped};
 ghost use Rattle.playlist_store.specs.Tests.{tests_of};
 ghost use Rattle.share_history.specs.Histories.{all_edits};
 ghost use Rattle.share_replies.specs.Replies.{Body, Nothing, lacks_session, needed, refusal, success};
-ghost use Rattle.share_core.specs.Opened.{LeaveFewLists, LeaveManyLists, opened_with};
+ghost use Rattle.share_core.specs.Opened.{LeaveFewLists, LeaveManyLists, if_filled, opened_with};
 ghost use Rattle.share_core.specs.Said.{IsSaid};
 ghost use Rattle.share_core.specs.Told.{IsAnswer};
 ghost use Rattle.share_core.specs.Steps.{IsRead, HasGrown, IsBetween, IsMarked};
@@ -110,12 +110,8 @@ impl Share {
         ensures lists { result ≡ Err OpenError.Lists → has_few_lists [] first ≡ false }
         ensures edits { result ≢ Err OpenError.Edits }
     {
-        let mut batches = Vec::new(alloc);
-        if count_of(&first) > 0 {
-            batches.push(first)?;
-        }
-        let share = Share::open_batches(alloc, name, keep, batches)?;
-        Ok(share)
+        let batches = if_filled(alloc, first)?;
+        Share::open_batches(alloc, name, keep, batches)
     }
 
     /// Opens a share whose history begins with an entry for each of the batches, in order. Each of them has edits.
@@ -501,6 +497,17 @@ fn session_in(want: &Want) -> Option<u32>
     }
 }
 
+// The batch, if it has edits.
+fn if_filled(alloc: Global, batch: Batch) -> Result<Vec<Batch>, AllocError>
+    ensures { IfOk result (λ batches. batches.items ≡ if_filled batch) }
+{
+    let mut batches = Vec::new(alloc);
+    if count_of(&batch) > 0 {
+        batches.push(batch)?;
+    }
+    Ok(batches)
+}
+
 // Whether the batches have no more edits than a share takes.
 fn have_few_edits(batches: &[Batch]) -> bool
     ensures { result ≡ nat_le (length (edits batches.now)) most_edits }
@@ -516,20 +523,20 @@ fn have_few_edits(batches: &[Batch]) -> bool
 }
 
 // The share with the batches that it is opened with.
-fn begun<L: Ledger>(blank: Blank, share: Share, batches: Vec<Batch>) -> Result<Share, OpenError>
+fn begun<L: Ledger>(blank: Blank, empty: Share, batches: Vec<Batch>) -> Result<Share, OpenError>
     requires name { blank.name ≡ L.name }
     requires parts { blank.parts ≡ L.parts }
     requires any { 0 < blank.parts }
-    requires empty { share.history ≡ [] }
+    requires empty { empty.history ≡ [] }
     requires filled { All (λ batch. batch ≢ []) batches.items }
     requires valid { All AreValid batches.items }
     requires few { length (edits batches.items) ≤ most_edits }
-    ensures opened { IfOk result (λ s. s ≡ record { settings = share.settings; history = opened_with batches.items; marks = share.marks }) }
+    ensures opened { IfOk result (λ s. s ≡ record { settings = empty.settings; history = opened_with batches.items; marks = empty.marks }) }
     ensures fits { OnOk result (LeaveFewLists batches.items) }
     ensures lists { result ≡ Err OpenError.Lists → LeaveManyLists batches.items }
     ensures edits { result ≢ Err OpenError.Edits }
 {
-    let mut share = share;
+    let mut share = empty;
     let mut steps = Steps::<L>::open(blank);
     for batch in batches {
         share.begin(batch, &mut steps)?;
