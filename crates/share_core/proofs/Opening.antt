@@ -1,11 +1,11 @@
 -- A share that is opened with batches, one by one.
-use Rattle.std.proofs.Common.{◌≡◌, ◌≢◌, ◌≤◌, ◌<◌, ◌+◌, ℕ, zero, suc, Bool, true, false, List, [], ◌∷◌, ◌++◌, length, take, nat_le, nat_lt, count_by, cond, refl, sym, ap, ◌∙◌, subst, append-nil, append_assoc, length-append, arith}
+use Rattle.std.proofs.Common.{◌≡◌, ◌≢◌, ◌≤◌, ◌<◌, ◌+◌, ℕ, zero, suc, Bool, true, false, List, [], ◌∷◌, ◌++◌, length, get_or, take, drop, nat_le, nat_lt, count_by, cond, refl, sym, ap, ◌∙◌, subst, append-nil, append_assoc, length-append, arith}
 use Rattle.std.specs.Prelude.{All}
 use Rattle.std.proofs.Math.Seq.{take-append_seam}
 use Rattle.std.proofs.lemmas.Bool.{leb-true, leb-false, le-leb, lt-leb, lt-ltb}
 use Rattle.std.proofs.lemmas.Grind.{flat_map-append}
 use Rattle.std.proofs.lemmas.List.{take-append-le, take_all}
-use Rattle.std.proofs.lemmas.List.Elements.{All-nil, All-cons, All-head, All-tail, All-append}
+use Rattle.std.proofs.lemmas.List.Elements.{All-nil, All-cons, All-head, All-tail, All-take}
 use Rattle.std.proofs.lemmas.List.Sums.{sum_by-cons}
 use Rattle.item_model.specs.declared.changes.Edit.{Edit}
 use Rattle.item_model.specs.declared.changes.Entry.TheVariants.{Edits}
@@ -13,7 +13,7 @@ use Rattle.share_history.specs.Histories.{batches, edits, opening}
 use Rattle.share_history.specs.Limits.{has_place, has_room_for, has_few_lists, takes_place}
 use Rattle.share_history.specs.Rows.{lists}
 use Rattle.share_history.specs.Sessions.{is_stopped}
-use Rattle.share_history.proofs.EditFacts.{edits_more}
+use Rattle.share_history.proofs.EditFacts.{edits_more, drop_more}
 use Rattle.share_replies.specs.Laws.{maker}
 use Rattle.share_core.specs.Opened.{opened_with, if_filled, LeaveFewLists, LeaveManyLists}
 
@@ -56,6 +56,10 @@ places_opened : (bs : List (List Edit)) → count_by takes_place (opened_with bs
 places_opened [] = refl
 places_opened (b ∷ bs) = omega (arith, places_opened bs, sum_by-cons (λ x. cond (takes_place x) 1 0) (Edits 0 b) (opened_with bs))
 
+-- the loop over batches
+pub edits_left : (bs : List (List Edit)) (i : ℕ) (b : List Edit) → i < length bs → b ≡ get_or bs i b → length (edits (drop i bs)) ≡ length b + length (edits (drop (i + 1) bs))
+edits_left bs i b lt is = ap (λ l. length (edits l)) (drop_more bs i b lt is) ∙ length-append b (edits (drop (i + 1) bs))
+
 -- those of some batches, and of the next
 edits_until : (done : List (List Edit)) (b : List Edit) (rest : List (List Edit)) → length (edits done) + length b ≤ length (edits (done ++ b ∷ rest))
 edits_until done b rest =
@@ -66,8 +70,10 @@ module _ (done : List (List Edit)) (b : List Edit) (rest all : List (List Edit))
   within : length (edits done) + length b ≤ 262144
   within = let here = edits_until done b rest in let same = ap (λ bs. length (edits bs)) are in omega (arith, here, same, few)
 
-  pub opens_place : All (λ batch. batch ≢ []) done → has_place (opened_with done) ≡ true
-  opens_place filled = lt-ltb _ _ (let count = few_filled done filled in let places = places_opened done in let inside = within in omega (arith, count, places, inside))
+  pub opens_place : All (λ batch. batch ≢ []) all → has_place (opened_with done) ≡ true
+  opens_place filled = lt-ltb _ _ (
+      let front = subst (All (λ batch. batch ≢ [])) (take-append_seam done (b ∷ rest)) (All-take (λ batch. batch ≢ []) (length done) (done ++ b ∷ rest) (subst (All (λ batch. batch ≢ [])) (sym are) filled)) in
+      let count = few_filled done front in let places = places_opened done in let inside = within in omega (arith, count, places, inside))
 
   pub opens_room : has_room_for (opened_with done) (length b) ≡ true
   opens_room = le-leb _ _ (let same = ap (λ bs. length (edits bs)) (batches-opened done) in let inside = within in omega (arith, same, inside))

@@ -509,15 +509,17 @@ fn if_filled(alloc: Global, batch: Batch) -> Result<Vec<Batch>, AllocError>
 }
 
 // Whether the batches have no more edits than a share takes.
+#[tactic(auto, using(crate::proofs::Opening::edits_left))]
 fn have_few_edits(batches: &[Batch]) -> bool
     ensures { result ≡ nat_le (length (edits batches.now)) most_edits }
 {
-    let mut count = 0;
+    let mut left = MAX_EDITS;
     for batch in batches {
-        count += count_of(batch);
-        if count > MAX_EDITS {
+        let count = count_of(batch);
+        if count > left {
             return false;
         }
+        left -= count;
     }
     true
 }
