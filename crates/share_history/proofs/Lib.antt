@@ -11,4 +11,3 @@ pub mod FoldFacts
 pub mod SessionFacts
 pub mod RangeFacts
 pub mod TextFacts
-pub mod ContainerFacts

@@ -1,12 +1,11 @@
 -- The rows of a listing are the one ascending list that is right at each key.
-use Rattle.std.proofs.Common.{◌≡◌, ℕ, map, ◌+◌, ◌≤◌, length, length-append, fold, nat_cmp, Ordering, Less, Equal, Greater, arith, Bool, true, false, cond, ◌==◌, List, [], ◌∷◌, ◌++◌, unwrap_or, refl, sym, ap, ◌∙◌, Option, Some, None, is_some, filter}
+use Rattle.std.proofs.Common.{◌≡◌, ℕ, ◌+◌, ◌≤◌, length, length-append, fold, nat_cmp, Ordering, Less, Equal, Greater, arith, Bool, true, false, cond, ◌==◌, List, [], ◌∷◌, ◌++◌, unwrap_or, refl, sym, ap, ◌∙◌, Option, Some, None, is_some, filter}
 use Rattle.std.specs.Option.{option_and_then, option_map}
 use Rattle.std.specs.List.{cons_option}
 use Rattle.std.specs.Ordering.{match_ordering}
 use Rattle.std.specs.BTreeSet.{insert_key}
 use Rattle.std.specs.Map.{keys_of}
 use Rattle.std.proofs.lemmas.Bool.{cond_both}
-use Rattle.std.proofs.lemmas.List.{length-map}
 use Rattle.item_model.specs.declared.item.Row.{Row}
 use Rattle.item_model.specs.declared.query.Query.{Query}
 use Rattle.item_model.specs.declared.changes.Edit.{Edit}
@@ -188,13 +187,6 @@ few_pairs value (k ∷ ks) = elim (value k) as (λ v. length (cons_option (optio
 pub length-rows : (es : List Edit) (t : Target) (q : Option Query) → length (rows es t q) ≤ length es
 length-rows es t q = omega (arith, few_pairs (row_at es t q) (ascending (named_keys es)), folded-longer nat_cmp [] (named_keys es), few_keys es)
 
--- the same of what a loop found, before its keys and items are read
-pub few_rows : {A : Type 0} (f : A → ℕ × Row) (found : List A) (es : List Edit) (t : Target) (q : Option Query) → map f found ≡ rows es t q → length found ≤ length es
-few_rows f found es t q h = omega (arith, length-map found f, ap length h, length-rows es t q)
-
-pub counted_rows : {A : Type 0} (f : A → ℕ × Row) (found : List A) (es : List Edit) (t : Target) (q : Option Query) → map f found ≡ rows es t q → length found ≡ length (rows es t q)
-counted_rows f found es t q h = sym (length-map found f) ∙ ap length h
-
 -- no more lists than edits
 one_list : (e : Edit) → length (lists_in e) ≤ 1
 one_list (PutItem row) = omega arith
@@ -211,9 +203,3 @@ few_lists_named (e ∷ es) = omega (arith, length-append (lists_in e) (named_lis
 
 pub length-lists : (es : List Edit) → length (lists es) ≤ length es
 length-lists es = omega (arith, few_pairs (list_at es) (ascending (named_lists es)), folded-longer nat_cmp [] (named_lists es), few_lists_named es)
-
-pub counted_lists : {A : Type 0} (f : A → ℕ × Playlist) (found : List A) (es : List Edit) → map f found ≡ lists es → length found ≡ length (lists es)
-counted_lists f found es h = sym (length-map found f) ∙ ap length h
-
-pub few_lists : {A : Type 0} (f : A → ℕ × Playlist) (found : List A) (es : List Edit) → map f found ≡ lists es → length found ≤ length es
-few_lists f found es h = omega (arith, counted_lists f found es h, length-lists es)
