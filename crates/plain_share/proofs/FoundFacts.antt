@@ -22,7 +22,7 @@ use Rattle.item_model.specs.declared.request.Meta.{Meta}
 use Rattle.share_history.specs.Keyed.{at}
 use Rattle.share_history.proofs.MirrorFacts.{shown_at}
 use Rattle.share_history.proofs.RangeFacts.{in_range-map, length-full, length-delta}
-use Rattle.share_history.proofs.DeltaFacts.{at-shown_rows, map-filter, keys-shown}
+use Rattle.share_history.proofs.DeltaFacts.{none_shown, at-shown_rows, map-filter, keys-shown}
 
 -- a full listing of rows that the program found
 pub full_made : (revision : ℕ) (t : Target) (look : Look) (all listed : List (ℕ × Bor Row)) (tags : List (ℕ × Tree)) (gone : List ℕ) → listed ≡ in_range look.range all
@@ -51,10 +51,6 @@ pub shown_then : (es : List Edit) (t : Target) (q : Option Query) (meta : Meta) 
 shown_then es t q meta row found is =
     ap (λ o. option_map_or (λ old. is_same_tag old (shown_at t meta row.0 row.1)) o false) (at-shown_rows es t q meta row.0 ∙ ap (option_map (shown_at t meta row.0)) (sym is))
     ∙ map_then (shown_at t meta row.0) (λ old. is_same_tag old (shown_at t meta row.0 row.1)) found
-
-none_shown : (show : Row → Tree) (found : Option Row) → is_none (option_map show found) ≡ is_none found
-none_shown show None = refl
-none_shown show (Some row) = refl
 
 -- the keys of rows of then that have no row now are gone
 gone_found : (bs : List (List Edit)) (t : Target) (look : Look) (base : ℕ)

@@ -1,9 +1,10 @@
 -- What a delta lists and deletes under each key, and how much that is.
-use Rattle.std.proofs.Common.{◌≡◌, ℕ, ◌+◌, ◌≤◌, nat_le, Bool, true, false, cond, ◌&&◌, List, [], ◌∷◌, map, filter, length, length-append, refl, sym, ap, subst, ◌∙◌, Option, is_none, is_some, arith}
+use Rattle.std.proofs.Common.{◌≡◌, ℕ, ◌+◌, ◌≤◌, nat_le, Bool, true, false, cond, ◌&&◌, List, [], ◌∷◌, map, filter, length, length-append, refl, sym, ap, subst, ◌∙◌, Option, Some, None, is_none, is_some, arith}
 use Rattle.std.specs.Option.{option_map}
 use Rattle.std.specs.List.{AllByRecursion}
 use Rattle.std.specs.Map.{keys_of}
-use Rattle.std.proofs.lemmas.Bool.{and_parts}
+use Rattle.std.proofs.lemmas.Bool.{and_parts, cond_both}
+use Rattle.std.proofs.Math.Bool.{and_comm}
 use Rattle.std.proofs.lemmas.List.{length-map}
 use Rattle.item_model.specs.declared.item.Row.{Row}
 use Rattle.item_model.specs.declared.query.Query.{Query}
@@ -17,7 +18,7 @@ use Rattle.share_history.specs.Histories.{edits, later, revision, up_to}
 use Rattle.share_history.specs.Named.{named_keys}
 use Rattle.share_history.specs.Rows.{row_at, rows}
 use Rattle.share_history.specs.Kept.{is_left, is_kept, touches}
-use Rattle.share_history.specs.Listings.{shown, shown_rows, shown_after, delta_listing}
+use Rattle.share_history.specs.Listings.{shown, shown_rows, shown_after, full_listing, delta_listing, listing}
 use Rattle.share_history.specs.Laws.{DeltasListNews, DeltasDeleteWhatIsGone, UntouchedStayShown}
 use Rattle.share_history.proofs.KeyedFacts.{keys-map, all-kept, all-pairs_at}
 use Rattle.share_history.proofs.EditFacts.{edits-split}
@@ -27,7 +28,19 @@ use Rattle.share_history.proofs.RangeFacts.{length-filter}
 use Rattle.share_history.proofs.DifferenceFacts.{same_not_new, other_is_new, has-gone}
 use Rattle.share_history.proofs.MirrorFacts.{shown_at, at-shown, ascending-after}
 
+-- ---- every listing
+
+-- tells the revision
+pub listing_revision : (keep : ℕ) (bs : List (List Edit)) (t : Target) (look : Look) → (listing keep bs t look).revision ≡ revision bs
+listing_revision keep bs t look =
+    cond_both (is_kept keep bs t look.base) (delta_listing bs t look look.base) (full_listing bs t look) (λ l. l.revision ≡ revision bs) (λ _. refl) (λ _. refl)
+
 -- ---- under one key
+
+-- nothing is shown where nothing is
+pub none_shown : {A B : Type 0} (show : A → B) (found : Option A) → is_none (option_map show found) ≡ is_none found
+none_shown show None = refl
+none_shown show (Some x) = refl
 
 -- what is shown under a key is what is shown of the row there
 pub at-shown_rows : (es : List Edit) (t : Target) (q : Option Query) (meta : Meta) (k : ℕ) → at k (shown_rows t meta (rows es t q)) ≡ option_map (shown_at t meta k) (row_at es t q k)
@@ -56,16 +69,10 @@ deltas_list_news bs t look base key = (
   other_is_new key (shown_after (up_to bs base) t look) (shown_after bs t look) (ascending-after bs t look),
 )
 
-and_swapped : (a b : Bool) → (a && b) ≡ (b && a)
-and_swapped true true = refl
-and_swapped true false = refl
-and_swapped false true = refl
-and_swapped false false = refl
-
 pub deltas_delete_what_is_gone : DeltasDeleteWhatIsGone
 deltas_delete_what_is_gone bs t look base key =
     has-gone key (shown_after (up_to bs base) t look) (shown_after bs t look)
-    ∙ and_swapped (is_none (at key (shown_after bs t look))) (is_some (at key (shown_after (up_to bs base) t look)))
+    ∙ and_comm (is_none (at key (shown_after bs t look))) (is_some (at key (shown_after (up_to bs base) t look)))
 
 pub untouched_stay_shown : UntouchedStayShown
 untouched_stay_shown keep bs t look base key kept h =

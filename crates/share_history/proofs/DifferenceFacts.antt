@@ -43,7 +43,7 @@ module _ {X : Type 0} (p : ℕ × X → Bool) where
 -- ---- one key
 
 -- what is new under a key that had this tag
-abbrev new_at : Option Tree → Tree → Option Tree
+abbrev pub new_at : Option Tree → Tree → Option Tree
 new_at was tag = only_if (not (option_map_or (λ old. is_same_tag old tag) was false)) tag
 
 pub at-new : (q : ℕ) (before now : List (ℕ × Tree)) → IsAscending now → at q (new_tags before now) ≡ option_and_then (new_at (at q before)) (at q now)

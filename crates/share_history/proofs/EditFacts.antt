@@ -1,11 +1,13 @@
 -- The last edit that speaks: what edits that do not name a key leave as it was.
-use Rattle.std.proofs.Common.{◌≡◌, ℕ, zero, suc, ◌-◌, arith, take-append-drop, add-one, drop-cons, length-append, ◌+◌, ◌<◌, drop, take, length, get_or, Bool, true, false, ◌||◌, ◌&&◌, ◌==◌, List, [], ◌∷◌, ◌++◌, flat_map, refl, sym, ap, ◌∙◌, Option, Some, None, unwrap_or, nat_cmp, append-nil}
+use Rattle.std.proofs.Common.{◌≡◌, ℕ, zero, suc, ◌-◌, arith, take-append-drop, add-one, drop-cons, length-append, ◌+◌, ◌<◌, ◌≤◌, drop, take, length, get_or, Bool, true, false, ◌||◌, ◌&&◌, ◌==◌, List, [], ◌∷◌, ◌++◌, flat_map, refl, sym, ap, ◌∙◌, Option, Some, None, unwrap_or, nat_cmp, append-nil}
 use Rattle.std.specs.BTreeMap.{is_at}
 use Rattle.std.specs.Option.{option_or}
 use Rattle.std.specs.List.{list_any}
+use Rattle.std.proofs.lemmas.Bool.{or_from, or_parts}
+use Rattle.std.proofs.lemmas.List.{take_all}
 use Rattle.std.proofs.lemmas.List.Folds.{list_any-append}
 use Rattle.std.proofs.lemmas.Grind.{flat_map-append}
-use Rattle.std.proofs.Math.Seq.{take-append_seam}
+use Rattle.std.proofs.Math.Seq.{take-append_seam, take-append-le}
 use Rattle.share_history.specs.Numbers.{first_revision}
 use Rattle.item_model.specs.declared.item.Row.{Row}
 use Rattle.item_model.specs.declared.changes.Edit.{Edit}
@@ -20,15 +22,13 @@ use Rattle.share_history.proofs.KeyedFacts.{has, is_eq-cmp}
 -- ---- tests
 
 pub first_false : (a b : Bool) → (a || b) ≡ false → a ≡ false
-first_false true b h = h
-first_false false b h = refl
+first_false a b h = (or_parts a b h).0
 
 pub second_false : (a b : Bool) → (a || b) ≡ false → b ≡ false
-second_false true b h = absurd (cc)
-second_false false b h = h
+second_false a b h = (or_parts a b h).1
 
 pub both_false : (a b : Bool) → a ≡ false → b ≡ false → (a || b) ≡ false
-both_false a b p q = ap (λ x. x || b) p ∙ q
+both_false a b p q = or_from a b p q
 
 and_second_false : (a b : Bool) → b ≡ false → (a && b) ≡ false
 and_second_false true b h = h
@@ -230,6 +230,17 @@ edits-split bs v = ap edits (sym (take-append-drop (v - first_revision) bs)) ∙
 pub up_to-revision : (bs cs : List (List Edit)) → up_to (bs ++ cs) (revision bs) ≡ bs
 up_to-revision bs cs =
     let e : length bs + first_revision - first_revision ≡ length bs = omega arith in ap (λ n. take n (bs ++ cs)) e ∙ take-append_seam bs cs
+
+-- the batches up to a revision that they do not pass are all of them
+pub up_to-all : (bs : List (List Edit)) (v : ℕ) → revision bs ≤ v → up_to bs v ≡ bs
+up_to-all bs v h = take_all (v - first_revision) bs (omega (arith, h))
+
+pub up_to-now : (bs : List (List Edit)) → up_to bs (revision bs) ≡ bs
+up_to-now bs = up_to-all bs (revision bs) (omega arith)
+
+-- and batches behind it leave those up to a revision as they are
+pub up_to-same : (bs cs : List (List Edit)) (v : ℕ) → v ≤ revision bs → up_to (bs ++ cs) v ≡ up_to bs v
+up_to-same bs cs v h = take-append-le (v - first_revision) bs cs (omega (arith, h))
 
 -- one more batch makes one more revision
 pub revision_more : (bs : List (List Edit)) (b : List Edit) → revision (bs ++ b ∷ []) ≡ revision bs + 1

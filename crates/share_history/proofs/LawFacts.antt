@@ -10,7 +10,7 @@ use Rattle.item_model.specs.declared.changes.Edit.{Edit}
 use Rattle.item_model.specs.declared.changes.Edit.TheVariants.{PutItem, DropItem, PutList, PutRule, DropList, PutMember, DropMember}
 use Rattle.item_model.specs.declared.request.Target.TheVariants.{Items, Container}
 use Rattle.share_history.specs.Numbers.{first_revision, base_list}
-use Rattle.share_history.specs.Histories.{edits, later, revision, up_to}
+use Rattle.share_history.specs.Histories.{edits, later, revision}
 use Rattle.share_history.specs.LastSaid.{Playlist, Plain, Ruled, only_if, says_list, says_member, item_at, list_at, member_at}
 use Rattle.share_history.specs.Named.{names_list}
 use Rattle.share_history.specs.Rows.{if_asked, in_list, row_at, rows}
@@ -19,7 +19,7 @@ use Rattle.share_history.specs.Differences.{new_tags, gone_keys}
 use Rattle.share_history.specs.Listings.{shown_after}
 use Rattle.share_history.specs.Laws.{is_plain, puts_member, LibraryAscends, OpensWithTheBatch, ListsBeginWithoutMembers, ListsBeginEmpty, MembersNeedAList, MembersFollowTheirItems, BasesArePast, NewTargetsAreNotKept, NothingChangedSinceNow, BodiesTellTheirRows}
 use Rattle.share_history.proofs.KeyedFacts.{sorted-ascending}
-use Rattle.share_history.proofs.EditFacts.{both_false, first_false, second_false, edits-split, up_to-revision, list_more, member_more, list_stays, member_stays, edits-opening}
+use Rattle.share_history.proofs.EditFacts.{both_false, first_false, second_false, edits-split, up_to-now, up_to-revision, list_more, member_more, list_stays, member_stays, edits-opening}
 use Rattle.share_history.proofs.RowFacts.{rows_are, ascending-library}
 use Rattle.share_history.proofs.DifferenceFacts.{nothing_new, nothing_gone}
 use Rattle.share_history.proofs.MirrorFacts.{ascending-after}
@@ -152,10 +152,6 @@ pub new_targets_are_not_kept : NewTargetsAreNotKept
 new_targets_are_not_kept keep bs cs Items gone there = absurd (false≢true (sym gone))
 new_targets_are_not_kept keep bs cs (Container c) gone there = new_container keep bs cs c (c == base_list) refl gone there
 
--- all batches are up to the present revision
-up_to-now : (bs : List (List Edit)) → up_to bs (revision bs) ≡ bs
-up_to-now bs = ap (λ all. up_to all (revision bs)) (sym (append-nil bs)) ∙ up_to-revision bs []
-
 pub nothing_changed_since_now : NothingChangedSinceNow
 nothing_changed_since_now bs t look = (
   ap (λ old. new_tags (shown_after old t look) (shown_after bs t look)) (up_to-now bs) ∙ nothing_new (shown_after bs t look) (ascending-after bs t look),
@@ -164,7 +160,7 @@ nothing_changed_since_now bs t look = (
 
 -- ---- bodies
 
-listed_again : (ts : List Tree) → tree_list (trees_of ts) ≡ ts
+pub listed_again : (ts : List Tree) → tree_list (trees_of ts) ≡ ts
 listed_again [] = refl
 listed_again (t ∷ ts) = ap (λ rest. t ∷ rest) (listed_again ts)
 

@@ -2,6 +2,7 @@ pub mod KeyedFacts
 pub mod EditFacts
 pub mod RowFacts
 pub mod OwnFacts
+pub mod ValidFacts
 pub mod TouchFacts
 pub mod DifferenceFacts
 pub mod MirrorFacts

@@ -29,7 +29,7 @@ no_longer_back n xs = omega (arith, length-drop n xs)
 no_longer_front : {A : Type 0} (n : ℕ) (xs : List A) → length (take n xs) ≤ length xs
 no_longer_front n xs = omega (arith, length-take n xs)
 
-length-in_range : {A : Type 0} (r : Range) (xs : List A) → length (in_range r xs) ≤ length xs
+pub length-in_range : {A : Type 0} (r : Range) (xs : List A) → length (in_range r xs) ≤ length xs
 length-in_range All xs = omega arith
 length-in_range (One place) xs = omega (arith, no_longer_front 1 (drop place xs), no_longer_back place xs)
 length-in_range (From place) xs = no_longer_back place xs

@@ -17,7 +17,7 @@ use Rattle.share_history.specs.Keyed.{at, put_in, taken_out, IsAscending, AreAsc
 use Rattle.share_history.specs.LastSaid.{Playlist, Plain, Ruled, only_if, says_item, item_at, list_at}
 use Rattle.share_history.specs.Named.{keys_in, named_keys, lists_in, named_lists}
 use Rattle.share_history.specs.Rows.{is_asked, if_asked, in_list, in_target, row_at, rows, library, lists}
-use Rattle.share_history.proofs.KeyedFacts.{has, is_eq-cmp, at-put, ascending-put, at-out, ascending-out, same_pairs, same_keys_same, sorted-ascending, has-ascending, ascending-pairs_at, at-pairs_at, has-keys_of}
+use Rattle.share_history.proofs.KeyedFacts.{has, is_eq-cmp, at-put, ascending-put, at-out, ascending-out, same_pairs, same_keys_same, sorted-ascending, has-ascending, ascending-pairs_at, at-pairs_at, has-keys_of, few_pairs}
 use Rattle.share_history.proofs.EditFacts.{item_more, item_unnamed, member_unnamed, list_unnamed}
 
 -- a value that is there only under the keys of some list is under each key what the list's pairs have there
@@ -50,7 +50,7 @@ ascending-rows es t q = ascending-pairs_at (row_at es t q) (ascending (named_key
 pub rows_are : (es : List Edit) (t : Target) (q : Option Query) (rs : List (ℕ × Row)) → IsAscending rs → ((k : ℕ) → at k rs ≡ row_at es t q k) → rs ≡ rows es t q
 rows_are es t q rs s h = same_pairs rs (rows es t q) s (ascending-rows es t q) (λ k. h k ∙ sym (at-rows es t q k))
 
-found_itself : {A : Type 0} (o : Option A) → option_and_then (λ (x : A). Some x) o ≡ o
+pub found_itself : {A : Type 0} (o : Option A) → option_and_then (λ (x : A). Some x) o ≡ o
 found_itself None = refl
 found_itself (Some x) = refl
 
@@ -172,16 +172,10 @@ one_key (DropList list) = omega arith
 one_key (PutMember list member item) = omega arith
 one_key (DropMember list member) = omega arith
 
-few_keys : (es : List Edit) → length (named_keys es) ≤ length es
+-- no more keys than edits
+pub few_keys : (es : List Edit) → length (named_keys es) ≤ length es
 few_keys [] = omega arith
 few_keys (e ∷ es) = omega (arith, length-append (keys_in e) (named_keys es), one_key e, few_keys es)
-
-few_pairs : {A : Type 0} (value : ℕ → Option A) (ks : List ℕ) → length (pairs_at value ks) ≤ length ks
-few_pairs value [] = omega arith
-few_pairs value (k ∷ ks) = elim (value k) as (λ v. length (cons_option (option_map (λ x. (k, x)) v) (pairs_at value ks)) ≤ length (k ∷ ks)) [
-  | None ↦ omega (arith, few_pairs value ks)
-  | Some x ↦ omega (arith, few_pairs value ks)
-]
 
 -- no more rows than edits
 pub length-rows : (es : List Edit) (t : Target) (q : Option Query) → length (rows es t q) ≤ length es
