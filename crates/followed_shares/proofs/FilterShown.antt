@@ -21,19 +21,18 @@ use Rattle.code_table.proofs.ReadsBack.{ReadsBack, table_back}
 use Rattle.item_model.specs.declared.changes.Edit.{Edit}
 use Rattle.item_model.specs.declared.changes.Entry.{Entry}
 use Rattle.item_model.specs.declared.changes.Entry.TheVariants.{Edits, Login, Logout, Stop}
-use Rattle.item_model.specs.declared.request.Look.{Look}
 use Rattle.item_model.specs.declared.query.Query.{Query}
 use Rattle.item_model.specs.declared.request.Meta.{Meta}
 use Rattle.item_model.specs.declared.request.Target.{Target}
 use Rattle.share_history.specs.Bodies.{listing_body}
 use Rattle.share_history.specs.Histories.{at_revision, batches, edits, revision, up_to}
-use Rattle.share_history.specs.Kept.{is_kept}
 use Rattle.share_history.specs.Limits.{takes_place}
-use Rattle.share_history.specs.Listings.{Listing, delta_listing, full_listing, listing, shown_rows}
+use Rattle.share_history.specs.Listings.{Listing, listing, shown_rows}
 use Rattle.share_history.specs.Mirror.{Held, mirror_after, mirror_look, mirrored}
 use Rattle.share_history.specs.Rows.{rows}
 use Rattle.share_history.specs.Sessions.{is_login, next_session}
 use Rattle.share_history.proofs.EditFacts.{batches-append, batches-at_revision}
+use Rattle.share_history.proofs.DeltaFacts.{listing_revision}
 use Rattle.share_asks.specs.declared.ask.Want.TheVariants as want
 use Rattle.share_replies.specs.Settings.{Settings}
 use Rattle.share_replies.specs.SmallBodies.{login_body, revision_body}
@@ -166,13 +165,6 @@ number_tag v small = record { spelled = refl; accepted = refl; proper = (omega a
 
 pub revision_tag : (h : List Entry) → IsWhole h → IsTag standard_rows (spelling (revision_body (revision (batches h)))) (revision_body (revision (batches h)))
 revision_tag h whole = number_tag (revision (batches h)) (small_revision h whole)
-
-pub listing_revision : (keep : ℕ) (bs : List (List Edit)) (target : Target) (look : Look) → (listing keep bs target look).revision ≡ revision bs
-listing_revision keep bs target look = by_kept (is_kept keep bs target look.base)
-  where
-    by_kept : (b : Bool) → (cond b (delta_listing bs target look look.base) (full_listing bs target look)).revision ≡ revision bs
-    by_kept true = refl
-    by_kept false = refl
 
 -- the listing that was taken in tells the revision of the share that answered
 pub listing_is : (keep : ℕ) (rows : List CodeRow) (m : Mirrored) (answer : Reply) (l : Listing) (h : List Entry) → TellsListing rows m answer l
