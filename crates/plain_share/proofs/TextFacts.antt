@@ -1,14 +1,7 @@
 -- Texts that a loop puts into a set one after the other.
-use Rattle.std.proofs.Common.{◌≡◌, ℕ, ◌+◌, ◌<◌, Bool, true, false, cond, List, [], ◌∷◌, length, get_or, drop, map, fold, filter, refl, sym, ap, ◌∙◌}
+use Rattle.std.proofs.Common.{◌≡◌, ℕ, ◌+◌, ◌<◌, Bool, List, [], ◌∷◌, length, get_or, drop, map, fold, filter, sym, ap, ◌∙◌}
 use Rattle.share_history.proofs.EditFacts.{drop_more}
-
--- the texts of the items that are left: that of the first comes before the others
-filtered_cons : (put : List (List ℕ) → List ℕ → List (List ℕ)) (p : List ℕ → Bool) (set : List (List ℕ)) (t : List ℕ) (ts : List (List ℕ))
-    → fold put (fold put set (filter p (t ∷ []))) (filter p ts) ≡ fold put set (filter p (t ∷ ts))
-filtered_cons put p set t ts = elim (p t) as (λ b. fold put (fold put set (cond b (t ∷ []) [])) (filter p ts) ≡ fold put set (cond b (t ∷ filter p ts) (filter p ts))) [
-  | true ↦ refl
-  | false ↦ refl
-]
+use Rattle.share_history.proofs.TextFacts.{filtered_cons}
 
 pub texts_left : {A : Type 0} (put : List (List ℕ) → List ℕ → List (List ℕ)) (p : List ℕ → Bool) (text : A → List ℕ) (xs : List A) (i : ℕ) (x : A) (set : List (List ℕ)) → i < length xs → x ≡ get_or xs i x
     → fold put (fold put set (filter p (text x ∷ []))) (filter p (map text (drop (i + 1) xs))) ≡ fold put set (filter p (map text (drop i xs)))

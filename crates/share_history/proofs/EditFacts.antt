@@ -30,7 +30,7 @@ second_false a b h = (or_parts a b h).1
 pub both_false : (a b : Bool) → a ≡ false → b ≡ false → (a || b) ≡ false
 both_false a b p q = or_from a b p q
 
-and_second_false : (a b : Bool) → b ≡ false → (a && b) ≡ false
+pub and_second_false : (a b : Bool) → b ≡ false → (a && b) ≡ false
 and_second_false true b h = h
 and_second_false false b h = refl
 

@@ -19,7 +19,7 @@ use Rattle.share_history.specs.Differences.{new_tags, gone_keys}
 use Rattle.share_history.specs.Listings.{shown_after}
 use Rattle.share_history.specs.Laws.{is_plain, puts_member, LibraryAscends, OpensWithTheBatch, ListsBeginWithoutMembers, ListsBeginEmpty, MembersNeedAList, MembersFollowTheirItems, BasesArePast, NewTargetsAreNotKept, NothingChangedSinceNow, BodiesTellTheirRows}
 use Rattle.share_history.proofs.KeyedFacts.{sorted-ascending}
-use Rattle.share_history.proofs.EditFacts.{both_false, first_false, second_false, edits-split, up_to-now, up_to-revision, list_more, member_more, list_stays, member_stays, edits-opening}
+use Rattle.share_history.proofs.EditFacts.{both_false, first_false, second_false, edits-split, up_to-now, up_to-revision, list_more, member_more, list_stays, member_stays, edits-opening, and_second_false}
 use Rattle.share_history.proofs.RowFacts.{rows_are, ascending-library}
 use Rattle.share_history.proofs.DifferenceFacts.{nothing_new, nothing_gone}
 use Rattle.share_history.proofs.MirrorFacts.{ascending-after}
@@ -120,21 +120,17 @@ members_follow_their_items es ds c m item name q h list member unlisted unnamed 
 not_le : (a b : ℕ) → b < a → nat_le a b ≡ false
 not_le a b h = false_from_ne_true (nat_le a b) (λ t. absurd (omega (arith, leb-true a b t)))
 
-and_false : (a b : Bool) → b ≡ false → (a && b) ≡ false
-and_false true b h = h
-and_false false b h = refl
-
 pub bases_are_past : BasesArePast
 bases_are_past keep bs t base (inl h) = ap (λ b. b && (nat_le base (revision bs) && (nat_le (revision bs) (base + keep) && is_left t (later bs base)))) (not_le first_revision base h)
 bases_are_past keep bs t base (inr h) =
-    and_false (nat_le first_revision base) (nat_le base (revision bs) && (nat_le (revision bs) (base + keep) && is_left t (later bs base)))
+    and_second_false (nat_le first_revision base) (nat_le base (revision bs) && (nat_le (revision bs) (base + keep) && is_left t (later bs base)))
     (ap (λ b. b && (nat_le (revision bs) (base + keep) && is_left t (later bs base))) (not_le base (revision bs) h))
 
 -- a list that is named after the base is not kept, and one that is not stands as it did
 new_list : (keep : ℕ) (bs cs : List (List Edit)) (c : ℕ) (named : Bool) → (c == base_list) ≡ false → list_any (names_list c) (later (bs ++ cs) (revision bs)) ≡ named
     → is_some (list_at (edits bs) c) ≡ false → is_some (list_at (edits (bs ++ cs)) c) ≡ true → is_kept keep (bs ++ cs) (Container c) (revision bs) ≡ false
 new_list keep bs cs c true other named gone there =
-    and_false _ _ (and_false _ _ (and_false (nat_le (revision (bs ++ cs)) (revision bs + keep)) _ (both_false _ _ other (ap not named))))
+    and_second_false _ _ (and_second_false _ _ (and_second_false (nat_le (revision (bs ++ cs)) (revision bs + keep)) _ (both_false _ _ other (ap not named))))
 new_list keep bs cs c false other unnamed gone there =
     let parts : edits (bs ++ cs) ≡ edits bs ++ later (bs ++ cs) (revision bs) =
     edits-split (bs ++ cs) (revision bs) ∙ ap (λ front. edits front ++ later (bs ++ cs) (revision bs)) (up_to-revision bs cs) in

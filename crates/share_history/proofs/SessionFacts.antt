@@ -1,4 +1,4 @@
--- The places that batches take, the order of logins, and marks.
+-- The places that batches and logins take, the order of logins, and marks.
 use Rattle.std.proofs.Common.{◌≡◌, ◌≤◌, true, nat_lt, arith, ℕ, suc, Bool, false, inl, inr, None, ◌+◌, ◌++◌, ◌==◌, eq-eqb, eqb-true, refl, [], ◌∷◌, sym, ◌∙◌, length, cond, count_by, List, ap, Some}
 use Rattle.std.proofs.lemmas.Bool.{and_from, and_parts, cases_Bool}
 use Rattle.std.proofs.lemmas.List.Sums.{sum_by-cons}
@@ -19,6 +19,14 @@ few_batches (Edits by batch ∷ h) = omega (arith, few_batches h, sum_by-cons (�
 few_batches (Login by id ∷ h) = omega (arith, few_batches h, sum_by-cons (λ x. cond (takes_place x) 1 0) (Login by id) h)
 few_batches (Logout by id ∷ h) = omega (arith, few_batches h, sum_by-cons (λ x. cond (takes_place x) 1 0) (Logout by id) h)
 few_batches (Stop by ∷ h) = omega (arith, few_batches h, sum_by-cons (λ x. cond (takes_place x) 1 0) (Stop by) h)
+
+-- and so does each login
+pub few_logins : (h : List Entry) → count_by is_login h ≤ count_by takes_place h
+few_logins [] = omega arith
+few_logins (Edits by batch ∷ h) = omega (arith, few_logins h, sum_by-cons (λ e. cond (takes_place e) 1 0) (Edits by batch) h, sum_by-cons (λ e. cond (is_login e) 1 0) (Edits by batch) h)
+few_logins (Login by id ∷ h) = omega (arith, few_logins h, sum_by-cons (λ e. cond (takes_place e) 1 0) (Login by id) h, sum_by-cons (λ e. cond (is_login e) 1 0) (Login by id) h)
+few_logins (Logout by id ∷ h) = omega (arith, few_logins h, sum_by-cons (λ e. cond (takes_place e) 1 0) (Logout by id) h, sum_by-cons (λ e. cond (is_login e) 1 0) (Logout by id) h)
+few_logins (Stop by ∷ h) = omega (arith, few_logins h, sum_by-cons (λ e. cond (takes_place e) 1 0) (Stop by) h, sum_by-cons (λ e. cond (is_login e) 1 0) (Stop by) h)
 
 -- a login with the id behind those of the history keeps their order
 orderly_login : (next by id : ℕ) (h : List Entry) → id ≡ count_by is_login h + next → is_orderly next h ≡ true → is_orderly next (h ++ Login by id ∷ []) ≡ true

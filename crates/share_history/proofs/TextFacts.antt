@@ -1,5 +1,5 @@
 -- A text that is put into a set of texts.
-use Rattle.std.proofs.Common.{◌≡◌, ℕ, Bool, true, cond, List, [], ◌∷◌, map, fold, filter, refl, sym, ap, ◌∙◌, Less, Equal, Greater, nat_cmp, Bor}
+use Rattle.std.proofs.Common.{◌≡◌, ℕ, Bool, true, false, cond, List, [], ◌∷◌, map, fold, filter, refl, sym, ap, ◌∙◌, Less, Equal, Greater, nat_cmp, Bor}
 use Rattle.std.specs.Ordering.{match_ordering}
 use Rattle.std.specs.Cmp.Lexicographic.{slice_cmp}
 use Rattle.std.specs.BTreeSet.{insert_key}
@@ -22,3 +22,11 @@ pub text_put : (k : Bor (List ℕ)) (old new : List (Bor (List ℕ))) (b : Bool)
     → map text_at new ≡ fold (insert_key (slice_cmp nat_cmp)) (map text_at old) (filter is_filled (k.now ∷ []))
 text_put k old new b n h e =
     ap (map text_at) e ∙ insert_key-text k old ∙ sym (ap (λ t. fold (insert_key (slice_cmp nat_cmp)) (map text_at old) (cond t (k.now ∷ []) [])) (sym h ∙ n))
+
+-- of some texts that are put in where they pass a test, the first comes before the others
+pub filtered_cons : (put : List (List ℕ) → List ℕ → List (List ℕ)) (p : List ℕ → Bool) (set : List (List ℕ)) (t : List ℕ) (ts : List (List ℕ))
+    → fold put (fold put set (filter p (t ∷ []))) (filter p ts) ≡ fold put set (filter p (t ∷ ts))
+filtered_cons put p set t ts = elim (p t) as (λ b. fold put (fold put set (cond b (t ∷ []) [])) (filter p ts) ≡ fold put set (cond b (t ∷ filter p ts) (filter p ts))) [
+  | true ↦ refl
+  | false ↦ refl
+]

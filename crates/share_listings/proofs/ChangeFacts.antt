@@ -22,7 +22,7 @@ use Rattle.share_history.specs.Listings.{member_of, shown, shown_rows, shown_aft
 use Rattle.share_history.specs.Rows.{in_target}
 use Rattle.share_history.proofs.KeyedFacts.{has, same_pairs, same_keys_same, at-pairs_at, ascending-pairs_at, sorted-filter, has-filter}
 use Rattle.share_history.proofs.TouchFacts.{has-touched}
-use Rattle.share_history.proofs.DifferenceFacts.{at-new, has-gone, ascending-new, same_not_new, new_at}
+use Rattle.share_history.proofs.DifferenceFacts.{at-new, has-gone, ascending-new, same_not_new, new_at, none_and_some}
 use Rattle.share_history.proofs.MirrorFacts.{shown_at, at-shown, ascending-shown, ascending-after}
 use Rattle.share_history.proofs.DeltaFacts.{at-shown_rows, kept_left, row_as_then, none_shown}
 use Rattle.share_history.proofs.OwnFacts.{asked_some}
@@ -48,10 +48,6 @@ listed_new t meta k (Some old) (Some row) = shown_or_not (is_same_tag (shown_at 
 some_shown : (show : Row → Tree) (found : Option Row) → is_some (option_map show found) ≡ is_some found
 some_shown show None = refl
 some_shown show (Some row) = refl
-
-none_and_some : {A : Type 0} (o : Option A) → (is_none o && is_some o) ≡ false
-none_and_some None = refl
-none_and_some (Some x) = refl
 
 -- ---- all keys
 
