@@ -15,7 +15,9 @@ use Rattle.share_server.specs.declared.report.LinkReport.{LinkReport}
 use Rattle.share_server.specs.Links.{LinkEnded}
 use Rattle.share_server.specs.Passes.{Pass, Serves}
 use Rattle.share_server.proofs.Counting.{none_beyond_the_limit}
-use Rattle.share_server.proofs.InTurn.{serves_in_turn, quiet_turns_serve_nothing}
+use Rattle.share_server.proofs.InTurn.{nothing_but, rises_wider, serves_in_turn, quiet_turns_serve_nothing}
+use Rattle.share_server.proofs.Losing.{lost_none}
+use Rattle.share_server.specs.Losses.{is_loss}
 use Rattle.share_server.specs.Serving.{limit_of, LinkServed, CountsEnd}
 use Rattle.share_workers.specs.declared.worker.WorkerEnd.{WorkerEnd}
 use Rattle.share_workers.specs.declared.worker.WorkerEnd.TheVariants.{Stopped, Spent, NoMoreLinks, AcceptFault, Memory}
@@ -39,13 +41,14 @@ looked k j k' h same on after = record {
 }
 
 pub link_done : (role : Role) (budget : ℕ) (k j k' : Pass) (left taken taken' : Option (List ℕ)) (written written' : Option (List Returned)) (faults faults' : ℕ) (report : LinkReport)
-    → LinkServed role budget k j left taken taken' report → faults ≡ 0 → CountsEnd faults faults' report.end → GrowsByTold written written' (returned taken' faults') → Looks j k'
+    → LinkServed role budget k j left taken taken' report → is_loss report.end ≡ false → faults ≡ 0 → CountsEnd faults faults' report.end → GrowsByTold written written' (returned taken' faults') → Looks j k'
     → LinkDone role budget k k' left taken written written' report
-link_done role budget k j k' left taken taken' written written' faults faults' report served fresh counts given looks = record {
+link_done role budget k j k' left taken taken' written written' faults faults' report served no fresh counts given looks = record {
   before = j;
   taken' = taken';
   faults = faults';
   served = served;
+  unlost = no;
   counted = subst (λ n. CountsEnd n faults' report.end) fresh counts;
   given_back = given;
   looks = looks;
@@ -99,6 +102,12 @@ module _ {L : Type 0} (left taken : L → Option (List ℕ)) (link : L) (role : 
   ended : LinkEnded role (limit_of budget) j done.before (left link) (taken link) done.taken' report.served report.end
   ended = done.served.ended
 
+  -- the link lost no edit
+  link_serves : Serves j done.before ended.asks report.served
+  link_serves =
+      nothing_but j done.before ended.asks report.served ended.lost
+      (lost_none role ended.asks j done.before report.served report.end ended.input ended.lost done.unlost ended.loses) ended.serves
+
   settings_stay : j.settings ≡ k.settings
   settings_stay = ap (λ (p : Pass). p.settings) under.works.serves.stays
 
@@ -126,6 +135,7 @@ module _ {L : Type 0} (left taken : L → Option (List ℕ)) (link : L) (role : 
         rest = ended.rest;
         joins = ended.joins;
         are_served = ended.serves.are_served;
+        rises = rises_wider 0 (length j.seen) (length done.before.seen) (length done.before.seen) report.served (omega arith) (omega arith) ended.serves.fresh.rises;
         how = ended.how;
         faulted = counted done.faults report.end done.counted;
       })))))
@@ -144,14 +154,14 @@ module _ {L : Type 0} (left taken : L → Option (List ℕ)) (link : L) (role : 
   serves =
       subst (λ l. Serves k k' (under.works.asks ++ (ended.asks ++ [])) l) (sym (all_served_more reports report))
       (serves_in_turn k j k' under.works.asks (ended.asks ++ []) (all_served reports) (report.served ++ []) under.works.serves
-      (serves_in_turn j done.before k' ended.asks [] report.served [] ended.serves quiet))
+      (serves_in_turn j done.before k' ended.asks [] report.served [] link_serves quiet))
 
   looks : LooksBehind k k' (reports ++ report ∷ [])
   looks = behind k k' reports report record {
     asks = under.works.asks ++ ended.asks;
     before = done.before;
     serves = subst (λ l. Serves k done.before (under.works.asks ++ ended.asks) l) (sym (all_served_more reports report ∙ ap (λ l. all_served reports ++ l) (append-nil report.served)))
-        (serves_in_turn k j done.before under.works.asks ended.asks (all_served reports) report.served under.works.serves ended.serves);
+        (serves_in_turn k j done.before under.works.asks ended.asks (all_served reports) report.served under.works.serves link_serves);
     looks = done.looks;
   }
 
@@ -163,7 +173,7 @@ module _ {L : Type 0} (left taken : L → Option (List ℕ)) (link : L) (role : 
     before = j;
     looks = under.works.looks;
     may = under.may;
-    serves = record { asks = ended.asks; before = done.before; serves = ended.serves; looks = done.looks };
+    serves = record { asks = ended.asks; before = done.before; serves = link_serves; looks = done.looks };
   }
 
   served_within : length report.served ≤ limit_of budget

@@ -1,9 +1,10 @@
 -- One link more of a worker that has not ended.
-use Rattle.std.specs.Prelude.{◌≡◌, ℕ, ◌+◌, List, length, Option, Some, None}
+use Rattle.std.specs.Prelude.{◌≡◌, ℕ, ◌+◌, List, length, false, Option, Some, None}
 use Rattle.daap_outside.specs.Places.{Returned, returned}
 use Rattle.daap_outside.specs.Told.{GrowsByTold}
 use Rattle.share_asks.specs.declared.ask.Role.{Role}
 use Rattle.share_server.specs.declared.report.LinkReport.{LinkReport}
+use Rattle.share_server.specs.Losses.{is_loss}
 use Rattle.share_server.specs.Passes.{Pass}
 use Rattle.share_server.specs.Serving.{LinkServed, CountsEnd}
 use Rattle.share_workers.specs.declared.worker.WorkerEnd.{WorkerEnd}
@@ -16,6 +17,7 @@ pub record LinkDone (role : Role) (budget : ℕ) (k k' : Pass) (left taken : Opt
   pub taken' : Option (List ℕ)
   pub faults : ℕ
   pub served : LinkServed role budget k before left taken taken' report
+  pub unlost : is_loss report.end ≡ false
   pub counted : CountsEnd 0 faults report.end
   pub given_back : GrowsByTold written written' (returned taken' faults)
   pub looks : Looks before k'

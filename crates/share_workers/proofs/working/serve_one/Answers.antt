@@ -21,5 +21,5 @@ returns-clause-done g c =
       c.serve_link-report.result,
       c.push_reserved.ensures.items,
       omega arith,
-      link_done _ _ _ _ _ _ _ _ _ _ _ _ _ c.serve_link-report.ensures.served c.requires.fresh c.serve_link-report.ensures.count c.done.ensures.written_grows c.look.ensures.looks,
+      link_done _ _ _ _ _ _ _ _ _ _ _ _ _ c.serve_link-report.ensures.served c.serve_link-report.ensures.unlost c.requires.fresh c.serve_link-report.ensures.count c.done.ensures.written_grows c.look.ensures.looks,
     )
