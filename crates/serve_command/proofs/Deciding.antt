@@ -10,7 +10,7 @@ use Rattle.share_history.specs.Limits.{has_few_lists}
 use Rattle.share_replies.specs.Settings.{Settings}
 use Rattle.records_import.specs.Table.{table_of}
 use Rattle.records_import.proofs.Once.{batch_same, batch_once}
-use Rattle.served_links.specs.declared.report.LinkReport.{LinkReport}
+use Rattle.share_server.specs.declared.report.LinkReport.{LinkReport}
 use Rattle.share_workers.specs.Works.{all_served}
 use Rattle.share_workers.specs.declared.worker.WorkerEnd.{WorkerEnd}
 use Rattle.share_workers.specs.declared.worker.WorkerEnd.TheVariants as worker

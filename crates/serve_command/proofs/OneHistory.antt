@@ -10,9 +10,9 @@ use Rattle.share_lock.specs.Known.{numbers_of, fresh}
 use Rattle.share_lock.proofs.Fronts.{all_rest}
 use Rattle.share_replies.specs.Settings.{Settings}
 use Rattle.share_replies.specs.Laws.{maker}
-use Rattle.served_links.specs.Passes.{Pass}
-use Rattle.served_links.specs.Served.{added_entries}
-use Rattle.served_links.proofs.Longer.{stays}
+use Rattle.share_server.specs.Passes.{Pass}
+use Rattle.share_server.specs.Served.{added_entries}
+use Rattle.share_server.proofs.Longer.{stays}
 use Rattle.share_workers.specs.Works.{all_served}
 use Rattle.serve_command.specs.Stints.{Stint, IsPart, IsHistoryOf, numbers_in}
 use Rattle.serve_command.specs.Crews.{HasJoined}

@@ -11,8 +11,8 @@ use Rattle.share_lock.specs.Known.{numbers_of, fresh}
 use Rattle.share_lock.specs.Passes.{LockId}
 use Rattle.share_replies.specs.Settings.{Settings}
 use Rattle.share_replies.specs.Laws.{maker}
-use Rattle.served_links.specs.declared.report.LinkReport.{LinkReport}
-use Rattle.served_links.specs.Passes.{Pass}
+use Rattle.share_server.specs.declared.report.LinkReport.{LinkReport}
+use Rattle.share_server.specs.Passes.{Pass}
 use Rattle.share_workers.specs.declared.worker.Worker.{Worker}
 use Rattle.serve_command.specs.declared.verdict.Verdict.{Verdict}
 use Rattle.serve_command.specs.Verdicts.{verdict_of}

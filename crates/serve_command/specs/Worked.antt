@@ -6,7 +6,7 @@ use Rattle.daap_outside.specs.Places.{Returned}
 use Rattle.daap_outside.specs.Told.{Grows}
 use Rattle.share_asks.specs.declared.ask.Role.{Role}
 use Rattle.share_replies.specs.Settings.{Settings}
-use Rattle.served_links.specs.declared.report.LinkReport.{LinkReport}
+use Rattle.share_server.specs.declared.report.LinkReport.{LinkReport}
 use Rattle.serve_command.specs.declared.verdict.Verdict.{Verdict}
 use Rattle.serve_command.specs.Verdicts.{verdict_of}
 use Rattle.serve_command.specs.Places.{CountsShut}

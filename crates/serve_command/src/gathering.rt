@@ -9,9 +9,9 @@ ghost use Rattle.serve_command.specs.Crews.{IsOf, HasJoined, HasShut};
 ghost use Rattle.serve_command.specs.Stints.{Stint};
 
 use daap_outside::Net;
-use served_links::LinkReport;
 use share_core::Share;
 use share_lock::{Pass, ShareLock};
+use share_server::LinkReport;
 use share_workers::Worker;
 
 /// Joins the passes of all workers, gives their doors back and keeps what is told of their links, in the order of the
