@@ -20,7 +20,7 @@ use Rattle.command_core.specs.declared.fault.Fault.TheVariants as fault
 use Rattle.command_core.specs.Answers.{Tells}
 use Rattle.command_core.specs.Faults.{memory_line}
 use Rattle.command_core.specs.Seen.{InputSeen, OutputSeen}
-use Rattle.share_commands.specs.ReadRecords.{records_limit, IsRefused, LeavesMany}
+use Rattle.command_core.specs.ReadRecords.{records_limit, IsRefused, LeavesMany}
 use Rattle.serve_command.specs.declared.fault.ServeFault.{ServeFault}
 use Rattle.serve_command.specs.declared.fault.ServeFault.TheVariants.{Network, TooLong, Records, TooManyLists}
 use Rattle.serve_command.specs.declared.terms.Serving.{Serving}
