@@ -1,9 +1,9 @@
-//! The workers of a share.
+//! Workers that are hired.
 
 ghost use Rattle.std.specs.Prelude.{◌≡◌, ◌<◌, ◌≤◌, ◌+◌, [], vec_len, vec_capacity};
 ghost use Rattle.share_lock.specs.Known.{fresh};
 ghost use Rattle.share_lock.specs.Passes.{lock_id, passes_of, known, IsReady};
-ghost use Rattle.serve_command.specs.Crews.{HasHired};
+ghost use Rattle.share_crew.specs.Crews.{HasHired};
 
 use share_asks::Role;
 use share_core::Share;
@@ -13,7 +13,7 @@ use std::alloc::Global;
 use std::sync::Wait;
 
 /// Adds a worker for each door, with a pass of its own. There is room for all of them.
-pub(crate) fn hire<D: Drop, R: Wait>(
+pub fn hire<D: Drop, R: Wait>(
     rt: &R,
     alloc: Global,
     lock: &ShareLock<Share>,

@@ -1,7 +1,7 @@
 //! What is said of workers that have ended.
 
 ghost use Rattle.std.specs.Prelude.{◌≡◌, map};
-ghost use Rattle.serve_command.specs.Verdicts.{end_number, has_end, verdict_of, verdict_line, verdict_status, with_memory};
+ghost use Rattle.share_crew.specs.Verdicts.{end_number, has_end, verdict_of, verdict_line, verdict_status, with_memory};
 
 use share_workers::{Worker, WorkerEnd};
 
@@ -20,7 +20,7 @@ pub enum Verdict {
 
 impl Verdict {
     /// The line that the user sees; none where all was done.
-    pub(crate) fn line(self) -> &'static [u8]
+    pub fn line(self) -> &'static [u8]
         ensures { result.now ≡ verdict_line self }
     {
         match self {
@@ -32,7 +32,7 @@ impl Verdict {
     }
 
     /// The status that the program ends with.
-    pub(crate) fn status(self) -> u8
+    pub fn status(self) -> u8
         ensures { result ≡ verdict_status self }
     {
         match self {
@@ -44,7 +44,7 @@ impl Verdict {
     }
 
     /// The verdict where memory is wanted besides.
-    pub(crate) fn with_memory(self) -> Verdict
+    pub fn with_memory(self) -> Verdict
         ensures { result ≡ with_memory self }
     {
         match self {
@@ -55,7 +55,7 @@ impl Verdict {
 }
 
 /// The verdict on workers that have ended.
-pub(crate) fn verdict_of<D>(crew: &[Worker<D>]) -> Verdict
+pub fn verdict_of<D>(crew: &[Worker<D>]) -> Verdict
     ensures { result ≡ verdict_of (map (λ w. w.end) crew.now) }
 {
     if has_end(crew, WorkerEnd::AcceptFault) {

@@ -4,7 +4,7 @@ use Rattle.std.proofs.lemmas.List.{map-append}
 use Rattle.std.proofs.lemmas.List.Elements.{All-append, All-push}
 use Rattle.std.specs.List.{AllByRecursion, AllZip}
 use Rattle.std.specs.Prelude.{All}
-use Rattle.daap_outside.specs.Places.{Returned}
+use Rattle.daap_outside.specs.Doors.{Returned}
 use Rattle.daap_outside.specs.Told.{BeginsEmpty}
 use Rattle.item_model.specs.declared.changes.Entry.{Entry}
 use Rattle.share_asks.specs.declared.ask.Role.{Role}
@@ -15,9 +15,9 @@ use Rattle.served_links.specs.Passes.{Pass}
 use Rattle.share_workers.specs.declared.worker.Worker.{Worker}
 use Rattle.share_workers.specs.declared.worker.WorkerEnd.TheVariants.{Running}
 use Rattle.share_workers.specs.Ends.{WorkerServed}
-use Rattle.serve_command.specs.Places.{IsNew}
-use Rattle.serve_command.specs.Stints.{Stint, numbers_in}
-use Rattle.serve_command.specs.Crews.{IsHired, HasHired, IsStaff, IsOf}
+use Rattle.share_crew.specs.Doors.{IsNew}
+use Rattle.share_crew.specs.Stints.{Stint, IsNumbered, passes_in}
+use Rattle.share_crew.specs.Crews.{IsHired, HasHired, HasEnded, IsStaff, IsOf}
 
 module _ {D : Type 0} where
   pub none_hired : (id : LockId) (k : Pass) (role : Role) (crew : List (Worker D)) → HasHired id k role [] crew crew
@@ -61,20 +61,15 @@ pub record HasStints {D : Type 0} (settings : Settings) (opening : List Entry) (
   pub roles : map (λ (s : Stint settings opening). s.role) stints ≡ map (λ (w : Worker D). w.role) before
   pub come : map (λ (s : Stint settings opening). s.to_come) stints ≡ map (λ (w : Worker D). coming w.door) before
   pub begun : AllByRecursion (λ (s : Stint settings opening). BeginsEmpty kept s.begun) stints
-  pub numbered : AllByRecursion (λ n. (1 ≤ n) × (n < passes)) (numbers_in stints)
-
--- an old worker and what it left, as the lock's call tells them
-abbrev pub Served : {D : Type 0} → (D → Option (List (List ℕ))) → (D → Option (List Returned)) → (D → ℕ) → Worker D → Worker D → Type 0
-Served coming written faults old new =
-    WorkerServed old.role (known old.pass) (known new.pass) (coming old.door) (coming new.door) (written old.door) (written new.door) (faults old.door) (faults new.door) new.reports.items new.end
+  pub numbered : AllByRecursion (IsNumbered passes) (passes_in stints)
 
 module _ {D : Type 0} (settings : Settings) (opening : List Entry) (id : LockId) (k : Pass) (coming : D → Option (List (List ℕ))) (written : D → Option (List Returned)) (faults : D → ℕ) (kept : Option (List Returned)) where
   -- the number stays
-  number_stays : (old new : Worker D) → Served coming written faults old new → (known new.pass).number ≡ (known old.pass).number
+  number_stays : (old new : Worker D) → HasEnded coming written faults old new → (known new.pass).number ≡ (known old.pass).number
   number_stays old new served = ap (λ (p : Pass). p.number) served.works.serves.stays
 
   -- a worker's stint
-  stint_of : (old new : Worker D) → k ≡ fresh 0 settings opening → IsHired id k old → IsNew written faults kept old.door → Served coming written faults old new → Stint settings opening
+  stint_of : (old new : Worker D) → k ≡ fresh 0 settings opening → IsHired id k old → IsNew written faults kept old.door → HasEnded coming written faults old new → Stint settings opening
   stint_of old new start hired new_door served = record {
     role = old.role;
     pass = known new.pass;
@@ -91,7 +86,7 @@ module _ {D : Type 0} (settings : Settings) (opening : List Entry) (id : LockId)
   }
 
   pub stints_of : (before after : List (Worker D)) → k ≡ fresh 0 settings opening → AllByRecursion (IsHired id k) before → AllByRecursion (λ (w : Worker D). IsNew written faults kept w.door) before
-      → AllZip (Served coming written faults) before after → AllZip (λ (old new : Worker D). new.role ≡ old.role) before after → HasStints settings opening id.1 coming written faults kept before after
+      → AllZip (HasEnded coming written faults) before after → AllZip (λ (old new : Worker D). new.role ≡ old.role) before after → HasStints settings opening id.1 coming written faults kept before after
   unfolding stint_of
   stints_of [] [] start hired doors served roles = record { stints = []; are = tt; roles = refl; come = refl; begun = tt; numbered = tt }
   stints_of [] (new ∷ after) start hired doors served roles = absurd served

@@ -17,12 +17,12 @@ use Rattle.served_links.specs.Passes.{Pass}
 use Rattle.share_workers.specs.declared.worker.WorkerEnd.{WorkerEnd}
 use Rattle.share_workers.specs.declared.worker.WorkerEnd.TheVariants.{Running, Stopped, NoMoreLinks, Spent, AcceptFault, Memory}
 use Rattle.share_workers.specs.Ends.{CountsAccepts}
-use Rattle.serve_command.specs.Verdicts.{end_number, has_end}
-use Rattle.serve_command.specs.Places.{CountsShut}
-use Rattle.serve_command.specs.Stints.{Stint, Differ, numbers_in, returns_of}
-use Rattle.serve_command.specs.Crews.{HasJoined, HasShut}
-use Rattle.serve_command.proofs.Nets.{grows_told, rose_then, stood_then}
-use Rattle.serve_command.proofs.Numbers.{contains_head, differ_push}
+use Rattle.share_crew.specs.Verdicts.{end_number, has_end}
+use Rattle.share_crew.specs.Doors.{CountsShut}
+use Rattle.share_crew.specs.Stints.{Stint, Differ, numbers_of_all, passes_in, returns_of}
+use Rattle.share_crew.specs.Crews.{GoesOn, HasJoined, HasShut}
+use Rattle.share_crew.proofs.Nets.{grows_told, rose_then, stood_then}
+use Rattle.share_crew.proofs.Numbers.{contains_head, differ_push}
 
 -- what goes with the last of a list, and with those before it
 pub record Last {A B : Type 0} (R : A → B → Type 0) (xs : List A) (front : List B) (b : B) : Type 0 where
@@ -86,63 +86,70 @@ count_more failed NoMoreLinks before mid after given was counts rises = count_st
 count_more failed Spent before mid after given was counts rises = count_stays failed before mid after was (rises.faultless counts)
 count_more failed Memory before mid after given was counts rises = count_stays failed before mid after was (rises.faultless counts)
 
+own_number : (k : Pass) → k.taken_in ≡ [] → numbers_of k ≡ k.number ∷ []
+own_number k none = ap (λ l. k.number ∷ l) none
+
+numbers_push : (passes : List Pass) (k : Pass) → numbers_of_all (passes ++ k ∷ []) ≡ numbers_of_all passes ++ k.number ∷ []
+numbers_push passes k = map-append (λ (p : Pass). p.number) passes (k ∷ [])
+
+-- what went on from each goes on further, by no entries of theirs
+pub further : (ns : List ℕ) (seen seen' : List Entry) (passes : List Pass) → Continues maker ns seen seen' → ((n : ℕ) → Contains (numbers_of_all passes) n → Contains ns n)
+    → AllByRecursion (GoesOn seen) passes → AllByRecursion (GoesOn seen') passes
+further ns seen seen' [] on among all = tt
+further ns seen seen' (pass ∷ passes) on among all =
+    let mine : (n : ℕ) → Contains (numbers_of pass) n → Contains ns n =
+    λ n has. among n (Contains-append_left (pass.number ∷ []) (numbers_of_all passes) n (subst (λ l. Contains l n) (own_number pass all.0.0) has)) in (
+      (all.0.0, continues_more maker (numbers_of pass) pass.seen seen seen' all.0.1 (continues_less maker ns (numbers_of pass) seen seen' mine on)),
+      further ns seen seen' passes on (λ n has. among n (Contains-append_right (pass.number ∷ []) (numbers_of_all passes) n has)) all.1,
+    )
+
+pub none_joined : (k : Pass) → HasJoined k k []
+none_joined k = record {
+  number = refl;
+  settings_stay = refl;
+  taken = sym (append-nil k.taken_in);
+  front = continues_here maker (numbers_of k) k.seen;
+  fronts = tt;
+  differ = λ none. ((λ has. let h = has.1 in absurd (omega arith)), tt);
+}
+
+-- one more pass was joined
+pub join_more : (k k' k'' other : Pass) (passes : List Pass) → HasJoined k k' passes → other.taken_in ≡ []
+    → k'' ≡ after_join k' other → Continues maker (numbers_of k') k'.seen k''.seen → Continues maker (numbers_of other) other.seen k''.seen → AreApart (numbers_of k') (numbers_of other)
+    → HasJoined k k'' (passes ++ other ∷ [])
+join_more k k' k'' other passes h alone after first second apart =
+    let apart' : AreApart (numbers_of k') (other.number ∷ []) = subst (λ l. AreApart (numbers_of k') l) (own_number other alone) apart in
+    let taken : k''.taken_in ≡ k'.taken_in ++ other.number ∷ [] =
+    ap (λ (p : Pass). p.taken_in) after ∙ ap (λ l. k'.taken_in ++ l) (own_number other alone) in
+    let had : (n : ℕ) → Contains (numbers_of k) n → Contains (numbers_of k') n =
+    λ n has. subst (λ (t : ℕ × List ℕ). Contains (t.0 ∷ t.1) n) (λ i. (sym h.number i, sym h.taken i)) (Contains-append_left (numbers_of k) (numbers_of_all passes) n has) in
+    let have : (n : ℕ) → Contains (numbers_of_all passes) n → Contains (numbers_of k') n =
+    λ n has. subst (λ (t : ℕ × List ℕ). Contains (t.0 ∷ t.1) n) (λ i. (sym h.number i, sym h.taken i)) (Contains-append_right (numbers_of k) (numbers_of_all passes) n has) in
+    record {
+      number = ap (λ (p : Pass). p.number) after ∙ h.number;
+      settings_stay = ap (λ (p : Pass). p.settings) after ∙ h.settings_stay;
+      taken = taken ∙ (ap (λ l. l ++ other.number ∷ []) h.taken ∙ (append_assoc k.taken_in (numbers_of_all passes) (other.number ∷ []) ∙ ap (λ l. k.taken_in ++ l) (sym (numbers_push passes other))));
+      front = continues_more maker (numbers_of k) k.seen k'.seen k''.seen h.front (continues_less maker (numbers_of k') (numbers_of k) k'.seen k''.seen had first);
+      fronts = all_push (GoesOn k''.seen) passes other (further (numbers_of k') k'.seen k''.seen passes first have h.fronts) (alone, second);
+      differ = λ none.
+          let mine : (n : ℕ) → Contains (k.number ∷ numbers_of_all passes) n → Contains (numbers_of k') n =
+          λ n has. subst (λ (t : ℕ × List ℕ). Contains (t.0 ∷ t.1) n) (λ i. (sym h.number i, sym (h.taken ∙ ap (λ l. l ++ numbers_of_all passes) none) i)) has in
+          subst (λ l. Differ (k.number ∷ l)) (sym (numbers_push passes other))
+          (differ_push (k.number ∷ numbers_of_all passes) other.number (h.differ none) (λ has. apart' other.number (mine other.number has) (contains_head other.number [])));
+    }
+
 module _ {settings : Settings} {opening : List Entry} where
   -- the pass of a worker took no other in
   pub took_none : (stint : Stint settings opening) → stint.pass.taken_in ≡ []
   took_none stint = ap (λ (k : Pass). k.taken_in) stint.served.works.serves.stays
 
-  numbers_push : (stints : List (Stint settings opening)) (stint : Stint settings opening) → numbers_in (stints ++ stint ∷ []) ≡ numbers_in stints ++ stint.pass.number ∷ []
-  numbers_push stints stint = map-append (λ (s : Stint settings opening). s.pass.number) stints (stint ∷ [])
-
-  own_number : (stint : Stint settings opening) → numbers_of stint.pass ≡ stint.pass.number ∷ []
-  own_number stint = ap (λ l. stint.pass.number ∷ l) (took_none stint)
-
-  -- what went on from each goes on further, by no entries of theirs
-  pub further : (ns : List ℕ) (seen seen' : List Entry) (stints : List (Stint settings opening)) → Continues maker ns seen seen' → ((n : ℕ) → Contains (numbers_in stints) n → Contains ns n)
-      → AllByRecursion (λ stint. Continues maker (numbers_of stint.pass) stint.pass.seen seen) stints → AllByRecursion (λ stint. Continues maker (numbers_of stint.pass) stint.pass.seen seen') stints
-  further ns seen seen' [] on among all = tt
-  further ns seen seen' (stint ∷ stints) on among all =
-      let mine : (n : ℕ) → Contains (numbers_of stint.pass) n → Contains ns n =
-      λ n has. among n (Contains-append_left (stint.pass.number ∷ []) (numbers_in stints) n (subst (λ l. Contains l n) (own_number stint) has)) in (
-        continues_more maker (numbers_of stint.pass) stint.pass.seen seen seen' all.0 (continues_less maker ns (numbers_of stint.pass) seen seen' mine on),
-        further ns seen seen' stints on (λ n has. among n (Contains-append_right (stint.pass.number ∷ []) (numbers_in stints) n has)) all.1,
-      )
-
-  pub none_joined : (k : Pass) → HasJoined {settings = settings} {opening = opening} k k []
-  none_joined k = record {
-    number = refl;
-    settings_stay = refl;
-    taken = sym (append-nil k.taken_in);
-    front = continues_here maker (numbers_of k) k.seen;
-    fronts = tt;
-    differ = λ none. ((λ has. let h = has.1 in absurd (omega arith)), tt);
-  }
-
-  -- one more pass was joined
-  pub join_more : (k k' k'' other : Pass) (stints : List (Stint settings opening)) (stint : Stint settings opening) → HasJoined k k' stints → stint.pass ≡ other
+  -- that of one more worker was joined
+  pub joined_one : (k k' k'' other : Pass) (stints : List (Stint settings opening)) (stint : Stint settings opening) → HasJoined k k' (passes_in stints) → stint.pass ≡ other
       → k'' ≡ after_join k' other → Continues maker (numbers_of k') k'.seen k''.seen → Continues maker (numbers_of other) other.seen k''.seen → AreApart (numbers_of k') (numbers_of other)
-      → HasJoined k k'' (stints ++ stint ∷ [])
-  join_more k k' k'' other stints stint h is after first second apart =
-      let apart' : AreApart (numbers_of k') (stint.pass.number ∷ []) = subst (λ l. AreApart (numbers_of k') l) (ap numbers_of (sym is) ∙ own_number stint) apart in
-      let taken : k''.taken_in ≡ k'.taken_in ++ stint.pass.number ∷ [] =
-      ap (λ (p : Pass). p.taken_in) after ∙ ap (λ l. k'.taken_in ++ l) (ap numbers_of (sym is) ∙ own_number stint) in
-      let had : (n : ℕ) → Contains (numbers_of k) n → Contains (numbers_of k') n =
-      λ n has. subst (λ (t : ℕ × List ℕ). Contains (t.0 ∷ t.1) n) (λ i. (sym h.number i, sym h.taken i)) (Contains-append_left (numbers_of k) (numbers_in stints) n has) in
-      let have : (n : ℕ) → Contains (numbers_in stints) n → Contains (numbers_of k') n =
-      λ n has. subst (λ (t : ℕ × List ℕ). Contains (t.0 ∷ t.1) n) (λ i. (sym h.number i, sym h.taken i)) (Contains-append_right (numbers_of k) (numbers_in stints) n has) in
-      record {
-        number = ap (λ (p : Pass). p.number) after ∙ h.number;
-        settings_stay = ap (λ (p : Pass). p.settings) after ∙ h.settings_stay;
-        taken = taken ∙ (ap (λ l. l ++ stint.pass.number ∷ []) h.taken ∙ (append_assoc k.taken_in (numbers_in stints) (stint.pass.number ∷ []) ∙ ap (λ l. k.taken_in ++ l) (sym (numbers_push stints stint))));
-        front = continues_more maker (numbers_of k) k.seen k'.seen k''.seen h.front (continues_less maker (numbers_of k') (numbers_of k) k'.seen k''.seen had first);
-        fronts = all_push (λ s. Continues maker (numbers_of s.pass) s.pass.seen k''.seen) stints stint (further (numbers_of k') k'.seen k''.seen stints first have h.fronts)
-            (subst (λ (p : Pass). Continues maker (numbers_of p) p.seen k''.seen) (sym is) second);
-        differ = λ none.
-            let mine : (n : ℕ) → Contains (k.number ∷ numbers_in stints) n → Contains (numbers_of k') n =
-            λ n has. subst (λ (t : ℕ × List ℕ). Contains (t.0 ∷ t.1) n) (λ i. (sym h.number i, sym (h.taken ∙ ap (λ l. l ++ numbers_in stints) none) i)) has in
-            subst (λ l. Differ (k.number ∷ l)) (sym (numbers_push stints stint))
-            (differ_push (k.number ∷ numbers_in stints) stint.pass.number (h.differ none) (λ has. apart' stint.pass.number (mine stint.pass.number has) (contains_head stint.pass.number [])));
-      }
+      → HasJoined k k'' (passes_in (stints ++ stint ∷ []))
+  joined_one k k' k'' other stints stint h is after first second apart =
+      subst (HasJoined k k'') (sym (map-append (λ (s : Stint settings opening). s.pass) stints (stint ∷ []) ∙ ap (λ (p : Pass). passes_in stints ++ p ∷ []) is))
+      (join_more k k' k'' other (passes_in stints) h (ap (λ (p : Pass). p.taken_in) (sym is) ∙ took_none stint) after first second apart)
 
   -- ---- doors
 

@@ -14,8 +14,9 @@ use Rattle.share_replies.specs.Laws.{maker}
 use Rattle.served_links.specs.Passes.{Pass}
 use Rattle.share_workers.specs.declared.worker.Worker.{Worker}
 use Rattle.share_workers.specs.declared.worker.WorkerEnd.TheVariants.{Running}
-use Rattle.serve_command.specs.Places.{CountsShut}
-use Rattle.serve_command.specs.Stints.{Stint, Differ, numbers_in, returns_of}
+use Rattle.share_workers.specs.Ends.{WorkerServed}
+use Rattle.share_crew.specs.Doors.{CountsShut}
+use Rattle.share_crew.specs.Stints.{Stint, Differ, numbers_of_all, returns_of}
 
 module _ {D : Type 0} where
   -- a worker that has not begun, with a new pass that has seen what another pass has
@@ -41,6 +42,11 @@ module _ {D : Type 0} where
     pub doors_are : map (λ worker. worker.door) crew ≡ doors
     pub roles_are : map (λ worker. worker.role) crew ≡ roles
 
+  -- an old worker and what it left
+  abbrev pub HasEnded : (D → Option (List (List ℕ))) → (D → Option (List Returned)) → (D → ℕ) → Worker D → Worker D → Type 0
+  HasEnded coming written faults old new =
+      WorkerServed old.role (known old.pass) (known new.pass) (coming old.door) (coming new.door) (written old.door) (written new.door) (faults old.door) (faults new.door) new.reports.items new.end
+
   -- a worker that has ended, and its stint
   pub record IsOf {settings : Settings} {opening : List Entry} (written : D → Option (List Returned)) (faults : D → ℕ) (stint : Stint settings opening) (worker : Worker D) : Type 0 where
     pub pass_is : stint.pass ≡ known worker.pass
@@ -50,17 +56,21 @@ module _ {D : Type 0} where
     pub reports_are : stint.reports ≡ worker.reports.items
     pub end_is : stint.end ≡ worker.end
 
-module _ {settings : Settings} {opening : List Entry} where
-  -- the passes of some stints were joined to a pass
-  pub record HasJoined (k k' : Pass) (stints : List (Stint settings opening)) : Type 0 where
-    pub number : k'.number ≡ k.number
-    pub settings_stay : k'.settings ≡ k.settings
-    pub taken : k'.taken_in ≡ k.taken_in ++ numbers_in stints
-    pub front : Continues maker (numbers_of k) k.seen k'.seen
-    pub fronts : AllByRecursion (λ stint. Continues maker (numbers_of stint.pass) stint.pass.seen k'.seen) stints
-    pub differ : k.taken_in ≡ [] → Differ (k.number ∷ numbers_in stints)
+-- it took no pass in, and a history goes on from what it had seen
+abbrev pub GoesOn : List Entry → Pass → Type 0
+GoesOn history pass = (pass.taken_in ≡ []) × Continues maker (numbers_of pass) pass.seen history
 
-  -- their doors were given back
+-- some passes were joined to a pass
+pub record HasJoined (k k' : Pass) (passes : List Pass) : Type 0 where
+  pub number : k'.number ≡ k.number
+  pub settings_stay : k'.settings ≡ k.settings
+  pub taken : k'.taken_in ≡ k.taken_in ++ numbers_of_all passes
+  pub front : Continues maker (numbers_of k) k.seen k'.seen
+  pub fronts : AllByRecursion (GoesOn k'.seen) passes
+  pub differ : k.taken_in ≡ [] → Differ (k.number ∷ numbers_of_all passes)
+
+module _ {settings : Settings} {opening : List Entry} where
+  -- the doors of some stints were given back
   pub record HasShut (written written' : Option (List Returned)) (faults faults' : ℕ) (stints : List (Stint settings opening)) : Type 0 where
     pub written_grows : (kept : Option (List Returned)) (more : List Returned) → AllByRecursion (λ stint. BeginsEmpty kept stint.begun) stints → Grows kept written more
         → Grows kept written' (more ++ flat_map returns_of stints)

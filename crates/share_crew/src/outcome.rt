@@ -1,4 +1,4 @@
-//! What `serve` leaves.
+//! What a served share leaves.
 
 ghost use Rattle.std.specs.Prelude.{◌≡◌, [], map};
 

@@ -1,5 +1,5 @@
 -- The stints of a share's workers, and the history that they leave together.
-use Rattle.std.specs.Prelude.{◌≡◌, ◌≢◌, ◌⊎◌, ◌≤◌, ℕ, List, [], ◌∷◌, ◌++◌, map, true, ⊤, All, Contains, Option, Some, None}
+use Rattle.std.specs.Prelude.{◌≡◌, ◌≢◌, ◌⊎◌, ◌≤◌, ◌<◌, ℕ, List, [], ◌∷◌, ◌++◌, map, true, ⊤, All, Contains, Option, Some, None}
 use Rattle.std.specs.List.{AllByRecursion}
 use Rattle.item_model.specs.declared.changes.Entry.{Entry}
 use Rattle.daap_outside.specs.Places.{Returned}
@@ -20,6 +20,19 @@ use Rattle.share_workers.specs.Ends.{WorkerServed}
 abbrev pub Differ : List ℕ → Type 0
 Differ [] = ⊤
 Differ (n ∷ ns) = (¬ (Contains ns n)) × Differ ns
+
+abbrev pub numbers_of_all : List Pass → List ℕ
+numbers_of_all passes = map (λ k. k.number) passes
+
+-- its number is none of the first pass, and lower than a bound
+abbrev pub IsNumbered : (bound : ℕ) → Pass → Type 0
+IsNumbered bound k = (1 ≤ k.number) × (k.number < bound)
+
+-- what a pass that served no link had seen begins the history, which has no other entries of its number
+pub record IsOther (history : List Entry) (k : Pass) : Type 0 where
+  pub later : List Entry
+  pub begins : history ≡ k.seen ++ later
+  pub own : entries_of maker k.number history ≡ entries_of maker k.number k.seen
 
 -- these are all links of a door, where they are told
 abbrev pub AreAll : Option (List (List ℕ)) → List (List ℕ) → Type 0
@@ -48,8 +61,8 @@ module _ {settings : Settings} {opening : List Entry} where
   abbrev pub returns_of : Stint settings opening → List Returned
   returns_of stint = stint.served.works.returns
 
-  abbrev pub numbers_in : List (Stint settings opening) → List ℕ
-  numbers_in stints = map (λ stint. stint.pass.number) stints
+  abbrev pub passes_in : List (Stint settings opening) → List Pass
+  passes_in stints = map (λ stint. stint.pass) stints
 
   -- what its worker had seen begins the history, which has no other entries of its number than those of its reports
   pub record IsPart (history : List Entry) (stint : Stint settings opening) : Type 0 where
@@ -57,14 +70,16 @@ module _ {settings : Settings} {opening : List Entry} where
     pub begins : history ≡ stint.pass.seen ++ later
     pub own : entries_of maker stint.pass.number history ≡ added_entries history (all_served stint.reports)
 
-  -- the entries of a history are those of its opening, and behind them those that these workers, of so many, added
-  pub record IsHistoryOf (workers : ℕ) (history : List Entry) (stints : List (Stint settings opening)) : Type 0 where
+  -- The entries of a history are those of its opening, and behind them those that passes added, of so many: those of these
+  -- workers, and others.
+  pub record IsHistoryOf (passes : ℕ) (history : List Entry) (stints : List (Stint settings opening)) (others : List Pass) : Type 0 where
     pub parts : AllByRecursion (IsPart history) stints
-    pub differ : Differ (numbers_in stints)
-    pub numbered : AllByRecursion (λ n. (1 ≤ n) × (n ≤ workers)) (numbers_in stints)
+    pub other_parts : AllByRecursion (IsOther history) others
+    pub differ : Differ (numbers_of_all (passes_in stints ++ others))
+    pub numbered : AllByRecursion (λ n. (1 ≤ n) × (n ≤ passes)) (numbers_of_all (passes_in stints ++ others))
     pub later : List Entry
     pub begins : history ≡ opening ++ later
-    pub made : All (λ e. Contains (numbers_in stints) (maker e)) later
+    pub made : All (λ e. Contains (numbers_of_all (passes_in stints ++ others)) (maker e)) later
 
   -- it served all links of its door, or one at least, and the share was stopped
   abbrev pub IsWhole : List Entry → Stint settings opening → Type 0
