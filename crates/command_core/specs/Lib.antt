@@ -4,3 +4,4 @@ pub mod Causes
 pub mod Meanings
 pub mod Endings
 pub mod Answers
+pub mod ReadRecords

@@ -1,9 +1,9 @@
-//! `replay_command`: scripts, and what they are answered.
+//! `replay`: scripts, and what they are answered.
 
 use crate::runs::{Pieces, Ran, WHOLE, has_left, left, sink, source};
 use command_core::Outcome;
 use daap_outside::{Sink, Source};
-use replay_command::replay_script;
+use share_commands::replay_script;
 use std::alloc::{AllocError, Global};
 use std::process::Abort;
 use std::test::Fail;

@@ -6,7 +6,7 @@ use Rattle.command_core.specs.Seen.{Seen, IsUnread}
 use Rattle.command_core.specs.Meanings.{IsCause}
 use Rattle.command_core.proofs.Sensible.{IsSensible, WritesOnce}
 use Rattle.json_commands.proofs.Senses.{json_sense, json_back_sense}
-use Rattle.replay_command.proofs.Sense.{replay_sense}
+use Rattle.share_commands.proofs.ReplaySense.{replay_sense}
 use Rattle.tag_commands.proofs.Senses.{check_sense, show_sense, show_back_sense, codes_sense, learn_sense}
 use Rattle.share_commands.proofs.Senses.{list_sense, rehearse_sense}
 use Rattle.daapshare_words.specs.declared.command.LocalCommand.{LocalCommand}

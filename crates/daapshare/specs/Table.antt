@@ -17,7 +17,7 @@ use Rattle.tag_commands.specs.Codes.{codes_meaning}
 use Rattle.tag_commands.specs.LearnCodes.{learn_meaning}
 use Rattle.tag_commands.specs.Show.{show_meaning}
 use Rattle.tag_commands.specs.ShowBack.{show_back_meaning}
-use Rattle.replay_command.specs.ReplayShare.{replay_meaning}
+use Rattle.share_commands.specs.ReplayShare.{replay_meaning}
 use Rattle.share_commands.specs.ListShare.{list_meaning}
 use Rattle.share_commands.specs.RehearseShare.{rehearse_meaning}
 use Rattle.daapshare_words.specs.declared.command.Command.{Command}

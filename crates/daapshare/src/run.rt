@@ -18,8 +18,7 @@ use daapshare_words::{
 };
 use item_model::Target;
 use json_commands::{read_json, write_json};
-use replay_command::replay_script;
-use share_commands::{list_share, rehearse_share};
+use share_commands::{list_share, rehearse_share, replay_script};
 use std::alloc::Global;
 use std::sync::Wait;
 use std::thread::Threads;

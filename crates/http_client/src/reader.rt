@@ -58,6 +58,7 @@ impl ReplyReader {
         ensures took { IfOk result
             (λ n. (n ≤ length piece.now) × (n < length piece.now → self.new.ready ≢ None)) }
         ensures moves { self.old.ready ≡ None → piece.now ≢ [] → IfOk result (λ n. 0 < n) }
+        ensures alone { self.new.ready ≢ None → self.new.kept ≡ [] }
         ensures count { IfOk result (λ n. self.new.taken ≡ self.old.taken + n) }
         ensures read { (fed : List ℕ) (handed : List Reply) → HasRead fed handed self.old
             → HasRead (fed_with fed piece.now result) handed self.new }

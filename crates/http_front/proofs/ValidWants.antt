@@ -1,4 +1,4 @@
--- What a request asks for is valid: queries are proper, edits are ones that records may give, and no error is want of memory.
+-- What a request asks for is valid and readable: queries are proper, edits are ones that records give, and no error is want of memory.
 use Rattle.std.proofs.Common.{◌≡◌, ℕ, List, Bool, true, false, Option, Some, None, Result, Ok, Err, inl, inr, sym, subst}
 use Rattle.std.specs.Prelude.{codes}
 use Rattle.std.specs.Str.{bytes_eq}
@@ -24,45 +24,49 @@ use Rattle.song_query.proofs.ReadLaws.{answers_proper}
 use Rattle.http_front.specs.Asks.{Asks}
 use Rattle.http_front.specs.Numbers.{number_in, range_in}
 use Rattle.http_front.specs.Parameters.{told, meta_in}
+use Rattle.http_front.specs.Readable.{IsReadableWant}
 use Rattle.http_front.specs.Routes.{place_of, verb_of, verb_text}
 use Rattle.http_front.specs.Targets.{local_part, path_of, query_of}
 use Rattle.http_front.specs.Wants.{NumberThen, MetaThen, RangeThen, QueryThen, RowsInRange, AskedRows, RowsWant, ValuesWant, filter_or, BodyReads, PlaceWant, WithMethod, AtPlace}
 use Rattle.http_front.specs.declared.routes.Place.{Place}
 use Rattle.http_front.specs.declared.routes.Place.TheVariants as place
 
--- each value that fits is valid
-IsSafe : (Want → Type 0) → Type 0
-IsSafe P = (w : Want) → P w → IsValidWant w
+abbrev pub Fits : Want → Type 0
+Fits w = IsValidWant w × IsReadableWant w
 
-is_valid : (want : Want) → IsValidWant want → IsSafe (λ w. w ≡ want)
+-- each want that is so fits
+IsSafe : (Want → Type 0) → Type 0
+IsSafe P = (w : Want) → P w → Fits w
+
+is_valid : (want : Want) → Fits want → IsSafe (λ w. w ≡ want)
 unfolding IsSafe
-is_valid want valid w is = subst IsValidWant (sym is) valid
+is_valid want valid w is = subst Fits (sym is) valid
 
 number_valid : (name : List ℕ) (o : Option ℕ) (Then : ℕ → Want → Type 0) → ((n : ℕ) → IsSafe (Then n)) → IsSafe (NumberThen name o Then)
 unfolding IsSafe
-number_valid name None Then safe w is = subst IsValidWant (sym is) tt
+number_valid name None Then safe w is = subst Fits (sym is) (tt, tt)
 number_valid name (Some n) Then safe w h = safe n w h
 
 meta_valid : (o : Option Meta) (Then : Meta → Want → Type 0) → ((m : Meta) → IsSafe (Then m)) → IsSafe (MetaThen o Then)
 unfolding IsSafe
-meta_valid None Then safe w is = subst IsValidWant (sym is) tt
+meta_valid None Then safe w is = subst Fits (sym is) (tt, tt)
 meta_valid (Some m) Then safe w h = safe m w h
 
 range_valid : (o : Option Range) (Then : Range → Want → Type 0) → ((r : Range) → IsSafe (Then r)) → IsSafe (RangeThen o Then)
 unfolding IsSafe
-range_valid None Then safe w is = subst IsValidWant (sym is) tt
+range_valid None Then safe w is = subst Fits (sym is) (tt, tt)
 range_valid (Some r) Then safe w h = safe r w h
 
 query_valid : (text : Option (List ℕ)) (Then : Option Query → Want → Type 0) → ((asked : Option Query) → MayAsk asked → IsSafe (Then asked)) → IsSafe (QueryThen text Then)
 unfolding IsSafe
 query_valid None Then safe w h = safe None tt w h
 query_valid (Some text) Then safe w (inl (q, x, h)) = safe (Some q) (answers_proper text (Ok q) x) w h
-query_valid (Some text) Then safe w (inr (e, other, x, is)) = subst IsValidWant (sym is) other
+query_valid (Some text) Then safe w (inr (e, other, x, is)) = subst Fits (sym is) (other, tt)
 
 in_range_valid : (query : List ℕ) (session : ℕ) (target : Target) (look : Look) → MayAsk look.query → IsSafe (RowsInRange query session target look)
 in_range_valid query session target look may =
     range_valid (range_in (told (codes "index") query)) (λ range want. want ≡ Rows session target (record look { range = range }))
-    (λ range. is_valid (Rows session target (record look { range = range })) may)
+    (λ range. is_valid (Rows session target (record look { range = range })) (may, tt))
 
 asked_valid : (query : List ℕ) (session : ℕ) (target : Target) (look : Look) → IsSafe (AskedRows query session target look)
 asked_valid query session target look =
@@ -84,47 +88,47 @@ values_valid browse query =
     number_valid (codes "session-id") (number_in (told (codes "session-id") query))
     (λ session. QueryThen (filter_or (told (codes "filter") query) (told (codes "query") query)) (λ asked want. want ≡ Values session browse asked))
     (λ session. query_valid (filter_or (told (codes "filter") query) (told (codes "query") query)) (λ asked want. want ≡ Values session browse asked)
-    (λ asked may. is_valid (Values session browse asked) may))
+    (λ asked may. is_valid (Values session browse asked) (may, tt)))
 
-body_valid : (body : List ℕ) (answer : Result (List OneEdit) RecordError) → BodyReads body answer → IsValidWant (Edit answer)
-body_valid body (Ok edits) h = (batch_valid (table_of body) edits h).0
-body_valid body (Err error) h = h.0
+body_valid : (body : List ℕ) (answer : Result (List OneEdit) RecordError) → BodyReads body answer → Fits (Edit answer)
+body_valid body (Ok edits) h = ((batch_valid (table_of body) edits h).0, record { text = body; reads = h })
+body_valid body (Err error) h = (h.0, tt)
 
 edit_valid : (query body : List ℕ) → IsSafe (PlaceWant place.Edit query body)
 unfolding IsSafe
-edit_valid query body w (answer, reads, is) = subst IsValidWant (sym is) (body_valid body answer reads)
+edit_valid query body w (answer, reads, is) = subst Fits (sym is) (body_valid body answer reads)
 
-session_valid : (query : List ℕ) (of : ℕ → Want) → ((n : ℕ) → IsValidWant (of n))
+session_valid : (query : List ℕ) (of : ℕ → Want) → ((n : ℕ) → Fits (of n))
     → IsSafe (NumberThen (codes "session-id") (number_in (told (codes "session-id") query)) (λ session want. want ≡ of session))
 session_valid query of valid =
     number_valid (codes "session-id") (number_in (told (codes "session-id") query)) (λ session want. want ≡ of session) (λ session. is_valid (of session) (valid session))
 
 place_valid : (p : Place) (query body : List ℕ) → IsSafe (PlaceWant p query body)
-place_valid place.ServerInfo query body = is_valid ServerInfo tt
-place_valid place.Codes query body = is_valid Codes tt
-place_valid place.Login query body = is_valid Login tt
-place_valid place.Logout query body = session_valid query (λ session. Logout session) (λ n. tt)
+place_valid place.ServerInfo query body = is_valid ServerInfo (tt, tt)
+place_valid place.Codes query body = is_valid Codes (tt, tt)
+place_valid place.Login query body = is_valid Login (tt, tt)
+place_valid place.Logout query body = session_valid query (λ session. Logout session) (λ n. (tt, tt))
 place_valid place.Update query body =
     number_valid (codes "session-id") (number_in (told (codes "session-id") query))
     (λ session. NumberThen (codes "revision-number") (number_in (told (codes "revision-number") query)) (λ revision want. want ≡ Update session revision))
     (λ session. number_valid (codes "revision-number") (number_in (told (codes "revision-number") query)) (λ revision want. want ≡ Update session revision)
-    (λ revision. is_valid (Update session revision) tt))
-place_valid place.Databases query body = session_valid query (λ session. Databases session) (λ n. tt)
-place_valid place.Lists query body = session_valid query (λ session. Lists session) (λ n. tt)
+    (λ revision. is_valid (Update session revision) (tt, tt)))
+place_valid place.Databases query body = session_valid query (λ session. Databases session) (λ n. (tt, tt))
+place_valid place.Lists query body = session_valid query (λ session. Lists session) (λ n. (tt, tt))
 place_valid (place.Rows target) query body = rows_valid target query
 place_valid (place.Values browse) query body = values_valid browse query
 place_valid place.Edit query body = edit_valid query body
-place_valid place.Stop query body = is_valid Stop tt
+place_valid place.Stop query body = is_valid Stop (tt, tt)
 
 method_valid : (right : Bool) (p : Place) (query body : List ℕ) → IsSafe (WithMethod right p query body)
 method_valid true p query body = place_valid p query body
-method_valid false p query body = is_valid (Bad (fault.Method (verb_of p))) tt
+method_valid false p query body = is_valid (Bad (fault.Method (verb_of p))) (tt, tt)
 
 at_place_valid : (o : Option Place) (method query body : List ℕ) → IsSafe (AtPlace o method query body)
-at_place_valid None method query body = is_valid (Bad fault.Path) tt
+at_place_valid None method query body = is_valid (Bad fault.Path) (tt, tt)
 at_place_valid (Some p) method query body = method_valid (bytes_eq method (verb_text (verb_of p))) p query body
 
-pub asks_valid : (role : Role) (h : RequestHead) (body : List ℕ) (ask : Ask) → Asks role h body ask → IsValidWant ask.want
+pub asks_valid : (role : Role) (h : RequestHead) (body : List ℕ) (ask : Ask) → Asks role h body ask → Fits ask.want
 unfolding IsSafe
 asks_valid role h body ask x =
     at_place_valid (place_of role (path_of (local_part h.target))) h.method (query_of (local_part h.target)) body ask.want x.want_is

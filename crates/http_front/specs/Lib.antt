@@ -6,6 +6,7 @@ pub mod ParametersRead
 pub mod Wants
 pub mod Asks
 pub mod Readings
+pub mod Readable
 pub mod Readers
 pub mod ReplyHeads
 pub mod Laws

@@ -9,6 +9,7 @@ use Rattle.share_asks.specs.declared.ask.Ask.{Ask}
 use Rattle.share_asks.specs.declared.ask.Role.{Role}
 use Rattle.share_asks.specs.Valid.{IsValidWant}
 use Rattle.http_front.specs.Asks.{Spells}
+use Rattle.http_front.specs.Readable.{IsReadableWant}
 use Rattle.http_front.specs.Readings.{Joins, IsReading, reading}
 use Rattle.http_front.specs.Routes.{Rows, all_routes}
 
@@ -28,6 +29,7 @@ pub record Holds (rows : Rows) (g : Gathered) (ready : Option Ask) (error : Opti
   pub waits : ready ≢ None → kept g ≡ []
   pub stopped : error ≢ None → kept g ≡ []
   pub valid : IfSome ready (λ ask. IsValidWant ask.want)
+  pub readable : IfSome ready (λ ask. IsReadableWant ask.want)
 
 abbrev pub waiting : Reader → List Ask
 waiting r = option_to_list r.ready

@@ -4,6 +4,7 @@ ghost use Rattle.std.specs.Prelude.{◌≡◌, ◌≢◌, ◌<◌, ◌≤◌, �
 ghost use Rattle.http_heads.specs.Gathering.{Gathered, IsAt, is_whole, kept};
 ghost use Rattle.share_asks.specs.Valid.{IsValidWant};
 ghost use Rattle.share_asks.specs.declared.ask.Ask.{Ask};
+ghost use Rattle.http_front.specs.Readable.{IsReadableWant};
 ghost use Rattle.http_front.specs.Readers.{HasRead, fed_with, Gathers, waiting};
 ghost use Rattle.http_front.specs.Routes.{all_routes};
 
@@ -69,6 +70,7 @@ impl HeadReader {
         ensures took { IfOk result
             (λ n. (n ≤ length piece.now) × (n < length piece.now → self.new.ready ≢ None)) }
         ensures moves { self.old.ready ≡ None → piece.now ≢ [] → IfOk result (λ n. 0 < n) }
+        ensures alone { self.new.ready ≢ None → self.new.kept ≡ [] }
         ensures read { (fed : List ℕ) (handed : List Ask) → HasRead fed handed self.old
             → HasRead (fed_with fed piece.now result) handed self.new }
     {
@@ -102,6 +104,7 @@ impl HeadReader {
         ensures result { result ≡ self.old.ready }
         ensures rest { self.new ≡ record self.old { ready = None } }
         ensures valid { IfSome result (λ ask. IsValidWant ask.want) }
+        ensures readable { IfSome result (λ ask. IsReadableWant ask.want) }
         ensures read { (fed : List ℕ) (handed : List Ask) → HasRead fed handed self.old
             → HasRead fed (handed ++ option_to_list result) self.new }
     {
@@ -139,6 +142,7 @@ fn gather(
     ensures kind { requests.new.kind ≡ Kind.Request }
     ensures gathers { Gathers role requests.old piece.now requests.new result }
     ensures valid { IfOk result (λ r. IfSome r.1 (λ ask. IsValidWant ask.want)) }
+    ensures readable { IfOk result (λ r. IfSome r.1 (λ ask. IsReadableWant ask.want)) }
 {
     let taken = requests.take(piece)?;
     let Some((head, body)) = requests.message() else {

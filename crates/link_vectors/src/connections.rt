@@ -5,11 +5,10 @@ ghost use Rattle.share_lock.specs.Passes.{lock_id, IsReady};
 
 use daap_outside::{MemLink, MemSink, MemSource};
 use item_model::{Batch, Edits};
-use served_links::{LinkEnd, LinkReport};
 use share_asks::Role;
 use share_core::Share;
 use share_lock::{Bell, Pass, ShareLock};
-use share_server::serve_link;
+use share_server::{LinkEnd, LinkReport, serve_link};
 use std::alloc::{AllocError, Global};
 use std::process::Abort;
 use std::sync::Wait;

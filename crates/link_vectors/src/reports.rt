@@ -1,6 +1,6 @@
-//! `served_links`: the laws, and lists of requests.
+//! `share_server`: the laws, and lists of requests.
 
-use served_links::{LinkEnd, LinkReport, Served, ServedRequests, laws};
+use share_server::{LinkEnd, LinkReport, Served, ServedRequests, laws};
 use std::alloc::{AllocError, Global};
 use std::test::Fail;
 

@@ -43,7 +43,10 @@ fn small_rehearsal(
         size,
         keep,
     };
-    rehearse(alloc, &plan)
+    match rehearse(alloc, &plan) {
+        Ok(done) => Ok(done),
+        Err(_) => Err(AllocError),
+    }
 }
 
 fn sums_up(

@@ -1,5 +1,5 @@
 -- A rehearsal, one batch after another, up to its summary.
-use Rattle.std.proofs.Common.{◌≡◌, ◌<◌, ◌≤◌, ◌^◌, ℕ, ◌+◌, ◌*◌, List, [], ◌∷◌, ◌++◌, take, length, Option, None, Result, Ok, Err, OnOk, sym, ap, subst, ◌∙◌, arith, codes}
+use Rattle.std.proofs.Common.{◌≡◌, ◌<◌, ◌≤◌, ◌^◌, ℕ, ◌+◌, ◌*◌, List, [], ◌∷◌, ◌++◌, take, length, Option, None, Result, Ok, Err, OnOk, OnErr, sym, ap, subst, ◌∙◌, arith, codes}
 use Rattle.std.proofs.lemmas.List.{length-map}
 use Rattle.edit_log.proofs.LogFacts.{revision_more}
 use Rattle.item_model.specs.declared.changes.Edit.{Edit}
@@ -22,7 +22,7 @@ use Rattle.rehearsal.specs.Asks.{asks, deltas, fulls}
 use Rattle.rehearsal.specs.Draws.{state}
 use Rattle.rehearsal.specs.Edits.{edits_from}
 use Rattle.rehearsal.specs.Following.{IsAt, Follows, IsMirror}
-use Rattle.rehearsal.specs.Histories.{history_of}
+use Rattle.rehearsal.specs.Histories.{HasFirst, history_of}
 use Rattle.rehearsal.specs.Made.{AreMade}
 use Rattle.rehearsal.specs.Plan.{AreInRange, batches_of}
 use Rattle.rehearsal.specs.Queries.{artist_query, year_query}
@@ -66,6 +66,10 @@ front_more plan n h =
 
 pub all_batches : (plan : Rehearsal) → take plan.batches (batches_of plan) ≡ batches_of plan
 all_batches plan = rehearsed_front plan.number plan.batches plan.size plan.batches (omega arith)
+
+-- their history
+pub has_first : (plan : Rehearsal) (n : ℕ) (entries : List Entry) → n ≤ plan.batches → entries ≡ history_of (take n (batches_of plan)) → HasFirst (batches_of plan) entries
+has_first plan n entries h is = record { count = n; few = subst (λ k. n ≤ k) (sym (rehearsed_batches plan.number plan.batches plan.size)) h; is = is }
 
 -- ---- the beginning
 
@@ -124,6 +128,14 @@ edited plan n old new applied logged range h stands draws is_applied is_logged l
 pub both_ok : {T E P Q R : Type 0} (r : Result T E) → (P → Q → R) → OnOk r P → OnOk r Q → OnOk r R
 both_ok (Ok x) f p q = f p q
 both_ok (Err e) f p q = p
+
+pub on_ok_anyway : {T E P : Type 0} (r : Result T E) → P → OnOk r P
+on_ok_anyway (Ok x) p = p
+on_ok_anyway (Err e) p = tt
+
+pub on_err_anyway : {T E P : Type 0} (r : Result T E) → P → OnErr r P
+on_err_anyway (Ok x) p = tt
+on_err_anyway (Err e) p = p
 
 -- ---- the summary
 

@@ -5,9 +5,9 @@ use Rattle.dmap_tags.specs.Spelling.{spelling}
 use Rattle.dmap_tags.specs.Proper.{IsProperTag}
 use Rattle.code_table.specs.Standard.{standard_rows}
 use Rattle.dmap_stream.specs.WholeTag.{is_accepted}
-use Rattle.rehearsal.specs.declared.carried.TheConstants.{TOP_LIMIT}
+use Rattle.listing_plan.specs.Limits.{listing_limit}
 
 pub record IsCarried (t : Tree) (bytes : List ℕ) : Type 0 where
   pub spelled : bytes ≡ spelling t
-  pub accepted : is_accepted standard_rows TOP_LIMIT t ≡ true
+  pub accepted : is_accepted standard_rows listing_limit t ≡ true
   pub proper : IsProperTag t

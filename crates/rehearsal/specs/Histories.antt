@@ -1,8 +1,14 @@
 -- The history of a rehearsal: its batches, in order, by pass 0.
-use Rattle.std.specs.Prelude.{List, map}
+use Rattle.std.specs.Prelude.{◌≡◌, ◌≤◌, ℕ, List, map, take, length}
 use Rattle.item_model.specs.declared.changes.Edit.{Edit}
 use Rattle.item_model.specs.declared.changes.Entry.{Entry}
 use Rattle.item_model.specs.declared.changes.Entry.TheVariants.{Edits}
 
 abbrev pub history_of : List (List Edit) → List Entry
 history_of bs = map (λ batch. Edits 0 batch) bs
+
+-- it has the first of the batches, some or all, and nothing else
+pub record HasFirst (bs : List (List Edit)) (history : List Entry) : Type 0 where
+  pub count : ℕ
+  pub few : count ≤ length bs
+  pub is : history ≡ history_of (take count bs)

@@ -14,7 +14,7 @@ use listing_plan::Plan;
 use std::alloc::{AllocError, Global};
 
 /// How many bytes of payload a mirror reads of one tag at most.
-pub(crate) const TOP_LIMIT: u32 = 1_073_741_824;
+const TOP_LIMIT: u32 = 1_073_741_824;
 
 /// The tag that a plan writes, as a mirror reads it.
 pub(crate) fn carried(alloc: Global, table: &CodeTable, plan: &Plan) -> Result<Tag, AllocError>

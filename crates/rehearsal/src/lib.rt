@@ -15,4 +15,4 @@ mod run;
 mod summary;
 
 pub use plan::Rehearsal;
-pub use rehearsing::{Rehearsed, rehearse};
+pub use rehearsing::{BrokenOff, Rehearsed, rehearse};

@@ -1,9 +1,11 @@
 //! The rehearsal.
 
-ghost use Rattle.std.specs.Prelude.{◌≡◌, IfOk};
+ghost use Rattle.std.specs.Prelude.{◌≡◌, IfOk, IfErr};
+ghost use Rattle.code_table.specs.Standard.{standard_rows};
 ghost use Rattle.rehearsal.specs.Edits.{rehearsed};
-ghost use Rattle.rehearsal.specs.Histories.{history_of};
+ghost use Rattle.rehearsal.specs.Histories.{HasFirst, history_of};
 ghost use Rattle.rehearsal.specs.Plan.{AreInRange};
+ghost use Rattle.rehearsal.specs.Running.{Stands, Mirrors};
 ghost use Rattle.rehearsal.specs.Summary.{summary_text};
 
 use crate::plan::Rehearsal;
@@ -11,12 +13,20 @@ use crate::run::Run;
 use code_table::CodeTable;
 use item_model::Entries;
 use std::alloc::{AllocError, Global};
+use thiserror::Error;
 
 /// What a rehearsal leaves: the history of the share, and the summary.
 #[derive(Debug, Drop)]
 pub struct Rehearsed {
     pub history: Entries,
     pub summary: Vec<u8>,
+}
+
+/// An allocation failed in a rehearsal. The history has the batches that were made until then.
+#[derive(Debug, Drop, Error)]
+#[error("out of memory")]
+pub struct BrokenOff {
+    pub history: Entries,
 }
 
 /// Edits a share by made-up batches while three mirrors follow it, and sums up.
@@ -32,19 +42,40 @@ pub struct Rehearsed {
 ///
 /// The summary tells the revision, how many items there are, and for each mirror how many rows it holds and how many full
 /// listings and deltas it was answered with.
-pub fn rehearse(alloc: Global, plan: &Rehearsal) -> Result<Rehearsed, AllocError>
+///
+/// # Errors
+///
+/// Returns `BrokenOff` if an allocation fails, with the history that the share has by then: the first batches.
+pub fn rehearse(alloc: Global, plan: &Rehearsal) -> Result<Rehearsed, BrokenOff>
     requires { AreInRange plan.now }
     ensures history { IfOk result (λ done. done.history ≡ history_of (rehearsed plan.now.number plan.now.batches plan.now.size)) }
     ensures summary { IfOk result (λ done. done.summary.items ≡ summary_text plan.now.keep (rehearsed plan.now.number plan.now.batches plan.now.size)) }
+    ensures part { IfErr result (λ broken. HasFirst (rehearsed plan.now.number plan.now.batches plan.now.size) broken.history) }
+{
+    let (table, mut run) = match begun(alloc, plan) {
+        Ok(begun) => begun,
+        Err(AllocError) => {
+            return Err(BrokenOff {
+                history: Entries::new(alloc),
+            });
+        }
+    };
+    let played = run.play(alloc, &table, plan);
+    let history = run.into_history();
+    match played {
+        Ok(summary) => Ok(Rehearsed { history, summary }),
+        Err(AllocError) => Err(BrokenOff { history }),
+    }
+}
+
+// The table of codes that is read by, and a share without batches with its mirrors.
+fn begun(alloc: Global, plan: &Rehearsal) -> Result<(CodeTable, Run), AllocError>
+    requires { AreInRange plan.now }
+    ensures table { IfOk result (λ begun. begun.0 ≡ standard_rows) }
+    ensures stands { IfOk result (λ begun. Stands plan.now 0 begun.1) }
+    ensures mirrors { IfOk result (λ begun. Mirrors plan.now 0 begun.1) }
 {
     let table = CodeTable::standard(alloc)?;
-    let mut run = Run::new(alloc, plan)?;
-    for n in 0..plan.batches {
-        run.step(alloc, &table, plan, n)?;
-    }
-    let summary = run.summary(alloc, plan)?;
-    Ok(Rehearsed {
-        history: Entries::of(run.log.into_entries()),
-        summary,
-    })
+    let run = Run::new(alloc, plan)?;
+    Ok((table, run))
 }

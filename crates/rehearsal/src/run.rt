@@ -1,8 +1,9 @@
 //! A share that is edited, with the mirrors that follow it.
 
-ghost use Rattle.std.specs.Prelude.{◌≡◌, ◌<◌, ◌≤◌, ◌+◌, None, take, IfOk, OnOk};
+ghost use Rattle.std.specs.Prelude.{◌≡◌, ◌<◌, ◌≤◌, ◌+◌, None, take, IfOk, OnOk, OnErr};
 ghost use Rattle.code_table.specs.Standard.{standard_rows};
 ghost use Rattle.rehearsal.specs.Following.{IsAt, Follows, IsMirror};
+ghost use Rattle.rehearsal.specs.Histories.{HasFirst, history_of};
 ghost use Rattle.rehearsal.specs.Plan.{AreInRange, batches_of};
 ghost use Rattle.rehearsal.specs.Queries.{artist_query, year_query};
 ghost use Rattle.rehearsal.specs.Running.{Stands, Mirrors};
@@ -16,14 +17,14 @@ use crate::queries::{artist_query, year_query};
 use crate::summary::summary;
 use code_table::CodeTable;
 use edit_log::EditLog;
-use item_model::Entry;
+use item_model::{Entries, Entry};
 use item_store::ItemStore;
 use std::alloc::{AllocError, Global};
 
 #[derive(Debug, Drop)]
 pub(crate) struct Run {
     draws: Draws,
-    pub(crate) log: EditLog,
+    log: EditLog,
     store: ItemStore,
     first: Follower,
     second: Follower,
@@ -48,8 +49,36 @@ impl Run {
         })
     }
 
+    // All batches of the plan, and their summary.
+    pub(crate) fn play(
+        &mut self,
+        alloc: Global,
+        table: &CodeTable,
+        plan: &Rehearsal,
+    ) -> Result<Vec<u8>, AllocError>
+        requires table { table.now ≡ standard_rows }
+        requires range { AreInRange plan.now }
+        requires stands { Stands plan.now 0 self.old }
+        requires mirrors { Mirrors plan.now 0 self.old }
+        ensures summary { IfOk result (λ text. text.items ≡ summary_text plan.now.keep (batches_of plan.now)) }
+        ensures whole { OnOk result (self.new.log.entries ≡ history_of (batches_of plan.now)) }
+        ensures part { OnErr result (HasFirst (batches_of plan.now) self.new.log.entries) }
+    {
+        for n in 0..plan.batches {
+            self.step(alloc, table, plan, n)?;
+        }
+        self.summary(alloc, plan)
+    }
+
+    // The history as it is by now.
+    pub(crate) fn into_history(self) -> Entries
+        ensures { result ≡ self.log.entries }
+    {
+        Entries::of(self.log.into_entries())
+    }
+
     // The next batch, behind n others.
-    pub(crate) fn step(
+    fn step(
         &mut self,
         alloc: Global,
         table: &CodeTable,
@@ -63,6 +92,7 @@ impl Run {
         requires mirrors { Mirrors plan.now n self.old }
         ensures stands { OnOk result (Stands plan.now (n + 1) self.new) }
         ensures mirrors { OnOk result (Mirrors plan.now (n + 1) self.new) }
+        ensures part { OnErr result (HasFirst (batches_of plan.now) self.new.log.entries) }
     {
         self.edit(alloc, plan, n)?;
         self.follow(alloc, table, plan, n)
@@ -73,6 +103,7 @@ impl Run {
         requires more { n < plan.now.batches }
         requires stands { Stands plan.now n self.old }
         ensures stands { OnOk result (Stands plan.now (n + 1) self.new) }
+        ensures kept { OnErr result (self.new.log.entries ≡ self.old.log.entries) }
         ensures first { self.new.first ≡ self.old.first }
         ensures second { self.new.second ≡ self.old.second }
         ensures third { self.new.third ≡ self.old.third }
@@ -105,7 +136,7 @@ impl Run {
     }
 
     // The summary after the last batch.
-    pub(crate) fn summary(&self, alloc: Global, plan: &Rehearsal) -> Result<Vec<u8>, AllocError>
+    fn summary(&self, alloc: Global, plan: &Rehearsal) -> Result<Vec<u8>, AllocError>
         requires range { AreInRange plan.now }
         requires stands { Stands plan.now plan.now.batches self.now }
         requires mirrors { Mirrors plan.now plan.now.batches self.now }

@@ -10,7 +10,7 @@ use Rattle.share_history.specs.Limits.{has_few_lists}
 use Rattle.share_replies.specs.Settings.{Settings}
 use Rattle.records_import.specs.Table.{table_of}
 use Rattle.records_import.proofs.Once.{batch_same, batch_once}
-use Rattle.served_links.specs.declared.report.LinkReport.{LinkReport}
+use Rattle.share_server.specs.declared.report.LinkReport.{LinkReport}
 use Rattle.share_workers.specs.Works.{all_served}
 use Rattle.share_workers.specs.declared.worker.WorkerEnd.{WorkerEnd}
 use Rattle.share_workers.specs.declared.worker.WorkerEnd.TheVariants as worker
@@ -20,7 +20,7 @@ use Rattle.command_core.specs.declared.fault.Fault.TheVariants as fault
 use Rattle.command_core.specs.Answers.{Tells}
 use Rattle.command_core.specs.Faults.{memory_line}
 use Rattle.command_core.specs.Seen.{InputSeen, OutputSeen}
-use Rattle.share_commands.specs.ReadRecords.{records_limit, IsRefused, LeavesMany}
+use Rattle.command_core.specs.ReadRecords.{records_limit, IsRefused, LeavesMany}
 use Rattle.serve_command.specs.declared.fault.ServeFault.{ServeFault}
 use Rattle.serve_command.specs.declared.fault.ServeFault.TheVariants.{Network, TooLong, Records, TooManyLists}
 use Rattle.serve_command.specs.declared.terms.Serving.{Serving}

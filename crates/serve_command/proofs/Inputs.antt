@@ -8,9 +8,9 @@ use Rattle.command_core.specs.declared.fault.Fault.{Fault}
 use Rattle.command_core.specs.declared.fault.Fault.TheVariants.{Own, Read, Memory}
 use Rattle.command_core.specs.Seen.{InputSeen}
 use Rattle.command_core.proofs.Reading.{all_read_on, of_input}
-use Rattle.share_commands.specs.declared.reading.InputFault.{InputFault}
-use Rattle.share_commands.specs.declared.reading.InputFault.TheVariants as unread
-use Rattle.share_commands.specs.ReadRecords.{HasReadAs, IsWithin, LeavesMany, StopsReading}
+use Rattle.command_core.specs.declared.records.InputFault.{InputFault}
+use Rattle.command_core.specs.declared.records.InputFault.TheVariants as unread
+use Rattle.command_core.specs.ReadRecords.{HasReadAs, IsWithin, LeavesMany, StopsReading}
 use Rattle.serve_command.specs.Faults.{StopsServing, input_fault, open_fault}
 
 -- an input that is no batch

@@ -14,9 +14,9 @@ use Rattle.command_core.specs.declared.fault.Fault.{Fault}
 use Rattle.command_core.specs.declared.fault.Fault.TheVariants as fault
 use Rattle.command_core.specs.Seen.{InputSeen}
 use Rattle.command_core.specs.Causes.{Cause, OfWords, OfInput, StopsBy}
-use Rattle.share_commands.specs.declared.reading.InputFault.{InputFault}
-use Rattle.share_commands.specs.declared.reading.InputFault.TheVariants as unread
-use Rattle.share_commands.specs.ReadRecords.{records_limit, IsWithin, ReadsAs, IsRefused, LeavesMany}
+use Rattle.command_core.specs.declared.records.InputFault.{InputFault}
+use Rattle.command_core.specs.declared.records.InputFault.TheVariants as unread
+use Rattle.command_core.specs.ReadRecords.{records_limit, IsWithin, ReadsAs, IsRefused, LeavesMany}
 use Rattle.serve_command.specs.declared.fault.ServeFault.{ServeFault}
 use Rattle.serve_command.specs.declared.fault.ServeFault.TheVariants.{Network, TooLong, Records, TooManyLists}
 

@@ -2,7 +2,7 @@
 use Rattle.std.specs.Prelude.{◌≡◌, ◌⊎◌, ℕ, List, length, Contains, Some}
 use Rattle.item_model.specs.declared.changes.Edit.{Edit}
 use Rattle.daap_outside.specs.Counts.{Rose}
-use Rattle.served_links.specs.declared.report.LinkReport.{LinkReport}
+use Rattle.share_server.specs.declared.report.LinkReport.{LinkReport}
 use Rattle.share_workers.specs.Works.{all_served}
 use Rattle.command_core.specs.Seen.{Told}
 use Rattle.serve_command.specs.declared.terms.Serving.{Serving}

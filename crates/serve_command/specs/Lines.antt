@@ -1,7 +1,7 @@
 -- The two lines of a share that is served.
 use Rattle.std.specs.Prelude.{ℕ, List, [], ◌∷◌, ◌++◌, length, codes, decimal}
 use Rattle.std.specs.List.{flat_map}
-use Rattle.served_links.specs.declared.report.LinkReport.{LinkReport}
+use Rattle.share_server.specs.declared.report.LinkReport.{LinkReport}
 use Rattle.share_workers.specs.Works.{all_served}
 
 -- where both places are open

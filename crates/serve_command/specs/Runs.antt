@@ -5,7 +5,7 @@ use Rattle.item_model.specs.declared.changes.Edit.{Edit}
 use Rattle.item_model.specs.declared.changes.Entry.{Entry}
 use Rattle.daap_outside.specs.Told.{Grows}
 use Rattle.share_history.specs.Histories.{batches, opening, revision}
-use Rattle.served_links.specs.declared.report.LinkReport.{LinkReport}
+use Rattle.share_server.specs.declared.report.LinkReport.{LinkReport}
 use Rattle.command_core.specs.declared.fault.Fault.{Fault}
 use Rattle.command_core.specs.Faults.{memory_line, fault_line, fault_status}
 use Rattle.command_core.specs.Seen.{InputSeen, OutputSeen, FilesSeen, NetSeen, IsUnread, Told}

@@ -15,8 +15,8 @@ use crate::verdict::Verdict;
 use daap_outside::{Sink, put_all};
 use fault_lines::push_number;
 use item_model::Entries;
-use served_links::LinkReport;
 use share_core::Share;
+use share_server::LinkReport;
 use std::alloc::{AllocError, Global};
 
 /// Tells what was served, and how it ended.

@@ -9,9 +9,8 @@ ghost use Rattle.serve_command.specs.Terms.{MayServe, settings_of};
 
 use crate::fault::{ServeFault, input_fault, open_fault};
 use crate::terms::Serving;
-use command_core::Fault;
+use command_core::{Fault, read_records};
 use daap_outside::Source;
-use share_commands::read_records;
 use share_core::Share;
 use std::alloc::Global;
 

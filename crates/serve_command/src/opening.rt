@@ -15,9 +15,9 @@ use crate::terms::Serving;
 use command_core::{out_of_memory, refused};
 use daap_outside::{Sink, Source, put_all};
 use fault_lines::push_number;
-use served_links::LinkReport;
 use share_core::Share;
 use share_lock::{Pass, ShareLock};
+use share_server::LinkReport;
 use share_workers::Worker;
 use std::alloc::{AllocError, Global};
 

@@ -1,5 +1,8 @@
-pub mod ReadCauses
 pub mod Unopened
 pub mod LibraryFacts
 pub mod Senses
 pub mod Listed
+pub mod Begun
+pub mod ReplaySense
+pub mod ReplayEndings
+pub mod ReplayCauses

@@ -24,10 +24,10 @@ use Rattle.share_commands.specs.declared.list.ListFault.TheVariants.{Query as qu
 use Rattle.share_commands.specs.declared.rehearse.RehearseFault.{RehearseFault}
 use Rattle.share_commands.specs.declared.rehearse.RehearseFault.TheVariants.{TooMany}
 use Rattle.share_commands.specs.Looks.{AsksQuery, IsAsked, HasRefusal, IsMetaRefused}
-use Rattle.share_commands.specs.ReadRecords.{records_limit, ReadsAs, LeavesMany}
+use Rattle.command_core.specs.ReadRecords.{records_limit, ReadsAs, LeavesMany}
 use Rattle.share_commands.specs.ListShare.{IsShare, ListLeaves, IsListable, list_status, list_cause, list_meaning}
 use Rattle.share_history.specs.Numbers.{most_edits}
-use Rattle.share_commands.specs.RehearseShare.{rehearse_status, rehearse_cause, rehearse_meaning}
+use Rattle.share_commands.specs.RehearseShare.{RehearseLeaves, rehearse_status, rehearse_cause, rehearse_meaning}
 
 -- ---- list
 
@@ -138,20 +138,32 @@ one_rehearse_status TooMany TooMany = refl
 few_or_many : (batches size : ℕ) (input : List ℕ) (own : RehearseFault) → Says (rehearse_cause batches size own) input → batches * size ≤ most_edits → ⊥
 few_or_many batches size input TooMany says within = omega (arith, within, says)
 
+-- what another fault leaves of a share, want of memory may leave
+begun_less : (number batches size : ℕ) (before after : Seen) (fault : Fault RehearseFault) (share : ShareSeen) → RehearseLeaves number batches size before after fault share
+    → RehearseLeaves number batches size before after Memory share
+begun_less number batches size before after (Own own) share h = inl h
+begun_less number batches size before after Read share h = inl h
+begun_less number batches size before after Memory share h = h
+
+none_begun : (number batches size : ℕ) (before after : Seen) (fault : Fault RehearseFault) → RehearseLeaves number batches size before after fault (record { history = None })
+none_begun number batches size before after (Own own) = refl
+none_begun number batches size before after Read = refl
+none_begun number batches size before after Memory = inl refl
+
 pub rehearse_sense : (number batches size keep : ℕ) → WritesOnce (rehearse_meaning number batches size keep)
 rehearse_sense number batches size keep = record {
   sensible = record {
     wants = untouched number batches size keep;
     wants_front = λ before after fault front h. h;
-    wants_share = λ before after fault share h. h;
+    wants_share = begun_less number batches size;
     idle = λ seen. record { left = refl; faults = refl };
     idle_front = λ seen. refl;
-    idle_share = λ seen. refl;
+    idle_share = λ seen. inl refl;
     one_status = λ input one other says said. one_rehearse_status one other;
     not_both = few_or_many batches size;
     given = λ input before after share output told done. done.within;
   };
   begun = λ before after share output done. done;
   front = λ before after fault. refl;
-  unopened = λ before after fault. refl;
+  unopened = none_begun number batches size;
 }

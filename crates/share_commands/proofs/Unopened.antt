@@ -11,9 +11,9 @@ use Rattle.command_core.specs.Causes.{HasReadOn, StopsBy}
 use Rattle.command_core.proofs.Reading.{all_read_on, of_input}
 use Rattle.share_commands.specs.declared.list.ListFault.{ListFault}
 use Rattle.share_commands.specs.declared.list.ListFault.TheVariants.{TooManyLists, NoList}
-use Rattle.share_commands.specs.declared.reading.InputFault.{InputFault}
-use Rattle.share_commands.specs.declared.reading.InputFault.TheVariants as unread
-use Rattle.share_commands.specs.ReadRecords.{HasReadAs, IsWithin, LeavesMany, ReadsAs, StopsReading}
+use Rattle.command_core.specs.declared.records.InputFault.{InputFault}
+use Rattle.command_core.specs.declared.records.InputFault.TheVariants as unread
+use Rattle.command_core.specs.ReadRecords.{HasReadAs, IsWithin, LeavesMany, ReadsAs, StopsReading}
 use Rattle.share_commands.specs.Looks.{IsAsked}
 use Rattle.share_commands.specs.ListShare.{LacksTarget, IsShare, list_cause, ListReadsOn, StopsOpening, input_fault, library_fault}
 

@@ -2,5 +2,6 @@ pub mod Looks
 pub mod ListShare
 pub mod LookFaults
 pub mod Openings
-pub mod ReadRecords
 pub mod RehearseShare
+pub mod ReplayShare
+pub mod Moments

@@ -25,9 +25,9 @@ use Rattle.command_core.specs.Causes.{Cause, OfWords, OfInput, StopsBy}
 use Rattle.command_core.specs.Meanings.{Meaning, writes_nothing_before, may_read}
 use Rattle.share_commands.specs.declared.list.ListFault.{ListFault}
 use Rattle.share_commands.specs.declared.list.ListFault.TheVariants.{Query, Meta, TooLong, Records, TooManyLists, NoList}
-use Rattle.share_commands.specs.declared.reading.InputFault.{InputFault}
-use Rattle.share_commands.specs.declared.reading.InputFault.TheVariants as unread
-use Rattle.share_commands.specs.ReadRecords.{records_limit, ReadsAs, IsRefused, LeavesMany}
+use Rattle.command_core.specs.declared.records.InputFault.{InputFault}
+use Rattle.command_core.specs.declared.records.InputFault.TheVariants as unread
+use Rattle.command_core.specs.ReadRecords.{records_limit, ReadsAs, IsRefused, LeavesMany}
 use Rattle.share_commands.specs.Looks.{AsksLook, IsAsked, HasRefusal, IsMetaRefused}
 
 -- the listing of a share that is opened with the edits

@@ -1,12 +1,15 @@
 -- The command `rehearse`: a share that made-up batches edit while mirrors follow it, and the summary of what they held.
-use Rattle.std.specs.Prelude.{◌≡◌, ◌<◌, ◌≤◌, ◌*◌, ◌++◌, ◌∷◌, [], ℕ, List, true, codes}
+use Rattle.std.specs.Prelude.{◌≡◌, ◌<◌, ◌≤◌, ◌*◌, ◌⊎◌, ◌++◌, ◌∷◌, [], ℕ, List, true, codes}
+use Rattle.item_model.specs.declared.changes.Entry.{Entry}
 use Rattle.share_history.specs.Numbers.{most_edits}
 use Rattle.rehearsal.specs.Edits.{rehearsed}
-use Rattle.rehearsal.specs.Histories.{history_of}
+use Rattle.rehearsal.specs.Histories.{HasFirst, history_of}
 use Rattle.rehearsal.specs.Summary.{summary_text}
-use Rattle.command_core.specs.Seen.{InputSeen, ShareSeen, share_with, IsUnread}
+use Rattle.command_core.specs.declared.fault.Fault.{Fault}
+use Rattle.command_core.specs.declared.fault.Fault.TheVariants as fault
+use Rattle.command_core.specs.Seen.{InputSeen, Seen, ShareSeen, no_share, share_with, IsUnread}
 use Rattle.command_core.specs.Causes.{Cause, OfWords}
-use Rattle.command_core.specs.Meanings.{Meaning, writes_nothing_before, leaves_no_share, may_not_read}
+use Rattle.command_core.specs.Meanings.{Meaning, writes_nothing_before, may_not_read}
 use Rattle.share_commands.specs.declared.rehearse.RehearseFault.{RehearseFault}
 use Rattle.share_commands.specs.declared.rehearse.RehearseFault.TheVariants.{TooMany}
 
@@ -29,6 +32,24 @@ pub record IsRehearsed (number batches size keep : ℕ) (before after : InputSee
   pub opened : share ≡ share_with (history_of (rehearsed number batches size))
   pub written : output ≡ summary_text keep (rehearsed number batches size)
 
+-- there are not too many edits, and the history of the share has the first batches, some or all
+pub record HasBegun (number batches size : ℕ) (share : ShareSeen) : Type 0 where
+  pub within : batches * size ≤ most_edits
+  pub history : List Entry
+  pub opened : share ≡ share_with history
+  pub has : HasFirst (rehearsed number batches size) history
+
+-- a share is opened in every run, unless there are too many edits
+pub record OpensWithin (number batches size : ℕ) (share : ShareSeen) : Type 0 where
+  pub few : batches * size ≤ most_edits → HasBegun number batches size share
+  pub many : most_edits < batches * size → share ≡ no_share
+
+-- a fault leaves no share; where an allocation fails, the share may have been opened
+abbrev pub RehearseLeaves : (number batches size : ℕ) → Seen → Seen → Fault RehearseFault → ShareSeen → Type 0
+RehearseLeaves number batches size before after (fault.Own own) share = share ≡ no_share
+RehearseLeaves number batches size before after fault.Read share = share ≡ no_share
+RehearseLeaves number batches size before after fault.Memory share = (share ≡ no_share) ⊎ HasBegun number batches size share
+
 abbrev pub rehearse_line : RehearseFault → List ℕ
 rehearse_line TooMany = codes "limit: rehearsal" ++ 10 ∷ []
 
@@ -49,7 +70,7 @@ rehearse_meaning number batches size keep = record {
   is_done = λ before after share output. IsRehearsed number batches size keep before.input after.input share output;
   is_begun = λ before after share output. IsRehearsed number batches size keep before.input after.input share output;
   is_front = writes_nothing_before;
-  leaves = leaves_no_share;
+  leaves = RehearseLeaves number batches size;
   may_want = may_not_read;
   leaves_files = true;
   leaves_net = true;

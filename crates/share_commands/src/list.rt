@@ -11,8 +11,7 @@ ghost use Rattle.share_commands.specs.Openings.{HasOpened};
 
 use crate::look::look_of;
 use crate::opening::{Opened, open};
-use crate::reading::{InputFault, read_records};
-use command_core::{Fault, Outcome, Refusal, out_of_memory, refused};
+use command_core::{Fault, InputFault, Outcome, Refusal, out_of_memory, read_records, refused};
 use daap_outside::{Failed, Sink, Source};
 use dmap_tags::Text;
 use fault_lines::{query_line, records_line};

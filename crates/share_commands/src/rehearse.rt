@@ -2,8 +2,8 @@
 
 ghost use Rattle.std.specs.Prelude.{◌≡◌, ◌≤◌};
 ghost use Rattle.command_core.specs.Seen.{Around, InputSeen, output_seen, told_beside};
-ghost use Rattle.command_core.specs.Endings.{IsAnswered};
-ghost use Rattle.share_commands.specs.RehearseShare.{rehearse_line, rehearse_status, MayRehearse, rehearse_meaning};
+ghost use Rattle.command_core.specs.Endings.{IsAnswered, share_of};
+ghost use Rattle.share_commands.specs.RehearseShare.{rehearse_line, rehearse_status, MayRehearse, OpensWithin, rehearse_meaning};
 
 use command_core::{Fault, Outcome, Refusal, done, out_of_memory, refused};
 use daap_outside::Sink;
@@ -43,11 +43,12 @@ pub fn rehearse_share<W: Sink>(
     output: &mut W,
 ) -> Outcome
     requires { MayRehearse number batches size keep }
-    ensures { (around : Around) (input : InputSeen) → IsAnswered (rehearse_meaning number batches size keep)
+    ensures answered { (around : Around) (input : InputSeen) → IsAnswered (rehearse_meaning number batches size keep)
         (told_beside around input input
         (output_seen (W.taken output.old) (W.faults output.old))
         (output_seen (W.taken output.new) (W.faults output.new)))
         result }
+    ensures opened { OpensWithin number batches size (share_of result) }
 {
     if MAX_EDITS < batches as usize * size as usize {
         return refused(alloc, output, &Fault::Own(RehearseFault::TooMany));
@@ -63,6 +64,6 @@ pub fn rehearse_share<W: Sink>(
             let summary = rehearsed.summary;
             done(output, summary.as_slice(), Some(rehearsed.history))
         }
-        Err(AllocError) => out_of_memory(output, None),
+        Err(broken) => out_of_memory(output, Some(broken.history)),
     }
 }

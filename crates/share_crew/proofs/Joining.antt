@@ -13,7 +13,7 @@ use Rattle.share_lock.specs.Known.{numbers_of, after_join}
 use Rattle.share_lock.proofs.Fronts.{continues_here, continues_less, continues_more}
 use Rattle.share_replies.specs.Settings.{Settings}
 use Rattle.share_replies.specs.Laws.{maker}
-use Rattle.served_links.specs.Passes.{Pass}
+use Rattle.share_server.specs.Passes.{Pass}
 use Rattle.share_workers.specs.declared.worker.WorkerEnd.{WorkerEnd}
 use Rattle.share_workers.specs.declared.worker.WorkerEnd.TheVariants.{Running, Stopped, NoMoreLinks, Spent, AcceptFault, Memory}
 use Rattle.share_workers.specs.Ends.{CountsAccepts}

@@ -10,9 +10,9 @@ use Rattle.share_lock.specs.Known.{numbers_of, fresh}
 use Rattle.share_lock.proofs.Fronts.{all_rest}
 use Rattle.share_replies.specs.Settings.{Settings}
 use Rattle.share_replies.specs.Laws.{maker}
-use Rattle.served_links.specs.Passes.{Pass}
-use Rattle.served_links.specs.Served.{added_entries}
-use Rattle.served_links.proofs.Longer.{stays}
+use Rattle.share_server.specs.Passes.{Pass}
+use Rattle.share_server.specs.Served.{added_entries}
+use Rattle.share_server.proofs.Longer.{stays}
 use Rattle.share_workers.specs.Works.{all_served}
 use Rattle.share_crew.specs.Stints.{Stint, IsPart, IsOther, IsHistoryOf, IsNumbered, numbers_of_all, passes_in}
 use Rattle.share_crew.specs.Crews.{GoesOn, HasJoined}

@@ -11,7 +11,7 @@ use Rattle.share_asks.specs.declared.ask.Role.{Role}
 use Rattle.share_lock.specs.Known.{fresh}
 use Rattle.share_lock.specs.Passes.{LockId, known, IsReady}
 use Rattle.share_replies.specs.Settings.{Settings}
-use Rattle.served_links.specs.Passes.{Pass}
+use Rattle.share_server.specs.Passes.{Pass}
 use Rattle.share_workers.specs.declared.worker.Worker.{Worker}
 use Rattle.share_workers.specs.declared.worker.WorkerEnd.TheVariants.{Running}
 use Rattle.share_workers.specs.Ends.{WorkerServed}

@@ -8,8 +8,8 @@ use Rattle.item_model.specs.declared.changes.Entry.{Entry}
 use Rattle.share_lock.specs.Known.{fresh}
 use Rattle.share_lock.specs.Passes.{LockId}
 use Rattle.share_replies.specs.Settings.{Settings}
-use Rattle.served_links.specs.declared.report.LinkReport.{LinkReport}
-use Rattle.served_links.specs.Passes.{Pass}
+use Rattle.share_server.specs.declared.report.LinkReport.{LinkReport}
+use Rattle.share_server.specs.Passes.{Pass}
 use Rattle.share_workers.specs.declared.worker.Worker.{Worker}
 use Rattle.share_crew.specs.declared.verdict.Verdict.{Verdict}
 use Rattle.share_crew.specs.Verdicts.{verdict_of}

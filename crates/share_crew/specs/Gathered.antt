@@ -7,8 +7,8 @@ use Rattle.daap_outside.specs.Told.{Grows}
 use Rattle.share_asks.specs.declared.ask.Role.{Role}
 use Rattle.share_lock.specs.Known.{fresh}
 use Rattle.share_replies.specs.Settings.{Settings}
-use Rattle.served_links.specs.declared.report.LinkReport.{LinkReport}
-use Rattle.served_links.specs.Passes.{Pass}
+use Rattle.share_server.specs.declared.report.LinkReport.{LinkReport}
+use Rattle.share_server.specs.Passes.{Pass}
 use Rattle.share_crew.specs.declared.verdict.Verdict.{Verdict}
 use Rattle.share_crew.specs.Verdicts.{verdict_of}
 use Rattle.share_crew.specs.Doors.{CountsShut}

@@ -9,9 +9,9 @@ use Rattle.share_lock.specs.Histories.{entries_of}
 use Rattle.share_lock.specs.Known.{fresh}
 use Rattle.share_replies.specs.Settings.{Settings}
 use Rattle.share_replies.specs.Laws.{maker}
-use Rattle.served_links.specs.declared.report.LinkReport.{LinkReport}
-use Rattle.served_links.specs.Passes.{Pass}
-use Rattle.served_links.specs.Served.{added_entries}
+use Rattle.share_server.specs.declared.report.LinkReport.{LinkReport}
+use Rattle.share_server.specs.Passes.{Pass}
+use Rattle.share_server.specs.Served.{added_entries}
 use Rattle.share_workers.specs.declared.worker.WorkerEnd.{WorkerEnd}
 use Rattle.share_workers.specs.Works.{all_served}
 use Rattle.share_workers.specs.Ends.{WorkerServed}

@@ -5,7 +5,7 @@ ghost use Rattle.share_workers.specs.Works.{all_served};
 ghost use Rattle.share_crew.specs.Lines.{ended_line, links_in, requests_in};
 
 use fault_lines::push_number;
-use served_links::LinkReport;
+use share_server::LinkReport;
 use std::alloc::{AllocError, Global};
 
 /// The line that tells that all workers have ended.

@@ -3,7 +3,7 @@
 ghost use Rattle.std.specs.Prelude.{◌≡◌, [], map};
 
 use item_model::Entries;
-use served_links::LinkReport;
+use share_server::LinkReport;
 use std::alloc::Global;
 use std::marker::Model;
 
@@ -23,7 +23,7 @@ pub struct LinkReports {
 
 impl Model for LinkReports {
     ghost use Rattle.std.specs.Prelude.{List, map};
-    ghost use Rattle.served_links.specs.declared.report.LinkReport.{LinkReport};
+    ghost use Rattle.share_server.specs.declared.report.LinkReport.{LinkReport};
 
     ghost Value = { List (List LinkReport) };
 

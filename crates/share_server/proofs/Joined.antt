@@ -3,9 +3,9 @@ use Rattle.std.proofs.Common.{◌≡◌, ℕ, ◌+◌, List, [], ◌∷◌, ◌+
 use Rattle.item_model.specs.declared.changes.Entry.{Entry}
 use Rattle.share_asks.specs.declared.ask.Ask.{Ask}
 use Rattle.share_replies.specs.Settings.{Settings}
-use Rattle.served_links.specs.declared.report.Served.{Served}
-use Rattle.served_links.specs.Served.{at_point}
-use Rattle.served_links.specs.Replies.{GoOn, due, replies_from, served_bytes}
+use Rattle.share_server.specs.declared.report.Served.{Served}
+use Rattle.share_server.specs.Served.{at_point}
+use Rattle.share_server.specs.Replies.{GoOn, due, replies_from, served_bytes}
 
 module _ (limit : ℕ) (h : List Entry) (ask : Ask) (s : Served) where
   -- where no end comes behind one request more, the connection goes on behind all

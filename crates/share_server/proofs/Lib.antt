@@ -1,3 +1,12 @@
+pub mod Longer
+pub mod InTurn
+pub mod Endings
+pub mod Counting
+pub mod Listening
+pub mod Sessions
+pub mod Saying
+pub mod Turning
+pub mod Waiting
 pub mod Joined
 pub mod Outcomes
 pub mod Requests

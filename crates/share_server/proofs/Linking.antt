@@ -12,17 +12,17 @@ use Rattle.share_replies.specs.Laws.{is_edit, maker}
 use Rattle.http_front.specs.Readers.{HasRead, Reader}
 use Rattle.http_front.specs.Readings.{IsReading, Joins, reading}
 use Rattle.http_front.proofs.ReadingLaws.{handed_join, reads_all}
-use Rattle.served_links.specs.declared.report.Served.{Served}
-use Rattle.served_links.specs.declared.report.LinkEnd.{LinkEnd}
-use Rattle.served_links.specs.declared.report.LinkReport.{LinkReport}
-use Rattle.served_links.specs.declared.report.LinkEnd.TheVariants.{Closed, Cut, Refused, Spent, Stopped, LinkFault, Memory}
-use Rattle.served_links.specs.Served.{added_entries}
-use Rattle.served_links.specs.Replies.{replies}
-use Rattle.served_links.specs.Passes.{Pass, Serves}
-use Rattle.served_links.specs.Ends.{EndsInside, EndsAtEnd, Idles, all_told, replying}
-use Rattle.served_links.specs.Links.{LinkEnded}
-use Rattle.served_links.proofs.Endings.{ends_are_decided}
-use Rattle.served_links.proofs.Listening.{players_change_nothing}
+use Rattle.share_server.specs.declared.report.Served.{Served}
+use Rattle.share_server.specs.declared.report.LinkEnd.{LinkEnd}
+use Rattle.share_server.specs.declared.report.LinkReport.{LinkReport}
+use Rattle.share_server.specs.declared.report.LinkEnd.TheVariants.{Closed, Cut, Refused, Spent, Stopped, LinkFault, Memory}
+use Rattle.share_server.specs.Served.{added_entries}
+use Rattle.share_server.specs.Replies.{replies}
+use Rattle.share_server.specs.Passes.{Pass, Serves}
+use Rattle.share_server.specs.Ends.{EndsInside, EndsAtEnd, Idles, all_told, replying}
+use Rattle.share_server.specs.Links.{LinkEnded}
+use Rattle.share_server.proofs.Endings.{ends_are_decided}
+use Rattle.share_server.proofs.Listening.{players_change_nothing}
 use Rattle.share_server.specs.Serving.{LinkServed, limit_of}
 use Rattle.share_server.specs.Written.{IsGivenUp}
 use Rattle.share_server.specs.Steps.{Goes, Ends, Midway, Feeds, Underway, Pumps, EndsInput}

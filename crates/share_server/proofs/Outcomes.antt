@@ -10,13 +10,13 @@ use Rattle.share_history.specs.Sessions.{is_stopped}
 use Rattle.share_replies.specs.Settings.{Settings}
 use Rattle.http_front.specs.Readings.{Joins}
 use Rattle.reply_bytes.specs.ReplyBytes.{failure_bytes}
-use Rattle.served_links.specs.declared.report.Served.{Served}
-use Rattle.served_links.specs.declared.report.LinkEnd.{LinkEnd}
-use Rattle.served_links.specs.declared.report.LinkEnd.TheVariants.{Closed, Cut, Refused, Spent, Stopped, LinkFault, Memory}
-use Rattle.served_links.specs.Served.{at_point}
-use Rattle.served_links.specs.Replies.{end_behind, replies}
-use Rattle.served_links.specs.Passes.{Pass, Serves}
-use Rattle.served_links.specs.Ends.{EndsBehind, GoOnToLast, WantsMemory, IsCutOf, EndsInside, wanting}
+use Rattle.share_server.specs.declared.report.Served.{Served}
+use Rattle.share_server.specs.declared.report.LinkEnd.{LinkEnd}
+use Rattle.share_server.specs.declared.report.LinkEnd.TheVariants.{Closed, Cut, Refused, Spent, Stopped, LinkFault, Memory}
+use Rattle.share_server.specs.Served.{at_point}
+use Rattle.share_server.specs.Replies.{end_behind, replies}
+use Rattle.share_server.specs.Passes.{Pass, Serves}
+use Rattle.share_server.specs.Ends.{EndsBehind, GoOnToLast, WantsMemory, IsCutOf, EndsInside, wanting}
 use Rattle.share_server.specs.Written.{IsGivenUp, IsRefused}
 use Rattle.share_server.specs.Steps.{Ends}
 

@@ -10,17 +10,17 @@ use Rattle.share_history.specs.Sessions.{is_stopped}
 use Rattle.share_replies.specs.Settings.{Settings}
 use Rattle.share_replies.specs.Replies.{answer_to}
 use Rattle.reply_bytes.specs.ReplyBytes.{failure_bytes}
-use Rattle.served_links.specs.declared.report.Served.{Served}
-use Rattle.served_links.specs.declared.report.LinkEnd.{LinkEnd}
-use Rattle.served_links.specs.declared.report.LinkEnd.TheVariants.{LinkFault, Memory}
-use Rattle.served_links.specs.Served.{at_point, answered_on}
-use Rattle.served_links.specs.Replies.{GoOn, answer_bytes, due, end_behind, replies, served_bytes}
-use Rattle.served_links.specs.Passes.{Pass, Serves}
-use Rattle.served_links.specs.Ends.{Parts, GoOnToLast, IsCutOf, all_told, without_last, in_its_place, replying}
-use Rattle.served_links.specs.Laws.{Stays}
-use Rattle.served_links.proofs.Longer.{stays}
-use Rattle.served_links.proofs.Turns.{serves_in_turn}
-use Rattle.link_answers.specs.Answering.{Says}
+use Rattle.share_server.specs.declared.report.Served.{Served}
+use Rattle.share_server.specs.declared.report.LinkEnd.{LinkEnd}
+use Rattle.share_server.specs.declared.report.LinkEnd.TheVariants.{LinkFault, Memory}
+use Rattle.share_server.specs.Served.{at_point, answered_on}
+use Rattle.share_server.specs.Replies.{GoOn, answer_bytes, due, end_behind, replies, served_bytes}
+use Rattle.share_server.specs.Passes.{Pass, Serves}
+use Rattle.share_server.specs.Ends.{Parts, GoOnToLast, IsCutOf, all_told, without_last, in_its_place, replying}
+use Rattle.share_server.specs.Laws.{Stays}
+use Rattle.share_server.proofs.Longer.{stays}
+use Rattle.share_server.proofs.InTurn.{serves_in_turn}
+use Rattle.share_server.specs.Answering.{Says}
 use Rattle.share_server.specs.Written.{IsGivenUp, IsSayable, WasWritten, said_bytes, whole, broken, left_out, replaced}
 use Rattle.share_server.specs.Steps.{Goes, Exchanges}
 use Rattle.share_server.proofs.Joined.{goes_on_joined, replies_joined}

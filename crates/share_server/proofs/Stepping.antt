@@ -9,13 +9,13 @@ use Rattle.http_front.specs.Readers.{HasRead, Reader}
 use Rattle.http_front.specs.Readings.{IsReading, Joins, reading}
 use Rattle.http_front.proofs.ReadingLaws.{handed_join, joins_stay, reads_refused, reads_waiting}
 use Rattle.reply_bytes.specs.ReplyBytes.{refusal_bytes}
-use Rattle.served_links.specs.declared.report.Served.{Served}
-use Rattle.served_links.specs.declared.report.LinkEnd.{LinkEnd}
-use Rattle.served_links.specs.declared.report.LinkEnd.TheVariants.{Closed, Cut, Refused, Spent, Stopped, LinkFault, Memory}
-use Rattle.served_links.specs.Replies.{replies}
-use Rattle.served_links.specs.Passes.{Pass}
-use Rattle.served_links.specs.Ends.{EndsInside, all_told, refusing}
-use Rattle.served_links.proofs.Endings.{ends_stay}
+use Rattle.share_server.specs.declared.report.Served.{Served}
+use Rattle.share_server.specs.declared.report.LinkEnd.{LinkEnd}
+use Rattle.share_server.specs.declared.report.LinkEnd.TheVariants.{Closed, Cut, Refused, Spent, Stopped, LinkFault, Memory}
+use Rattle.share_server.specs.Replies.{replies}
+use Rattle.share_server.specs.Passes.{Pass}
+use Rattle.share_server.specs.Ends.{EndsInside, all_told, refusing}
+use Rattle.share_server.proofs.Endings.{ends_stay}
 use Rattle.share_server.specs.Written.{IsGivenUp, IsRefused}
 use Rattle.share_server.specs.Steps.{Goes, Ends, Exchanges, Midway}
 use Rattle.share_server.proofs.Outcomes.{cut_behind, ended_with, up_given}

@@ -1,3 +1,10 @@
+pub mod Served
+pub mod Replies
+pub mod Passes
+pub mod Ends
+pub mod Links
+pub mod Laws
+pub mod Answering
 pub mod Serving
 pub mod Written
 pub mod Steps

@@ -7,12 +7,12 @@ use Rattle.share_asks.specs.declared.ask.Role.{Role}
 use Rattle.share_asks.specs.declared.ask.Role.TheVariants.{Listen}
 use Rattle.share_history.specs.Sessions.{is_stop}
 use Rattle.share_replies.specs.Laws.{is_edit}
-use Rattle.served_links.specs.declared.report.LinkEnd.{LinkEnd}
-use Rattle.served_links.specs.declared.report.LinkEnd.TheVariants.{Closed, Cut, Refused, Spent, Stopped, LinkFault, Memory}
-use Rattle.served_links.specs.declared.report.LinkReport.{LinkReport}
-use Rattle.served_links.specs.Links.{LinkEnded}
-use Rattle.served_links.specs.Passes.{Pass}
-use Rattle.served_links.specs.Served.{added_entries}
+use Rattle.share_server.specs.declared.report.LinkEnd.{LinkEnd}
+use Rattle.share_server.specs.declared.report.LinkEnd.TheVariants.{Closed, Cut, Refused, Spent, Stopped, LinkFault, Memory}
+use Rattle.share_server.specs.declared.report.LinkReport.{LinkReport}
+use Rattle.share_server.specs.Links.{LinkEnded}
+use Rattle.share_server.specs.Passes.{Pass}
+use Rattle.share_server.specs.Served.{added_entries}
 
 -- how many requests are served on one connection at most, where a worker may serve so many more
 abbrev pub limit_of : ℕ → ℕ

@@ -5,13 +5,13 @@ use Rattle.share_asks.specs.declared.ask.Ask.{Ask}
 use Rattle.share_asks.specs.declared.ask.Role.{Role}
 use Rattle.http_front.specs.Readers.{HasRead, Reader}
 use Rattle.http_front.specs.Readings.{Joins}
-use Rattle.served_links.specs.declared.report.Served.{Served}
-use Rattle.served_links.specs.declared.report.LinkEnd.{LinkEnd}
-use Rattle.served_links.specs.declared.report.LinkEnd.TheVariants.{Closed, Cut, Refused, Spent, Stopped, LinkFault, Memory}
-use Rattle.served_links.specs.Replies.{GoOn, replies}
-use Rattle.served_links.specs.Passes.{Pass, Serves}
-use Rattle.served_links.specs.Ends.{EndsInside}
-use Rattle.served_links.specs.Links.{LinkEnded}
+use Rattle.share_server.specs.declared.report.Served.{Served}
+use Rattle.share_server.specs.declared.report.LinkEnd.{LinkEnd}
+use Rattle.share_server.specs.declared.report.LinkEnd.TheVariants.{Closed, Cut, Refused, Spent, Stopped, LinkFault, Memory}
+use Rattle.share_server.specs.Replies.{GoOn, replies}
+use Rattle.share_server.specs.Passes.{Pass, Serves}
+use Rattle.share_server.specs.Ends.{EndsInside}
+use Rattle.share_server.specs.Links.{LinkEnded}
 
 -- these asks were served, all replies are written, and the connection goes on
 pub record Goes (limit : ℕ) (k k' : Pass) (taken taken' : Option (List ℕ)) (asks : List Ask) (served : List Served) : Type 0 where

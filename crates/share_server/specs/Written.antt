@@ -7,8 +7,8 @@ use Rattle.http_heads.specs.declared.refusal.HeadError.{HeadError}
 use Rattle.listing_plan.specs.Plans.{IsWritable, plan_bytes}
 use Rattle.reply_bytes.specs.ReplyBytes.{with_head, failure_bytes, refusal_bytes, status_of}
 use Rattle.share_core.specs.declared.answer.Said.{Said}
-use Rattle.served_links.specs.declared.report.LinkEnd.{LinkEnd}
-use Rattle.served_links.specs.declared.report.LinkEnd.TheVariants.{Closed, Cut, Refused, Spent, Stopped, LinkFault, Memory}
+use Rattle.share_server.specs.declared.report.LinkEnd.{LinkEnd}
+use Rattle.share_server.specs.declared.report.LinkEnd.TheVariants.{Closed, Cut, Refused, Spent, Stopped, LinkFault, Memory}
 use Rattle.share_server.specs.Serving.{CountsEnd}
 
 -- it was told that there is no memory, or failed meanwhile

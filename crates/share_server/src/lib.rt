@@ -1,11 +1,12 @@
 //! Serving a connection of a share. Requests are read off it, answered in turns at the share, and written back; what
-//! is read next waits until a reply was written.
+//! is read next waits until a reply was written. What is reported of it, and what that says of the share's one history.
 #![tactic(auto)]
 
-mod ending;
-mod exchanging;
-mod reading;
-mod serving;
-mod writing;
+pub mod laws;
+mod link;
+mod report;
+mod turns;
 
-pub use serving::serve_link;
+pub use link::serve_link;
+pub use report::{LinkEnd, LinkReport, Served, ServedRequests};
+pub use turns::{Answered, Unanswered, answer_request};

@@ -34,7 +34,7 @@ use Rattle.share_asks.proofs.ask.Role.TheSendSync as role
 use Rattle.share_lock.proofs.bell.Bell.TheSendSync as bell
 use Rattle.share_lock.proofs.pass.Pass.TheSendSync as pass
 use Rattle.share_lock.proofs.pass.ShareLock.TheSendSync as lock
-use Rattle.served_links.proofs.report.LinkReport.TheSendSync as report
+use Rattle.share_server.proofs.report.LinkReport.TheSendSync as report
 use Rattle.share_workers.proofs.worker.WorkerEnd.TheSendSync as end
 use Rattle.std.specs.contracts.vec.Vec.{the_row as vec_row}
 use Rattle.std.specs.contracts.alloc.Global.{the_row as heap_row}
@@ -42,7 +42,7 @@ use Rattle.std.specs.contracts.impls.GlobalAllocator.TheImpl.{ghosts as heap_gho
 use Rattle.share_lock.specs.contracts.pass.ShareLock.{the_row as lock_row}
 use Rattle.share_lock.specs.contracts.bell.Bell.{the_row as bell_row}
 use Rattle.share_lock.specs.contracts.pass.Pass.{the_row as pass_row}
-use Rattle.served_links.specs.contracts.report.LinkReport.{the_row as report_row}
+use Rattle.share_server.specs.contracts.report.LinkReport.{the_row as report_row}
 use Rattle.share_core.specs.contracts.settings.Settings.{the_row as settings_row}
 use Rattle.share_core.specs.contracts.share.ShareRecorded.TheImpl.{ghosts}
 use Rattle.share_workers.specs.contracts.worker.Worker.{the_row as worker_row, the_type as worker_type}

@@ -5,15 +5,15 @@ use Rattle.daap_outside.specs.Places.{Returned}
 use Rattle.share_asks.specs.declared.ask.Ask.{Ask}
 use Rattle.share_asks.specs.declared.ask.Role.{Role}
 use Rattle.share_replies.specs.Settings.{Settings}
-use Rattle.served_links.specs.declared.report.Served.{Served}
-use Rattle.served_links.specs.declared.report.LinkReport.{LinkReport}
-use Rattle.served_links.specs.declared.report.LinkEnd.{LinkEnd}
-use Rattle.served_links.specs.declared.report.LinkEnd.TheVariants.{Closed, Cut, Refused, Spent, Stopped, LinkFault, Memory}
-use Rattle.served_links.specs.Served.{AreServed}
-use Rattle.served_links.specs.Ends.{Idles, EndsInside, EndsAtEnd}
-use Rattle.served_links.specs.Laws.{Stays}
-use Rattle.served_links.proofs.Longer.{stays}
-use Rattle.served_links.proofs.Endings.{ends_stay}
+use Rattle.share_server.specs.declared.report.Served.{Served}
+use Rattle.share_server.specs.declared.report.LinkReport.{LinkReport}
+use Rattle.share_server.specs.declared.report.LinkEnd.{LinkEnd}
+use Rattle.share_server.specs.declared.report.LinkEnd.TheVariants.{Closed, Cut, Refused, Spent, Stopped, LinkFault, Memory}
+use Rattle.share_server.specs.Served.{AreServed}
+use Rattle.share_server.specs.Ends.{Idles, EndsInside, EndsAtEnd}
+use Rattle.share_server.specs.Laws.{Stays}
+use Rattle.share_server.proofs.Longer.{stays}
+use Rattle.share_server.proofs.Endings.{ends_stay}
 use Rattle.share_server.specs.Serving.{limit_of}
 use Rattle.share_workers.specs.Works.{LinkAt, LinksAt}
 

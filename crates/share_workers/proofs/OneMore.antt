@@ -11,11 +11,11 @@ use Rattle.share_lock.specs.Histories.{entries_of, Continues}
 use Rattle.share_lock.specs.Known.{numbers_of, after_turn}
 use Rattle.share_replies.specs.Laws.{maker}
 use Rattle.share_replies.specs.Settings.{Settings}
-use Rattle.served_links.specs.declared.report.LinkReport.{LinkReport}
-use Rattle.served_links.specs.Links.{LinkEnded}
-use Rattle.served_links.specs.Passes.{Pass, Serves}
-use Rattle.served_links.proofs.Counting.{none_beyond_the_limit}
-use Rattle.served_links.proofs.Turns.{serves_in_turn, quiet_turns_serve_nothing}
+use Rattle.share_server.specs.declared.report.LinkReport.{LinkReport}
+use Rattle.share_server.specs.Links.{LinkEnded}
+use Rattle.share_server.specs.Passes.{Pass, Serves}
+use Rattle.share_server.proofs.Counting.{none_beyond_the_limit}
+use Rattle.share_server.proofs.InTurn.{serves_in_turn, quiet_turns_serve_nothing}
 use Rattle.share_server.specs.Serving.{limit_of, LinkServed, CountsEnd}
 use Rattle.share_workers.specs.declared.worker.WorkerEnd.{WorkerEnd}
 use Rattle.share_workers.specs.declared.worker.WorkerEnd.TheVariants.{Stopped, Spent, NoMoreLinks, AcceptFault, Memory}

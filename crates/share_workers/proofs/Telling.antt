@@ -5,7 +5,7 @@ use Rattle.std.specs.Io.KnownBytes.{Appends}
 use Rattle.daap_outside.specs.Counts.{Rose}
 use Rattle.daap_outside.specs.Places.{Accepts, Returned, returned}
 use Rattle.daap_outside.specs.Told.{BeginsEmpty, Grows, GrowsByTold}
-use Rattle.served_links.specs.declared.report.LinkEnd.{LinkEnd}
+use Rattle.share_server.specs.declared.report.LinkEnd.{LinkEnd}
 use Rattle.share_server.specs.Serving.{is_fault, CountsEnd}
 use Rattle.share_workers.specs.Works.{Came, IsOver}
 

@@ -4,8 +4,8 @@ use Rattle.daap_outside.specs.Counts.{Rose}
 use Rattle.daap_outside.specs.Places.{Returned}
 use Rattle.share_asks.specs.declared.ask.Role.{Role}
 use Rattle.share_history.specs.Sessions.{is_stopped}
-use Rattle.served_links.specs.declared.report.LinkReport.{LinkReport}
-use Rattle.served_links.specs.Passes.{Pass}
+use Rattle.share_server.specs.declared.report.LinkReport.{LinkReport}
+use Rattle.share_server.specs.Passes.{Pass}
 use Rattle.share_workers.specs.declared.worker.WorkerEnd.{WorkerEnd}
 use Rattle.share_workers.specs.declared.worker.WorkerEnd.TheVariants.{Running, Stopped, NoMoreLinks, Spent, AcceptFault, Memory}
 use Rattle.share_workers.specs.Works.{all_served, IsOver, ServesThenLooks, LooksBehind, Works}

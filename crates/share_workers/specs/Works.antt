@@ -11,12 +11,12 @@ use Rattle.share_lock.specs.Histories.{NoneOf}
 use Rattle.share_lock.specs.Known.{after_turn}
 use Rattle.share_replies.specs.Settings.{Settings}
 use Rattle.share_replies.specs.Laws.{maker}
-use Rattle.served_links.specs.declared.report.Served.{Served}
-use Rattle.served_links.specs.declared.report.LinkReport.{LinkReport}
-use Rattle.served_links.specs.declared.report.LinkEnd.TheVariants.{Spent}
-use Rattle.served_links.specs.Served.{AreServed}
-use Rattle.served_links.specs.Passes.{Pass, Serves}
-use Rattle.served_links.specs.Ends.{EndsInside, EndsAtEnd}
+use Rattle.share_server.specs.declared.report.Served.{Served}
+use Rattle.share_server.specs.declared.report.LinkReport.{LinkReport}
+use Rattle.share_server.specs.declared.report.LinkEnd.TheVariants.{Spent}
+use Rattle.share_server.specs.Served.{AreServed}
+use Rattle.share_server.specs.Passes.{Pass, Serves}
+use Rattle.share_server.specs.Ends.{EndsInside, EndsAtEnd}
 use Rattle.share_server.specs.Serving.{is_fault, limit_of}
 
 -- the requests of all links, in order

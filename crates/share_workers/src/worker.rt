@@ -1,9 +1,9 @@
 //! A worker of a share.
 
-use served_links::LinkReport;
 use share_asks::Role;
 use share_core::Share;
 use share_lock::Pass;
+use share_server::LinkReport;
 
 /// How a worker ended.
 #[derive(Clone, Copy, Debug, PartialEq, Eq)]

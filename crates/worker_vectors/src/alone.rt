@@ -4,9 +4,9 @@ ghost use Rattle.daap_outside.specs.MemLink.{IsNew};
 
 use crate::hiring::{INFO, STOP, TWO_INFOS, new_share};
 use daap_outside::{MemDoor, MemLink, MemSink, MemSource};
-use served_links::LinkEnd;
 use share_asks::Role;
 use share_lock::{Bell, ShareLock};
+use share_server::LinkEnd;
 use share_workers::{Worker, WorkerEnd, serve_worker};
 use std::alloc::{AllocError, Global};
 use std::sync::Wait;

@@ -3,9 +3,9 @@ ghost use Rattle.std.specs.Prelude.{◌≡◌, ◌<◌, ◌≤◌, None, refl};
 
 use crate::hiring::new_share;
 use daap_outside::{Door, Failed, Faulted, Link, Sink, Source};
-use served_links::{LinkEnd, LinkReport};
 use share_asks::Role;
 use share_lock::{Bell, ShareLock};
+use share_server::{LinkEnd, LinkReport};
 use share_workers::{Worker, WorkerEnd, serve_worker};
 use std::alloc::{AllocError, Global};
 use std::sync::Wait;

@@ -6,9 +6,9 @@ use crate::gated::GatedDoor;
 use crate::hiring::{
     INFO, LinkPlan, TWO_INFOS, WorkerPlan, Written, hire_planned, hired, new_share, of_one, plain,
 };
-use served_links::LinkEnd;
 use share_asks::Role;
 use share_lock::{Bell, ShareLock};
+use share_server::LinkEnd;
 use share_workers::{Worker, WorkerEnd, serve_all};
 use std::alloc::{AllocError, Global};
 use std::sync::Wait;

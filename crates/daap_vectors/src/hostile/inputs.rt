@@ -1,6 +1,6 @@
 //! What a stranger in the house may send.
 
-use served_links::LinkEnd;
+use share_server::LinkEnd;
 
 /// A text, another so many times, and a last one.
 pub(super) type Coming = (&'static [u8], &'static [u8], usize, &'static [u8]);

@@ -3,7 +3,7 @@ use Rattle.std.proofs.lemmas.Bool.{leb-true}
 use Rattle.item_model.specs.declared.request.Target.{Target}
 use Rattle.command_core.specs.Seen.{Told, input_seen, output_seen, told_beside}
 use Rattle.command_core.specs.Endings.{IsAnswered}
-use Rattle.replay_command.specs.ReplayShare.{replay_meaning}
+use Rattle.share_commands.specs.ReplayShare.{replay_meaning}
 use Rattle.share_commands.specs.ListShare.{list_meaning}
 use Rattle.daapshare_words.specs.Replay.{AreReplayWords}
 use Rattle.daapshare_words.specs.Words.{IsLocalRanged}
@@ -115,4 +115,4 @@ returns-in-Rehearse g c =
     (input_seen (g.I.Source.left c.args.input.now) (g.I.Faulted.faults c.args.input.now)) (input_seen (g.I.Source.left c.args.input.now) (g.I.Faulted.faults c.args.input.now))
     (output_seen (g.W.Sink.taken c.args.output.now) (g.W.Faulted.faults c.args.output.now)) (output_seen (g.W.Sink.taken c.rehearse_share.new.output) (g.W.Faulted.faults c.rehearse_share.new.output)) in
     subst (λ (asked : LocalCommand). IsAnswered (meaning_of asked) told c.rehearse_share.result) (sym c.in-Rehearse.is)
-    (c.rehearse_share.ensures around (input_seen (g.I.Source.left c.args.input.now) (g.I.Faulted.faults c.args.input.now)))
+    (c.rehearse_share.ensures.answered around (input_seen (g.I.Source.left c.args.input.now) (g.I.Faulted.faults c.args.input.now)))

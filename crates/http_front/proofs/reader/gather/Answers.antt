@@ -36,4 +36,7 @@ returns-clause-gathers c =
     )
 
 pub returns-clause-valid : goal.returns-clause-valid
-returns-clause-valid c = asks_valid c.args.role c.in_ok-ask.ensures.0 c.in-Some.body.now c.in_ok-ask.ask c.in_ok-ask.ensures.2
+returns-clause-valid c = (asks_valid c.args.role c.in_ok-ask.ensures.0 c.in-Some.body.now c.in_ok-ask.ask c.in_ok-ask.ensures.2).0
+
+pub returns-clause-readable : goal.returns-clause-readable
+returns-clause-readable c = (asks_valid c.args.role c.in_ok-ask.ensures.0 c.in-Some.body.now c.in_ok-ask.ask c.in_ok-ask.ensures.2).1

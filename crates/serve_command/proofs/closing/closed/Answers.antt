@@ -1,6 +1,6 @@
 use Rattle.std.proofs.Common.{◌≡◌, ℕ, List, IfOk, subst}
 use Rattle.share_history.specs.Histories.{batches, revision}
-use Rattle.served_links.specs.declared.report.LinkReport.{LinkReport}
+use Rattle.share_server.specs.declared.report.LinkReport.{LinkReport}
 use Rattle.command_core.specs.Seen.{OutputSeen, output_seen}
 use Rattle.serve_command.specs.Lines.{ended_line}
 use Rattle.serve_command.proofs.Telling.{told_end}

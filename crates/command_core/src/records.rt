@@ -1,0 +1,68 @@
+//! The records on the input of a command.
+
+ghost use Rattle.std.specs.Prelude.{◌≡◌, ◌≤◌, length, IfOk, IfErr};
+ghost use Rattle.item_model.specs.Valid.{AreValid};
+ghost use Rattle.records_import.specs.Limits.{most_records};
+ghost use Rattle.command_core.specs.Seen.{input_seen};
+ghost use Rattle.command_core.specs.ReadRecords.{HasReadAs, StopsReading, read_fault, record_fault};
+
+use crate::fault::Fault;
+use daap_outside::{ReadError, Source, read_within};
+use item_model::Batch;
+use records_import::{RecordError, read_batch};
+use std::alloc::Global;
+
+/// The most bytes of records that the input may have.
+const RECORDS_LIMIT: u64 = 4_194_304;
+
+/// Why the input is no batch. Want of memory, and an input that cannot be read, are none of these.
+#[derive(Debug, Drop)]
+pub enum InputFault {
+    /// The input has more bytes than are read.
+    TooLong,
+    /// Its records don't read as a batch.
+    Records(RecordError),
+}
+
+/// Reads the input to its end, as a batch of records.
+pub fn read_records<I: Source>(alloc: Global, input: &mut I) -> Result<Batch, Fault<InputFault>>
+    ensures reads { IfOk result (λ batch. HasReadAs batch
+        (input_seen (I.left input.old) (I.faults input.old))
+        (input_seen (I.left input.new) (I.faults input.new))) }
+    ensures valid { IfOk result (λ batch. AreValid batch) }
+    ensures few { IfOk result (λ batch. length batch ≤ most_records) }
+    ensures cause { IfErr result (λ stop. StopsReading
+        (input_seen (I.left input.old) (I.faults input.old))
+        (input_seen (I.left input.new) (I.faults input.new))
+        stop) }
+{
+    let bytes = match read_within(alloc, input, RECORDS_LIMIT) {
+        Ok(bytes) => bytes,
+        Err(error) => return Err(read_fault(error)),
+    };
+    match read_batch(alloc, bytes.as_slice()) {
+        Ok(batch) => Ok(batch),
+        Err(error) => Err(record_fault(error)),
+    }
+}
+
+/// What an input that is not read to its end is.
+fn read_fault(error: ReadError) -> Fault<InputFault>
+    ensures { result ≡ read_fault error }
+{
+    match error {
+        ReadError::Failed => Fault::Read,
+        ReadError::TooLong => Fault::Own(InputFault::TooLong),
+        ReadError::Memory => Fault::Memory,
+    }
+}
+
+/// What a refusal of its records is.
+fn record_fault(error: RecordError) -> Fault<InputFault>
+    ensures { result ≡ record_fault error }
+{
+    match error {
+        RecordError::Memory => Fault::Memory,
+        refusal => Fault::Own(InputFault::Records(refusal)),
+    }
+}

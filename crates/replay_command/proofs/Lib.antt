@@ -1,3 +1,0 @@
-pub mod Sense
-pub mod Endings
-pub mod Causes

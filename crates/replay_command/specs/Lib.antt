@@ -1,2 +1,0 @@
-pub mod ReplayShare
-pub mod Moments

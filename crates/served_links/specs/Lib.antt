@@ -1,6 +1,0 @@
-pub mod Served
-pub mod Replies
-pub mod Passes
-pub mod Ends
-pub mod Links
-pub mod Laws

@@ -1,0 +1,125 @@
+-- The command `replay`: a script is played to a new share, and what it is answered is written; or the first fault of the
+-- input: its length, or its first bad line.
+use Rattle.std.specs.Prelude.{◌≡◌, ◌<◌, ◌≤◌, ◌⊎◌, ◌++◌, ◌∷◌, [], ℕ, List, length, take, Ok, Err, true, codes, decimal}
+use Rattle.std.specs.Io.KnownBytes.{Consumes, IsAtEnd}
+use Rattle.daap_outside.specs.declared.reading.ReadError.{ReadError}
+use Rattle.daap_outside.specs.declared.reading.ReadError.TheVariants as reads
+use Rattle.share_replies.specs.Settings.{Settings}
+use Rattle.share_replay.specs.Machine.{script_bytes, script_history}
+use Rattle.share_replay.specs.Played.{broken_at}
+use Rattle.share_replay.specs.Scripts.{script_of}
+use Rattle.share_replay.specs.declared.delivery.Delivery.{Delivery}
+use Rattle.command_core.specs.declared.fault.Fault.{Fault}
+use Rattle.command_core.specs.declared.fault.Fault.TheVariants as fault
+use Rattle.command_core.specs.Seen.{InputSeen, Seen, ShareSeen, no_share, share_with}
+use Rattle.command_core.specs.Causes.{Cause, OfInput}
+use Rattle.command_core.specs.Meanings.{Meaning, may_read}
+use Rattle.share_commands.specs.declared.replay.ReplayFault.{ReplayFault}
+use Rattle.share_commands.specs.declared.replay.ReplayFault.TheVariants.{TooLong, Line}
+
+-- as many bytes of a script are read: 64 MiB
+abbrev pub script_limit : ℕ
+script_limit = 67108864
+
+abbrev pub settings_of : (keep : ℕ) → (name : List ℕ) → Settings
+settings_of keep name = record { name = name; keep = keep }
+
+-- the input, within its limit, is this script
+pub record ReadsAs (lines : List Delivery) (input : List ℕ) : Type 0 where
+  pub within : length input ≤ script_limit
+  pub read : script_of input ≡ Ok lines
+
+-- the input is within its limit, and this is its first line that is none of a script's
+pub record IsBad (line : ℕ) (input : List ℕ) : Type 0 where
+  pub within : length input ≤ script_limit
+  pub bad : script_of input ≡ Err line
+
+-- the input was read to its end, without a fault, as this script
+pub record IsRead (lines : List Delivery) (before after : InputSeen) : Type 0 where
+  pub bytes : List ℕ
+  pub read : Consumes before.left after.left bytes
+  pub end : IsAtEnd after.left
+  pub faultless : after.faults ≡ before.faults
+  pub script : ReadsAs lines bytes
+
+-- the script was played to a new share, whose history this is, and the output is what it was answered
+pub record IsPlayed (keep : ℕ) (name : List ℕ) (before after : InputSeen) (share : ShareSeen) (output : List ℕ) : Type 0 where
+  pub lines : List Delivery
+  pub read : IsRead lines before after
+  pub opened : share ≡ share_with (script_history (settings_of keep name) [] lines)
+  pub written : output ≡ script_bytes (settings_of keep name) [] lines
+
+-- it was played so far: the share has the history of the machine after some of its answers
+pub record IsBegun (keep : ℕ) (name : List ℕ) (lines : List Delivery) (before after : InputSeen) (share : ShareSeen) : Type 0 where
+  pub read : IsRead lines before after
+  pub line : ℕ
+  pub answered : ℕ
+  pub opened : share ≡ share_with (broken_at (settings_of keep name) [] lines line answered).history
+
+-- when the output failed, this was to be written
+pub record IsWriting (keep : ℕ) (name : List ℕ) (before after : InputSeen) (share : ShareSeen) (output : List ℕ) : Type 0 where
+  pub lines : List Delivery
+  pub begun : IsBegun keep name lines before after share
+  pub written : output ≡ script_bytes (settings_of keep name) [] lines
+
+-- a front of what the script is answered
+pub record IsFront (keep : ℕ) (name : List ℕ) (before after : InputSeen) (front : List ℕ) : Type 0 where
+  pub lines : List Delivery
+  pub read : IsRead lines before after
+  pub count : ℕ
+  pub written : front ≡ take count (script_bytes (settings_of keep name) [] lines)
+
+-- only want of memory comes once the share is opened
+abbrev pub ReplayLeaves : (keep : ℕ) → (name : List ℕ) → Seen → Seen → Fault ReplayFault → ShareSeen → Type 0
+ReplayLeaves keep name before after (fault.Own own) share = share ≡ no_share
+ReplayLeaves keep name before after fault.Read share = share ≡ no_share
+ReplayLeaves keep name before after fault.Memory share =
+    (share ≡ no_share) ⊎ ((lines : List Delivery) × IsBegun keep name lines before.input after.input share)
+
+abbrev pub ReplayWrote : (keep : ℕ) → (name : List ℕ) → Seen → Seen → Fault ReplayFault → List ℕ → Type 0
+ReplayWrote keep name before after (fault.Own own) front = front ≡ []
+ReplayWrote keep name before after fault.Read front = front ≡ []
+ReplayWrote keep name before after fault.Memory front = (front ≡ []) ⊎ IsFront keep name before.input after.input front
+
+abbrev pub replay_line : ReplayFault → List ℕ
+replay_line TooLong = codes "limit: input" ++ 10 ∷ []
+replay_line (Line line) = codes "script: line " ++ decimal line ++ 10 ∷ []
+
+abbrev pub replay_status : ReplayFault → ℕ
+replay_status TooLong = 8
+replay_status (Line line) = 3
+
+abbrev pub replay_cause : ReplayFault → Cause
+replay_cause TooLong = OfInput (Unit {0}) (λ input. script_limit < length input)
+replay_cause (Line line) = OfInput (Unit {0}) (IsBad line)
+
+abbrev pub ReplayReadsOn : List ℕ → Type 0
+ReplayReadsOn bytes = length bytes ≤ script_limit
+
+-- an input that is a script
+pub record IsScript (input : List ℕ) : Type 0 where
+  pub lines : List Delivery
+  pub reads : ReadsAs lines input
+
+abbrev pub replay_meaning : (keep : ℕ) → (name : List ℕ) → Meaning
+replay_meaning keep name = record {
+  fault = ReplayFault;
+  line = replay_line;
+  status = replay_status;
+  cause = replay_cause;
+  reads_on = ReplayReadsOn;
+  gives = IsScript;
+  is_done = λ before after share output. IsPlayed keep name before.input after.input share output;
+  is_begun = λ before after share output. IsWriting keep name before.input after.input share output;
+  is_front = ReplayWrote keep name;
+  leaves = ReplayLeaves keep name;
+  may_want = may_read;
+  leaves_files = true;
+  leaves_net = true;
+}
+
+-- the faults that refusals of the input are
+abbrev pub read_fault : ReadError → Fault ReplayFault
+read_fault reads.Failed = fault.Read
+read_fault reads.TooLong = fault.Own TooLong
+read_fault reads.Memory = fault.Memory

@@ -1,0 +1,176 @@
+//! The command `replay`: a script is played to a new share, and what it is answered is written.
+
+ghost use Rattle.std.specs.Prelude.{◌≡◌, ◌≤◌, ◌++◌, ◌∷◌, [], List, Some, length, codes, decimal, IfOk, IfErr, MatchOption};
+ghost use Rattle.item_model.specs.Limits.{text_limit};
+ghost use Rattle.item_model.specs.declared.changes.Entry.{Entry};
+ghost use Rattle.command_core.specs.declared.fault.Fault.{Fault};
+ghost use Rattle.command_core.specs.Answers.{TellsFault};
+ghost use Rattle.command_core.specs.Causes.{StopsBy};
+ghost use Rattle.command_core.specs.Endings.{IsAnswered};
+ghost use Rattle.command_core.specs.Seen.{Around, input_seen, output_seen, told_beside};
+ghost use Rattle.share_commands.specs.declared.replay.ReplayFault.{ReplayFault};
+ghost use Rattle.share_commands.specs.Moments.{EndsPlay, IsOfOneMoment};
+ghost use Rattle.share_commands.specs.ReplayShare.{IsRead, ReplayReadsOn, read_fault, replay_cause, replay_line, replay_meaning, replay_status, settings_of};
+
+use command_core::{Fault, Outcome, Refusal, out_of_memory, refused};
+use daap_outside::{ReadError, Sink, Source, read_within};
+use item_model::{Batch, Edits, Entries};
+use itoa::Buffer;
+use share_core::{OpenError, Share};
+use share_replay::{ReplayError, Script, ScriptError, replay};
+use std::alloc::{AllocError, Global};
+
+/// The most bytes of a script that the input may have.
+const SCRIPT_LIMIT: u64 = 67_108_864;
+
+/// Why nothing is replayed. Want of memory is none of these.
+#[derive(Debug, Drop)]
+pub enum ReplayFault {
+    /// The input has more bytes than are read.
+    TooLong,
+    /// The first line, counted from 1, that is none of a script's.
+    Line { line: u64 },
+}
+
+impl Refusal for ReplayFault {
+    ghost told_line = { replay_line };
+
+    ghost told_status = { replay_status };
+
+    fn line(&self, alloc: Global) -> Result<Vec<u8>, AllocError> {
+        match self {
+            ReplayFault::TooLong => Vec::from_slice(alloc, b"limit: input\n"),
+            ReplayFault::Line { line } => bad_line(alloc, *line),
+        }
+    }
+
+    fn status(&self) -> u8 {
+        match self {
+            ReplayFault::TooLong => 8,
+            ReplayFault::Line { .. } => 3,
+        }
+    }
+}
+
+fn bad_line(alloc: Global, line: u64) -> Result<Vec<u8>, AllocError>
+    ensures { IfOk result (λ text. text.items ≡ codes "script: line " ++ decimal line ++ 10 ∷ []) }
+{
+    let mut text = Vec::new(alloc);
+    text.extend_from_slice(b"script: line ")?;
+    text.extend_from_slice(Buffer::new().format(line).as_bytes())?;
+    text.extend_from_slice(b"\n")?;
+    Ok(text)
+}
+
+/// Does `replay`: plays the script of the input to a share of that name, which answers with changes for so many revisions
+/// back, and writes what it is answered.
+pub fn replay_script<I: Source, W: Sink>(
+    alloc: Global,
+    keep: u32,
+    name: &str,
+    input: &mut I,
+    output: &mut W,
+) -> Outcome
+    requires some { 1 ≤ keep }
+    requires window { keep ≤ 65536 }
+    requires short { length name.now ≤ text_limit }
+    ensures answered { (around : Around) → IsAnswered (replay_meaning keep name.now)
+        (told_beside around
+        (input_seen (I.left input.old) (I.faults input.old))
+        (input_seen (I.left input.new) (I.faults input.new))
+        (output_seen (W.taken output.old) (W.faults output.old))
+        (output_seen (W.taken output.new) (W.faults output.new)))
+        result }
+
+    // Where no share was opened, the line of a fault is all that is written.
+    ensures played { MatchOption result.history
+        ((fault : Fault ReplayFault) × TellsFault replay_line replay_status fault
+        (output_seen (W.taken output.old) (W.faults output.old))
+        (output_seen (W.taken output.new) (W.faults output.new))
+        result)
+        (λ history. IsOfOneMoment (settings_of keep name.now)
+        (input_seen (I.left input.old) (I.faults input.old))
+        (input_seen (I.left input.new) (I.faults input.new))
+        (output_seen (W.taken output.old) (W.faults output.old))
+        (output_seen (W.taken output.new) (W.faults output.new))
+        result.status history) }
+{
+    let script = match script_of(alloc, input) {
+        Ok(script) => script,
+        Err(fault) => return refused(alloc, output, &fault),
+    };
+    match opened(alloc, keep, name) {
+        Ok(share) => played(alloc, &script, share, output),
+        Err(AllocError) => out_of_memory(output, None),
+    }
+}
+
+/// The script that the input is.
+fn script_of<I: Source>(alloc: Global, input: &mut I) -> Result<Script, Fault<ReplayFault>>
+    ensures read { IfOk result (λ script. IsRead script (input_seen (I.left input.old) (I.faults input.old)) (input_seen (I.left input.new) (I.faults input.new))) }
+    ensures cause { IfErr result (λ fault. StopsBy replay_cause ReplayReadsOn (Unit {0})
+        (input_seen (I.left input.old) (I.faults input.old))
+        (input_seen (I.left input.new) (I.faults input.new))
+        fault) }
+{
+    let bytes = match read_within(alloc, input, SCRIPT_LIMIT) {
+        Ok(bytes) => bytes,
+        Err(error) => return Err(read_fault(error)),
+    };
+    match Script::read(alloc, bytes.as_slice()) {
+        Ok(script) => Ok(script),
+        Err(ScriptError::Line { line }) => Err(Fault::Own(ReplayFault::Line { line })),
+        Err(ScriptError::Memory) => Err(Fault::Memory),
+    }
+}
+
+/// What a refusal of the input is to `replay`.
+fn read_fault(error: ReadError) -> Fault<ReplayFault>
+    ensures { result ≡ read_fault error }
+{
+    match error {
+        ReadError::Failed => Fault::Read,
+        ReadError::TooLong => Fault::Own(ReplayFault::TooLong),
+        ReadError::Memory => Fault::Memory,
+    }
+}
+
+/// A share whose history is empty.
+fn opened(alloc: Global, keep: u32, name: &str) -> Result<Share, AllocError>
+    requires some { 1 ≤ keep }
+    requires window { keep ≤ 65536 }
+    requires short { length name.now ≤ text_limit }
+    ensures { IfOk result (λ share. share ≡ record { settings = settings_of keep name.now; history = []; marks = [] }) }
+{
+    let first = Batch {
+        edits: Edits::new(alloc),
+    };
+    match Share::open(alloc, name, keep, first) {
+        Ok(share) => Ok(share),
+        Err(OpenError::Lists | OpenError::Memory) => Err(AllocError),
+    }
+}
+
+/// Plays the script, and answers the status and what the share is left with.
+fn played<W: Sink>(alloc: Global, script: &Script, mut share: Share, output: &mut W) -> Outcome
+    requires { share.history ≡ [] }
+    ensures { (history : List Entry) × (result.history ≡ Some history)
+        × EndsPlay share.settings script.now
+        (output_seen (W.taken output.old) (W.faults output.old))
+        (output_seen (W.taken output.new) (W.faults output.new))
+        result.status history }
+{
+    match replay(alloc, script, &mut share, output) {
+        Ok(()) => Outcome {
+            status: 0,
+            history: Some(Entries::of(share.into_history())),
+        },
+        Err(ReplayError::Failed) => Outcome {
+            status: 5,
+            history: Some(Entries::of(share.into_history())),
+        },
+        Err(ReplayError::Memory) => {
+            out_of_memory(output, Some(Entries::of(share.into_history())))
+        }
+    }
+}

@@ -1,0 +1,254 @@
+-- What one turn at a share tells of a request, and what its pass has then served.
+use Rattle.std.proofs.Common.{◌≡◌, ◌≤◌, ◌<◌, ℕ, ◌+◌, ◌-◌, zero, suc, List, [], ◌∷◌, ◌++◌, length, take, drop, Bool, true, false, cond, ◌==◌, is_some, Option, Some, None, MatchBool, refl, sym, ap, ◌∙◌, subst, inl, arith, append_assoc, append-nil, length-append}
+use Rattle.std.proofs.Math.Seq.{take-length, take-append_seam, drop-append_seam}
+use Rattle.std.specs.Option.{option_to_list}
+use Rattle.std.specs.Prelude.{All, Result, Ok, Err, IfOk, OnErr}
+use Rattle.std.specs.declared.alloc.AllocError.{AllocError}
+use Rattle.item_model.specs.declared.changes.Entry.{Entry}
+use Rattle.share_asks.specs.declared.ask.Ask.{Ask}
+use Rattle.share_asks.specs.declared.ask.Want.{Want}
+use Rattle.share_history.specs.Sessions.{is_live, is_stopped}
+use Rattle.share_history.specs.Marks.{until_login}
+use Rattle.share_lock.specs.Histories.{entries_of, Continues, Adds}
+use Rattle.share_lock.specs.Known.{numbers_of, after_turn}
+use Rattle.share_lock.proofs.Fronts.{adds_own}
+use Rattle.share_replies.specs.Settings.{Settings}
+use Rattle.share_replies.specs.Replies as replies
+use Rattle.share_replies.specs.Replies.{Replies, Holds, answer_to}
+use Rattle.share_replies.specs.Added.{adds, after}
+use Rattle.share_replies.specs.Answers.{Shared, told, left}
+use Rattle.share_replies.specs.Laws.{maker}
+use Rattle.share_replies.proofs.ReplyFacts.{no_reply_is_a_failure, entries_are_the_askers}
+use Rattle.share_core.specs.declared.answer.Answer.{Answer}
+use Rattle.share_core.specs.declared.answer.Answer.TheVariants as answer
+use Rattle.share_core.specs.declared.answer.Reply.{Reply}
+use Rattle.share_core.specs.Told.{IsTold, IsReply, IsAnswer}
+use Rattle.share_core.specs.Steps.{IsBetween, IsMarked}
+use Rattle.share_core.specs.Laws.{Grows}
+use Rattle.share_core.proofs.Growing.{answers_grow}
+use Rattle.http_front.specs.ReplyHeads.{HasReason}
+use Rattle.reply_bytes.specs.ReplyBytes.{failure_bytes, reply_bytes}
+use Rattle.reply_bytes.proofs.ReasonFacts.{replies_have_reasons}
+use Rattle.share_server.specs.declared.report.Served.{Served}
+use Rattle.share_server.specs.Served.{at_point, answered_on, added_part, IsGivenUp, IsReplied, IsServed}
+use Rattle.share_server.specs.Replies.{answer_bytes, served_bytes}
+use Rattle.share_server.specs.Passes.{Pass, Serves}
+use Rattle.share_server.specs.declared.turns.outcome.Look.{Look}
+use Rattle.share_server.specs.declared.turns.outcome.Look.TheVariants as look
+use Rattle.share_server.specs.Answering.{Says, IsLooked, Finds, served_of, given_up, look_of}
+use Rattle.share_server.proofs.Saying.{writes, said_bytes}
+
+-- ---- a history, and what was added to it
+
+record Parts (h : List Entry) (new : Option Entry) : Type 0 where
+  before : answered_on (is_some new) (h ++ option_to_list new) ≡ h
+  part : added_part (is_some new) (h ++ option_to_list new) ≡ option_to_list new
+
+parts : (h : List Entry) (new : Option Entry) → Parts h new
+parts h None = record { before = append-nil h; part = refl }
+parts h (Some e) =
+    let len : length (h ++ e ∷ []) - 1 ≡ length h = (let l = length-append h (e ∷ []) in omega arith) in record {
+      before = ap (λ n. take n (h ++ e ∷ [])) len ∙ take-append_seam h (e ∷ []);
+      part = ap (λ n. drop n (h ++ e ∷ [])) len ∙ drop-append_seam h (e ∷ []);
+    }
+
+-- ---- what a pass serves in a turn that left this history
+
+-- nothing of its own is later than what it had seen
+own_stays : (k : Pass) (h : List Entry) → Continues maker (numbers_of k) k.seen h → entries_of maker k.number h ≡ entries_of maker k.number k.seen
+own_stays k h on = on.own k.number (0, omega arith, refl)
+
+pub serves_nothing : (k : Pass) (h : List Entry) → Continues maker (numbers_of k) k.seen h → Serves k (after_turn k h) [] []
+serves_nothing k h on =
+    let len : length h ≡ length k.seen + length on.more = ap length on.begins ∙ length-append k.seen on.more in record {
+      fresh = record { more = on.more; grows = on.begins; looks = length h ∷ []; looked = refl; rises = omega arith; among = tt; marked = tt };
+      stays = refl;
+      are_served = tt;
+      own = own_stays k h on ∙ sym (append-nil (entries_of maker k.number k.seen));
+    }
+
+-- one request, at the end of the history, behind what was added for it
+record Shows (k : Pass) (h new : List Entry) (want : Want) (s : Served) : Type 0 where
+  point : s.point ≡ length (h ++ new)
+  served : IsServed k.settings k.number (h ++ new) want s
+  part : added_part s.added (at_point (h ++ new) s) ≡ new
+  within : s.seen ≤ s.point
+  late : 0 < s.session → is_live (answered_on s.added (at_point (h ++ new) s)) s.session ≡ true
+      → length (until_login s.session (answered_on s.added (at_point (h ++ new) s))) ≤ s.seen
+
+serves_one : (k : Pass) (h new : List Entry) (ask : Ask) (s : Served) → Continues maker (numbers_of k) k.seen h → All (λ e. maker e ≡ k.number) new
+    → Shows k h new ask.want s → Serves k (after_turn k (h ++ new)) (ask ∷ []) (s ∷ [])
+serves_one k h new ask s on own shows =
+    let first : length h ≡ length k.seen + length on.more = ap length on.begins ∙ length-append k.seen on.more in
+    let len : length (h ++ new) ≡ length h + length new = length-append h new in
+    let point : s.point ≡ length (h ++ new) = shows.point in
+    record {
+      fresh = record {
+        more = on.more ++ new;
+        grows = ap (λ l. l ++ new) on.begins ∙ append_assoc k.seen on.more new;
+        looks = length (h ++ new) ∷ [];
+        looked = refl;
+        rises = (omega arith, omega arith);
+        among = inl (point, tt);
+        marked = (record { within = shows.within; late = shows.late }, tt);
+      };
+      stays = refl;
+      are_served = (shows.served, tt);
+      own = adds_own maker k.number h (h ++ new) (new, refl, own) new refl
+          ∙ (ap (λ es. es ++ new) (own_stays k h on)
+          ∙ ap (λ es. entries_of maker k.number k.seen ++ es) (sym (append-nil new) ∙ ap (λ es. es ++ []) (sym shows.part)));
+    }
+
+-- ---- no memory
+
+abbrev pub unanswered : ℕ → Bool → Look
+unanswered point stopped = look.Answered (record { served = given_up point; said = None; stopped = stopped })
+
+-- the history is the one that was found
+failed_at : (k : Pass) (h : List Entry) (ask : Ask) (point : ℕ) (stopped : Bool) → Continues maker (numbers_of k) k.seen h → point ≡ length h → stopped ≡ is_stopped h
+    → IsLooked k (after_turn k h) ask (unanswered point stopped)
+failed_at k h ask point stopped on at is =
+    let whole : h ++ [] ≡ h = append-nil h in
+    let served : Serves k (after_turn k (h ++ [])) (ask ∷ []) (given_up point ∷ []) =
+    serves_one k h [] ask (given_up point) on (λ i d less. absurd (omega (arith, less))) (record {
+      point = at ∙ ap length (sym whole);
+      served = record { within = (let e : point ≡ length (h ++ []) = at ∙ ap length (sym whole) in omega arith); how = record { session = refl; seen = refl; added = refl } };
+      part = refl;
+      within = omega arith;
+      late = λ above live. absurd (omega (arith, above));
+    }) in record {
+      serves = subst (λ h'. Serves k (after_turn k h') (ask ∷ []) (given_up point ∷ [])) whole served;
+      latest = at;
+      stopped = is ∙ ap is_stopped (sym (ap (λ n. take n h) at ∙ take-length h));
+      said = refl;
+    }
+
+-- ---- a reply
+
+abbrev pub answered_by : Reply → Bool → Look
+answered_by r stopped = look.Answered (record { served = served_of r; said = Some r.said; stopped = stopped })
+
+module _ (k : Pass) (h : List Entry) (ask : Ask) (reply : replies.Reply) (mark : ℕ) (r : Reply)
+    (answers : answer_to k.settings h ask.want ≡ Replies reply)
+    (is : IsReply reply (length (after h k.number ask.want)) mark (is_some (adds h k.number ask.want)) r) where
+  abbrev added : Option Entry
+  added = adds h k.number ask.want
+
+  abbrev h' : List Entry
+  h' = h ++ option_to_list added
+
+  abbrev s : Served
+  s = served_of r
+
+  whole : at_point h' s ≡ h'
+  whole = ap (λ n. take n h') is.point ∙ take-length h'
+
+  before : answered_on s.added (at_point h' s) ≡ h
+  before = (λ i. answered_on (is.added i) (whole i)) ∙ (parts h added).before
+
+  part : added_part s.added (at_point h' s) ≡ option_to_list added
+  part = (λ i. added_part (is.added i) (whole i)) ∙ (parts h added).part
+
+  other : (s.status == 500) ≡ false
+  other = ap (λ n. n == 500) is.said.0 ∙ no_reply_is_a_failure k.settings h ask.want reply answers
+
+  replying : answer_to k.settings (answered_on s.added (at_point h' s)) ask.want ≡ Replies reply
+  replying = ap (λ p. answer_to k.settings p ask.want) before ∙ answers
+
+  replied : IsReplied k.settings k.number (at_point h' s) ask.want s
+  replied = record {
+    reply = reply;
+    replies = replying;
+    status = is.said.0;
+    session = is.session;
+    adds_it = part ∙ ap (λ p. option_to_list (adds p k.number ask.want)) (sym before);
+    added = is.added ∙ ap (λ p. is_some (adds p k.number ask.want)) (sym before);
+  }
+
+  served : IsServed k.settings k.number h' ask.want s
+  served = record {
+    within = (let e : r.point ≡ length h' = is.point in omega arith);
+    how = subst (λ b. MatchBool b (IsGivenUp s) (IsReplied k.settings k.number (at_point h' s) ask.want s)) (sym other) replied;
+  }
+
+  shows : IsBetween h r → Shows k h (option_to_list added) ask.want s
+  shows between = record {
+    point = is.point;
+    served = served;
+    part = part;
+    within = (let e : r.point ≡ length h' = is.point in let l : length h' ≡ length h + length (option_to_list added) = length-append h (option_to_list added) in
+        let u : r.seen ≤ length h = between.until in omega arith);
+    late = subst (λ p. 0 < s.session → is_live p s.session ≡ true → length (until_login s.session p) ≤ s.seen) (sym before) (λ above live. between.since live);
+  }
+
+  bytes : (last : Bool) → served_bytes k.settings (at_point h' s) ask s last ≡ reply_bytes reply last
+  bytes last =
+      ap (λ b. cond b (failure_bytes last) (answer_bytes (answer_to k.settings (answered_on s.added (at_point h' s)) ask.want) last)) other
+      ∙ ap (λ a. answer_bytes a last) replying
+
+  says : Says k.settings (at_point h' s) ask s (Some r.said)
+  says = (
+    subst (λ n. HasReason n) (sym is.said.0) (replies_have_reasons k.settings h ask.want reply answers),
+    (writes reply.body r.said.form r.said.plan is.said.1).writable,
+    λ last. said_bytes reply r.said last is.said ∙ sym (bytes last),
+  )
+
+  replied_at : (stopped : Bool) → Continues maker (numbers_of k) k.seen h → All (λ e. maker e ≡ k.number) (option_to_list added) → IsBetween h r → stopped ≡ is_stopped h'
+      → IsLooked k (after_turn k h') ask (answered_by r stopped)
+  replied_at stopped on own between is_so = record {
+    serves = serves_one k h (option_to_list added) ask s on own (shows between);
+    latest = is.point;
+    stopped = is_so ∙ ap is_stopped (sym whole);
+    said = says;
+  }
+
+-- ---- the answer to what was asked
+
+all_made : (by : ℕ) (new : Option Entry) → ((e : Entry) → new ≡ Some e → maker e ≡ by) → All (λ e. maker e ≡ by) (option_to_list new)
+all_made by None own i d less = absurd (omega (arith, less))
+all_made by (Some e) own zero d less = own e refl
+all_made by (Some e) own (suc i) d less = absurd (omega (arith, less))
+
+left_by : (k : Pass) (old new : Shared) (ask : Ask) (r : Reply) (stopped : Bool) → Finds k old → (a : replies.Answer) → answer_to old.settings old.history ask.want ≡ a
+    → IsTold (told old k.number ask.want a) (answer.Reply r) → new ≡ left old k.number ask.want a → IsBetween old.history r → stopped ≡ is_stopped new.history
+    → IsLooked k (after_turn k new.history) ask (answered_by r stopped)
+left_by k old new ask r stopped found Holds answers is share between is_so = absurd is
+left_by k old new ask r stopped found (Replies reply) answers is share between is_so =
+    let grown : new.history ≡ after old.history k.number ask.want = ap (λ (s : Shared). s.history) share in
+    subst (λ h. IsLooked k (after_turn k h) ask (answered_by r stopped)) (sym grown)
+    (replied_at k old.history ask reply _ r (ap (λ (s : Settings). answer_to s old.history ask.want) (sym found.settings) ∙ answers) is stopped found.history
+    (all_made k.number (adds old.history k.number ask.want) (entries_are_the_askers old.history k.number ask.want)) between (is_so ∙ ap is_stopped grown))
+
+held_by : (k : Pass) (old new : Shared) (ask : Ask) (revision point : ℕ) → Finds k old → (a : replies.Answer)
+    → IsTold (told old k.number ask.want a) (answer.Wait revision point) → new ≡ left old k.number ask.want a → IsLooked k (after_turn k new.history) ask (look.Held point)
+held_by k old new ask revision point found (Replies reply) is share = absurd is
+held_by k old new ask revision point found Holds is share =
+    subst (λ (s : Shared). IsLooked k (after_turn k s.history) ask (look.Held point)) (sym share) (serves_nothing k old.history found.history, is.1)
+
+pub asked_at : (k : Pass) (old new : Shared) (by : ℕ) (ask : Ask) (result : Result Answer AllocError) (stopped : Bool) (end : ℕ) → k.number ≡ by → Finds k old
+    → IfOk result (IsAnswer old new by ask.want) → IfOk result (IsMarked old.history) → OnErr result (new ≡ old) → stopped ≡ is_stopped new.history → end ≡ length new.history
+    → IsLooked k (after_turn k new.history) ask (look_of result stopped end)
+asked_at k old new by ask (Ok (answer.Reply r)) stopped end own found is marked same is_so at =
+    let mine : IsAnswer old new k.number ask.want (answer.Reply r) = subst (λ n. IsAnswer old new n ask.want (answer.Reply r)) (sym own) is in
+    left_by k old new ask r stopped found (answer_to old.settings old.history ask.want) refl mine.told mine.share marked is_so
+asked_at k old new by ask (Ok (answer.Wait revision point)) stopped end own found is marked same is_so at =
+    let mine : IsAnswer old new k.number ask.want (answer.Wait revision point) = subst (λ n. IsAnswer old new n ask.want (answer.Wait revision point)) (sym own) is in
+    held_by k old new ask revision point found (answer_to old.settings old.history ask.want) mine.told mine.share
+asked_at k old new by ask (Err error) stopped end own found is marked same is_so at =
+    subst (λ (s : Shared). IsLooked k (after_turn k s.history) ask (unanswered end stopped)) (sym same)
+    (failed_at k old.history ask end stopped found.history (at ∙ ap (λ (s : Shared). length s.history) same) (is_so ∙ ap (λ (s : Shared). is_stopped s.history) same))
+
+-- the pass has then seen what the answer left
+pub turned : (k k' : Pass) (h : List Entry) (ask : Ask) (look : Look) → k' ≡ after_turn k h → IsLooked k (after_turn k h) ask look → IsLooked k k' ask look
+turned k k' h ask look left is = subst (λ now. IsLooked k now ask look) (sym left) is
+
+-- ---- what a turn adds
+
+pub grows_at : (old new : Shared) (by : ℕ) (want : Want) (result : Result Answer AllocError) → IfOk result (IsAnswer old new by want) → OnErr result (new ≡ old) → Grows old by new
+grows_at old new by want (Ok told_it) is same = answers_grow old new by want told_it is
+grows_at old new by want (Err error) is same =
+    subst (Grows old by) (sym same) (refl, [], sym (append-nil old.history), λ i d less. absurd (omega (arith, less)))
+
+-- a turn may change nothing
+pub adds_nothing : (n : ℕ) (found now : List Entry) → now ≡ found → Adds maker n found now
+adds_nothing n found now same = ([], same ∙ sym (append-nil found), λ i d less. absurd (omega (arith, less)))

@@ -1,0 +1,31 @@
+-- Turns that served nothing, and the one that answered.
+use Rattle.std.proofs.Common.{◌≡◌, [], ◌∷◌, refl, sym, ap, subst, append-nil, arith}
+use Rattle.share_asks.specs.declared.ask.Ask.{Ask}
+use Rattle.share_lock.specs.Histories.{entries_of}
+use Rattle.share_replies.specs.Laws.{maker}
+use Rattle.share_server.specs.Served.{at_point}
+use Rattle.share_server.specs.Passes.{Pass, Serves}
+use Rattle.share_server.proofs.InTurn.{serves_in_turn}
+use Rattle.share_server.specs.declared.turns.outcome.Answered.{Answered}
+use Rattle.share_server.specs.Answering.{Says, IsAnswered}
+
+-- no turn yet
+pub serves_none : (k : Pass) → Serves k k [] []
+serves_none k = record {
+  fresh = record { more = []; grows = sym (append-nil k.seen); looks = []; looked = sym (append-nil k.looks); rises = omega arith; among = tt; marked = tt };
+  stays = refl;
+  are_served = tt;
+  own = sym (append-nil (entries_of maker k.number k.seen));
+}
+
+pub waits : (k k' k'' : Pass) → Serves k k' [] [] → Serves k' k'' [] [] → Serves k k'' [] []
+waits k k' k'' before turn = serves_in_turn k k' k'' [] [] [] [] before turn
+
+pub answers : (k k' k'' : Pass) (ask : Ask) (a : Answered) → Serves k k' [] [] → IsAnswered k' k'' ask a → IsAnswered k k'' ask a
+answers k k' k'' ask a before turn =
+    let same : k'.settings ≡ k.settings = ap (λ p. p.settings) before.stays in record {
+      serves = serves_in_turn k k' k'' [] (ask ∷ []) [] (a.served ∷ []) before turn.serves;
+      latest = turn.latest;
+      stopped = turn.stopped;
+      said = subst (λ settings. Says settings (at_point k''.seen a.served) ask a.served a.said) same turn.said;
+    }

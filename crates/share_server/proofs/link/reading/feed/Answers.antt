@@ -1,0 +1,26 @@
+use Rattle.std.proofs.Common.{ℕ, ◌++◌, List, take, ◌∙◌, subst, arith}
+use Rattle.share_lock.specs.Passes.{known}
+use Rattle.share_server.specs.Steps.{Ends, Midway}
+use Rattle.share_server.proofs.Stepping.{front_behind, rest_behind}
+use Rattle.share_server.proofs.link.reading.feed.Goals as goal
+
+pub loop-done-preserved : goal.loop-done-preserved
+loop-done-preserved g c = record {
+  within = omega (arith, c.split_at.ensures.back_len, c.in-Ok.ensures.within);
+  ready = c.step.ensures.ready;
+  idle = c.in-Ok.ensures.idle;
+  fed = λ role bytes k taken midway.
+      subst
+      (λ (b : List ℕ). Midway role b c.args.service.now.limit k (known c.step.new.pass) taken (g.K.Sink.taken c.step.new.link) c.step.new.serving.reader c.step.new.serving.served.items)
+      (front_behind bytes c.args.piece.now c.split_at.result.1.now c.loop-done.done c.in-Ok.taken c.split_at.ensures.back)
+      (c.in-Ok.ensures.steps role (bytes ++ take c.loop-done.done c.args.piece.now) k taken (c.loop-done.invariant.fed role bytes k taken midway));
+  beside = c.step.ensures.beside ∙ c.loop-done.invariant.beside;
+  count = c.in-Ok.ensures.count ∙ c.loop-done.invariant.count;
+}
+
+pub returns-in-Err-clause-feeds : goal.returns-in-Err-clause-feeds
+returns-in-Err-clause-feeds g c = λ role bytes k taken midway.
+    subst
+    (λ (b : List ℕ). Ends role b c.args.service.now.limit k (known c.step.new.pass) taken (g.K.Sink.taken c.step.new.link) c.step.new.serving.served.items c.in-Err.end)
+    (rest_behind bytes c.args.piece.now c.split_at.result.1.now c.loop-done.done c.split_at.ensures.back)
+    (c.in-Err.ensures.steps role (bytes ++ take c.loop-done.done c.args.piece.now) k taken (c.loop-done.invariant.fed role bytes k taken midway))

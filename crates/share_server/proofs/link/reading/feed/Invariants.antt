@@ -1,0 +1,22 @@
+use Rattle.std.proofs.Common.{◌≡◌, ◌≤◌, ◌-◌, ◌++◌, ℕ, List, Option, None, length, take}
+use Rattle.share_asks.specs.declared.ask.Role.{Role}
+use Rattle.share_lock.specs.Passes.{lock_id, known, IsReady}
+use Rattle.share_server.specs.Passes.{Pass}
+use Rattle.share_server.specs.Steps.{Midway}
+use Rattle.share_server.proofs.link.reading.feed.Given as goal
+
+-- so many bytes of the piece were fed, and the connection goes on
+abbrev pub invariant-loop-done : goal.invariant-loop-done
+invariant-loop-done g l = record {
+  within : l.done ≤ length l.piece;
+  ready : IsReady (lock_id l.service.lock.now) l.pass;
+  idle : l.serving.reader.ready ≡ None;
+  fed : (role : Role) (bytes : List ℕ) (k : Pass) (taken : Option (List ℕ))
+      → Midway role bytes l.service.limit k (known l.initial.pass) taken (g.K.Sink.taken l.initial.link) l.initial.serving.reader l.initial.serving.served.items
+      → Midway role (bytes ++ take l.done l.piece) l.service.limit k (known l.pass) taken (g.K.Sink.taken l.link) l.serving.reader l.serving.served.items;
+  beside : g.K.Sink.beside_taken l.link ≡ g.K.Sink.beside_taken l.initial.link;
+  count : g.K.Faulted.faults l.link ≡ g.K.Faulted.faults l.initial.link;
+}
+
+abbrev pub decreases-loop-done : goal.decreases-loop-done
+decreases-loop-done g l = length l.piece - l.done

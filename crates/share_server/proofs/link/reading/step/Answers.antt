@@ -1,0 +1,33 @@
+use Rattle.share_lock.specs.Passes.{known}
+use Rattle.share_server.proofs.Stepping.{ended_at_one, took_none, took_one, was_unread}
+use Rattle.share_server.proofs.link.reading.step.Goals as goal
+
+-- the reader refused
+pub returns-in-Err-clause-steps : goal.returns-in-Err-clause-steps
+returns-in-Err-clause-steps g c = λ role bytes k taken midway.
+    was_unread role bytes c.args.piece.now c.args.service.now.limit k (known c.args.pass.now) taken (g.K.Sink.taken c.args.link.now) (g.K.Sink.taken c.unread.new.link)
+    c.args.serving.now.reader c.feed.new.self c.args.serving.now.served.items c.in-Err.error c.unread.result midway c.in-Err.ensures.role c.in-Err.ensures.error
+    c.in-Err.ensures.read c.unread.ensures.memory c.unread.ensures.refused
+
+-- no request is whole yet
+pub returns-in_default-clause-steps : goal.returns-in_default-clause-steps
+returns-in_default-clause-steps g c = λ role bytes k taken midway.
+    took_none role bytes c.args.piece.now c.in-Ok.taken c.args.service.now.limit k (known c.args.pass.now) taken (g.K.Sink.taken c.args.link.now)
+    c.args.serving.now.reader c.feed.new.self c.next.new.self c.args.serving.now.served.items c.next.result midway c.in-Ok.ensures.role c.in-Ok.ensures.error
+    c.in-Ok.ensures.read c.next.ensures.result c.next.ensures.rest c.next.ensures.read c.in_default.is
+
+-- the connection goes on behind a request
+pub returns-in-None-clause-steps : goal.returns-in-None-clause-steps
+returns-in-None-clause-steps g c = λ role bytes k taken midway.
+    took_one role bytes c.args.piece.now c.in-Ok.taken c.args.service.now.limit k (known c.args.pass.now) taken (g.K.Sink.taken c.args.link.now)
+    c.args.serving.now.reader c.feed.new.self c.next.new.self c.args.serving.now.served.items c.next.result midway c.in-Ok.ensures.role c.in-Ok.ensures.error
+    c.in-Ok.ensures.read c.next.ensures.result c.next.ensures.rest c.next.ensures.read c.in-Some.ask (known c.exchange.new.pass) (g.K.Sink.taken c.exchange.new.link)
+    c.exchange.new.served.items c.in-Some.is c.in-None.ensures.exchanges
+
+-- it ended at one
+pub returns-clause-steps : goal.returns-clause-steps
+returns-clause-steps g c = λ role bytes k taken midway.
+    ended_at_one role bytes c.args.piece.now c.in-Ok.taken c.args.service.now.limit k (known c.args.pass.now) taken (g.K.Sink.taken c.args.link.now)
+    c.args.serving.now.reader c.feed.new.self c.next.new.self c.args.serving.now.served.items c.next.result midway c.in-Ok.ensures.role c.in-Ok.ensures.error
+    c.in-Ok.ensures.read c.next.ensures.result c.next.ensures.rest c.next.ensures.read c.in-Some.ask (known c.exchange.new.pass) (g.K.Sink.taken c.exchange.new.link)
+    c.exchange.new.served.items c.in-Some-exchange.end c.in-Some.is c.in-Some-exchange.ensures.exchanges

@@ -1,0 +1,15 @@
+use Rattle.std.proofs.Common.{◌≡◌, None}
+use Rattle.share_lock.specs.Passes.{lock_id, known, IsReady}
+use Rattle.share_server.specs.Steps.{Underway}
+use Rattle.share_server.proofs.link.serving.serve_to_end.Given as goal
+
+-- all that was read was served, and the connection goes on
+abbrev pub invariant-loop : goal.invariant-loop
+invariant-loop g l = record {
+  ready : IsReady (lock_id l.service.lock.now) l.pass;
+  idle : l.serving.reader.ready ≡ None;
+  under :
+      Underway l.fn.role l.service.limit (known l.fn.pass) (known l.pass) (g.K.Source.left l.fn.link) (g.K.Source.left l.link) (g.K.Sink.taken l.fn.link)
+      (g.K.Sink.taken l.link) l.serving.reader l.serving.served.items l.consumed;
+  count : g.K.Faulted.faults l.link ≡ g.K.Faulted.faults l.fn.link;
+}

@@ -1,0 +1,14 @@
+-- The pass found the share by its turn, and has then seen what the answer left.
+use Rattle.std.proofs.Common.{rules, ◌≡◌, sym, subst}
+use Rattle.share_lock.specs.Passes.{known}
+use Rattle.share_server.specs.Answering.{Finds}
+use Rattle.share_server.proofs.Turning.{turned}
+use Rattle.share_server.proofs.turns.looks.looked.Goals as goal
+
+pub returns-clause-looked : goal.returns-clause-looked
+returns-clause-looked g c =
+    let k = known c.args.pass.now in
+    let own : k.number ≡ c.number-by.result = search rules in
+    let found : Finds k c.state.result.now =
+    subst (Finds k) (sym c.state.ensures.value) (record { settings = c.take-turn.ensures.settings; history = c.take-turn.ensures.history }) in
+    turned k _ c.asked-look.new.share.history c.args.ask.now c.asked-look.result (search rules) (c.asked-look.ensures.looked k own found)

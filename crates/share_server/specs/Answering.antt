@@ -1,0 +1,75 @@
+-- What is said to a request that was served, and by which turns.
+use Rattle.std.specs.Prelude.{◌≡◌, List, [], ◌∷◌, length, Bool, false, Option, Some, None, Result, Ok, Err, ℕ}
+use Rattle.std.specs.declared.alloc.AllocError.{AllocError}
+use Rattle.daap_outside.specs.Counts.{Rose}
+use Rattle.item_model.specs.declared.changes.Entry.{Entry}
+use Rattle.http_front.specs.ReplyHeads.{HasReason}
+use Rattle.listing_plan.specs.Plans.{IsWritable, plan_bytes}
+use Rattle.reply_bytes.specs.ReplyBytes.{with_head}
+use Rattle.share_asks.specs.declared.ask.Ask.{Ask}
+use Rattle.share_history.specs.Sessions.{is_stopped}
+use Rattle.share_lock.specs.Histories.{Continues}
+use Rattle.share_lock.specs.Known.{numbers_of}
+use Rattle.share_core.specs.declared.answer.Answer.{Answer}
+use Rattle.share_core.specs.declared.answer.Answer.TheVariants as answer
+use Rattle.share_core.specs.declared.answer.Reply.{Reply}
+use Rattle.share_core.specs.declared.answer.Said.{Said}
+use Rattle.share_replies.specs.Answers.{Shared}
+use Rattle.share_replies.specs.Laws.{maker}
+use Rattle.share_replies.specs.Settings.{Settings}
+use Rattle.share_server.specs.declared.report.Served.{Served}
+use Rattle.share_server.specs.Served.{at_point}
+use Rattle.share_server.specs.Replies.{served_bytes}
+use Rattle.share_server.specs.Passes.{Pass, Serves}
+use Rattle.share_server.specs.declared.turns.outcome.Answered.{Answered}
+use Rattle.share_server.specs.declared.turns.outcome.Unanswered.{Unanswered}
+use Rattle.share_server.specs.declared.turns.outcome.Unanswered.TheVariants.{Gone}
+use Rattle.share_server.specs.declared.turns.outcome.Look.{Look}
+use Rattle.share_server.specs.declared.turns.outcome.Look.TheVariants as look
+
+-- nothing is said where there was no memory for an answer; what is said can be written, and makes the bytes of the request,
+-- by the history at its point
+abbrev pub Says : Settings → List Entry → Ask → Served → Option Said → Type 0
+Says settings p ask s None = s.status ≡ 500
+Says settings p ask s (Some said) =
+    HasReason said.status × IsWritable said.plan
+    × ((last : Bool) → with_head said.status said.form (plan_bytes said.plan) last ≡ served_bytes settings p ask s last)
+
+-- a pass served the request, in the last of its turns
+pub record IsAnswered (k k' : Pass) (ask : Ask) (a : Answered) : Type 0 where
+  pub serves : Serves k k' (ask ∷ []) (a.served ∷ [])
+  pub latest : a.served.point ≡ length k'.seen
+  pub stopped : a.stopped ≡ is_stopped (at_point k'.seen a.served)
+  pub said : Says k.settings (at_point k'.seen a.served) ask a.served a.said
+
+-- the request was served, or its peer went while it was held, and nothing was served
+abbrev pub IsOutcome : Pass → Pass → Ask → Result Answered Unanswered → Type 0
+IsOutcome k k' ask (Ok a) = IsAnswered k k' ask a
+IsOutcome k k' ask (Err Gone) = Serves k k' [] []
+
+-- the link's count rose exactly where its peer went
+abbrev pub CountsOutcome : ℕ → ℕ → Result Answered Unanswered → Type 0
+CountsOutcome before now (Ok a) = now ≡ before
+CountsOutcome before now (Err Gone) = Rose before now
+
+-- in one turn the pass served the request, or nothing
+abbrev pub IsLooked : Pass → Pass → Ask → Look → Type 0
+IsLooked k k' ask (look.Answered a) = IsAnswered k k' ask a
+IsLooked k k' ask (look.Held point) = Serves k k' [] [] × (point ≡ length k'.seen)
+
+-- a share that a turn of the pass found
+pub record Finds (k : Pass) (share : Shared) : Type 0 where
+  pub settings : share.settings ≡ k.settings
+  pub history : Continues maker (numbers_of k) k.seen share.history
+
+-- what is told of an answer, or of want of memory, at the end of the history
+abbrev pub served_of : Reply → Served
+served_of r = record { session = r.session; seen = r.seen; point = r.point; status = r.said.status; added = r.added }
+
+abbrev pub given_up : ℕ → Served
+given_up point = record { session = 0; seen = 0; point = point; status = 500; added = false }
+
+abbrev pub look_of : Result Answer AllocError → Bool → ℕ → Look
+look_of (Ok (answer.Reply r)) stopped end = look.Answered (record { served = served_of r; said = Some r.said; stopped = stopped })
+look_of (Ok (answer.Wait revision point)) stopped end = look.Held point
+look_of (Err error) stopped end = look.Answered (record { served = given_up end; said = None; stopped = stopped })

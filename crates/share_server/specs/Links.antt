@@ -1,0 +1,47 @@
+-- A connection that was served to its end.
+use Rattle.std.specs.Prelude.{◌≡◌, ◌⊎◌, ◌≢◌, ⊤, ℕ, List, [], length, true, false, IfSome, Option, Some, None}
+use Rattle.std.specs.List.{list_any}
+use Rattle.std.specs.Io.KnownBytes.{Appends}
+use Rattle.item_model.specs.declared.changes.Entry.{Entry}
+use Rattle.http_heads.specs.declared.refusal.HeadError.{HeadError}
+use Rattle.share_asks.specs.declared.ask.Ask.{Ask}
+use Rattle.share_asks.specs.declared.ask.Role.{Role}
+use Rattle.share_history.specs.Sessions.{is_stopped}
+use Rattle.http_front.specs.Readings.{IsReading, Joins, Reading}
+use Rattle.reply_bytes.specs.ReplyBytes.{status_of}
+use Rattle.share_server.specs.declared.report.Served.{Served}
+use Rattle.share_server.specs.declared.report.LinkEnd.{LinkEnd}
+use Rattle.share_server.specs.declared.report.LinkEnd.TheVariants.{Closed, Cut, Refused, Spent, Stopped, LinkFault, Memory}
+use Rattle.share_server.specs.Passes.{Pass, Serves}
+use Rattle.share_server.specs.Ends.{EndsInside, EndsAtEnd}
+
+-- how a connection ends whose input reads as this, of which no ask closes
+abbrev pub EndsAs : Reading → ℕ → List Entry → List Ask → List Served → LinkEnd → Type 0
+EndsAs r limit h asks served Closed = (r.asks ≡ asks) × (r.rest ≡ []) × (r.fault ≡ None)
+EndsAs r limit h asks served (Cut at) = (r.asks ≡ asks) × (r.rest ≢ []) × (r.fault ≡ None)
+EndsAs r limit h asks served (Refused status) = (r.asks ≡ asks) × ((error : HeadError) × (r.fault ≡ Some error) × (status ≡ status_of error))
+EndsAs r limit h asks served Spent = length served ≡ limit
+EndsAs r limit h asks served Stopped = is_stopped h ≡ true
+EndsAs r limit h asks served LinkFault = ⊤
+EndsAs r limit h asks served Memory = ⊤
+
+-- where no ask closes, the connection ends by its input, its limit or a stop, or for want of the outside or of memory
+abbrev pub Completes : Role → List ℕ → ℕ → List Entry → List Ask → List Served → LinkEnd → Type 0
+Completes role input limit h asks served end =
+    (r : Reading) → IsReading role input r → list_any (λ ask. ask.close) r.asks ≡ false → EndsAs r limit h asks served end
+
+-- from what is told of a connection before and after, and of the pass that served it: the first asks of its input were
+-- served, in order, what was written is theirs, and it ended so
+pub record LinkEnded (role : Role) (limit : ℕ) (k k' : Pass) (left taken taken' : Option (List ℕ)) (served : List Served) (end : LinkEnd) : Type 0 where
+  pub at_once : limit ≡ 0 → (served ≡ []) × (end ≡ Spent)
+  pub input : List ℕ
+  pub told : IfSome left (λ bytes. bytes ≡ input)
+  pub asks : List Ask
+  pub rest : List ℕ
+  pub joins : Joins role input asks rest
+  pub serves : Serves k k' asks served
+  pub output : List ℕ
+  pub written : Appends taken taken' output
+  pub how : EndsInside role input k.settings limit k'.seen asks served rest output end
+      ⊎ EndsAtEnd role input k.settings limit k'.seen asks served rest output end
+  pub complete : Completes role input limit k'.seen asks served end

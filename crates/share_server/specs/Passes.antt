@@ -1,0 +1,54 @@
+-- What a pass has seen more, after it served requests.
+use Rattle.std.specs.Prelude.{◌≡◌, ◌⊎◌, ◌≤◌, ◌<◌, ℕ, List, [], ◌∷◌, ◌++◌, length, true}
+use Rattle.item_model.specs.declared.changes.Entry.{Entry}
+use Rattle.share_asks.specs.declared.ask.Ask.{Ask}
+use Rattle.share_history.specs.Sessions.{is_live}
+use Rattle.share_history.specs.Marks.{until_login}
+use Rattle.share_lock.specs.Histories.{entries_of}
+use Rattle.share_lock.specs.Known.{Known}
+use Rattle.share_replies.specs.Settings.{Settings}
+use Rattle.share_replies.specs.Laws.{maker}
+use Rattle.share_server.specs.declared.report.Served.{Served}
+use Rattle.share_server.specs.Served.{at_point, answered_on, AreServed, added_entries}
+
+-- what contracts see of a pass of a share's lock
+abbrev pub Pass : Type 0
+Pass = Known Entry Settings
+
+-- points never fall, from one number up to another
+abbrev pub Rises : ℕ → List Served → ℕ → Type 0
+Rises low [] high = low ≤ high
+Rises low (s ∷ served) high = (low ≤ s.point) × Rises s.point served high
+
+-- each point is one of the looks, in their order
+abbrev pub StandAmong : List Served → List ℕ → Type 0
+StandAmong [] looks = Unit {0}
+StandAmong (s ∷ served) [] = ⊥
+StandAmong (s ∷ served) (look ∷ looks) = ((s.point ≡ look) × StandAmong served looks) ⊎ StandAmong (s ∷ served) looks
+
+-- its session was answered before at a point that is none behind its own and, where it was live, from its login on
+pub record IsMarked (h : List Entry) (s : Served) : Type 0 where
+  pub within : s.seen ≤ s.point
+  pub late : 0 < s.session → is_live (answered_on s.added (at_point h s)) s.session ≡ true
+      → length (until_login s.session (answered_on s.added (at_point h s))) ≤ s.seen
+
+abbrev pub AreMarked : List Entry → List Served → Type 0
+AreMarked h [] = Unit {0}
+AreMarked h (s ∷ served) = IsMarked h s × AreMarked h served
+
+-- no request shows a point before what its pass had seen, nor before that of the request before it
+pub record Fresh (k k' : Pass) (served : List Served) : Type 0 where
+  pub more : List Entry
+  pub grows : k'.seen ≡ k.seen ++ more
+  pub looks : List ℕ
+  pub looked : k'.looks ≡ k.looks ++ looks
+  pub rises : Rises (length k.seen) served (length k'.seen)
+  pub among : StandAmong served looks
+  pub marked : AreMarked k'.seen served
+
+-- a pass served these asks: nothing else of it changed, and the entries of its number are those before and the added ones
+pub record Serves (k k' : Pass) (asks : List Ask) (served : List Served) : Type 0 where
+  pub fresh : Fresh k k' served
+  pub stays : k' ≡ record k { seen = k'.seen; looks = k'.looks }
+  pub are_served : AreServed k.settings k.number k'.seen asks served
+  pub own : entries_of maker k.number k'.seen ≡ entries_of maker k.number k.seen ++ added_entries k'.seen served

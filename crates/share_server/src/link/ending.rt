@@ -1,0 +1,53 @@
+//! How a connection ends that cannot go on.
+
+ghost use Rattle.std.specs.Prelude.{◌≡◌, ◌≢◌};
+ghost use Rattle.share_server.specs.Serving.{CountsEnd};
+ghost use Rattle.share_server.specs.Written.{IsGivenUp, IsRefused};
+
+use crate::report::LinkEnd;
+use daap_outside::{Failed, Link};
+use http_heads::HeadError;
+use reply_bytes::{ReplyError, status_of, write_failure, write_refusal};
+use std::alloc::Global;
+
+/// Ends a connection for want of memory, of which it is told. It takes none.
+pub(crate) fn given_up<K: Link>(link: &mut K) -> LinkEnd
+    ensures told { IsGivenUp (K.taken link.old) (K.taken link.new) result }
+    ensures beside { K.beside_taken link.new ≡ K.beside_taken link.old }
+    ensures count { CountsEnd (K.faults link.old) (K.faults link.new) result }
+{
+    match write_failure(true, link) {
+        Ok(()) => LinkEnd::Memory,
+        Err(Failed) => LinkEnd::LinkFault,
+    }
+}
+
+/// Ends a connection whose bytes gave this error.
+pub(crate) fn unread<K: Link>(alloc: Global, link: &mut K, error: HeadError) -> LinkEnd
+    ensures memory { error ≡ HeadError.Memory → IsGivenUp (K.taken link.old) (K.taken link.new) result }
+    ensures refused { error ≢ HeadError.Memory → IsRefused error (K.taken link.old) (K.taken link.new) result }
+    ensures beside { K.beside_taken link.new ≡ K.beside_taken link.old }
+    ensures count { CountsEnd (K.faults link.old) (K.faults link.new) result }
+{
+    match error {
+        HeadError::Memory => given_up(link),
+        HeadError::Head | HeadError::Length | HeadError::BodyTooLarge | HeadError::HeadTooLarge => {
+            refused(alloc, link, &error)
+        }
+    }
+}
+
+// The bytes are no request, and no further ones mend that.
+fn refused<K: Link>(alloc: Global, link: &mut K, error: &HeadError) -> LinkEnd
+    ensures refused { IsRefused error.now (K.taken link.old) (K.taken link.new) result }
+    ensures beside { K.beside_taken link.new ≡ K.beside_taken link.old }
+    ensures count { CountsEnd (K.faults link.old) (K.faults link.new) result }
+{
+    match write_refusal(alloc, error, link) {
+        Ok(()) => LinkEnd::Refused {
+            status: status_of(error),
+        },
+        Err(ReplyError::Failed) => LinkEnd::LinkFault,
+        Err(ReplyError::Memory) => given_up(link),
+    }
+}

@@ -1,0 +1,131 @@
+//! The reading of requests off a connection.
+
+ghost use Rattle.std.specs.Prelude.{◌≡◌, ◌≢◌, ◌≤◌, ◌<◌, ℕ, List, [], None, Some, length, Option, IfOk, IfErr, MatchResult};
+ghost use Rattle.share_asks.specs.declared.ask.Role.{Role as RoleSeen};
+ghost use Rattle.share_lock.specs.Passes.{lock_id, known, IsReady};
+ghost use Rattle.share_server.specs.Passes.{Pass as PassSeen};
+ghost use Rattle.share_server.specs.Serving.{CountsEnd};
+ghost use Rattle.share_server.specs.Written.{CountsMaybe, IsCalm};
+ghost use Rattle.share_server.specs.Steps.{Midway, Steps, Feeds, Underway, Pumps, EndsInput};
+
+use crate::link::ending::unread;
+use crate::link::exchanging::{Service, exchange};
+use crate::report::{LinkEnd, Served};
+use daap_outside::{Failed, Link};
+use http_front::HeadReader;
+use share_core::Share;
+use share_lock::Pass;
+use std::sync::Wait;
+use std::time::Clock;
+
+// How many bytes one read asks for.
+const PIECE: usize = 8_192;
+
+/// What was read off a connection, and what was served on it.
+#[derive(Drop)]
+pub(crate) struct Serving {
+    pub reader: HeadReader,
+    pub served: Vec<Served>,
+}
+
+/// Reads once, and serves what is then whole. An answer is the end of the connection.
+pub(crate) fn pump<K: Link, R: Wait + Clock>(
+    service: &Service<'_, R>,
+    pass: &mut Pass<Share>,
+    link: &mut K,
+    serving: &mut Serving,
+    consumed: &mut u64,
+) -> Option<LinkEnd>
+    requires ready { IsReady (lock_id service.now.lock.now) pass.old }
+    requires idle { serving.old.reader.ready ≡ None }
+    ensures ready { IsReady (lock_id service.now.lock.now) pass.new }
+    ensures idle { result ≡ None → serving.new.reader.ready ≡ None }
+    ensures pumps { (role : RoleSeen) (k : PassSeen) (left taken : Option (List ℕ)) → Underway role service.now.limit k (known pass.old) left (K.left link.old) taken (K.taken link.old) serving.old.reader serving.old.served.items consumed.old
+        → Pumps role service.now.limit k (known pass.new) left (K.left link.new) taken (K.taken link.new) serving.new.reader serving.new.served.items consumed.new result }
+    ensures count { CountsMaybe (K.faults link.old) (K.faults link.new) result }
+{
+    let mut room = [0; PIECE];
+    let n = match link.read(&mut room) {
+        Ok(n) => n,
+        Err(Failed) => return Some(LinkEnd::LinkFault),
+    };
+    if n == 0 {
+        return Some(end_of_input(serving, *consumed));
+    }
+    *consumed = consumed.saturating_add(n as u64);
+    let (piece, _) = room.split_at(n);
+    feed(service, pass, link, serving, piece)
+}
+
+// The input ended, behind so many bytes.
+fn end_of_input(serving: &Serving, consumed: u64) -> LinkEnd
+    ensures end { serving.now.reader.error ≡ None → EndsInput serving.now.reader consumed result }
+    ensures calm { IsCalm (Some result) }
+{
+    if serving.reader.between() {
+        LinkEnd::Closed
+    } else {
+        LinkEnd::Cut { at: consumed }
+    }
+}
+
+// Serves the requests that are whole in a piece.
+fn feed<K: Link, R: Wait + Clock>(
+    service: &Service<'_, R>,
+    pass: &mut Pass<Share>,
+    link: &mut K,
+    serving: &mut Serving,
+    piece: &[u8],
+) -> Option<LinkEnd>
+    requires ready { IsReady (lock_id service.now.lock.now) pass.old }
+    requires idle { serving.old.reader.ready ≡ None }
+    ensures ready { IsReady (lock_id service.now.lock.now) pass.new }
+    ensures idle { result ≡ None → serving.new.reader.ready ≡ None }
+    ensures feeds { (role : RoleSeen) (bytes : List ℕ) (k : PassSeen) (taken : Option (List ℕ)) → Midway role bytes service.now.limit k (known pass.old) taken (K.taken link.old) serving.old.reader serving.old.served.items
+        → Feeds role bytes piece.now service.now.limit k (known pass.new) taken (K.taken link.new) serving.new.reader serving.new.served.items result }
+    ensures beside { K.beside_taken link.new ≡ K.beside_taken link.old }
+    ensures count { CountsMaybe (K.faults link.old) (K.faults link.new) result }
+{
+    let mut done = 0;
+    while done < piece.len() {
+        let (_, rest) = piece.split_at(done);
+        match step(service, pass, link, serving, rest) {
+            Ok(taken) => done += taken,
+            Err(end) => return Some(end),
+        }
+    }
+    None
+}
+
+// Reads up to the end of the next request, and serves it where it is whole. An error is the end of the connection.
+fn step<K: Link, R: Wait + Clock>(
+    service: &Service<'_, R>,
+    pass: &mut Pass<Share>,
+    link: &mut K,
+    serving: &mut Serving,
+    piece: &[u8],
+) -> Result<usize, LinkEnd>
+    requires ready { IsReady (lock_id service.now.lock.now) pass.old }
+    requires idle { serving.old.reader.ready ≡ None }
+    requires some { piece.now ≢ [] }
+    ensures ready { IsReady (lock_id service.now.lock.now) pass.new }
+    ensures idle { IfOk result (λ _. serving.new.reader.ready ≡ None) }
+    ensures moves { IfOk result (λ n. 0 < n) }
+    ensures within { IfOk result (λ n. n ≤ length piece.now) }
+    ensures steps { (role : RoleSeen) (bytes : List ℕ) (k : PassSeen) (taken : Option (List ℕ)) → Midway role bytes service.now.limit k (known pass.old) taken (K.taken link.old) serving.old.reader serving.old.served.items
+        → Steps role bytes piece.now service.now.limit k (known pass.new) taken (K.taken link.new) serving.new.reader serving.new.served.items result }
+    ensures beside { K.beside_taken link.new ≡ K.beside_taken link.old }
+    ensures count { MatchResult result (λ _. K.faults link.new ≡ K.faults link.old) (λ e. CountsEnd (K.faults link.old) (K.faults link.new) e) }
+{
+    let taken = match serving.reader.feed(piece) {
+        Ok(taken) => taken,
+        Err(error) => return Err(unread(service.alloc, link, error)),
+    };
+    let Some(ask) = serving.reader.next() else {
+        return Ok(taken);
+    };
+    match exchange(service, pass, link, &mut serving.served, &ask) {
+        None => Ok(taken),
+        Some(end) => Err(end),
+    }
+}

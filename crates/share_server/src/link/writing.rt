@@ -1,0 +1,85 @@
+//! The writing of one reply.
+
+ghost use Rattle.std.specs.Prelude.{◌≡◌, Some, is_some};
+ghost use Rattle.http_front.specs.ReplyHeads.{HasReason};
+ghost use Rattle.listing_plan.specs.Plans.{IsWritable, plan_bytes};
+ghost use Rattle.reply_bytes.specs.ReplyBytes.{with_head, failure_bytes};
+ghost use Rattle.share_server.specs.Serving.{CountsEnd};
+ghost use Rattle.share_server.specs.Written.{WasWritten, IsSayable, said_bytes, CountsMaybe, IsCalm};
+
+use crate::link::ending::given_up;
+use crate::report::LinkEnd;
+use daap_outside::{Failed, Link};
+use listing_plan::Plan;
+use reply_bytes::{ReplyError, write_failure, write_reply};
+use share_asks::BodyForm;
+use share_core::Said;
+use std::alloc::Global;
+
+/// Writes the reply to a request that added an entry or did not. Behind it the end comes that is due, if one is, and
+/// its head says so.
+pub(crate) fn reply<K: Link>(
+    alloc: Global,
+    link: &mut K,
+    said: Option<Said>,
+    added: bool,
+    due: Option<LinkEnd>,
+) -> Option<LinkEnd>
+    requires sayable { IsSayable said }
+    requires calm { IsCalm due }
+    ensures written { WasWritten (said_bytes said (is_some due)) added due (K.taken link.old) (K.taken link.new) result }
+    ensures beside { K.beside_taken link.new ≡ K.beside_taken link.old }
+    ensures count { CountsMaybe (K.faults link.old) (K.faults link.new) result }
+{
+    match said {
+        None => failure(link, due),
+        Some(Said { status, form, plan }) => whole(alloc, link, status, form, plan, added, due),
+    }
+}
+
+fn failure<K: Link>(link: &mut K, due: Option<LinkEnd>) -> Option<LinkEnd>
+    requires calm { IsCalm due }
+    ensures written { (added : _) → WasWritten (failure_bytes (is_some due)) added due (K.taken link.old) (K.taken link.new) result }
+    ensures beside { K.beside_taken link.new ≡ K.beside_taken link.old }
+    ensures count { CountsMaybe (K.faults link.old) (K.faults link.new) result }
+{
+    match write_failure(due.is_some(), link) {
+        Ok(()) => due,
+        Err(Failed) => Some(LinkEnd::LinkFault),
+    }
+}
+
+fn whole<K: Link>(
+    alloc: Global,
+    link: &mut K,
+    status: u16,
+    form: BodyForm,
+    plan: Plan,
+    added: bool,
+    due: Option<LinkEnd>,
+) -> Option<LinkEnd>
+    requires reason { HasReason status }
+    requires writable { IsWritable plan }
+    requires calm { IsCalm due }
+    ensures written { WasWritten (with_head status form (plan_bytes plan) (is_some due)) added due (K.taken link.old) (K.taken link.new) result }
+    ensures beside { K.beside_taken link.new ≡ K.beside_taken link.old }
+    ensures count { CountsMaybe (K.faults link.old) (K.faults link.new) result }
+{
+    match write_reply(alloc, status, form, &plan, due.is_some(), link) {
+        Ok(()) => due,
+        Err(ReplyError::Failed) => Some(LinkEnd::LinkFault),
+        Err(ReplyError::Memory) => Some(unwritten(link, added)),
+    }
+}
+
+// There was no memory for the head of a reply. Who was answered by an entry more is not told otherwise.
+fn unwritten<K: Link>(link: &mut K, added: bool) -> LinkEnd
+    ensures written { (bytes : _) (due : _) → WasWritten bytes added due (K.taken link.old) (K.taken link.new) (Some result) }
+    ensures beside { K.beside_taken link.new ≡ K.beside_taken link.old }
+    ensures count { CountsEnd (K.faults link.old) (K.faults link.new) result }
+{
+    if added {
+        return LinkEnd::Memory;
+    }
+    given_up(link)
+}

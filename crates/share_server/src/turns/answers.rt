@@ -1,0 +1,70 @@
+//! Turns until a request is answered.
+
+ghost use Rattle.std.specs.Prelude.{◌≡◌};
+ghost use Rattle.share_asks.specs.Valid.{IsValidWant};
+ghost use Rattle.share_lock.specs.Passes.{lock_id, known, IsReady};
+ghost use Rattle.share_server.specs.Answering.{IsOutcome, CountsOutcome};
+
+use crate::turns::looks::looked;
+use crate::turns::outcome::{Answered, Look, Unanswered};
+use daap_outside::Link;
+use share_asks::Ask;
+use share_core::Share;
+use share_lock::{Bell, Pass, ShareLock};
+use std::sync::Wait;
+use std::time::{Clock, Duration, Instant};
+
+/// How long an update is held at most before its link is probed, in seconds.
+pub const PROBE_SECONDS: u64 = 5;
+
+/// Answers a request of a pass. The share is held for the answer alone, and nothing of it is written here. An update
+/// that is yet to come waits at the bell, outside any turn, for at most `PROBE_SECONDS`; then its link is probed, and it
+/// looks at the share again. An answer that adds an entry rings the bell. Where there is no memory for the answer the
+/// share stays as it was, and the status is 500. The call takes no memory beside what the answer takes.
+///
+/// # Errors
+///
+/// Returns `Gone` if the link's probe failed while the update was held. Nothing was served then.
+pub fn answer_request<K: Link, R: Wait + Clock>(
+    rt: &R,
+    lock: &ShareLock<Share>,
+    bell: &Bell,
+    pass: &mut Pass<Share>,
+    link: &mut K,
+    ask: &Ask,
+) -> Result<Answered, Unanswered>
+    requires ready { IsReady (lock_id lock.now) pass.old }
+    requires valid { IsValidWant ask.now.want }
+    ensures ready { IsReady (lock_id lock.now) pass.new }
+    ensures outcome { IsOutcome (known pass.old) (known pass.new) ask.now result }
+    ensures taken { K.taken link.new ≡ K.taken link.old }
+    ensures beside { K.beside_taken link.new ≡ K.beside_taken link.old }
+    ensures count { CountsOutcome (K.faults link.old) (K.faults link.new) result }
+{
+    for _ in rt.forever() {
+        match looked(rt, lock, pass, ask) {
+            Look::Answered(answered) => {
+                if answered.served.added {
+                    bell.ring(rt, answered.served.point);
+                }
+                return Ok(answered);
+            }
+            Look::Held { point } => {
+                wait_held(rt, bell, point);
+                if link.probe().is_err() {
+                    return Err(Unanswered::Gone);
+                }
+            }
+        }
+    }
+    unreachable!()
+}
+
+// Waits at the bell for as long as an update may be held before its link is probed. Where the clock can't be read,
+// nobody would end the wait but the bell: without that, an update that is held would take turn after turn.
+fn wait_held<R: Wait + Clock>(rt: &R, bell: &Bell, point: u64) {
+    match Instant::now(rt) {
+        Ok(_) => bell.wait_for(rt, point, Duration::from_secs(PROBE_SECONDS)),
+        Err(_) => bell.wait(rt, point),
+    }
+}

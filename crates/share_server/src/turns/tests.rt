@@ -1,0 +1,264 @@
+//! Updates that are held, want of memory, and two passes at one share.
+
+ghost use Rattle.std.specs.Prelude.{◌≡◌, IfOk};
+ghost use Rattle.share_asks.specs.Valid.{IsValidWant};
+ghost use Rattle.share_lock.specs.Passes.{lock_id, IsReady};
+
+use crate::report::Served;
+use crate::turns::answers::{PROBE_SECONDS, answer_request};
+use crate::turns::looks::{look_of, looked};
+use crate::turns::outcome::{Answered, Look, Unanswered};
+use daap_outside::{MemLink, MemSink, MemSource};
+use item_model::{Batch, Edits, Entry};
+use records_import::read_batch;
+use share_asks::{Ask, BodyForm, Role, Want};
+use share_core::Share;
+use share_lock::{Bell, Pass, ShareLock};
+use std::alloc::{AllocError, Global};
+use std::sync::Wait;
+use std::test::Fail;
+use std::time::{Clock, Duration};
+
+// A share without items, for two passes.
+fn opened(alloc: Global) -> Result<(ShareLock<Share>, Pass<Share>), AllocError>
+    ensures { IfOk result (λ r. IsReady (lock_id r.0) r.1) }
+{
+    let first = Batch {
+        edits: Edits::new(alloc),
+    };
+    let Ok(share) = Share::open(alloc, "Demo", 16, first) else {
+        return Err(AllocError);
+    };
+    ShareLock::open(alloc, share, 2)
+}
+
+fn asks(want: Want) -> Ask
+    ensures { result.want ≡ want }
+{
+    Ask {
+        role: Role::Edit,
+        close: false,
+        want,
+    }
+}
+
+fn edit(alloc: Global) -> Result<Want, AllocError>
+    ensures { IfOk result IsValidWant }
+{
+    match read_batch(alloc, b"op,kind,id,dmap.itemname\nput,item,7,Hey\n") {
+        Ok(batch) => Ok(Want::Edit { body: Ok(batch) }),
+        Err(_) => Err(AllocError),
+    }
+}
+
+// The status, the point, whether an entry was added, and whether the share was stopped.
+type Told = (u16, u64, bool, bool);
+
+// A link without bytes of which these probes fail.
+fn linked(alloc: Global, failing: &[u64]) -> Result<MemLink, AllocError> {
+    let input = MemSource::new(alloc, b"", 1, &[])?;
+    let output = MemSink::new(alloc, 0, 1, &[])?;
+    MemLink::with_failing_probes(alloc, input, output, failing)
+}
+
+fn read_clock<C: Clock>(clock: &C) -> Result<Duration, AllocError> {
+    match clock.monotonic() {
+        Ok(time) => Ok(time),
+        Err(_) => Err(AllocError),
+    }
+}
+
+// The answer to a request on a link of which no probe fails.
+fn answered<R: Wait + Clock>(
+    rt: &R,
+    alloc: Global,
+    lock: &ShareLock<Share>,
+    bell: &Bell,
+    pass: &mut Pass<Share>,
+    want: Want,
+) -> Result<Answered, AllocError>
+    requires ready { IsReady (lock_id lock.now) pass.old }
+    requires valid { IsValidWant want }
+    ensures ready { IsReady (lock_id lock.now) pass.new }
+{
+    let mut link = linked(alloc, &[])?;
+    match answer_request(rt, lock, bell, pass, &mut link, &asks(want)) {
+        Ok(answered) => Ok(answered),
+        Err(Unanswered::Gone) => Err(AllocError),
+    }
+}
+
+fn told<R: Wait + Clock>(
+    rt: &R,
+    alloc: Global,
+    lock: &ShareLock<Share>,
+    bell: &Bell,
+    pass: Pass<Share>,
+    want: Want,
+) -> Result<Told, AllocError>
+    requires ready { IsReady (lock_id lock.now) pass }
+    requires valid { IsValidWant want }
+{
+    let mut pass = pass;
+    let answered = answered(rt, alloc, lock, bell, &mut pass, want)?;
+    let served = answered.served;
+    Ok((served.status, served.point, served.added, answered.stopped))
+}
+
+// Of session 1, for the revision behind the first one.
+fn update() -> Want
+    ensures { IsValidWant result }
+{
+    Want::Update {
+        session: 1,
+        revision: 2,
+    }
+}
+
+// Logs in, and tells from which length of the history on an update is held, where it is.
+fn held_from<R: Wait + Clock>(
+    rt: &R,
+    alloc: Global,
+    lock: &ShareLock<Share>,
+    bell: &Bell,
+    pass: &mut Pass<Share>,
+) -> Result<Option<u64>, AllocError>
+    requires { IsReady (lock_id lock.now) pass.old }
+    ensures { IsReady (lock_id lock.now) pass.new }
+{
+    answered(rt, alloc, lock, bell, pass, Want::Login)?;
+    match looked(rt, lock, pass, &asks(update())) {
+        Look::Held { point } => Ok(Some(point)),
+        Look::Answered(_) => Ok(None),
+    }
+}
+
+// Pass 0 asks for an update, which is held, then pass 1 for something else, and then pass 0 again.
+fn held_before<R: Wait + Clock>(
+    rt: &R,
+    alloc: Global,
+    other: Want,
+) -> Result<(Option<u64>, Told, Told), AllocError>
+    requires { IsValidWant other }
+{
+    let (lock, mut first) = opened(alloc)?;
+    let bell = Bell::new();
+    let second = lock.split(rt, &mut first)?;
+    let point = held_from(rt, alloc, &lock, &bell, &mut first)?;
+    let other = told(rt, alloc, &lock, &bell, second, other)?;
+    let held = told(rt, alloc, &lock, &bell, first, update())?;
+    Ok((point, held, other))
+}
+
+#[test]
+fn an_edit_ends_what_holds_an_update(rt: HostRuntime) -> Result<(), Fail> {
+    let (point, held, edited) = held_before(&rt, rt.alloc(), edit(rt.alloc())?)?;
+    assert!(rt; point == Some(1));
+    assert!(rt; held == (200, 2, false, false));
+    assert!(rt; edited == (200, 2, true, false));
+    Ok(())
+}
+
+#[test]
+fn a_stop_ends_what_holds_an_update(rt: HostRuntime) -> Result<(), Fail> {
+    let (_, held, stopped) = held_before(&rt, rt.alloc(), Want::Stop)?;
+    assert!(rt; held == (503, 2, false, true));
+    assert!(rt; stopped == (204, 2, true, true));
+    Ok(())
+}
+
+fn logged_in<R: Wait + Clock>(rt: &R, alloc: Global) -> Result<Answered, AllocError> {
+    let (lock, mut pass) = opened(alloc)?;
+    answered(rt, alloc, &lock, &Bell::new(), &mut pass, Want::Login)
+}
+
+// An update that nobody ends, on a link whose second probe fails: whether its peer was seen to go, and for how long it was held.
+fn held_alone<R: Wait + Clock>(rt: &R, alloc: Global) -> Result<(bool, Duration), AllocError> {
+    let (lock, mut pass) = opened(alloc)?;
+    let bell = Bell::new();
+    held_from(rt, alloc, &lock, &bell, &mut pass)?;
+    let mut link = linked(alloc, &[2])?;
+    let begun = read_clock(rt)?;
+    let ended = answer_request(rt, &lock, &bell, &mut pass, &mut link, &asks(update()));
+    let ended_at = read_clock(rt)?;
+    let gone = matches!(ended, Err(Unanswered::Gone));
+    Ok((gone, ended_at.saturating_sub(begun)))
+}
+
+// Two probes are two waits of five seconds: between them nobody looks at the share.
+#[test]
+fn a_peer_that_went_ends_what_holds_an_update(rt: HostRuntime) -> Result<(), Fail> {
+    let (gone, held) = held_alone(&rt, rt.alloc())?;
+    assert!(rt; gone && held >= Duration::from_secs(2 * PROBE_SECONDS));
+    Ok(())
+}
+
+#[test]
+fn a_request_is_told_with_what_is_to_be_written(rt: HostRuntime) -> Result<(), Fail> {
+    let answered = logged_in(&rt, rt.alloc())?;
+    let served = Served {
+        session: 1,
+        seen: 0,
+        point: 1,
+        status: 200,
+        added: true,
+    };
+    assert!(rt; answered.served == served && !answered.stopped);
+    let Some(said) = answered.said else {
+        return Err(Fail::from(AllocError));
+    };
+    assert!(rt; said.status == 200 && said.form == BodyForm::Dmap);
+    Ok(())
+}
+
+#[test]
+fn want_of_memory_is_told_at_the_end_of_the_history(rt: HostRuntime) -> Result<(), Fail> {
+    let Look::Answered(answered) = look_of(Err(AllocError), true, 5) else {
+        return Err(Fail::from(AllocError));
+    };
+    let served = Served {
+        session: 0,
+        seen: 0,
+        point: 5,
+        status: 500,
+        added: false,
+    };
+    assert!(rt; answered.served == served && answered.stopped);
+    assert!(rt; answered.said.is_none());
+    Ok(())
+}
+
+// Who added the one entry, where there is one, and how many edits it has.
+fn edits_of(entry: Option<&Entry>) -> Option<(u32, usize)> {
+    match entry {
+        Some(Entry::Edits { by, batch }) => Some((*by, batch.edits.as_slice().len())),
+        _ => None,
+    }
+}
+
+// Pass 0 is split, pass 1 puts an item, pass 0 looks, takes pass 1 in, and takes the share out.
+fn two_passes<R: Wait + Clock>(
+    rt: &R,
+    alloc: Global,
+) -> Result<(Share, Option<(u32, usize)>, u64), AllocError> {
+    let (lock, mut first) = opened(alloc)?;
+    let mut second = lock.split(rt, &mut first)?;
+    answered(rt, alloc, &lock, &Bell::new(), &mut second, edit(alloc)?)?;
+    let mut turn = lock.take(rt, &mut first);
+    let found = edits_of(turn.state().entry(0));
+    lock.give(turn);
+    let seen = first.seen();
+    lock.join(&mut first, second);
+    let turn = lock.take(rt, &mut first);
+    Ok((lock.end(turn), found, seen))
+}
+
+#[test]
+fn two_passes_share_one_history(rt: HostRuntime) -> Result<(), Fail> {
+    let (share, found, seen) = two_passes(&rt, rt.alloc())?;
+    assert!(rt; found == Some((1, 1)) && seen == 1);
+    let history = share.into_history();
+    assert!(rt; history.len() == 1);
+    assert!(rt; edits_of(history.first()) == Some((1, 1)));
+    Ok(())
+}
