@@ -8,9 +8,9 @@ use Rattle.command_core.specs.Endings.{IsWritten, IsCut}
 use Rattle.command_core.specs.Answers.{Tells}
 use Rattle.command_core.proofs.Appending.{cut_more}
 use Rattle.share_crew.proofs.Telling.{told_behind, cut_wider}
-use Rattle.serve_command.specs.declared.verdict.Verdict.{Verdict}
+use Rattle.share_crew.specs.declared.verdict.Verdict.{Verdict}
 use Rattle.serve_command.specs.Runs.{TellsEnd}
-use Rattle.serve_command.specs.Verdicts.{verdict_line, verdict_status, with_memory}
+use Rattle.share_crew.specs.Verdicts.{verdict_line, verdict_status, with_memory}
 
 -- the line was written, and that of the verdict behind it
 pub told_line : (start old mid after : OutputSeen) (front line : List ℕ) (verdict : Verdict) (status : ℕ) → IsWritten start old front → IsWritten old mid line

@@ -12,7 +12,7 @@ ghost use Rattle.share_crew.specs.Doors.{AreNew};
 ghost use Rattle.share_crew.specs.Lines.{links_in, requests_in};
 ghost use Rattle.share_crew.specs.Gathered.{HasGathered};
 
-use crate::gathering::{Gathered, gathered};
+use crate::gathering::{Gathered, gather};
 use crate::opening::Begun;
 use crate::partner::Partner;
 use daap_outside::{Door, Net};
@@ -73,6 +73,13 @@ pub fn worked<N: Net, P: Partner, R: Threads + Wait + Clock + Sync>(
     ensures links { length begun.room.crew.items ≤ 72 → links_in result.links < 2 ^ 64 }
     ensures requests { length begun.room.crew.items ≤ 72 → requests_in result.links < 2 ^ 64 }
 {
-    work_beside(rt, alloc, &begun.lock, &Bell::new(), &mut begun.room.crew, partner);
-    gathered(net, begun)
+    work_beside(
+        rt,
+        alloc,
+        &begun.lock,
+        &Bell::new(),
+        &mut begun.room.crew,
+        partner,
+    );
+    gather(net, begun)
 }

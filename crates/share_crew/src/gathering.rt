@@ -20,9 +20,9 @@ use crate::opening::{Begun, Room};
 use crate::outcome::LinkReports;
 use crate::verdict::{Verdict, verdict_of};
 use daap_outside::Net;
-use share_server::LinkReport;
 use share_core::Share;
 use share_lock::{Pass, ShareLock};
+use share_server::LinkReport;
 use share_workers::Worker;
 use std::sync::Wait;
 
@@ -37,7 +37,7 @@ pub struct Gathered {
 
 /// Gathers workers that have ended: joins their passes, gives their doors back and keeps what is told of their links, in the
 /// order of the workers.
-pub fn gathered<N: Net>(net: &mut N, begun: Begun<N::D>) -> Gathered
+pub fn gather<N: Net>(net: &mut N, begun: Begun<N::D>) -> Gathered
     requires ready { IsReady (lock_id begun.lock) begun.first }
     requires crew { All (λ w. IsReady (lock_id begun.lock) w.pass) begun.room.crew.items }
     requires empty { begun.room.links.items ≡ [] }
@@ -63,7 +63,7 @@ pub fn gathered<N: Net>(net: &mut N, begun: Begun<N::D>) -> Gathered
         room: Room { crew, mut links },
     } = begun;
     let verdict = verdict_of(crew.as_slice());
-    gather(&lock, net, &mut first, crew, &mut links);
+    join_each(&lock, net, &mut first, crew, &mut links);
     Gathered {
         lock,
         first,
@@ -73,7 +73,7 @@ pub fn gathered<N: Net>(net: &mut N, begun: Begun<N::D>) -> Gathered
 }
 
 // Joins the passes of all workers, gives their doors back and keeps what is told of their links. There is room for all of it.
-fn gather<N: Net>(
+fn join_each<N: Net>(
     lock: &ShareLock<Share>,
     net: &mut N,
     first: &mut Pass<Share>,

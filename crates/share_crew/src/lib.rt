@@ -14,7 +14,7 @@ mod verdict;
 
 pub use beside::{work_beside, worked};
 pub use doors::shut_all;
-pub use gathering::{Gathered, gathered, share_of};
+pub use gathering::{Gathered, gather, share_of};
 pub use hiring::hire;
 pub use lines::ended_line_of;
 pub use opening::{Begun, Room, announced};

@@ -8,9 +8,9 @@ ghost use Rattle.share_crew.specs.Begun.{Announces, HasRoom, Locks};
 
 use command_core::out_of_memory;
 use daap_outside::{Sink, put_all};
-use share_server::LinkReport;
 use share_core::Share;
 use share_lock::{Pass, ShareLock};
+use share_server::LinkReport;
 use share_workers::Worker;
 use std::alloc::{AllocError, Global};
 

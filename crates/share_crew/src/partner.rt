@@ -31,5 +31,11 @@ impl Partner for Alone {
 
     ghost worked = { λ id before after. ⊤ };
 
-    fn work<R: Wait + Clock>(&mut self, _rt: &R, _alloc: Global, _lock: &ShareLock<Share>, _bell: &Bell) {}
+    fn work<R: Wait + Clock>(
+        &mut self,
+        _rt: &R,
+        _alloc: Global,
+        _lock: &ShareLock<Share>,
+        _bell: &Bell,
+    ) {}
 }

@@ -1,9 +1,9 @@
 use Rattle.std.proofs.Common.{[], List, Option, ◌∙◌}
-use Rattle.daap_outside.specs.Places.{Returned}
-use Rattle.serve_command.specs.Places.{IsNew, AreNew}
-use Rattle.serve_command.proofs.Joining.{all_head, all_tail}
-use Rattle.serve_command.proofs.Nets.{grows_told, grows_none}
-use Rattle.serve_command.proofs.places.shut_all.Goals as goal
+use Rattle.daap_outside.specs.Doors.{Returned}
+use Rattle.share_crew.specs.Doors.{IsNew, AreNew}
+use Rattle.share_crew.proofs.Joining.{all_head, all_tail}
+use Rattle.share_crew.proofs.Nets.{grows_told, grows_none}
+use Rattle.share_crew.proofs.doors.shut_all.Goals as goal
 
 pub loop-door-preserved : goal.loop-door-preserved
 loop-door-preserved g c =

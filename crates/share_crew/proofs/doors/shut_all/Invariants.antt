@@ -1,9 +1,9 @@
 use Rattle.std.proofs.Common.{◌≡◌, [], List, Option}
 use Rattle.std.specs.Vec.Iter.{into_iter_items}
-use Rattle.daap_outside.specs.Places.{Returned}
+use Rattle.daap_outside.specs.Doors.{Returned}
 use Rattle.daap_outside.specs.Told.{Grows}
-use Rattle.serve_command.specs.Places.{AreNew}
-use Rattle.serve_command.proofs.places.shut_all.Given as goal
+use Rattle.share_crew.specs.Doors.{AreNew}
+use Rattle.share_crew.proofs.doors.shut_all.Given as goal
 
 abbrev pub invariant-loop-door : goal.invariant-loop-door
 invariant-loop-door g l = record {

@@ -2,9 +2,9 @@ use Rattle.std.proofs.Common.{rules, ◌≡◌, ◌<◌, ◌≤◌, [], ◌∷�
 use Rattle.std.proofs.lemmas.List.{nil_from_length}
 use Rattle.share_lock.specs.Passes.{lock_id, known, IsReady}
 use Rattle.share_lock.specs.Known.{fresh}
-use Rattle.serve_command.specs.Crews.{HasHired}
-use Rattle.serve_command.proofs.Staffing.{none_hired, hire_more, is_hired}
-use Rattle.serve_command.proofs.crew.hire.Goals as goal
+use Rattle.share_crew.specs.Crews.{HasHired}
+use Rattle.share_crew.proofs.Staffing.{none_hired, hire_more, is_hired}
+use Rattle.share_crew.proofs.hiring.hire.Goals as goal
 
 pub loop-door-init : goal.loop-door-init
 loop-door-init g c = record {

@@ -1,21 +1,11 @@
-use Rattle.std.proofs.Common.{◌∙◌, ap}
-use Rattle.share_lock.specs.Known.{fresh}
-use Rattle.share_replies.specs.Answers.{Shared}
+use Rattle.std.proofs.Common.{refl}
 use Rattle.command_core.specs.Seen.{OutputSeen, output_seen}
 use Rattle.command_core.specs.Faults.{memory_line}
-use Rattle.serve_command.proofs.Telling.{told_behind}
-use Rattle.serve_command.proofs.opening.locked.Goals as goal
+use Rattle.share_crew.proofs.Telling.{told_behind}
+use Rattle.share_crew.proofs.opening.locked.Goals as goal
 
 pub returns-in-Ok : goal.returns-in-Ok
-returns-in-Ok g c = λ start front w. (
-  (λ edits is. record {
-    passes = c.in-Ok.ensures.lock;
-    ready = c.in-Ok.ensures.ready;
-    pass = c.in-Ok.ensures.pass ∙ ap (λ (s : Shared). fresh 0 s.settings s.history) is;
-    room = c.requires.room;
-  }),
-  w,
-)
+returns-in-Ok g c = λ start front w. (record { passes_are = c.in-Ok.ensures.lock; ready = c.in-Ok.ensures.ready; pass = c.in-Ok.ensures.pass; room_is = refl }, w)
 
 pub returns-in-Err : goal.returns-in-Err
 returns-in-Err g c = λ start front w.

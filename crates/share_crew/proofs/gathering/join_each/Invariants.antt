@@ -5,16 +5,16 @@ use Rattle.std.specs.Vec.Iter.{into_iter_items}
 use Rattle.item_model.specs.declared.changes.Entry.{Entry}
 use Rattle.share_lock.specs.Passes.{lock_id, known, IsReady}
 use Rattle.share_replies.specs.Settings.{Settings}
-use Rattle.serve_command.specs.Crews.{IsOf, HasJoined, HasShut}
-use Rattle.serve_command.specs.Stints.{Stint}
-use Rattle.serve_command.proofs.gathering.gather.Given as goal
+use Rattle.share_crew.specs.Crews.{IsOf, HasJoined, HasShut}
+use Rattle.share_crew.specs.Stints.{Stint, passes_in}
+use Rattle.share_crew.proofs.gathering.join_each.Given as goal
 
 abbrev pub invariant-loop-worker : goal.invariant-loop-worker
 invariant-loop-worker g l = record {
   ready : IsReady (lock_id l.lock) l.first;
   others : All (λ w. IsReady (lock_id l.lock) w.pass) (into_iter_items l.worker-iterator);
   joined : (settings : Settings) (opening : List Entry) (stints : List (Stint settings opening)) → AllZip (IsOf g.N.D.Door.written g.N.D.Faulted.faults) stints l.yielded
-      → HasJoined (known l.fn.first) (known l.first) stints;
+      → HasJoined (known l.fn.first) (known l.first) (passes_in stints);
   shut : (settings : Settings) (opening : List Entry) (stints : List (Stint settings opening)) → AllZip (IsOf g.N.D.Door.written g.N.D.Faulted.faults) stints l.yielded
       → HasShut (g.N.Net.written l.fn.net) (g.N.Net.written l.net) (g.N.Faulted.faults l.fn.net) (g.N.Faulted.faults l.net) stints;
   asked : g.N.Net.asked l.net ≡ g.N.Net.asked l.fn.net;
