@@ -95,14 +95,14 @@ module _ {settings : Settings} {opening : List Entry} where
         begins = begins;
         made = λ i d less.
             let n = maker (get_or (joined.front.more ++ on.more) i d) in
-            one_of n (not_first i d less) (Contains-append_cases (0 ∷ []) ns n
+            one_of ns n (not_first i d less) (Contains-append_cases (0 ∷ []) ns n
             (each_stands bound (0 ∷ ns) differ (omega arith, below bound all numbered) (length_of all) n (lower i d less)));
       }
     where
       length_of : (passes : List Pass) → length (0 ∷ numbers_of_all passes) ≡ length passes + 1
       length_of passes = let h = length-map passes (λ (k : Pass). k.number) in omega (arith, h)
 
-      one_of : {ns : List ℕ} (n : ℕ) → n ≢ 0 → Contains (0 ∷ []) n ⊎ Contains ns n → Contains ns n
-      one_of n other (inl (zero, less, is)) = absurd (other (sym is))
-      one_of n other (inl (suc i, less, is)) = absurd (omega arith)
-      one_of n other (inr has) = has
+      one_of : (ns : List ℕ) (n : ℕ) → n ≢ 0 → Contains (0 ∷ []) n ⊎ Contains ns n → Contains ns n
+      one_of ns n other (inl (zero, less, is)) = absurd (other (sym is))
+      one_of ns n other (inl (suc i, less, is)) = absurd (omega arith)
+      one_of ns n other (inr has) = has

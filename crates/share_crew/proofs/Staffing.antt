@@ -4,7 +4,7 @@ use Rattle.std.proofs.lemmas.List.{map-append}
 use Rattle.std.proofs.lemmas.List.Elements.{All-append, All-push}
 use Rattle.std.specs.List.{AllByRecursion, AllZip}
 use Rattle.std.specs.Prelude.{All}
-use Rattle.daap_outside.specs.Doors.{Returned}
+use Rattle.daap_outside.specs.Places.{Returned}
 use Rattle.daap_outside.specs.Told.{BeginsEmpty}
 use Rattle.item_model.specs.declared.changes.Entry.{Entry}
 use Rattle.share_asks.specs.declared.ask.Role.{Role}

@@ -1,5 +1,5 @@
 use Rattle.std.proofs.Common.{[], List, Option, ◌∙◌}
-use Rattle.daap_outside.specs.Doors.{Returned}
+use Rattle.daap_outside.specs.Places.{Returned}
 use Rattle.share_crew.specs.Doors.{IsNew, AreNew}
 use Rattle.share_crew.proofs.Joining.{all_head, all_tail}
 use Rattle.share_crew.proofs.Nets.{grows_told, grows_none}

@@ -1,6 +1,6 @@
 use Rattle.std.proofs.Common.{◌≡◌, [], List, Option}
 use Rattle.std.specs.Vec.Iter.{into_iter_items}
-use Rattle.daap_outside.specs.Doors.{Returned}
+use Rattle.daap_outside.specs.Places.{Returned}
 use Rattle.daap_outside.specs.Told.{Grows}
 use Rattle.share_crew.specs.Doors.{AreNew}
 use Rattle.share_crew.proofs.doors.shut_all.Given as goal

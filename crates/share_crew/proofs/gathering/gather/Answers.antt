@@ -1,4 +1,4 @@
-use Rattle.std.proofs.Common.{◌++◌, map, sym, subst, ap, ◌∙◌, arith}
+use Rattle.std.proofs.Common.{◌++◌, length, map, ap, ◌∙◌, arith}
 use Rattle.share_lock.specs.Passes.{lock_id, known}
 use Rattle.share_crew.specs.Verdicts.{verdict_of}
 use Rattle.share_crew.proofs.Counting.{links_fit, requests_fit}
