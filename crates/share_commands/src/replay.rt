@@ -136,7 +136,7 @@ fn opened(alloc: Global, keep: u32, name: &str) -> Result<Share, AllocError>
     };
     match Share::open(alloc, name, keep, first) {
         Ok(share) => Ok(share),
-        Err(OpenError::Lists | OpenError::Memory) => Err(AllocError),
+        Err(OpenError::Edits | OpenError::Lists | OpenError::Memory) => Err(AllocError),
     }
 }
 
