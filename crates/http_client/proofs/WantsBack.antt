@@ -9,6 +9,7 @@ use Rattle.http_front.specs.Targets.{local_part, path_of, query_of}
 use Rattle.http_front.specs.Wants.{AskedRows, AtPlace, MetaThen, NumberThen, PlaceWant, QueryThen, RangeThen, RowsInRange, RowsWant, ValuesWant, Wants, WithMethod, filter_or}
 use Rattle.http_front.specs.declared.routes.Place.{Place}
 use Rattle.http_front.specs.declared.routes.Place.TheVariants as place
+use Rattle.item_model.specs.QuerySeen.{tree_of}
 use Rattle.item_model.specs.declared.query.Query.{Query}
 use Rattle.item_model.specs.declared.request.Browse.{Browse}
 use Rattle.item_model.specs.declared.request.Look.{Look}
@@ -18,9 +19,11 @@ use Rattle.item_model.specs.declared.request.Range.TheVariants.{All as Whole}
 use Rattle.item_model.specs.declared.request.Target.{Target}
 use Rattle.item_model.specs.declared.changes.Edit.{Edit as OneEdit}
 use Rattle.records_import.specs.declared.refusal.RecordError.{RecordError}
+use Rattle.share_asks.specs.Valid.{MayAsk}
 use Rattle.share_asks.specs.declared.ask.Role.{Role}
 use Rattle.share_asks.specs.declared.ask.Want.{Want}
 use Rattle.share_asks.specs.declared.ask.Want.TheVariants.{ServerInfo, Codes, Login, Logout, Update, Databases, Rows, Lists, Values, Edit, Stop, Bad}
+use Rattle.song_query.proofs.Forms.{prints}
 use Rattle.http_client.specs.Requests.{CanSend, HasNumbers, IsRead, IsSmall, IsTaken, IsWithinLimits, IsWord, sent_body, verb_for}
 use Rattle.http_client.specs.Targets.{form_text, parameters_of, path_to, query_value, target_of, unless_zero}
 use Rattle.http_client.proofs.FormsBack.{AreTexts, or_else, told_back, value_under}
@@ -39,13 +42,14 @@ meta_then o meta Then want e h = subst (λ (x : Option Meta). MetaThen x Then wa
 range_then : (o : Option Range) (r : Range) (Then : Range → Want → Type 0) (want : Want) → o ≡ Some r → Then r want → RangeThen o Then want
 range_then o r Then want e h = subst (λ (x : Option Range). RangeThen x Then want) (sym e) h
 
-query_read : (asked : Option Query) (Then : Option Query → Want → Type 0) (want : Want) → IsWithinLimits asked → Then asked want → QueryThen (query_value asked) Then want
-query_read None Then want within h = h
-query_read (Some q) Then want within h = inl (q, within, h)
+query_read : (asked : Option Query) (Then : Option Query → Want → Type 0) (want : Want) → MayAsk asked → IsWithinLimits asked → Then asked want
+    → QueryThen (query_value asked) Then want
+query_read None Then want may within h = h
+query_read (Some q) Then want may within h = inl (q, (within.0, prints (tree_of q) may, within.1), h)
 
-query_then : (o : Option (List ℕ)) (asked : Option Query) (Then : Option Query → Want → Type 0) (want : Want) → o ≡ query_value asked → IsWithinLimits asked → Then asked want
-    → QueryThen o Then want
-query_then o asked Then want e within h = subst (λ (x : Option (List ℕ)). QueryThen x Then want) (sym e) (query_read asked Then want within h)
+query_then : (o : Option (List ℕ)) (asked : Option Query) (Then : Option Query → Want → Type 0) (want : Want) → o ≡ query_value asked → MayAsk asked → IsWithinLimits asked
+    → Then asked want → QueryThen o Then want
+query_then o asked Then want e may within h = subst (λ (x : Option (List ℕ)). QueryThen x Then want) (sym e) (query_read asked Then want may within h)
 
 or_none : (o : Option (List ℕ)) → or_else o None ≡ o
 or_none None = refl
@@ -87,7 +91,7 @@ rows_back session t look texts may n small =
     (number_then (codes "delta") (number_in (told (codes "delta") query)) look.base (λ base. MetaThen (meta_in (told (codes "meta") query)) (λ meta.
     AskedRows query session t (record { query = None; meta = meta; base = base; range = Whole }))) want based
     (meta_then (meta_in (told (codes "meta") query)) look.meta (λ meta. AskedRows query session t (record { query = None; meta = meta; base = look.base; range = Whole })) want named
-    (query_then (told (codes "query") query) look.query (λ o. RowsInRange query session t (record { query = o; meta = look.meta; base = look.base; range = Whole })) want asked small.0
+    (query_then (told (codes "query") query) look.query (λ o. RowsInRange query session t (record { query = o; meta = look.meta; base = look.base; range = Whole })) want asked may small.0
     (range_then (range_in (told (codes "index") query)) look.range (λ r w. w ≡ Rows session t (record { query = look.query; meta = look.meta; base = look.base; range = r })) want placed refl))))
 
 no_query : (o : Option (List ℕ)) → filter_or o None ≡ o
@@ -106,7 +110,7 @@ values_back session browse asked texts may n small =
     ap (filter_or (told (codes "filter") query)) none ∙ no_query (told (codes "filter") query) ∙ filter in
     number_then (codes "session-id") (number_in (told (codes "session-id") query)) session
     (λ s. QueryThen (filter_or (told (codes "filter") query) (told (codes "query") query)) (λ o w. w ≡ Values s browse o)) want (session_under want session texts refl n)
-    (query_then (filter_or (told (codes "filter") query) (told (codes "query") query)) asked (λ o w. w ≡ Values session browse o) want both small refl)
+    (query_then (filter_or (told (codes "filter") query) (told (codes "query") query)) asked (λ o w. w ≡ Values session browse o) want both may small refl)
 
 edit_back : (body : Result (List OneEdit) RecordError) → CanSend (Edit body) → IsRead (Edit body) → PlaceWant place.Edit (form_text (Edit body)) (sent_body (Edit body)) (Edit body)
 unfolding sent_body

@@ -23,7 +23,8 @@ use Rattle.share_asks.specs.declared.ask.Verb.{Verb}
 use Rattle.share_asks.specs.declared.ask.Verb.TheVariants as verb
 use Rattle.share_asks.specs.declared.ask.Want.{Want}
 use Rattle.share_asks.specs.declared.ask.Want.TheVariants.{ServerInfo, Codes, Login, Logout, Update, Databases, Rows, Lists, Values, Edit, Stop, Bad}
-use Rattle.song_query.specs.Answers.{Answers}
+use Rattle.song_query.specs.Answers.{IsShallow}
+use Rattle.song_query.specs.Limits.{query_bytes}
 use Rattle.song_query.specs.Printing.{printed}
 use Rattle.http_client.specs.Targets.{target_of}
 
@@ -66,10 +67,11 @@ CanSend (Edit (Err error)) = ⊥
 CanSend Stop = ⊤
 CanSend (Bad error) = ⊥
 
--- the query's text is within the limits of one that is read
+-- the query's text has no more bytes than one that is read, and no more parentheses are open in it
 abbrev pub IsWithinLimits : Option Query → Type 0
 IsWithinLimits None = ⊤
-IsWithinLimits (Some query) = Answers (printed (tree_of query)) (Ok query)
+IsWithinLimits (Some query) =
+    (length (printed (tree_of query)) ≤ query_bytes) × IsShallow (printed (tree_of query)) (length (printed (tree_of query)))
 
 -- some text asks for these properties
 abbrev pub IsNamed : Meta → Type 0
