@@ -8,7 +8,7 @@ use Rattle.share_replies.specs.Settings.{Settings}
 use Rattle.share_server.specs.declared.report.Served.{Served}
 use Rattle.share_server.specs.declared.report.LinkReport.{LinkReport}
 use Rattle.share_server.specs.declared.report.LinkEnd.{LinkEnd}
-use Rattle.share_server.specs.declared.report.LinkEnd.TheVariants.{Closed, Cut, Refused, Spent, Stopped, LinkFault, Memory}
+use Rattle.share_server.specs.declared.report.LinkEnd.TheVariants.{Closed, Cut, Refused, Spent, Stopped, LinkFault, FileFault, Memory}
 use Rattle.share_server.specs.Served.{AreServed}
 use Rattle.share_server.specs.Ends.{Idles, EndsInside, EndsAtEnd}
 use Rattle.share_server.specs.Laws.{Stays}
@@ -35,6 +35,7 @@ module _ (settings : Settings) (by limit : ℕ) (h later : List Entry) where
   at_end role input asks served rest output Spent are ends = ends
   at_end role input asks served rest output Stopped are ends = ends
   at_end role input asks served rest output LinkFault are ends = ends
+  at_end role input asks served rest output FileFault are ends = ends
   at_end role input asks served rest output Memory are ends = ends
 
   inside : (role : Role) (input : List ℕ) (asks : List Ask) (served : List Served) (rest output : List ℕ) (end : LinkEnd) → AreServed settings by h asks served
