@@ -19,6 +19,20 @@ use Rattle.share_workers.specs.Works.{Looks}
 
 -- ---- a turn that adds nothing
 
+-- nor does what no turn was taken for
+pub keeping_same : (keeps : List (List Edit) → Type 0) (is_lost : Bool) (faults : ℕ) (k k' : Pass) → is_lost ≡ false → k' ≡ k
+    → Keeping keeps keeps is_lost faults faults k k' false
+keeping_same keeps is_lost faults k k' going same = record {
+  number = ap (λ (p : Pass). p.number) same;
+  made = [];
+  lost = [];
+  unheard = refl;
+  own = ap (λ (p : Pass). entries_of maker k.number p.seen) same ∙ sym (append-nil (entries_of maker k.number k.seen));
+  kept = λ bs kept. subst keeps (sym (append-nil bs)) kept;
+  is_lost = going;
+  counts = refl;
+}
+
 -- entries of others are none of its own
 own_stays : (n : ℕ) (seen more h : List Entry) → h ≡ seen ++ more → NoneOf maker (n ∷ []) more → entries_of maker n h ≡ entries_of maker n seen
 own_stays n seen more h grows none = (continues {E = Entry} maker (n ∷ []) seen h more grows none).own n (0, omega arith, refl)
