@@ -1,5 +1,5 @@
 -- What was told of links stays right, however the history goes on.
-use Rattle.std.proofs.Common.{◌⊎◌, ℕ, List, [], ◌∷◌, ◌++◌, length, ◌-◌, sym, ◌∙◌, subst, inl, inr, append-nil, None}
+use Rattle.std.proofs.Common.{◌⊎◌, ℕ, List, [], ◌∷◌, ◌++◌, length, ◌+◌, ◌-◌, ◌≡◌, sym, ◌∙◌, subst, inl, inr, append-nil, length-append, None, arith}
 use Rattle.item_model.specs.declared.changes.Entry.{Entry}
 use Rattle.daap_outside.specs.Places.{Returned}
 use Rattle.share_asks.specs.declared.ask.Ask.{Ask}
@@ -14,6 +14,7 @@ use Rattle.share_server.specs.Ends.{Idles, EndsInside, EndsAtEnd}
 use Rattle.share_server.specs.Laws.{Stays}
 use Rattle.share_server.proofs.Longer.{stays}
 use Rattle.share_server.proofs.Endings.{ends_stay}
+use Rattle.share_server.proofs.InTurn.{rises_wider}
 use Rattle.share_server.specs.Serving.{limit_of}
 use Rattle.share_workers.specs.Works.{LinkAt, LinksAt}
 
@@ -54,6 +55,7 @@ module _ (settings : Settings) (by limit : ℕ) (h later : List Entry) where
     rest = link.rest;
     joins = link.joins;
     are_served = (same link.asks report.served link.are_served).served_too;
+    rises = rises_wider 0 0 (length h) (length (h ++ later)) report.served (omega arith) (let len : length (h ++ later) ≡ length h + length later = length-append h later in omega arith) link.rises;
     how = by_end link.how;
     faulted = link.faulted;
   }

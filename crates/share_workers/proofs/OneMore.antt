@@ -18,7 +18,7 @@ use Rattle.share_server.specs.Links.{LinkEnded}
 use Rattle.share_server.specs.Losses.{is_loss, ServesBut}
 use Rattle.share_server.specs.Passes.{Pass, Serves}
 use Rattle.share_server.proofs.Counting.{none_beyond_the_limit}
-use Rattle.share_server.proofs.InTurn.{nothing_but, serves_then_but, but_then_quiet, lost_behind, quiet_turns_serve_nothing}
+use Rattle.share_server.proofs.InTurn.{nothing_but, rises_wider, serves_then_but, but_then_quiet, lost_behind, quiet_turns_serve_nothing}
 use Rattle.share_server.specs.Serving.{limit_of, LinkServed, CountsEnd}
 use Rattle.share_workers.specs.declared.worker.WorkerEnd.{WorkerEnd}
 use Rattle.share_workers.specs.declared.worker.WorkerEnd.TheVariants.{Running, Stopped, Spent, NoMoreLinks, AcceptFault, FileFault, Memory}
@@ -142,6 +142,7 @@ module _ {L : Type 0} (left taken : L → Option (List ℕ)) (link : L) (role : 
         rest = ended.rest;
         joins = ended.joins;
         are_served = ended.serves.are_served;
+        rises = rises_wider 0 (length j.seen) (length done.before.seen) (length done.before.seen) report.served (omega arith) (omega arith) ended.serves.fresh.rises;
         how = ended.how;
         faulted = counted done.faults report.end done.counted;
       })))))

@@ -17,7 +17,7 @@ use Rattle.share_server.specs.declared.report.LinkReport.{LinkReport}
 use Rattle.share_server.specs.declared.report.LinkEnd.TheVariants.{Spent}
 use Rattle.share_server.specs.Served.{AreServed}
 use Rattle.share_server.specs.Losses.{is_loss, ServesBut, Unacknowledged}
-use Rattle.share_server.specs.Passes.{Pass}
+use Rattle.share_server.specs.Passes.{Pass, Rises}
 use Rattle.share_server.specs.Ends.{EndsInside, EndsAtEnd}
 use Rattle.share_server.specs.Serving.{is_fault, limit_of}
 
@@ -35,7 +35,8 @@ IsLostBy k k' served false lost = lost ≡ []
 IsLostBy k k' served true lost = (batch : List Edit) × Unacknowledged k k' served batch lost
 
 -- one link, by its input, its report, and what its door tells of it: the bytes written on it, and whether it failed. The
--- first asks of the input were served, in order, the bytes are theirs, and the link ended so
+-- first asks of the input were served, in order and at points that rise at each entry that was added, the bytes are theirs, and
+-- the link ended so
 pub record LinkAt (settings : Settings) (by limit : ℕ) (role : Role) (h : List Entry) (input : List ℕ) (report : LinkReport) (returned : Returned) : Type 0 where
   pub at_once : limit ≡ 0 → (report.served ≡ []) × (report.end ≡ Spent)
   pub number : report.number ≡ by
@@ -43,6 +44,7 @@ pub record LinkAt (settings : Settings) (by limit : ℕ) (role : Role) (h : List
   pub rest : List ℕ
   pub joins : Joins role input asks rest
   pub are_served : AreServed settings by h asks report.served
+  pub rises : Rises 0 report.served (length h)
   pub how : EndsInside role input settings limit h asks report.served rest returned.0 report.end
       ⊎ EndsAtEnd role input settings limit h asks report.served rest returned.0 report.end
   pub faulted : returned.1 ≡ is_fault report.end
