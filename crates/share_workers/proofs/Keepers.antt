@@ -1,6 +1,6 @@
 -- What a keeper did while a worker made entries, over one turn more; and that it has the batches of the history.
-use Rattle.std.proofs.Common.{◌≡◌, ◌+◌, ◌==◌, ℕ, List, [], ◌∷◌, ◌++◌, refl, sym, ap, ◌∙◌, subst, Bool, true, false, inl, inr, append_assoc, append-nil, if◌then◌else◌, arith}
-use Rattle.std.proofs.lemmas.Bool.{cases_Bool}
+use Rattle.std.proofs.Common.{◌≡◌, ◌==◌, ℕ, List, [], ◌∷◌, ◌++◌, refl, sym, ap, ◌∙◌, subst, Bool, true, false, append_assoc, append-nil, if◌then◌else◌, arith}
+use Rattle.std.proofs.lemmas.Bool.{eq-eqb}
 use Rattle.std.proofs.lemmas.List.{append_cancel_left}
 use Rattle.std.proofs.lemmas.List.Elements.{All-head, All-tail, filter-append}
 use Rattle.item_model.specs.declared.changes.Edit.{Edit}
@@ -61,21 +61,21 @@ either_way : (b : Bool) (e : Entry) (es : List Entry) (bs : List (List Edit)) �
 either_way true e es bs quiet is = is ∙ sym quiet
 either_way false e es bs quiet is = is
 
+abbrev IsBy : ℕ → Entry → Type 0
+IsBy n e = is_edit e ≡ true → maker e ≡ n
+
 -- those of the edits are those of the number's own entries
 own_batches : (n : ℕ) (es : List Entry) → EditsAreBy n es → batches es ≡ batches (entries_of maker n es)
 own_batches n [] are = refl
 own_batches n (entry.Edits by batch ∷ es) are =
-    let own : (by == n) ≡ true = same_number by n (All-head _ (entry.Edits by batch) es are refl) in
-    rw own (ap (λ bs. batch ∷ bs) (own_batches n es (All-tail _ (entry.Edits by batch) es are)))
-  where
-    same_number : (a b : ℕ) → a ≡ b → (a == b) ≡ true
-    same_number a b is = rw is (omega arith)
+    let own : (by == n) ≡ true = eq-eqb by n (All-head (IsBy n) (entry.Edits by batch) es are refl) in
+    rw own (ap (λ bs. batch ∷ bs) (own_batches n es (All-tail (IsBy n) (entry.Edits by batch) es are)))
 own_batches n (entry.Login by id ∷ es) are =
-    either_way (by == n) (entry.Login by id) (entries_of maker n es) (batches es) refl (own_batches n es (All-tail _ (entry.Login by id) es are))
+    either_way (by == n) (entry.Login by id) (entries_of maker n es) (batches es) refl (own_batches n es (All-tail (IsBy n) (entry.Login by id) es are))
 own_batches n (entry.Logout by id ∷ es) are =
-    either_way (by == n) (entry.Logout by id) (entries_of maker n es) (batches es) refl (own_batches n es (All-tail _ (entry.Logout by id) es are))
+    either_way (by == n) (entry.Logout by id) (entries_of maker n es) (batches es) refl (own_batches n es (All-tail (IsBy n) (entry.Logout by id) es are))
 own_batches n (entry.Stop by ∷ es) are =
-    either_way (by == n) (entry.Stop by) (entries_of maker n es) (batches es) refl (own_batches n es (All-tail _ (entry.Stop by) es are))
+    either_way (by == n) (entry.Stop by) (entries_of maker n es) (batches es) refl (own_batches n es (All-tail (IsBy n) (entry.Stop by) es are))
 
 -- the own entries behind the begin are those that were made
 own_behind : (n : ℕ) (seen seen' h behind later made : List Entry) → h ≡ seen ++ behind → h ≡ seen' ++ later → NoneOf maker (n ∷ []) later

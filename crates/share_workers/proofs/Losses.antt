@@ -1,14 +1,13 @@
 -- Edits that were lost: what is told of them over one link more.
 use Rattle.std.proofs.Common.{◌≡◌, ℕ, List, [], ◌∷◌, ◌++◌, refl, sym, ap, ◌∙◌, subst, Bool, true, false, ◌||◌, MatchBool}
 use Rattle.std.specs.List.{list_any}
-use Rattle.item_model.specs.declared.changes.Edit.{Edit}
 use Rattle.item_model.specs.declared.changes.Entry.{Entry}
 use Rattle.share_asks.specs.declared.ask.Ask.{Ask}
 use Rattle.share_asks.specs.declared.ask.Role.{Role}
 use Rattle.share_history.specs.Sessions.{is_stop, is_stopped}
 use Rattle.share_server.specs.declared.report.LinkReport.{LinkReport}
 use Rattle.share_server.specs.declared.report.Served.{Served}
-use Rattle.share_server.specs.Losses.{is_loss, edit_and_stop, LosesEdit, Unacknowledged}
+use Rattle.share_server.specs.Losses.{is_loss, LosesEdit}
 use Rattle.share_server.specs.Passes.{Pass}
 use Rattle.share_server.proofs.InTurn.{lost_before}
 use Rattle.share_workers.specs.Works.{loses_any, IsLostBy}

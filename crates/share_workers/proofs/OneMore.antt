@@ -26,7 +26,7 @@ use Rattle.share_workers.specs.Works.{all_served, loses_any, IsLostBy, LinkAt, L
 use Rattle.share_workers.specs.Ends.{GoesOnToLast, CountsAccepts, EndsWorker, IsWithin, WorkerServed, is_worker_loss}
 use Rattle.share_workers.specs.Steps.{LinkDone, Underway, GoesOnOrEnds}
 use Rattle.share_workers.proofs.Later.{link_later, links_later}
-use Rattle.share_workers.proofs.Losses.{is_nothing, link_loses, loses_last, loses_more, lost_stops, none_lost}
+use Rattle.share_workers.proofs.Losses.{link_loses, loses_more, lost_stops, none_lost}
 use Rattle.share_workers.proofs.Telling.{came_more, grown_more, is_over, counted}
 
 -- ---- one link
@@ -142,7 +142,7 @@ module _ {L : Type 0} (left taken : L → Option (List ℕ)) (link : L) (role : 
         rest = ended.rest;
         joins = ended.joins;
         are_served = ended.serves.are_served;
-        rises = rises_wider 0 (length j.seen) (length done.before.seen) (length done.before.seen) report.served (omega arith) (omega arith) ended.serves.fresh.rises;
+        rises = rises_wider (length j.seen) 0 (length done.before.seen) (length done.before.seen) report.served (omega arith) (omega arith) ended.serves.fresh.rises;
         how = ended.how;
         faulted = counted done.faults report.end done.counted;
       })))))

@@ -39,4 +39,4 @@ returns-in-Some-clause-keeping g c =
     keeping_then _ _ _ _ _ _ _ _ _ _ _ _ c.loop-end.invariant.keeping (keeping_as _ _ _ _ _ _ _ _ _ (sym (ap ends_by_loss c.in-Some.is)) c.serve_next.ensures.keeping)
 
 pub serve_next-requires-clause-going : goal.serve_next-requires-clause-going
-serve_next-requires-clause-going g c = c.loop-end.invariant.keeping.is_lost
+serve_next-requires-clause-going g c κs within = c.loop-end.invariant.keeping.is_lost
