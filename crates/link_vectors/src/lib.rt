@@ -4,4 +4,6 @@
 #[cfg(test)]
 mod connections;
 #[cfg(test)]
+mod keepers;
+#[cfg(test)]
 mod reports;

@@ -8,7 +8,7 @@ use Rattle.share_history.specs.Sessions.{is_stopped}
 use Rattle.share_replies.specs.Settings.{Settings}
 use Rattle.share_server.specs.declared.report.Served.{Served}
 use Rattle.share_server.specs.declared.report.LinkEnd.{LinkEnd}
-use Rattle.share_server.specs.declared.report.LinkEnd.TheVariants.{Closed, Cut, Refused, Spent, Stopped, LinkFault, Memory}
+use Rattle.share_server.specs.declared.report.LinkEnd.TheVariants.{Closed, Cut, Refused, Spent, Stopped, LinkFault, FileFault, Memory}
 use Rattle.share_server.specs.Served.{at_point}
 use Rattle.share_server.specs.Replies.{GoOn, end_behind}
 use Rattle.share_server.specs.Ends.{GoOnToLast, Breaks, EndsInside, EndsAtEnd, replying, wanting, refusing}
@@ -57,6 +57,7 @@ within_inside role bytes settings limit h asks served rest output Spent some (in
 within_inside role bytes settings limit h asks served rest output (Cut at) some ends = absurd ends
 within_inside role bytes settings limit h asks served rest output (Refused status) some ends = all_on limit h asks served some ends.1.goes_on
 within_inside role bytes settings limit h asks served rest output LinkFault some ends = within_breaks role bytes settings limit h asks served rest output some ends
+within_inside role bytes settings limit h asks served rest output FileFault some ends = all_on limit h asks served some ends.0
 within_inside role bytes settings limit h asks served rest output Memory some ends = to_last limit h asks served some ends.0
 
 within_end : (role : Role) (input : List ℕ) (settings : Settings) (limit : ℕ) (h : List Entry) (asks : List Ask) (served : List Served) (rest output : List ℕ) (end : LinkEnd) → 1 ≤ limit
@@ -67,6 +68,7 @@ within_end role input settings limit h asks served rest output (Refused status) 
 within_end role input settings limit h asks served rest output Spent some ends = absurd ends
 within_end role input settings limit h asks served rest output Stopped some ends = absurd ends
 within_end role input settings limit h asks served rest output LinkFault some ends = absurd ends
+within_end role input settings limit h asks served rest output FileFault some ends = absurd ends
 within_end role input settings limit h asks served rest output Memory some ends = absurd ends
 
 pub none_beyond_the_limit : NoneBeyondTheLimit

@@ -15,7 +15,7 @@ use Rattle.http_front.proofs.ReadingLaws.{first_asks_stay, one_reading, refusal_
 use Rattle.reply_bytes.specs.ReplyBytes.{failure_bytes, refusal_bytes}
 use Rattle.share_server.specs.declared.report.Served.{Served}
 use Rattle.share_server.specs.declared.report.LinkEnd.{LinkEnd}
-use Rattle.share_server.specs.declared.report.LinkEnd.TheVariants.{Closed, Cut, Refused, Spent, Stopped, LinkFault, Memory}
+use Rattle.share_server.specs.declared.report.LinkEnd.TheVariants.{Closed, Cut, Refused, Spent, Stopped, LinkFault, FileFault, Memory}
 use Rattle.share_server.specs.Served.{at_point, IsServed, AreServed}
 use Rattle.share_server.specs.Replies.{due, end_behind, replies}
 use Rattle.share_server.specs.Ends.{Parts, EndsBehind, GoOnToLast, Idles, WantsMemory, Breaks, IsCutOf, EndsInside, EndsAtEnd, all, all_told, without_last, in_its_place, replying, wanting, refusing}
@@ -119,6 +119,8 @@ module _ (settings : Settings) (by limit : ℕ) (h later : List Entry) where
     ends.3 ∙ ap (λ bs. bs ++ refusal_bytes ends.0) (same_replies asks served are),
   )
   inside_longer role bytes more asks served rest output LinkFault are ends = breaks_longer role bytes more asks served rest output are ends
+  inside_longer role bytes more asks served rest output FileFault are ends =
+      ((stays settings by limit h later 1 asks served are).goes_on ends.0, ends.1 ∙ same_replies asks served are)
   inside_longer role bytes more asks served rest output Memory are ends =
       (to_last_longer asks served are ends.0, wants_longer asks served output are ends.1)
 
@@ -215,6 +217,7 @@ inside_completes role input settings limit h asks served rest output (Refused st
     let same : r ≡ reading asks rest (Some ends.0) = one_reading role input r (reading asks rest (Some ends.0)) is ends.1.reads in
     (ap (λ (q : Reading). q.asks) same, (ends.0, ap (λ (q : Reading). q.fault) same, ends.2))
 inside_completes role input settings limit h asks served rest output LinkFault joins ends r is none = tt
+inside_completes role input settings limit h asks served rest output FileFault joins ends r is none = tt
 inside_completes role input settings limit h asks served rest output Memory joins ends r is none = tt
 
 at_end_completes : (role : Role) (input : List ℕ) (settings : Settings) (limit : ℕ) (h : List Entry) (asks : List Ask) (served : List Served) (rest output : List ℕ) (end : LinkEnd)
@@ -229,6 +232,7 @@ at_end_completes role input settings limit h asks served rest output (Refused st
 at_end_completes role input settings limit h asks served rest output Spent ends r is none = absurd ends
 at_end_completes role input settings limit h asks served rest output Stopped ends r is none = absurd ends
 at_end_completes role input settings limit h asks served rest output LinkFault ends r is none = absurd ends
+at_end_completes role input settings limit h asks served rest output FileFault ends r is none = absurd ends
 at_end_completes role input settings limit h asks served rest output Memory ends r is none = absurd ends
 
 pub completes : (role : Role) (input : List ℕ) (settings : Settings) (limit : ℕ) (h : List Entry) (asks : List Ask) (served : List Served) (rest output : List ℕ) (end : LinkEnd)

@@ -1,11 +1,13 @@
 pub mod Longer
 pub mod InTurn
+pub mod Losing
 pub mod Endings
 pub mod Counting
 pub mod Listening
 pub mod Sessions
 pub mod Saying
 pub mod Turning
+pub mod Kept
 pub mod Waiting
 pub mod Joined
 pub mod Outcomes

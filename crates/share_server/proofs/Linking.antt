@@ -1,28 +1,34 @@
 -- A connection as a whole: its begin, one read more, and its ends.
-use Rattle.std.proofs.Common.{◌≡◌, ◌<◌, ℕ, ◌+◌, ◌-◌, ◌^◌, min, List, [], ◌++◌, length, refl, sym, ap, ◌∙◌, subst, inl, inr, false, Option, Some, None, IfSome, append-nil, length-append, unwrap_or, arith}
+use Rattle.std.proofs.Common.{◌≡◌, ◌<◌, ℕ, ◌+◌, ◌-◌, ◌^◌, min, List, [], ◌∷◌, ◌++◌, length, refl, sym, ap, ◌∙◌, subst, inl, inr, Bool, true, false, true≢false, MatchBool, Option, Some, None, IfSome, append-nil, length-append, unwrap_or, arith}
 use Rattle.std.specs.List.{list_any}
 use Rattle.std.specs.Io.KnownBytes.{Appends, Consumes, IsAtEnd, Keeps}
 use Rattle.std.proofs.KnownBytes.{Appends-nil, Consumes-kept, Consumes-nil, Consumes-trans}
+use Rattle.item_model.specs.declared.changes.Edit.{Edit}
 use Rattle.share_asks.specs.declared.ask.Ask.{Ask}
 use Rattle.share_asks.specs.declared.ask.Role.{Role}
 use Rattle.share_asks.specs.declared.ask.Role.TheVariants.{Listen}
+use Rattle.share_history.specs.Histories.{batches}
 use Rattle.share_history.specs.Sessions.{is_stop}
 use Rattle.share_lock.specs.Histories.{entries_of}
-use Rattle.share_replies.specs.Laws.{is_edit, maker}
+use Rattle.share_replies.specs.Laws.{is_change, is_edit, maker}
 use Rattle.http_front.specs.Readers.{HasRead, Reader}
 use Rattle.http_front.specs.Readings.{IsReading, Joins, reading}
 use Rattle.http_front.proofs.ReadingLaws.{handed_join, reads_all}
 use Rattle.share_server.specs.declared.report.Served.{Served}
 use Rattle.share_server.specs.declared.report.LinkEnd.{LinkEnd}
 use Rattle.share_server.specs.declared.report.LinkReport.{LinkReport}
-use Rattle.share_server.specs.declared.report.LinkEnd.TheVariants.{Closed, Cut, Refused, Spent, Stopped, LinkFault, Memory}
+use Rattle.share_server.specs.declared.report.LinkEnd.TheVariants.{Closed, Cut, Refused, Spent, Stopped, LinkFault, FileFault, Memory}
 use Rattle.share_server.specs.Served.{added_entries}
 use Rattle.share_server.specs.Replies.{replies}
 use Rattle.share_server.specs.Passes.{Pass, Serves}
 use Rattle.share_server.specs.Ends.{EndsInside, EndsAtEnd, Idles, all_told, replying}
+use Rattle.share_server.specs.Losses.{LosesEdit, is_loss}
+use Rattle.share_server.specs.Kept.{Keeping}
 use Rattle.share_server.specs.Links.{LinkEnded}
 use Rattle.share_server.proofs.Endings.{ends_are_decided}
-use Rattle.share_server.proofs.Listening.{players_change_nothing}
+use Rattle.share_server.proofs.InTurn.{but_nothing}
+use Rattle.share_server.proofs.Listening.{last_is_quiet, players_change_nothing}
+use Rattle.share_server.proofs.Losing.{kept_added, loses_none, unheard}
 use Rattle.share_server.specs.Serving.{LinkServed, limit_of}
 use Rattle.share_server.specs.Written.{IsGivenUp}
 use Rattle.share_server.specs.Steps.{Goes, Ends, Midway, Feeds, Underway, Pumps, EndsInput}
@@ -84,7 +90,9 @@ ended_inside role bytes limit k k' left left' taken taken' served end some ends 
       asks = e.asks;
       rest = e.rest;
       joins = e.joins;
+      lost = e.lost;
       serves = e.serves;
+      loses = e.loses;
       output = e.output;
       written = e.written;
       how = inl e.how;
@@ -139,7 +147,7 @@ module _ (role : Role) (limit : ℕ) (k k' : Pass) (left left1 left2 taken taken
       let joins = handed_join under.bytes asks_here r under.midway.read in
       ended_inside role under.bytes limit k k' left left2 taken taken2 served LinkFault under.some
       (ended_at role under.bytes limit k k' taken taken1 taken2 asks_here served joins.0 base
-      (subst (λ (x : Role). Joins x under.bytes asks_here joins.0) under.midway.role_is joins.1) goes.serves goes.written LinkFault untouched
+      (subst (λ (x : Role). Joins x under.bytes asks_here joins.0) under.midway.role_is joins.1) goes.serves goes.written LinkFault refl untouched
       (replying (inl goes.goes_on) (cut_whole base)))
       (Consumes-kept left left1 left2 under.bytes under.off keeps)
 
@@ -158,9 +166,9 @@ module _ (role : Role) (limit : ℕ) (k k' : Pass) (left left1 left2 taken taken
         subst (λ (x : Role). IsReading x under.bytes (reading asks_here r.kept None)) under.midway.role_is
         (reads_all under.bytes asks_here r under.midway.read under.midway.fine under.midway.idle)
 
-    ended_by : (end : LinkEnd) → EndsAtEnd role under.bytes k.settings limit k'.seen asks_here served r.kept base end
+    ended_by : (end : LinkEnd) → is_loss end ≡ false → EndsAtEnd role under.bytes k.settings limit k'.seen asks_here served r.kept base end
         → LinkEnded role limit k k' left taken taken2 served end
-    ended_by end how =
+    ended_by end no how =
         let goes = under.midway.goes in
         let some = under.some in
         record {
@@ -170,7 +178,9 @@ module _ (role : Role) (limit : ℕ) (k k' : Pass) (left left1 left2 taken taken
           asks = asks_here;
           rest = r.kept;
           joins = reads_here.joins;
-          serves = goes.serves;
+          lost = [];
+          serves = but_nothing k k' asks_here served goes.serves;
+          loses = loses_none role asks_here k k' served end under.bytes no;
           output = base;
           written = subst (λ t. Appends taken t base) (sym untouched) goes.written;
           how = inr how;
@@ -181,12 +191,13 @@ module _ (role : Role) (limit : ℕ) (k k' : Pass) (left left1 left2 taken taken
     idles_here = record { goes_on = under.midway.goes.goes_on; reads = reads_here }
 
     pub at_the_end : (end : LinkEnd) → EndsInput r consumed end → LinkEnded role limit k k' left taken taken2 served end
-    at_the_end Closed is = ended_by Closed (idles_here, is, refl)
-    at_the_end (Cut at) is = ended_by (Cut at) (idles_here, is.0, is.1 ∙ under.counted, refl)
+    at_the_end Closed is = ended_by Closed refl (idles_here, is, refl)
+    at_the_end (Cut at) is = ended_by (Cut at) refl (idles_here, is.0, is.1 ∙ under.counted, refl)
     at_the_end (Refused status) is = absurd is
     at_the_end Spent is = absurd is
     at_the_end Stopped is = absurd is
     at_the_end LinkFault is = absurd is
+    at_the_end FileFault is = absurd is
     at_the_end Memory is = absurd is
 
 -- ---- before the first read
@@ -206,7 +217,9 @@ spent_at_once role limit k left taken none =
       asks = [];
       rest = input;
       joins = no_asks role input;
-      serves = serves_nothing k;
+      lost = [];
+      serves = but_nothing k k [] [] (serves_nothing k);
+      loses = refl;
       output = [];
       written = Appends-nil taken;
       how = inl how;
@@ -234,6 +247,30 @@ players_are_quiet role limit k k' left taken taken' served end ended plays =
     players_change_nothing ended.input ended.asks ended.rest k.settings k.number k'.seen served
     (subst (λ (x : Role). Joins x ended.input ended.asks ended.rest) plays ended.joins) ended.serves.are_served
 
+-- nor do they lose an edit
+pub players_keep_nothing : (role : Role) (limit : ℕ) (k k' : Pass) (left taken taken' : Option (List ℕ)) (served : List Served) (end : LinkEnd)
+    → LinkEnded role limit k k' left taken taken' served end → role ≡ Listen → is_loss end ≡ false
+players_keep_nothing role limit k k' left taken taken' served end ended plays = by_end (is_loss end) ended.loses
+  where
+    by_end : (b : Bool) → MatchBool b (LosesEdit role ended.input ended.asks k k' served ended.lost) (ended.lost ≡ []) → b ≡ false
+    by_end false none = refl
+    by_end true loses =
+        absurd
+        (true≢false
+        (sym (ap is_change loses.asks_it)
+        ∙ last_is_quiet ended.input ended.asks loses.ask loses.behind
+        (subst (λ (x : Role). Joins x ended.input (ended.asks ++ loses.ask ∷ []) loses.behind) plays loses.next)))
+
+-- ---- keepers
+
+-- what a keeper kept over the connection
+pub kept_served : (keeps keeps' : List (List Edit) → Type 0) (is_lost' : Bool) (faults faults' : ℕ) (role : Role) (limit : ℕ) (k k' : Pass) (left taken taken' : Option (List ℕ)) (served : List Served) (end : LinkEnd)
+    → Keeping keeps keeps' is_lost' faults faults' k k' (is_loss end) → LinkEnded role limit k k' left taken taken' served end
+    → (bs : List (List Edit)) → keeps bs → keeps' (bs ++ batches (added_entries k'.seen served))
+kept_served keeps keeps' is_lost' faults faults' role limit k k' left taken taken' served end keeping ended =
+    kept_added keeps keeps' is_lost' faults faults' k k' (is_loss end) ended.asks served ended.lost keeping ended.serves
+    (unheard role ended.asks k k' served end ended.input ended.lost ended.loses)
+
 -- ---- the report
 
 pub reported : (role : Role) (budget limit : ℕ) (k k' : Pass) (left taken taken' : Option (List ℕ)) (served : List Served) (report : LinkReport) → limit ≡ limit_of budget
@@ -247,4 +284,5 @@ reported role budget limit k k' left taken taken' served report limits number sa
       number = number;
       ended = ends;
       quiet = players_are_quiet role (limit_of budget) k k' left taken taken' report.served report.end ends;
+      unlost = players_keep_nothing role (limit_of budget) k k' left taken taken' report.served report.end ends;
     }

@@ -19,6 +19,7 @@ use Rattle.share_replies.specs.Added.{adds}
 use Rattle.share_replies.specs.Laws.{is_change, is_edit}
 use Rattle.share_replies.proofs.ReplyFacts.{readers_change_nothing}
 use Rattle.http_front.specs.Asks.{Spells}
+use Rattle.http_front.specs.Readings.{Joins}
 use Rattle.http_front.specs.Numbers.{number_in, range_in}
 use Rattle.http_front.specs.Parameters.{told, meta_in}
 use Rattle.http_front.specs.Routes.{for_role, place_at, place_of, verb_of, verb_text}
@@ -154,7 +155,7 @@ quiet_added settings by h want s quiet is = by_status (s.status == 500) is.how
         let none = quiet_entries (answered_on s.added (at_point h s)) by want (adds (answered_on s.added (at_point h s)) by want) refl quiet in
         (ap (list_any is_edit) replied.adds_it ∙ none.0, ap (list_any is_stop) replied.adds_it ∙ none.1)
 
-any_neither : (p : Entry → Bool) (xs ys : List Entry) → list_any p xs ≡ false → list_any p ys ≡ false → list_any p (xs ++ ys) ≡ false
+pub any_neither : (p : Entry → Bool) (xs ys : List Entry) → list_any p xs ≡ false → list_any p ys ≡ false → list_any p (xs ++ ys) ≡ false
 any_neither p [] ys none_x none_y = none_y
 any_neither p (x ∷ xs) ys none_x none_y = by_test (p x) none_x (λ rest. any_neither p xs ys rest none_y)
   where
@@ -176,3 +177,13 @@ quiet_all settings by h (m ∷ ms) (ask ∷ asks) (s ∷ served) spell are =
 
 pub players_change_nothing : PlayersChangeNothing
 players_change_nothing input asks rest settings by h served joins are = quiet_all settings by h joins.requests asks served joins.spell are
+
+-- nor does the last of a player's asks ask for a change
+pub last_is_quiet : (input : List ℕ) (asks : List Ask) (ask : Ask) (rest : List ℕ) → Joins Listen input (asks ++ ask ∷ []) rest → is_change ask.want ≡ false
+last_is_quiet input asks ask rest joins = by_messages joins.requests asks joins.spell
+  where
+    by_messages : (ms : List Message) (asks : List Ask) → AllZip (Spells Listen) ms (asks ++ ask ∷ []) → is_change ask.want ≡ false
+    by_messages [] [] spell = absurd spell
+    by_messages (m ∷ ms) [] spell = player_is_quiet m ask spell.0
+    by_messages [] (a ∷ asks) spell = absurd spell
+    by_messages (m ∷ ms) (a ∷ asks) spell = by_messages ms asks spell.1

@@ -1,5 +1,5 @@
 -- How a connection ended, by what came of the last write on it.
-use Rattle.std.proofs.Common.{◌≡◌, ◌≢◌, ℕ, ◌+◌, List, [], ◌++◌, length, take, drop, sym, ap, ◌∙◌, subst, inl, inr, Bool, true, false, cond, ◌==◌, Option, Some, None, append_assoc, append-nil, take-append-drop}
+use Rattle.std.proofs.Common.{◌≡◌, ◌≢◌, ℕ, ◌+◌, List, [], ◌++◌, length, take, drop, refl, sym, ap, ◌∙◌, subst, inl, inr, Bool, true, false, cond, ◌==◌, Option, Some, None, append_assoc, append-nil, take-append-drop}
 use Rattle.std.specs.Io.KnownBytes.{Appends}
 use Rattle.std.proofs.KnownBytes.{Appends-trans}
 use Rattle.item_model.specs.declared.changes.Entry.{Entry}
@@ -12,10 +12,13 @@ use Rattle.http_front.specs.Readings.{Joins}
 use Rattle.reply_bytes.specs.ReplyBytes.{failure_bytes}
 use Rattle.share_server.specs.declared.report.Served.{Served}
 use Rattle.share_server.specs.declared.report.LinkEnd.{LinkEnd}
-use Rattle.share_server.specs.declared.report.LinkEnd.TheVariants.{Closed, Cut, Refused, Spent, Stopped, LinkFault, Memory}
+use Rattle.share_server.specs.declared.report.LinkEnd.TheVariants.{Closed, Cut, Refused, Spent, Stopped, LinkFault, FileFault, Memory}
 use Rattle.share_server.specs.Served.{at_point}
 use Rattle.share_server.specs.Replies.{end_behind, replies}
 use Rattle.share_server.specs.Passes.{Pass, Serves}
+use Rattle.share_server.specs.Losses.{is_loss}
+use Rattle.share_server.proofs.InTurn.{but_nothing}
+use Rattle.share_server.proofs.Losing.{loses_none}
 use Rattle.share_server.specs.Ends.{EndsBehind, GoOnToLast, WantsMemory, IsCutOf, EndsInside, wanting}
 use Rattle.share_server.specs.Written.{IsGivenUp, IsRefused}
 use Rattle.share_server.specs.Steps.{Ends}
@@ -51,6 +54,17 @@ module _ (role : Role) (bytes : List ℕ) (settings : Settings) (limit : ℕ) (h
   never end a b c behind =
       no_other limit (length behind.parts.earlier + 1) behind.parts.ask.close (is_stopped (at_point h behind.parts.last)) end a b c behind.is_due
 
+  -- an end that is due behind a reply is no loss
+  pub due_loses_none : (end : LinkEnd) → EndsBehind limit h asks served end → is_loss end ≡ false
+  due_loses_none Closed behind = refl
+  due_loses_none Stopped behind = refl
+  due_loses_none Spent behind = refl
+  due_loses_none (Cut at) behind = refl
+  due_loses_none (Refused status) behind = refl
+  due_loses_none LinkFault behind = refl
+  due_loses_none FileFault behind = absurd (never FileFault (λ e. cc) (λ e. cc) (λ e. cc) behind)
+  due_loses_none Memory behind = refl
+
   -- an end that is due behind the last reply, all of which are written
   pub due_inside : (output : List ℕ) (end : LinkEnd) → EndsBehind limit h asks served end → output ≡ replies settings limit h asks served
       → EndsInside role bytes settings limit h asks served rest output end
@@ -60,6 +74,7 @@ module _ (role : Role) (bytes : List ℕ) (settings : Settings) (limit : ℕ) (h
   due_inside output (Cut at) behind is = absurd (never (Cut at) (λ e. cc) (λ e. cc) (λ e. cc) behind)
   due_inside output (Refused status) behind is = absurd (never (Refused status) (λ e. cc) (λ e. cc) (λ e. cc) behind)
   due_inside output LinkFault behind is = absurd (never LinkFault (λ e. cc) (λ e. cc) (λ e. cc) behind)
+  due_inside output FileFault behind is = absurd (never FileFault (λ e. cc) (λ e. cc) (λ e. cc) behind)
   due_inside output Memory behind is = absurd (never Memory (λ e. cc) (λ e. cc) (λ e. cc) behind)
 
 -- there was no memory to write a refusal
@@ -70,6 +85,7 @@ refused_anyway error taken taken' (Refused status) up = absurd up
 refused_anyway error taken taken' Spent up = absurd up
 refused_anyway error taken taken' Stopped up = absurd up
 refused_anyway error taken taken' LinkFault up = inr up
+refused_anyway error taken taken' FileFault up = absurd up
 refused_anyway error taken taken' Memory up = up
 
 -- ---- ends by a write
@@ -80,24 +96,28 @@ module _ (role : Role) (bytes : List ℕ) (limit : ℕ) (k k' : Pass) (taken tak
   Inside output end = EndsInside role bytes k.settings limit k'.seen asks served rest output end
 
   -- the connection ended with these bytes behind the base
-  pub ended_with : (more : List ℕ) (end : LinkEnd) → Appends taken' taken'' more → Inside (base ++ more) end → Ends role bytes limit k k' taken taken'' served end
-  ended_with more end last how = record {
+  pub ended_with : (more : List ℕ) (end : LinkEnd) → is_loss end ≡ false → Appends taken' taken'' more → Inside (base ++ more) end → Ends role bytes limit k k' taken taken'' served end
+  ended_with more end no last how = record {
     asks = asks;
     rest = rest;
     joins = joins;
-    serves = serves;
+    lost = [];
+    serves = but_nothing k k' asks served serves;
+    loses = loses_none role asks k k' served end bytes no;
     output = base ++ more;
     written = Appends-trans taken taken' taken'' base more written last;
     how = how;
   }
 
   -- with nothing more
-  pub ended_at : (end : LinkEnd) → taken'' ≡ taken' → Inside base end → Ends role bytes limit k k' taken taken'' served end
-  ended_at end same how = record {
+  pub ended_at : (end : LinkEnd) → is_loss end ≡ false → taken'' ≡ taken' → Inside base end → Ends role bytes limit k k' taken taken'' served end
+  ended_at end no same how = record {
     asks = asks;
     rest = rest;
     joins = joins;
-    serves = serves;
+    lost = [];
+    serves = but_nothing k k' asks served serves;
+    loses = loses_none role asks k k' served end bytes no;
     output = base;
     written = subst (λ t. Appends taken t base) (sym same) written;
     how = how;
@@ -112,5 +132,6 @@ module _ (role : Role) (bytes : List ℕ) (limit : ℕ) (k k' : Pass) (taken tak
   up_given Spent on wants up = absurd up
   up_given Stopped on wants up = absurd up
   up_given LinkFault on wants up =
-      ended_with (take up.0 (failure_bytes true)) LinkFault up.2 (wanting (base ++ failure_bytes true) on wants (cut_behind base (failure_bytes true) up.0))
-  up_given Memory on wants up = ended_with (failure_bytes true) Memory up (on, wants)
+      ended_with (take up.0 (failure_bytes true)) LinkFault refl up.2 (wanting (base ++ failure_bytes true) on wants (cut_behind base (failure_bytes true) up.0))
+  up_given FileFault on wants up = absurd up
+  up_given Memory on wants up = ended_with (failure_bytes true) Memory refl up (on, wants)

@@ -12,19 +12,20 @@ use Rattle.share_replies.specs.Replies.{answer_to}
 use Rattle.reply_bytes.specs.ReplyBytes.{failure_bytes}
 use Rattle.share_server.specs.declared.report.Served.{Served}
 use Rattle.share_server.specs.declared.report.LinkEnd.{LinkEnd}
-use Rattle.share_server.specs.declared.report.LinkEnd.TheVariants.{LinkFault, Memory}
+use Rattle.share_server.specs.declared.report.LinkEnd.TheVariants.{LinkFault, FileFault, Memory}
 use Rattle.share_server.specs.Served.{at_point, answered_on}
 use Rattle.share_server.specs.Replies.{GoOn, answer_bytes, due, end_behind, replies, served_bytes}
 use Rattle.share_server.specs.Passes.{Pass, Serves}
-use Rattle.share_server.specs.Ends.{Parts, GoOnToLast, IsCutOf, all_told, without_last, in_its_place, replying}
+use Rattle.share_server.specs.Ends.{Parts, EndsBehind, GoOnToLast, IsCutOf, all_told, without_last, in_its_place, replying}
 use Rattle.share_server.specs.Laws.{Stays}
 use Rattle.share_server.proofs.Longer.{stays}
-use Rattle.share_server.proofs.InTurn.{serves_in_turn}
-use Rattle.share_server.specs.Answering.{Says}
+use Rattle.share_server.specs.Losses.{ServesBut, Unacknowledged}
+use Rattle.share_server.proofs.InTurn.{serves_in_turn, serves_then_but, lost_behind}
+use Rattle.share_server.specs.Answering.{Says, IsLost}
 use Rattle.share_server.specs.Written.{IsGivenUp, IsSayable, WasWritten, said_bytes, whole, broken, left_out, replaced}
 use Rattle.share_server.specs.Steps.{Goes, Exchanges}
 use Rattle.share_server.proofs.Joined.{goes_on_joined, replies_joined}
-use Rattle.share_server.proofs.Outcomes.{cut_behind, cut_whole, due_inside, ended_at, ended_with, up_given}
+use Rattle.share_server.proofs.Outcomes.{cut_behind, cut_whole, due_inside, due_loses_none, ended_at, ended_with, up_given}
 
 -- all replies but the last stand on the connection, which went on behind them
 record AllButLast (limit : ℕ) (k k' : Pass) (taken taken' : Option (List ℕ)) (asks : List Ask) (ask : Ask) (served : List Served) (s : Served) : Type 0 where
@@ -32,17 +33,29 @@ record AllButLast (limit : ℕ) (k k' : Pass) (taken taken' : Option (List ℕ))
   goes_on : GoOn limit k'.seen 1 asks served
   written : Appends taken taken' (replies k.settings limit k'.seen asks served)
 
+-- what was served and written stays so, whatever the pass saw later
+record GoesStill (limit : ℕ) (k k' : Pass) (taken taken' : Option (List ℕ)) (asks : List Ask) (served : List Served) : Type 0 where
+  goes_on : GoOn limit k'.seen 1 asks served
+  written : Appends taken taken' (replies k.settings limit k'.seen asks served)
+
+goes_still : (limit : ℕ) (k k1 k2 : Pass) (more : List Entry) (taken taken' : Option (List ℕ)) (asks : List Ask) (served : List Served)
+    → Goes limit k k1 taken taken' asks served → k2.seen ≡ k1.seen ++ more → GoesStill limit k k2 taken taken' asks served
+goes_still limit k k1 k2 more taken taken' asks served goes grows =
+    let later : Stays k.settings k.number limit k1.seen more 1 asks served = stays k.settings k.number limit k1.seen more 1 asks served goes.serves.are_served in
+    record {
+      goes_on = subst (λ h. GoOn limit h 1 asks served) (sym grows) (later.goes_on goes.goes_on);
+      written = subst (λ bytes. Appends taken taken' bytes) (sym (ap (λ h. replies k.settings limit h asks served) grows ∙ later.bytes)) goes.written;
+    }
+
 -- a request was answered behind those that were served
 answered_behind : (limit : ℕ) (k k1 k2 : Pass) (taken taken' : Option (List ℕ)) (asks : List Ask) (ask : Ask) (served : List Served) (s : Served)
     → Goes limit k k1 taken taken' asks served → Serves k1 k2 (ask ∷ []) (s ∷ []) → AllButLast limit k k2 taken taken' asks ask served s
 answered_behind limit k k1 k2 taken taken' asks ask served s goes one =
-    let grows : k2.seen ≡ k1.seen ++ one.fresh.more = one.fresh.grows in
-    let later : Stays k.settings k.number limit k1.seen one.fresh.more 1 asks served =
-    stays k.settings k.number limit k1.seen one.fresh.more 1 asks served goes.serves.are_served in
+    let still : GoesStill limit k k2 taken taken' asks served = goes_still limit k k1 k2 one.fresh.more taken taken' asks served goes one.fresh.grows in
     record {
       serves = serves_in_turn k k1 k2 asks (ask ∷ []) served (s ∷ []) goes.serves one;
-      goes_on = subst (λ h. GoOn limit h 1 asks served) (sym grows) (later.goes_on goes.goes_on);
-      written = subst (λ bytes. Appends taken taken' bytes) (sym (ap (λ h. replies k.settings limit h asks served) grows ∙ later.bytes)) goes.written;
+      goes_on = still.goes_on;
+      written = still.written;
     }
 
 -- ---- the reply
@@ -70,6 +83,9 @@ module _ (limit : ℕ) (k k' : Pass) (taken taken' taken'' : Option (List ℕ)) 
       ap (λ n. base ++ bytes_here (is_some (due limit n ask (at_point k'.seen s)))) same
       ∙ sym (replies_joined limit k'.seen ask s k.settings 1 asks served all.goes_on)
 
+  due_behind : (end : LinkEnd) → Some end ≡ due_here → EndsBehind limit k'.seen (asks ++ ask ∷ []) (served ++ s ∷ []) end
+  due_behind end is = record { parts = parts; goes_on = all.goes_on; is_due = sym is }
+
   -- it is written whole
   by_due : (d : Option LinkEnd) → d ≡ due_here → Appends taken' taken'' (bytes_here (is_some d))
       → Exchanges limit k k' taken taken'' asks ask (served ++ s ∷ []) d
@@ -84,9 +100,9 @@ module _ (limit : ℕ) (k k' : Pass) (taken taken' taken'' : Option (List ℕ)) 
       }
   by_due (Some end) is last = λ role bytes begin.
       ended_with role bytes limit k k' taken taken' taken'' (asks ++ ask ∷ []) (served ++ s ∷ []) begin.rest base begin.all all.serves all.written
-      (bytes_here (is_some (Some end))) end last
-      (due_inside role bytes k.settings limit k'.seen (asks ++ ask ∷ []) (served ++ s ∷ []) begin.rest (base ++ bytes_here (is_some (Some end))) end
-      (record { parts = parts; goes_on = all.goes_on; is_due = sym is })
+      (bytes_here (is_some (Some end))) end
+      (due_loses_none role bytes k.settings limit k'.seen (asks ++ ask ∷ []) (served ++ s ∷ []) begin.rest end (due_behind end is)) last
+      (due_inside role bytes k.settings limit k'.seen (asks ++ ask ∷ []) (served ++ s ∷ []) begin.rest (base ++ bytes_here (is_some (Some end))) end (due_behind end is)
       (ap (λ d. base ++ bytes_here (is_some d)) is ∙ all_replies))
 
   by_outcome : (d end : Option LinkEnd) → d ≡ due_here → WasWritten (bytes_here (is_some d)) s.added d taken' taken'' end
@@ -96,7 +112,7 @@ module _ (limit : ℕ) (k k' : Pass) (taken taken' taken'' : Option (List ℕ)) 
       subst (λ o. Exchanges limit k k' taken taken'' asks ask (served ++ s ∷ []) o) (sym e)
       (λ role bytes begin.
       ended_with role bytes limit k k' taken taken' taken'' (asks ++ ask ∷ []) (served ++ s ∷ []) begin.rest base begin.all all.serves all.written
-      (take part.0 (bytes_here (is_some d))) LinkFault part.2
+      (take part.0 (bytes_here (is_some d))) LinkFault refl part.2
       (replying to_last
       (subst (λ all_bytes. IsCutOf (base ++ take part.0 (bytes_here (is_some d))) all_bytes) (ap (λ o. base ++ bytes_here (is_some o)) is ∙ all_replies)
       (cut_behind base (bytes_here (is_some d)) part.0))))
@@ -104,7 +120,7 @@ module _ (limit : ℕ) (k k' : Pass) (taken taken' taken'' : Option (List ℕ)) 
       subst (λ o. Exchanges limit k k' taken taken'' asks ask (served ++ s ∷ []) o) (sym e)
       (λ role bytes begin.
       ended_at role bytes limit k k' taken taken' taken'' (asks ++ ask ∷ []) (served ++ s ∷ []) begin.rest base begin.all all.serves all.written
-      Memory same (to_last, without_last parts refl))
+      Memory refl same (to_last, without_last parts refl))
   by_outcome d end is (replaced none up given e) =
       subst (λ o. Exchanges limit k k' taken taken'' asks ask (served ++ s ∷ []) o) (sym e)
       (λ role bytes begin.
@@ -144,26 +160,44 @@ unserved limit k k' taken taken' taken'' asks ask served end goes up = λ role b
     up_given role bytes limit k k' taken taken' taken'' asks served begin.behind (replies k.settings limit k'.seen asks served) begin.first goes.serves
     goes.written end (inl goes.goes_on) (all_told refl) up
 
--- the pass saw more while nothing was served: what went on goes on
-goes_longer : (limit : ℕ) (k k1 k2 : Pass) (taken taken' : Option (List ℕ)) (asks : List Ask) (served : List Served)
-    → Goes limit k k1 taken taken' asks served → Serves k1 k2 [] [] → Goes limit k k2 taken taken' asks served
-goes_longer limit k k1 k2 taken taken' asks served goes none =
-    let grows : k2.seen ≡ k1.seen ++ none.fresh.more = none.fresh.grows in
-    let later : Stays k.settings k.number limit k1.seen none.fresh.more 1 asks served =
-    stays k.settings k.number limit k1.seen none.fresh.more 1 asks served goes.serves.are_served in
-    record {
-      serves =
-          subst (λ served. Serves k k2 asks served) (append-nil served)
-          (subst (λ asks. Serves k k2 asks (served ++ [])) (append-nil asks) (serves_in_turn k k1 k2 asks [] served [] goes.serves none));
-      goes_on = subst (λ h. GoOn limit h 1 asks served) (sym grows) (later.goes_on goes.goes_on);
-      written = subst (λ bytes. Appends taken taken' bytes) (sym (ap (λ h. replies k.settings limit h asks served) grows ∙ later.bytes)) goes.written;
-    }
-
 -- its peer went while it was held: all replies stand on the connection
 pub gone : (limit : ℕ) (k k1 k2 : Pass) (taken taken' taken'' : Option (List ℕ)) (asks : List Ask) (ask : Ask) (served : List Served)
     → Goes limit k k1 taken taken' asks served → Serves k1 k2 [] [] → taken'' ≡ taken'
     → Exchanges limit k k2 taken taken'' asks ask served (Some LinkFault)
 gone limit k k1 k2 taken taken' taken'' asks ask served goes none same = λ role bytes begin.
-    let longer : Goes limit k k2 taken taken' asks served = goes_longer limit k k1 k2 taken taken' asks served goes none in
-    ended_at role bytes limit k k2 taken taken' taken'' asks served begin.behind (replies k.settings limit k2.seen asks served) begin.first longer.serves
-    longer.written LinkFault same (replying (inl longer.goes_on) (cut_whole (replies k.settings limit k2.seen asks served)))
+    let still : GoesStill limit k k2 taken taken' asks served = goes_still limit k k1 k2 none.fresh.more taken taken' asks served goes none.fresh.grows in
+    let serves : Serves k k2 asks served =
+    subst (λ served. Serves k k2 asks served) (append-nil served)
+    (subst (λ asks. Serves k k2 asks (served ++ [])) (append-nil asks) (serves_in_turn k k1 k2 asks [] served [] goes.serves none)) in
+    ended_at role bytes limit k k2 taken taken' taken'' asks served begin.behind (replies k.settings limit k2.seen asks served) begin.first serves
+    still.written LinkFault refl same (replying (inl still.goes_on) (cut_whole (replies k.settings limit k2.seen asks served)))
+
+-- its edit was lost: all replies stand on the connection, and none to it
+pub unkept : (limit : ℕ) (k k1 k2 : Pass) (taken taken' taken'' : Option (List ℕ)) (asks : List Ask) (ask : Ask) (served : List Served)
+    → Goes limit k k1 taken taken' asks served → IsLost k1 k2 ask → taken'' ≡ taken'
+    → Exchanges limit k k2 taken taken'' asks ask served (Some FileFault)
+unkept limit k k1 k2 taken taken' taken'' asks ask served goes is same = λ role bytes begin.
+    let still : GoesStill limit k k2 taken taken' asks served = goes_still limit k k1 k2 is.serves.fresh.more taken taken' asks served goes is.serves.fresh.grows in
+    record {
+      asks = asks;
+      rest = begin.behind;
+      joins = begin.first;
+      lost = is.lost;
+      serves =
+          subst (λ served. ServesBut k k2 asks served is.lost) (append-nil served)
+          (subst (λ asks. ServesBut k k2 asks (served ++ []) is.lost) (append-nil asks)
+          (serves_then_but k k1 k2 asks [] served [] is.lost goes.serves is.serves));
+      loses = record {
+        ask = ask;
+        behind = begin.rest;
+        next = begin.all;
+        batch = is.batch;
+        asks_it = is.asks_it;
+        made =
+            subst (λ served. Unacknowledged k k2 served is.batch is.lost) (append-nil served)
+            (lost_behind k k1 k2 asks served [] is.batch is.lost goes.serves is.made);
+      };
+      output = replies k.settings limit k2.seen asks served;
+      written = subst (λ t. Appends taken t (replies k.settings limit k2.seen asks served)) (sym same) still.written;
+      how = (still.goes_on, refl);
+    }

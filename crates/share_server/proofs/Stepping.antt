@@ -11,11 +11,12 @@ use Rattle.http_front.proofs.ReadingLaws.{handed_join, joins_stay, reads_refused
 use Rattle.reply_bytes.specs.ReplyBytes.{refusal_bytes}
 use Rattle.share_server.specs.declared.report.Served.{Served}
 use Rattle.share_server.specs.declared.report.LinkEnd.{LinkEnd}
-use Rattle.share_server.specs.declared.report.LinkEnd.TheVariants.{Closed, Cut, Refused, Spent, Stopped, LinkFault, Memory}
+use Rattle.share_server.specs.declared.report.LinkEnd.TheVariants.{Closed, Cut, Refused, Spent, Stopped, LinkFault, FileFault, Memory}
 use Rattle.share_server.specs.Replies.{replies}
 use Rattle.share_server.specs.Passes.{Pass}
 use Rattle.share_server.specs.Ends.{EndsInside, all_told, refusing}
 use Rattle.share_server.proofs.Endings.{ends_stay}
+use Rattle.share_server.proofs.Losing.{loses_longer}
 use Rattle.share_server.specs.Written.{IsGivenUp, IsRefused}
 use Rattle.share_server.specs.Steps.{Goes, Ends, Exchanges, Midway}
 use Rattle.share_server.proofs.Outcomes.{cut_behind, ended_with, up_given}
@@ -27,7 +28,9 @@ ends_longer role bytes more limit k k' taken taken' served end ends = record {
   asks = ends.asks;
   rest = ends.rest ++ more;
   joins = joins_stay role bytes more ends.asks ends.rest ends.joins;
+  lost = ends.lost;
   serves = ends.serves;
+  loses = loses_longer role ends.asks k k' served end bytes more ends.lost ends.loses;
   output = ends.output;
   written = ends.written;
   how =
@@ -142,11 +145,12 @@ module _ (role : Role) (bytes : List ℕ) (limit : ℕ) (k k' : Pass) (taken tak
   refused_by rest e Stopped reads refused = absurd refused
   refused_by rest e (Refused status) reads refused =
       ended_with role bytes limit k k' taken taken' taken'' asks served rest base reads.joins goes.serves goes.written (refusal_bytes e) (Refused status)
-      refused.1 (e, record { goes_on = goes.goes_on; reads = reads }, refused.0, refl)
+      refl refused.1 (e, record { goes_on = goes.goes_on; reads = reads }, refused.0, refl)
   refused_by rest e LinkFault reads (inl part) =
       ended_with role bytes limit k k' taken taken' taken'' asks served rest base reads.joins goes.serves goes.written (take part.0 (refusal_bytes e)) LinkFault
-      part.2 (refusing e (record { goes_on = goes.goes_on; reads = reads }) (cut_behind base (refusal_bytes e) part.0))
+      refl part.2 (refusing e (record { goes_on = goes.goes_on; reads = reads }) (cut_behind base (refusal_bytes e) part.0))
   refused_by rest e LinkFault reads (inr part) = without_memory rest LinkFault reads.joins part
+  refused_by rest e FileFault reads refused = absurd refused
   refused_by rest e Memory reads refused = without_memory rest Memory reads.joins refused
 
 pub was_unread : (role : Role) (bytes piece : List ℕ) (limit : ℕ) (k k' : Pass) (taken taken' taken'' : Option (List ℕ)) (r r' : Reader) (served : List Served) (e : HeadError) (end : LinkEnd)

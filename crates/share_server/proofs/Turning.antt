@@ -1,12 +1,13 @@
 -- What one turn at a share tells of a request, and what its pass has then served.
-use Rattle.std.proofs.Common.{◌≡◌, ◌≤◌, ◌<◌, ℕ, ◌+◌, ◌-◌, zero, suc, List, [], ◌∷◌, ◌++◌, length, take, drop, Bool, true, false, cond, ◌==◌, is_some, Option, Some, None, MatchBool, refl, sym, ap, ◌∙◌, subst, inl, arith, append_assoc, append-nil, length-append}
+use Rattle.std.proofs.Common.{◌≡◌, ◌≤◌, ◌<◌, ℕ, ◌+◌, ◌-◌, zero, suc, List, [], ◌∷◌, ◌++◌, length, take, drop, Bool, true, false, cond, ◌==◌, true≢false, is_some, Option, Some, None, MatchBool, refl, sym, ap, ◌∙◌, subst, inl, arith, append_assoc, append-nil, length-append, eq-eqb}
 use Rattle.std.proofs.Math.Seq.{take-length, take-append_seam, drop-append_seam}
 use Rattle.std.specs.Option.{option_to_list}
-use Rattle.std.specs.Prelude.{All, Result, Ok, Err, IfOk, OnErr}
+use Rattle.std.specs.Prelude.{All, Result, Ok, Err, IsOk, IfOk, OnErr}
 use Rattle.std.specs.declared.alloc.AllocError.{AllocError}
 use Rattle.item_model.specs.declared.changes.Entry.{Entry}
 use Rattle.share_asks.specs.declared.ask.Ask.{Ask}
 use Rattle.share_asks.specs.declared.ask.Want.{Want}
+use Rattle.share_history.specs.Histories.{batches, revision}
 use Rattle.share_history.specs.Sessions.{is_live, is_stopped}
 use Rattle.share_history.specs.Marks.{until_login}
 use Rattle.share_lock.specs.Histories.{entries_of, Continues, Adds}
@@ -25,6 +26,7 @@ use Rattle.share_core.specs.declared.answer.Reply.{Reply}
 use Rattle.share_core.specs.Told.{IsTold, IsReply, IsAnswer}
 use Rattle.share_core.specs.Steps.{IsBetween, IsMarked}
 use Rattle.share_core.specs.Laws.{Grows}
+use Rattle.share_core.specs.Wants.{is_free}
 use Rattle.share_core.proofs.Growing.{answers_grow}
 use Rattle.http_front.specs.ReplyHeads.{HasReason}
 use Rattle.reply_bytes.specs.ReplyBytes.{failure_bytes, reply_bytes}
@@ -35,7 +37,7 @@ use Rattle.share_server.specs.Replies.{answer_bytes, served_bytes}
 use Rattle.share_server.specs.Passes.{Pass, Serves}
 use Rattle.share_server.specs.declared.turns.outcome.Look.{Look}
 use Rattle.share_server.specs.declared.turns.outcome.Look.TheVariants as look
-use Rattle.share_server.specs.Answering.{Says, IsLooked, Finds, served_of, given_up, look_of}
+use Rattle.share_server.specs.Answering.{Says, IsLooked, Finds, HasAdded, has_added, loses_in, served_of, given_up, look_of}
 use Rattle.share_server.proofs.Saying.{writes, said_bytes}
 
 -- ---- a history, and what was added to it
@@ -55,7 +57,7 @@ parts h (Some e) =
 -- ---- what a pass serves in a turn that left this history
 
 -- nothing of its own is later than what it had seen
-own_stays : (k : Pass) (h : List Entry) → Continues maker (numbers_of k) k.seen h → entries_of maker k.number h ≡ entries_of maker k.number k.seen
+pub own_stays : (k : Pass) (h : List Entry) → Continues maker (numbers_of k) k.seen h → entries_of maker k.number h ≡ entries_of maker k.number k.seen
 own_stays k h on = on.own k.number (0, omega arith, refl)
 
 pub serves_nothing : (k : Pass) (h : List Entry) → Continues maker (numbers_of k) k.seen h → Serves k (after_turn k h) [] []
@@ -73,8 +75,13 @@ record Shows (k : Pass) (h new : List Entry) (want : Want) (s : Served) : Type 0
   served : IsServed k.settings k.number (h ++ new) want s
   part : added_part s.added (at_point (h ++ new) s) ≡ new
   within : s.seen ≤ s.point
+  counts : cond s.added 1 0 ≤ length new
   late : 0 < s.session → is_live (answered_on s.added (at_point (h ++ new) s)) s.session ≡ true
       → length (until_login s.session (answered_on s.added (at_point (h ++ new) s))) ≤ s.seen
+
+-- a point lies behind what was seen, and behind what was added
+rises_by : (a b c d e : ℕ) → a ≤ b → c ≤ d → e ≡ b + d → a + c ≤ e
+rises_by a b c d e le le' is = omega arith
 
 serves_one : (k : Pass) (h new : List Entry) (ask : Ask) (s : Served) → Continues maker (numbers_of k) k.seen h → All (λ e. maker e ≡ k.number) new
     → Shows k h new ask.want s → Serves k (after_turn k (h ++ new)) (ask ∷ []) (s ∷ [])
@@ -88,7 +95,7 @@ serves_one k h new ask s on own shows =
         grows = ap (λ l. l ++ new) on.begins ∙ append_assoc k.seen on.more new;
         looks = length (h ++ new) ∷ [];
         looked = refl;
-        rises = (omega arith, omega arith);
+        rises = (rises_by (length k.seen) (length h) (cond s.added 1 0) (length new) s.point (omega arith) shows.counts (point ∙ len), omega arith);
         among = inl (point, tt);
         marked = (record { within = shows.within; late = shows.late }, tt);
       };
@@ -101,32 +108,41 @@ serves_one k h new ask s on own shows =
 
 -- ---- no memory
 
-abbrev pub unanswered : ℕ → Bool → Look
-unanswered point stopped = look.Answered (record { served = given_up point; said = None; stopped = stopped })
+abbrev pub unanswered : ℕ → Bool → ℕ → Look
+unanswered point stopped revised = look.Answered (record { served = given_up point; said = None; stopped = stopped; revision = revised })
 
 -- the history is the one that was found
-failed_at : (k : Pass) (h : List Entry) (ask : Ask) (point : ℕ) (stopped : Bool) → Continues maker (numbers_of k) k.seen h → point ≡ length h → stopped ≡ is_stopped h
-    → IsLooked k (after_turn k h) ask (unanswered point stopped)
-failed_at k h ask point stopped on at is =
+pub failed_at : (k : Pass) (h : List Entry) (ask : Ask) (point : ℕ) (stopped : Bool) (revised : ℕ) → Continues maker (numbers_of k) k.seen h → point ≡ length h
+    → stopped ≡ is_stopped h → revised ≡ revision (batches h) → (is_free ask.want ≡ true → is_stopped h ≡ true)
+    → IsLooked k (after_turn k h) ask (unanswered point stopped revised)
+failed_at k h ask point stopped revised on at is is_now free =
     let whole : h ++ [] ≡ h = append-nil h in
+    let here : h ≡ take point h = sym (ap (λ n. take n h) at ∙ take-length h) in
     let served : Serves k (after_turn k (h ++ [])) (ask ∷ []) (given_up point ∷ []) =
     serves_one k h [] ask (given_up point) on (λ i d less. absurd (omega (arith, less))) (record {
       point = at ∙ ap length (sym whole);
       served = record { within = (let e : point ≡ length (h ++ []) = at ∙ ap length (sym whole) in omega arith); how = record { session = refl; seen = refl; added = refl } };
       part = refl;
       within = omega arith;
+      counts = omega arith;
       late = λ above live. absurd (omega (arith, above));
     }) in record {
       serves = subst (λ h'. Serves k (after_turn k h') (ask ∷ []) (given_up point ∷ [])) whole served;
       latest = at;
-      stopped = is ∙ ap is_stopped (sym (ap (λ n. take n h) at ∙ take-length h));
+      stopped = is ∙ ap is_stopped here;
+      revised = is_now ∙ ap (λ (p : List Entry). revision (batches p)) here;
+      free = λ wanted failed. free wanted;
       said = refl;
     }
 
 -- ---- a reply
 
-abbrev pub answered_by : Reply → Bool → Look
-answered_by r stopped = look.Answered (record { served = served_of r; said = Some r.said; stopped = stopped })
+abbrev pub answered_by : Reply → Bool → ℕ → Look
+answered_by r stopped revised = look.Answered (record { served = served_of r; said = Some r.said; stopped = stopped; revision = revised })
+
+count_of : (new : Option Entry) → cond (is_some new) 1 0 ≤ length (option_to_list new)
+count_of None = omega arith
+count_of (Some e) = omega arith
 
 module _ (k : Pass) (h : List Entry) (ask : Ask) (reply : replies.Reply) (mark : ℕ) (r : Reply)
     (answers : answer_to k.settings h ask.want ≡ Replies reply)
@@ -178,6 +194,7 @@ module _ (k : Pass) (h : List Entry) (ask : Ask) (reply : replies.Reply) (mark :
     part = part;
     within = (let e : r.point ≡ length h' = is.point in let l : length h' ≡ length h + length (option_to_list added) = length-append h (option_to_list added) in
         let u : r.seen ≤ length h = between.until in omega arith);
+    counts = subst (λ b. cond b 1 0 ≤ length (option_to_list added)) (sym is.added) (count_of added);
     late = subst (λ p. 0 < s.session → is_live p s.session ≡ true → length (until_login s.session p) ≤ s.seen) (sym before) (λ above live. between.since live);
   }
 
@@ -193,12 +210,14 @@ module _ (k : Pass) (h : List Entry) (ask : Ask) (reply : replies.Reply) (mark :
     λ last. said_bytes reply r.said last is.said ∙ sym (bytes last),
   )
 
-  replied_at : (stopped : Bool) → Continues maker (numbers_of k) k.seen h → All (λ e. maker e ≡ k.number) (option_to_list added) → IsBetween h r → stopped ≡ is_stopped h'
-      → IsLooked k (after_turn k h') ask (answered_by r stopped)
-  replied_at stopped on own between is_so = record {
+  replied_at : (stopped : Bool) (revised : ℕ) → Continues maker (numbers_of k) k.seen h → All (λ e. maker e ≡ k.number) (option_to_list added) → IsBetween h r
+      → stopped ≡ is_stopped h' → revised ≡ revision (batches h') → IsLooked k (after_turn k h') ask (answered_by r stopped revised)
+  replied_at stopped revised on own between is_so is_now = record {
     serves = serves_one k h (option_to_list added) ask s on own (shows between);
     latest = is.point;
     stopped = is_so ∙ ap is_stopped (sym whole);
+    revised = is_now ∙ ap (λ (p : List Entry). revision (batches p)) (sym whole);
+    free = λ wanted failed. absurd (true≢false (sym (eq-eqb s.status 500 failed) ∙ other));
     said = says;
   }
 
@@ -209,34 +228,85 @@ all_made by None own i d less = absurd (omega (arith, less))
 all_made by (Some e) own zero d less = own e refl
 all_made by (Some e) own (suc i) d less = absurd (omega (arith, less))
 
-left_by : (k : Pass) (old new : Shared) (ask : Ask) (r : Reply) (stopped : Bool) → Finds k old → (a : replies.Answer) → answer_to old.settings old.history ask.want ≡ a
-    → IsTold (told old k.number ask.want a) (answer.Reply r) → new ≡ left old k.number ask.want a → IsBetween old.history r → stopped ≡ is_stopped new.history
-    → IsLooked k (after_turn k new.history) ask (answered_by r stopped)
-left_by k old new ask r stopped found Holds answers is share between is_so = absurd is
-left_by k old new ask r stopped found (Replies reply) answers is share between is_so =
+left_by : (k : Pass) (old new : Shared) (ask : Ask) (r : Reply) (stopped : Bool) (revised : ℕ) → Finds k old → (a : replies.Answer)
+    → answer_to old.settings old.history ask.want ≡ a → IsTold (told old k.number ask.want a) (answer.Reply r) → new ≡ left old k.number ask.want a
+    → IsBetween old.history r → stopped ≡ is_stopped new.history → revised ≡ revision (batches new.history)
+    → IsLooked k (after_turn k new.history) ask (answered_by r stopped revised)
+left_by k old new ask r stopped revised found Holds answers is share between is_so is_now = absurd is
+left_by k old new ask r stopped revised found (Replies reply) answers is share between is_so is_now =
     let grown : new.history ≡ after old.history k.number ask.want = ap (λ (s : Shared). s.history) share in
-    subst (λ h. IsLooked k (after_turn k h) ask (answered_by r stopped)) (sym grown)
-    (replied_at k old.history ask reply _ r (ap (λ (s : Settings). answer_to s old.history ask.want) (sym found.settings) ∙ answers) is stopped found.history
-    (all_made k.number (adds old.history k.number ask.want) (entries_are_the_askers old.history k.number ask.want)) between (is_so ∙ ap is_stopped grown))
+    subst (λ h. IsLooked k (after_turn k h) ask (answered_by r stopped revised)) (sym grown)
+    (replied_at k old.history ask reply _ r (ap (λ (s : Settings). answer_to s old.history ask.want) (sym found.settings) ∙ answers) is stopped revised found.history
+    (all_made k.number (adds old.history k.number ask.want) (entries_are_the_askers old.history k.number ask.want)) between (is_so ∙ ap is_stopped grown)
+    (is_now ∙ ap (λ (h : List Entry). revision (batches h)) grown))
 
-held_by : (k : Pass) (old new : Shared) (ask : Ask) (revision point : ℕ) → Finds k old → (a : replies.Answer)
-    → IsTold (told old k.number ask.want a) (answer.Wait revision point) → new ≡ left old k.number ask.want a → IsLooked k (after_turn k new.history) ask (look.Held point)
-held_by k old new ask revision point found (Replies reply) is share = absurd is
-held_by k old new ask revision point found Holds is share =
+held_by : (k : Pass) (old new : Shared) (ask : Ask) (now point : ℕ) → Finds k old → (a : replies.Answer)
+    → IsTold (told old k.number ask.want a) (answer.Wait now point) → new ≡ left old k.number ask.want a → IsLooked k (after_turn k new.history) ask (look.Held point)
+held_by k old new ask now point found (Replies reply) is share = absurd is
+held_by k old new ask now point found Holds is share =
     subst (λ (s : Shared). IsLooked k (after_turn k s.history) ask (look.Held point)) (sym share) (serves_nothing k old.history found.history, is.1)
 
-pub asked_at : (k : Pass) (old new : Shared) (by : ℕ) (ask : Ask) (result : Result Answer AllocError) (stopped : Bool) (end : ℕ) → k.number ≡ by → Finds k old
-    → IfOk result (IsAnswer old new by ask.want) → IfOk result (IsMarked old.history) → OnErr result (new ≡ old) → stopped ≡ is_stopped new.history → end ≡ length new.history
-    → IsLooked k (after_turn k new.history) ask (look_of result stopped end)
-asked_at k old new by ask (Ok (answer.Reply r)) stopped end own found is marked same is_so at =
-    let mine : IsAnswer old new k.number ask.want (answer.Reply r) = subst (λ n. IsAnswer old new n ask.want (answer.Reply r)) (sym own) is in
-    left_by k old new ask r stopped found (answer_to old.settings old.history ask.want) refl mine.told mine.share marked is_so
-asked_at k old new by ask (Ok (answer.Wait revision point)) stopped end own found is marked same is_so at =
-    let mine : IsAnswer old new k.number ask.want (answer.Wait revision point) = subst (λ n. IsAnswer old new n ask.want (answer.Wait revision point)) (sym own) is in
-    held_by k old new ask revision point found (answer_to old.settings old.history ask.want) mine.told mine.share
-asked_at k old new by ask (Err error) stopped end own found is marked same is_so at =
-    subst (λ (s : Shared). IsLooked k (after_turn k s.history) ask (unanswered end stopped)) (sym same)
-    (failed_at k old.history ask end stopped found.history (at ∙ ap (λ (s : Shared). length s.history) same) (is_so ∙ ap (λ (s : Shared). is_stopped s.history) same))
+-- what a call on the share gave, and what the share is then
+pub record Asked (old new : Shared) (by : ℕ) (want : Want) (result : Result Answer AllocError) (stopped : Bool) (revised end : ℕ) : Type 0 where
+  pub answered : IfOk result (IsAnswer old new by want)
+  pub marked : IfOk result (IsMarked old.history)
+  pub unchanged : OnErr result (new ≡ old)
+  pub free : is_stopped old.history ≡ false → is_free want ≡ true → IsOk result
+  pub stopped_is : stopped ≡ is_stopped new.history
+  pub revised_is : revised ≡ revision (batches new.history)
+  pub end_is : end ≡ length new.history
+
+-- want of memory for a want that is free shows that the share was stopped
+free_failed : (error : AllocError) (stopped free : Bool) → (stopped ≡ false → free ≡ true → IsOk {T = Answer} (Err error)) → free ≡ true → stopped ≡ true
+free_failed error true free ok wanted = refl
+free_failed error false free ok wanted = absurd (ok refl wanted)
+
+pub asked_at : (k : Pass) (old new : Shared) (by : ℕ) (ask : Ask) (result : Result Answer AllocError) (stopped : Bool) (revised end : ℕ) → k.number ≡ by → Finds k old
+    → Asked old new by ask.want result stopped revised end → IsLooked k (after_turn k new.history) ask (look_of result stopped revised end)
+asked_at k old new by ask (Ok (answer.Reply r)) stopped revised end own found asked =
+    let mine : IsAnswer old new k.number ask.want (answer.Reply r) = subst (λ n. IsAnswer old new n ask.want (answer.Reply r)) (sym own) asked.answered in
+    left_by k old new ask r stopped revised found (answer_to old.settings old.history ask.want) refl mine.told mine.share asked.marked asked.stopped_is asked.revised_is
+asked_at k old new by ask (Ok (answer.Wait now point)) stopped revised end own found asked =
+    let mine : IsAnswer old new k.number ask.want (answer.Wait now point) = subst (λ n. IsAnswer old new n ask.want (answer.Wait now point)) (sym own) asked.answered in
+    held_by k old new ask now point found (answer_to old.settings old.history ask.want) mine.told mine.share
+asked_at k old new by ask (Err error) stopped revised end own found asked =
+    let same : new ≡ old = asked.unchanged in
+    subst (λ (s : Shared). IsLooked k (after_turn k s.history) ask (unanswered end stopped revised)) (sym same)
+    (failed_at k old.history ask end stopped revised found.history (asked.end_is ∙ ap (λ (s : Shared). length s.history) same)
+    (asked.stopped_is ∙ ap (λ (s : Shared). is_stopped s.history) same) (asked.revised_is ∙ ap (λ (s : Shared). revision (batches s.history)) same)
+    (free_failed error (is_stopped old.history) (is_free ask.want) asked.free))
+
+-- no answer is a loss
+pub told_no_loss : (result : Result Answer AllocError) (stopped : Bool) (revised end : ℕ) → loses_in (look_of result stopped revised end) ≡ false
+told_no_loss (Ok (answer.Reply r)) stopped revised end = refl
+told_no_loss (Ok (answer.Wait now point)) stopped revised end = refl
+told_no_loss (Err error) stopped revised end = refl
+
+added_by : (h : List Entry) (by : ℕ) (want : Want) (o : Option Entry) → adds h by want ≡ o → HasAdded (is_some o) h by want (h ++ option_to_list o)
+added_by h by want None is = append-nil h
+added_by h by want (Some e) is = (e, is, refl)
+
+replied_adds : (old new : Shared) (by : ℕ) (want : Want) (r : Reply) (a : replies.Answer) → IsTold (told old by want a) (answer.Reply r) → new ≡ left old by want a
+    → HasAdded r.added old.history by want new.history
+replied_adds old new by want r Holds is share = absurd is
+replied_adds old new by want r (Replies reply) is share =
+    subst (λ b. HasAdded b old.history by want new.history) (sym is.added)
+    (subst (λ (s : Shared). HasAdded (is_some (adds old.history by want)) old.history by want s.history) (sym share)
+    (added_by old.history by want (adds old.history by want) refl))
+
+held_adds : (old new : Shared) (by : ℕ) (want : Want) (now point : ℕ) (a : replies.Answer) → IsTold (told old by want a) (answer.Wait now point) → new ≡ left old by want a
+    → new.history ≡ old.history
+held_adds old new by want now point (Replies reply) is share = absurd is
+held_adds old new by want now point Holds is share = ap (λ (s : Shared). s.history) share
+
+-- the history has what the answer says that it added
+pub added_at : (old new : Shared) (by : ℕ) (want : Want) (result : Result Answer AllocError) (stopped : Bool) (revised end : ℕ)
+    → IfOk result (IsAnswer old new by want) → OnErr result (new ≡ old) → HasAdded (has_added (look_of result stopped revised end)) old.history by want new.history
+added_at old new by want (Ok (answer.Reply r)) stopped revised end is same =
+    replied_adds old new by want r (answer_to old.settings old.history want) is.told is.share
+added_at old new by want (Ok (answer.Wait now point)) stopped revised end is same =
+    held_adds old new by want now point (answer_to old.settings old.history want) is.told is.share
+added_at old new by want (Err error) stopped revised end is same = ap (λ (s : Shared). s.history) same
 
 -- the pass has then seen what the answer left
 pub turned : (k k' : Pass) (h : List Entry) (ask : Ask) (look : Look) → k' ≡ after_turn k h → IsLooked k (after_turn k h) ask look → IsLooked k k' ask look

@@ -5,9 +5,9 @@ use Rattle.share_lock.specs.Histories.{entries_of}
 use Rattle.share_replies.specs.Laws.{maker}
 use Rattle.share_server.specs.Served.{at_point}
 use Rattle.share_server.specs.Passes.{Pass, Serves}
-use Rattle.share_server.proofs.InTurn.{serves_in_turn}
+use Rattle.share_server.proofs.InTurn.{serves_in_turn, serves_then_but, lost_behind}
 use Rattle.share_server.specs.declared.turns.outcome.Answered.{Answered}
-use Rattle.share_server.specs.Answering.{Says, IsAnswered}
+use Rattle.share_server.specs.Answering.{Says, IsAnswered, IsLost}
 
 -- no turn yet
 pub serves_none : (k : Pass) → Serves k k [] []
@@ -27,5 +27,16 @@ answers k k' k'' ask a before turn =
       serves = serves_in_turn k k' k'' [] (ask ∷ []) [] (a.served ∷ []) before turn.serves;
       latest = turn.latest;
       stopped = turn.stopped;
+      revised = turn.revised;
+      free = turn.free;
       said = subst (λ settings. Says settings (at_point k''.seen a.served) ask a.served a.said) same turn.said;
     }
+
+pub loses_behind : (k k' k'' : Pass) (ask : Ask) → Serves k k' [] [] → IsLost k' k'' ask → IsLost k k'' ask
+loses_behind k k' k'' ask before turn = record {
+  batch = turn.batch;
+  asks_it = turn.asks_it;
+  lost = turn.lost;
+  serves = serves_then_but k k' k'' [] [] [] [] turn.lost before turn.serves;
+  made = lost_behind k k' k'' [] [] [] turn.batch turn.lost before turn.made;
+}

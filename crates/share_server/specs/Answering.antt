@@ -1,12 +1,16 @@
--- What is said to a request that was served, and by which turns.
-use Rattle.std.specs.Prelude.{◌≡◌, List, [], ◌∷◌, length, Bool, false, Option, Some, None, Result, Ok, Err, ℕ}
+-- What is said to a request that was served, and by which turns; or that its edit was added and lost.
+use Rattle.std.specs.Prelude.{◌≡◌, List, [], ◌∷◌, ◌++◌, length, Bool, true, false, Option, Some, None, Result, Ok, Err, ℕ}
 use Rattle.std.specs.declared.alloc.AllocError.{AllocError}
 use Rattle.daap_outside.specs.Counts.{Rose}
+use Rattle.item_model.specs.declared.changes.Edit.{Edit}
 use Rattle.item_model.specs.declared.changes.Entry.{Entry}
 use Rattle.http_front.specs.ReplyHeads.{HasReason}
 use Rattle.listing_plan.specs.Plans.{IsWritable, plan_bytes}
 use Rattle.reply_bytes.specs.ReplyBytes.{with_head}
 use Rattle.share_asks.specs.declared.ask.Ask.{Ask}
+use Rattle.share_asks.specs.declared.ask.Want.{Want}
+use Rattle.share_asks.specs.declared.ask.Want.TheVariants as want
+use Rattle.share_history.specs.Histories.{batches, revision}
 use Rattle.share_history.specs.Sessions.{is_stopped}
 use Rattle.share_lock.specs.Histories.{Continues}
 use Rattle.share_lock.specs.Known.{numbers_of}
@@ -14,6 +18,8 @@ use Rattle.share_core.specs.declared.answer.Answer.{Answer}
 use Rattle.share_core.specs.declared.answer.Answer.TheVariants as answer
 use Rattle.share_core.specs.declared.answer.Reply.{Reply}
 use Rattle.share_core.specs.declared.answer.Said.{Said}
+use Rattle.share_core.specs.Wants.{is_free}
+use Rattle.share_replies.specs.Added.{adds}
 use Rattle.share_replies.specs.Answers.{Shared}
 use Rattle.share_replies.specs.Laws.{maker}
 use Rattle.share_replies.specs.Settings.{Settings}
@@ -21,9 +27,10 @@ use Rattle.share_server.specs.declared.report.Served.{Served}
 use Rattle.share_server.specs.Served.{at_point}
 use Rattle.share_server.specs.Replies.{served_bytes}
 use Rattle.share_server.specs.Passes.{Pass, Serves}
+use Rattle.share_server.specs.Losses.{ServesBut, Unacknowledged}
 use Rattle.share_server.specs.declared.turns.outcome.Answered.{Answered}
 use Rattle.share_server.specs.declared.turns.outcome.Unanswered.{Unanswered}
-use Rattle.share_server.specs.declared.turns.outcome.Unanswered.TheVariants.{Gone}
+use Rattle.share_server.specs.declared.turns.outcome.Unanswered.TheVariants.{Gone, Lost}
 use Rattle.share_server.specs.declared.turns.outcome.Look.{Look}
 use Rattle.share_server.specs.declared.turns.outcome.Look.TheVariants as look
 
@@ -40,22 +47,57 @@ pub record IsAnswered (k k' : Pass) (ask : Ask) (a : Answered) : Type 0 where
   pub serves : Serves k k' (ask ∷ []) (a.served ∷ [])
   pub latest : a.served.point ≡ length k'.seen
   pub stopped : a.stopped ≡ is_stopped (at_point k'.seen a.served)
+  pub revised : a.revision ≡ revision (batches (at_point k'.seen a.served))
+  -- a logout and the stop want no memory
+  pub free : is_free ask.want ≡ true → a.served.status ≡ 500 → is_stopped k'.seen ≡ true
   pub said : Says k.settings (at_point k'.seen a.served) ask a.served a.said
 
--- the request was served, or its peer went while it was held, and nothing was served
+-- the edit that the request asks for was added and lost, and nothing was served
+pub record IsLost (k k' : Pass) (ask : Ask) : Type 0 where
+  pub batch : List Edit
+  pub asks_it : ask.want ≡ want.Edit (Ok batch)
+  pub lost : List Entry
+  pub serves : ServesBut k k' [] [] lost
+  pub made : Unacknowledged k k' [] batch lost
+
+-- the request was served; or its peer went while it was held, or its edit was lost, and nothing was served
 abbrev pub IsOutcome : Pass → Pass → Ask → Result Answered Unanswered → Type 0
 IsOutcome k k' ask (Ok a) = IsAnswered k k' ask a
 IsOutcome k k' ask (Err Gone) = Serves k k' [] []
+IsOutcome k k' ask (Err Lost) = IsLost k k' ask
+
+abbrev pub loses : Result Answered Unanswered → Bool
+loses (Ok a) = false
+loses (Err Gone) = false
+loses (Err Lost) = true
 
 -- the link's count rose exactly where its peer went
 abbrev pub CountsOutcome : ℕ → ℕ → Result Answered Unanswered → Type 0
 CountsOutcome before now (Ok a) = now ≡ before
 CountsOutcome before now (Err Gone) = Rose before now
+CountsOutcome before now (Err Lost) = now ≡ before
 
--- in one turn the pass served the request, or nothing
+-- in one turn the pass served the request, or nothing, or lost its edit
 abbrev pub IsLooked : Pass → Pass → Ask → Look → Type 0
 IsLooked k k' ask (look.Answered a) = IsAnswered k k' ask a
 IsLooked k k' ask (look.Held point) = Serves k k' [] [] × (point ≡ length k'.seen)
+IsLooked k k' ask (look.Lost point) = IsLost k k' ask
+
+abbrev pub loses_in : Look → Bool
+loses_in (look.Answered a) = false
+loses_in (look.Held point) = false
+loses_in (look.Lost point) = true
+
+-- the answer added an entry
+abbrev pub has_added : Look → Bool
+has_added (look.Answered a) = a.served.added
+has_added (look.Held point) = false
+has_added (look.Lost point) = false
+
+-- the history has one entry more, which the want adds, or is as it was
+abbrev pub HasAdded : Bool → List Entry → ℕ → Want → List Entry → Type 0
+HasAdded false h by want h' = h' ≡ h
+HasAdded true h by want h' = (e : Entry) × (adds h by want ≡ Some e) × (h' ≡ h ++ e ∷ [])
 
 -- a share that a turn of the pass found
 pub record Finds (k : Pass) (share : Shared) : Type 0 where
@@ -69,7 +111,7 @@ served_of r = record { session = r.session; seen = r.seen; point = r.point; stat
 abbrev pub given_up : ℕ → Served
 given_up point = record { session = 0; seen = 0; point = point; status = 500; added = false }
 
-abbrev pub look_of : Result Answer AllocError → Bool → ℕ → Look
-look_of (Ok (answer.Reply r)) stopped end = look.Answered (record { served = served_of r; said = Some r.said; stopped = stopped })
-look_of (Ok (answer.Wait revision point)) stopped end = look.Held point
-look_of (Err error) stopped end = look.Answered (record { served = given_up end; said = None; stopped = stopped })
+abbrev pub look_of : Result Answer AllocError → Bool → ℕ → ℕ → Look
+look_of (Ok (answer.Reply r)) stopped revision end = look.Answered (record { served = served_of r; said = Some r.said; stopped = stopped; revision = revision })
+look_of (Ok (answer.Wait now point)) stopped revision end = look.Held point
+look_of (Err error) stopped revision end = look.Answered (record { served = given_up end; said = None; stopped = stopped; revision = revision })

@@ -10,7 +10,7 @@ use Rattle.http_front.specs.Readings.{IsReading, reading}
 use Rattle.reply_bytes.specs.ReplyBytes.{failure_bytes, refusal_bytes, status_of}
 use Rattle.share_server.specs.declared.report.Served.{Served}
 use Rattle.share_server.specs.declared.report.LinkEnd.{LinkEnd}
-use Rattle.share_server.specs.declared.report.LinkEnd.TheVariants.{Closed, Cut, Refused, Spent, Stopped, LinkFault, Memory}
+use Rattle.share_server.specs.declared.report.LinkEnd.TheVariants.{Closed, Cut, Refused, Spent, Stopped, LinkFault, FileFault, Memory}
 use Rattle.share_server.specs.Served.{at_point}
 use Rattle.share_server.specs.Replies.{GoOn, due, replies}
 
@@ -75,6 +75,7 @@ EndsInside role bytes settings limit h asks served rest output (Refused status) 
     (error : HeadError) × Idles role bytes limit h asks served rest (Some error) × (status ≡ status_of error)
     × (output ≡ replies settings limit h asks served ++ refusal_bytes error)
 EndsInside role bytes settings limit h asks served rest output LinkFault = Breaks role bytes settings limit h asks served rest output
+EndsInside role bytes settings limit h asks served rest output FileFault = GoOn limit h 1 asks served × (output ≡ replies settings limit h asks served)
 EndsInside role bytes settings limit h asks served rest output Memory = GoOnToLast limit h asks served × WantsMemory settings limit h asks served output
 
 -- ends of the input: between two requests, or inside one, of which so many bytes were read
@@ -88,4 +89,5 @@ EndsAtEnd role input settings limit h asks served rest output (Refused status) =
 EndsAtEnd role input settings limit h asks served rest output Spent = ⊥
 EndsAtEnd role input settings limit h asks served rest output Stopped = ⊥
 EndsAtEnd role input settings limit h asks served rest output LinkFault = ⊥
+EndsAtEnd role input settings limit h asks served rest output FileFault = ⊥
 EndsAtEnd role input settings limit h asks served rest output Memory = ⊥

@@ -1,10 +1,12 @@
 pub mod Served
 pub mod Replies
 pub mod Passes
+pub mod Losses
 pub mod Ends
 pub mod Links
 pub mod Laws
 pub mod Answering
+pub mod Kept
 pub mod Serving
 pub mod Written
 pub mod Steps

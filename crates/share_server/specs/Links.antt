@@ -11,8 +11,9 @@ use Rattle.http_front.specs.Readings.{IsReading, Joins, Reading}
 use Rattle.reply_bytes.specs.ReplyBytes.{status_of}
 use Rattle.share_server.specs.declared.report.Served.{Served}
 use Rattle.share_server.specs.declared.report.LinkEnd.{LinkEnd}
-use Rattle.share_server.specs.declared.report.LinkEnd.TheVariants.{Closed, Cut, Refused, Spent, Stopped, LinkFault, Memory}
-use Rattle.share_server.specs.Passes.{Pass, Serves}
+use Rattle.share_server.specs.declared.report.LinkEnd.TheVariants.{Closed, Cut, Refused, Spent, Stopped, LinkFault, FileFault, Memory}
+use Rattle.share_server.specs.Passes.{Pass}
+use Rattle.share_server.specs.Losses.{Loses, ServesBut}
 use Rattle.share_server.specs.Ends.{EndsInside, EndsAtEnd}
 
 -- how a connection ends whose input reads as this, of which no ask closes
@@ -23,6 +24,7 @@ EndsAs r limit h asks served (Refused status) = (r.asks ≡ asks) × ((error : H
 EndsAs r limit h asks served Spent = length served ≡ limit
 EndsAs r limit h asks served Stopped = is_stopped h ≡ true
 EndsAs r limit h asks served LinkFault = ⊤
+EndsAs r limit h asks served FileFault = ⊤
 EndsAs r limit h asks served Memory = ⊤
 
 -- where no ask closes, the connection ends by its input, its limit or a stop, or for want of the outside or of memory
@@ -31,7 +33,7 @@ Completes role input limit h asks served end =
     (r : Reading) → IsReading role input r → list_any (λ ask. ask.close) r.asks ≡ false → EndsAs r limit h asks served end
 
 -- from what is told of a connection before and after, and of the pass that served it: the first asks of its input were
--- served, in order, what was written is theirs, and it ended so
+-- served, in order, what was written is theirs, and it ended so; where an edit was lost, it is the one that was asked for next
 pub record LinkEnded (role : Role) (limit : ℕ) (k k' : Pass) (left taken taken' : Option (List ℕ)) (served : List Served) (end : LinkEnd) : Type 0 where
   pub at_once : limit ≡ 0 → (served ≡ []) × (end ≡ Spent)
   pub input : List ℕ
@@ -39,7 +41,9 @@ pub record LinkEnded (role : Role) (limit : ℕ) (k k' : Pass) (left taken taken
   pub asks : List Ask
   pub rest : List ℕ
   pub joins : Joins role input asks rest
-  pub serves : Serves k k' asks served
+  pub lost : List Entry
+  pub serves : ServesBut k k' asks served lost
+  pub loses : Loses role input asks k k' served lost end
   pub output : List ℕ
   pub written : Appends taken taken' output
   pub how : EndsInside role input k.settings limit k'.seen asks served rest output end

@@ -1,5 +1,5 @@
 -- What a pass has seen more, after it served requests.
-use Rattle.std.specs.Prelude.{◌≡◌, ◌⊎◌, ◌≤◌, ◌<◌, ℕ, List, [], ◌∷◌, ◌++◌, length, true}
+use Rattle.std.specs.Prelude.{◌≡◌, ◌⊎◌, ◌≤◌, ◌<◌, ℕ, ◌+◌, List, [], ◌∷◌, ◌++◌, length, true, if◌then◌else◌}
 use Rattle.item_model.specs.declared.changes.Entry.{Entry}
 use Rattle.share_asks.specs.declared.ask.Ask.{Ask}
 use Rattle.share_history.specs.Sessions.{is_live}
@@ -15,10 +15,10 @@ use Rattle.share_server.specs.Served.{at_point, answered_on, AreServed, added_en
 abbrev pub Pass : Type 0
 Pass = Known Entry Settings
 
--- points never fall, from one number up to another
+-- points never fall, from one number up to another, and rise at each entry that was added
 abbrev pub Rises : ℕ → List Served → ℕ → Type 0
 Rises low [] high = low ≤ high
-Rises low (s ∷ served) high = (low ≤ s.point) × Rises s.point served high
+Rises low (s ∷ served) high = (low + (if s.added then 1 else 0) ≤ s.point) × Rises s.point served high
 
 -- each point is one of the looks, in their order
 abbrev pub StandAmong : List Served → List ℕ → Type 0

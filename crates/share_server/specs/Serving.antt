@@ -8,9 +8,10 @@ use Rattle.share_asks.specs.declared.ask.Role.TheVariants.{Listen}
 use Rattle.share_history.specs.Sessions.{is_stop}
 use Rattle.share_replies.specs.Laws.{is_edit}
 use Rattle.share_server.specs.declared.report.LinkEnd.{LinkEnd}
-use Rattle.share_server.specs.declared.report.LinkEnd.TheVariants.{Closed, Cut, Refused, Spent, Stopped, LinkFault, Memory}
+use Rattle.share_server.specs.declared.report.LinkEnd.TheVariants.{Closed, Cut, Refused, Spent, Stopped, LinkFault, FileFault, Memory}
 use Rattle.share_server.specs.declared.report.LinkReport.{LinkReport}
 use Rattle.share_server.specs.Links.{LinkEnded}
+use Rattle.share_server.specs.Losses.{is_loss}
 use Rattle.share_server.specs.Passes.{Pass}
 use Rattle.share_server.specs.Served.{added_entries}
 
@@ -26,6 +27,8 @@ pub record LinkServed (role : Role) (budget : ℕ) (k k' : Pass) (left taken tak
   pub ended : LinkEnded role (limit_of budget) k k' left taken taken' report.served report.end
   -- no player edited the share or stopped it
   pub quiet : role ≡ Listen → (list_any is_edit (added_entries k'.seen report.served) ≡ false) × (list_any is_stop (added_entries k'.seen report.served) ≡ false)
+  -- nor lost an edit
+  pub unlost : role ≡ Listen → is_loss report.end ≡ false
 
 abbrev pub is_fault : LinkEnd → Bool
 is_fault Closed = false
@@ -34,6 +37,7 @@ is_fault (Refused status) = false
 is_fault Spent = false
 is_fault Stopped = false
 is_fault LinkFault = true
+is_fault FileFault = false
 is_fault Memory = false
 
 -- a fault is told exactly where the count rose, and every other end leaves it as it was

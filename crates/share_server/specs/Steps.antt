@@ -1,16 +1,18 @@
 -- How far the serving of a connection has come, by what its pass has seen, what it took and what was read off it.
 use Rattle.std.specs.Prelude.{◌≡◌, ◌≢◌, ℕ, ◌-◌, ◌^◌, ◌<◌, min, List, [], ◌∷◌, ◌++◌, length, take, Option, Some, None, Result, Ok, Err}
 use Rattle.std.specs.Io.KnownBytes.{Appends, Consumes}
+use Rattle.item_model.specs.declared.changes.Entry.{Entry}
 use Rattle.share_asks.specs.declared.ask.Ask.{Ask}
 use Rattle.share_asks.specs.declared.ask.Role.{Role}
 use Rattle.http_front.specs.Readers.{HasRead, Reader}
 use Rattle.http_front.specs.Readings.{Joins}
 use Rattle.share_server.specs.declared.report.Served.{Served}
 use Rattle.share_server.specs.declared.report.LinkEnd.{LinkEnd}
-use Rattle.share_server.specs.declared.report.LinkEnd.TheVariants.{Closed, Cut, Refused, Spent, Stopped, LinkFault, Memory}
+use Rattle.share_server.specs.declared.report.LinkEnd.TheVariants.{Closed, Cut, Refused, Spent, Stopped, LinkFault, FileFault, Memory}
 use Rattle.share_server.specs.Replies.{GoOn, replies}
 use Rattle.share_server.specs.Passes.{Pass, Serves}
 use Rattle.share_server.specs.Ends.{EndsInside}
+use Rattle.share_server.specs.Losses.{Loses, ServesBut}
 use Rattle.share_server.specs.Links.{LinkEnded}
 
 -- these asks were served, all replies are written, and the connection goes on
@@ -26,12 +28,14 @@ pub record BeginWith (role : Role) (bytes : List ℕ) (asks : List Ask) (ask : A
   pub rest : List ℕ
   pub all : Joins role bytes (asks ++ ask ∷ []) rest
 
--- the connection ended inside these bytes
+-- the connection ended inside these bytes, at a lost edit if it lost one
 pub record Ends (role : Role) (bytes : List ℕ) (limit : ℕ) (k k' : Pass) (taken taken' : Option (List ℕ)) (served : List Served) (end : LinkEnd) : Type 0 where
   pub asks : List Ask
   pub rest : List ℕ
   pub joins : Joins role bytes asks rest
-  pub serves : Serves k k' asks served
+  pub lost : List Entry
+  pub serves : ServesBut k k' asks served lost
+  pub loses : Loses role bytes asks k k' served lost end
   pub output : List ℕ
   pub written : Appends taken taken' output
   pub how : EndsInside role bytes k.settings limit k'.seen asks served rest output end
@@ -77,6 +81,7 @@ EndsInput reader consumed (Refused status) = ⊥
 EndsInput reader consumed Spent = ⊥
 EndsInput reader consumed Stopped = ⊥
 EndsInput reader consumed LinkFault = ⊥
+EndsInput reader consumed FileFault = ⊥
 EndsInput reader consumed Memory = ⊥
 
 -- one read more was served, or the connection ended

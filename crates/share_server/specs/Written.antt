@@ -8,7 +8,7 @@ use Rattle.listing_plan.specs.Plans.{IsWritable, plan_bytes}
 use Rattle.reply_bytes.specs.ReplyBytes.{with_head, failure_bytes, refusal_bytes, status_of}
 use Rattle.share_core.specs.declared.answer.Said.{Said}
 use Rattle.share_server.specs.declared.report.LinkEnd.{LinkEnd}
-use Rattle.share_server.specs.declared.report.LinkEnd.TheVariants.{Closed, Cut, Refused, Spent, Stopped, LinkFault, Memory}
+use Rattle.share_server.specs.declared.report.LinkEnd.TheVariants.{Closed, Cut, Refused, Spent, Stopped, LinkFault, FileFault, Memory}
 use Rattle.share_server.specs.Serving.{CountsEnd}
 
 -- it was told that there is no memory, or failed meanwhile
@@ -19,6 +19,7 @@ IsGivenUp taken taken' (Refused status) = ⊥
 IsGivenUp taken taken' Spent = ⊥
 IsGivenUp taken taken' Stopped = ⊥
 IsGivenUp taken taken' LinkFault = AppendsPrefix taken taken' (failure_bytes true)
+IsGivenUp taken taken' FileFault = ⊥
 IsGivenUp taken taken' Memory = Appends taken taken' (failure_bytes true)
 
 -- it was told why its bytes are refused; or that there is no memory for that; or failed meanwhile
@@ -29,6 +30,7 @@ IsRefused error taken taken' (Refused status) = (status ≡ status_of error) × 
 IsRefused error taken taken' Spent = ⊥
 IsRefused error taken taken' Stopped = ⊥
 IsRefused error taken taken' LinkFault = AppendsPrefix taken taken' (refusal_bytes error) ⊎ AppendsPrefix taken taken' (failure_bytes true)
+IsRefused error taken taken' FileFault = ⊥
 IsRefused error taken taken' Memory = Appends taken taken' (failure_bytes true)
 
 -- an answer that can be written, if there is one

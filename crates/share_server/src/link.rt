@@ -6,4 +6,4 @@ mod reading;
 mod serving;
 mod writing;
 
-pub use serving::serve_link;
+pub use serving::{keep_link, serve_link};

@@ -34,6 +34,8 @@ pub enum LinkEnd {
     Stopped,
     /// A read or a write failed.
     LinkFault,
+    /// An edit was added and may not have been kept. It was not answered, and the share was stopped behind it.
+    FileFault,
     /// There was no memory.
     Memory,
 }

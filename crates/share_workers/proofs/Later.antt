@@ -1,5 +1,5 @@
 -- What was told of links stays right, however the history goes on.
-use Rattle.std.proofs.Common.{◌⊎◌, ℕ, List, [], ◌∷◌, ◌++◌, length, ◌-◌, sym, ◌∙◌, subst, inl, inr, append-nil, None}
+use Rattle.std.proofs.Common.{◌⊎◌, ℕ, List, [], ◌∷◌, ◌++◌, length, ◌+◌, ◌-◌, ◌≡◌, sym, ◌∙◌, subst, inl, inr, append-nil, length-append, None, arith}
 use Rattle.item_model.specs.declared.changes.Entry.{Entry}
 use Rattle.daap_outside.specs.Places.{Returned}
 use Rattle.share_asks.specs.declared.ask.Ask.{Ask}
@@ -8,12 +8,13 @@ use Rattle.share_replies.specs.Settings.{Settings}
 use Rattle.share_server.specs.declared.report.Served.{Served}
 use Rattle.share_server.specs.declared.report.LinkReport.{LinkReport}
 use Rattle.share_server.specs.declared.report.LinkEnd.{LinkEnd}
-use Rattle.share_server.specs.declared.report.LinkEnd.TheVariants.{Closed, Cut, Refused, Spent, Stopped, LinkFault, Memory}
+use Rattle.share_server.specs.declared.report.LinkEnd.TheVariants.{Closed, Cut, Refused, Spent, Stopped, LinkFault, FileFault, Memory}
 use Rattle.share_server.specs.Served.{AreServed}
 use Rattle.share_server.specs.Ends.{Idles, EndsInside, EndsAtEnd}
 use Rattle.share_server.specs.Laws.{Stays}
 use Rattle.share_server.proofs.Longer.{stays}
 use Rattle.share_server.proofs.Endings.{ends_stay}
+use Rattle.share_server.proofs.InTurn.{rises_wider}
 use Rattle.share_server.specs.Serving.{limit_of}
 use Rattle.share_workers.specs.Works.{LinkAt, LinksAt}
 
@@ -35,6 +36,7 @@ module _ (settings : Settings) (by limit : ℕ) (h later : List Entry) where
   at_end role input asks served rest output Spent are ends = ends
   at_end role input asks served rest output Stopped are ends = ends
   at_end role input asks served rest output LinkFault are ends = ends
+  at_end role input asks served rest output FileFault are ends = ends
   at_end role input asks served rest output Memory are ends = ends
 
   inside : (role : Role) (input : List ℕ) (asks : List Ask) (served : List Served) (rest output : List ℕ) (end : LinkEnd) → AreServed settings by h asks served
@@ -53,6 +55,7 @@ module _ (settings : Settings) (by limit : ℕ) (h later : List Entry) where
     rest = link.rest;
     joins = link.joins;
     are_served = (same link.asks report.served link.are_served).served_too;
+    rises = rises_wider 0 0 (length h) (length (h ++ later)) report.served (omega arith) (let len : length (h ++ later) ≡ length h + length later = length-append h later in omega arith) link.rises;
     how = by_end link.how;
     faulted = link.faulted;
   }

@@ -1,6 +1,7 @@
 //! How a connection ends that cannot go on.
 
-ghost use Rattle.std.specs.Prelude.{◌≡◌, ◌≢◌};
+ghost use Rattle.std.specs.Prelude.{◌≡◌, ◌≢◌, false};
+ghost use Rattle.share_server.specs.Losses.{is_loss};
 ghost use Rattle.share_server.specs.Serving.{CountsEnd};
 ghost use Rattle.share_server.specs.Written.{IsGivenUp, IsRefused};
 
@@ -15,6 +16,7 @@ pub(crate) fn given_up<K: Link>(link: &mut K) -> LinkEnd
     ensures told { IsGivenUp (K.taken link.old) (K.taken link.new) result }
     ensures beside { K.beside_taken link.new ≡ K.beside_taken link.old }
     ensures count { CountsEnd (K.faults link.old) (K.faults link.new) result }
+    ensures goes_on { is_loss result ≡ false }
 {
     match write_failure(true, link) {
         Ok(()) => LinkEnd::Memory,
@@ -28,6 +30,7 @@ pub(crate) fn unread<K: Link>(alloc: Global, link: &mut K, error: HeadError) -> 
     ensures refused { error ≢ HeadError.Memory → IsRefused error (K.taken link.old) (K.taken link.new) result }
     ensures beside { K.beside_taken link.new ≡ K.beside_taken link.old }
     ensures count { CountsEnd (K.faults link.old) (K.faults link.new) result }
+    ensures goes_on { is_loss result ≡ false }
 {
     match error {
         HeadError::Memory => given_up(link),
@@ -42,6 +45,7 @@ fn refused<K: Link>(alloc: Global, link: &mut K, error: &HeadError) -> LinkEnd
     ensures refused { IsRefused error.now (K.taken link.old) (K.taken link.new) result }
     ensures beside { K.beside_taken link.new ≡ K.beside_taken link.old }
     ensures count { CountsEnd (K.faults link.old) (K.faults link.new) result }
+    ensures goes_on { is_loss result ≡ false }
 {
     match write_refusal(alloc, error, link) {
         Ok(()) => LinkEnd::Refused {

@@ -1,9 +1,11 @@
 //! The reading of requests off a connection.
 
-ghost use Rattle.std.specs.Prelude.{◌≡◌, ◌≢◌, ◌≤◌, ◌<◌, ℕ, List, [], None, Some, length, Option, IfOk, IfErr, MatchResult};
+ghost use Rattle.std.specs.Prelude.{◌≡◌, ◌≢◌, ◌≤◌, ◌<◌, ℕ, List, [], None, Some, false, length, Option, IfOk, IfErr, MatchResult};
 ghost use Rattle.share_asks.specs.declared.ask.Role.{Role as RoleSeen};
 ghost use Rattle.share_lock.specs.Passes.{lock_id, known, IsReady};
 ghost use Rattle.share_server.specs.Passes.{Pass as PassSeen};
+ghost use Rattle.share_server.specs.Losses.{is_loss, is_loss_if, is_loss_in};
+ghost use Rattle.share_server.specs.Kept.{Keeping};
 ghost use Rattle.share_server.specs.Serving.{CountsEnd};
 ghost use Rattle.share_server.specs.Written.{CountsMaybe, IsCalm};
 ghost use Rattle.share_server.specs.Steps.{Midway, Steps, Feeds, Underway, Pumps, EndsInput};
@@ -12,6 +14,7 @@ use crate::link::ending::unread;
 use crate::link::exchanging::{Service, exchange};
 use crate::report::{LinkEnd, Served};
 use daap_outside::{Failed, Link};
+use edit_keeping::Keeps;
 use http_front::HeadReader;
 use share_core::Share;
 use share_lock::Pass;
@@ -29,16 +32,19 @@ pub(crate) struct Serving {
 }
 
 /// Reads once, and serves what is then whole. An answer is the end of the connection.
-pub(crate) fn pump<K: Link, R: Wait + Clock>(
+pub(crate) fn pump<K: Link, F: Keeps, R: Wait + Clock>(
     service: &Service<'_, R>,
     pass: &mut Pass<Share>,
     link: &mut K,
+    keeper: &mut F,
     serving: &mut Serving,
     consumed: &mut u64,
 ) -> Option<LinkEnd>
     requires ready { IsReady (lock_id service.now.lock.now) pass.old }
     requires idle { serving.old.reader.ready ≡ None }
+    requires going { F.is_lost keeper.old ≡ false }
     ensures ready { IsReady (lock_id service.now.lock.now) pass.new }
+    ensures keeping { Keeping (F.keeps keeper.old) (F.keeps keeper.new) (F.is_lost keeper.new) (F.faults keeper.old) (F.faults keeper.new) (known pass.old) (known pass.new) (is_loss_if result) }
     ensures idle { result ≡ None → serving.new.reader.ready ≡ None }
     ensures pumps { (role : RoleSeen) (k : PassSeen) (left taken : Option (List ℕ)) → Underway role service.now.limit k (known pass.old) left (K.left link.old) taken (K.taken link.old) serving.old.reader serving.old.served.items consumed.old
         → Pumps role service.now.limit k (known pass.new) left (K.left link.new) taken (K.taken link.new) serving.new.reader serving.new.served.items consumed.new result }
@@ -54,13 +60,14 @@ pub(crate) fn pump<K: Link, R: Wait + Clock>(
     }
     *consumed = consumed.saturating_add(n as u64);
     let (piece, _) = room.split_at(n);
-    feed(service, pass, link, serving, piece)
+    feed(service, pass, link, keeper, serving, piece)
 }
 
 // The input ended, behind so many bytes.
 fn end_of_input(serving: &Serving, consumed: u64) -> LinkEnd
     ensures end { serving.now.reader.error ≡ None → EndsInput serving.now.reader consumed result }
     ensures calm { IsCalm (Some result) }
+    ensures goes_on { is_loss result ≡ false }
 {
     if serving.reader.between() {
         LinkEnd::Closed
@@ -70,16 +77,19 @@ fn end_of_input(serving: &Serving, consumed: u64) -> LinkEnd
 }
 
 // Serves the requests that are whole in a piece.
-fn feed<K: Link, R: Wait + Clock>(
+fn feed<K: Link, F: Keeps, R: Wait + Clock>(
     service: &Service<'_, R>,
     pass: &mut Pass<Share>,
     link: &mut K,
+    keeper: &mut F,
     serving: &mut Serving,
     piece: &[u8],
 ) -> Option<LinkEnd>
     requires ready { IsReady (lock_id service.now.lock.now) pass.old }
     requires idle { serving.old.reader.ready ≡ None }
+    requires going { F.is_lost keeper.old ≡ false }
     ensures ready { IsReady (lock_id service.now.lock.now) pass.new }
+    ensures keeping { Keeping (F.keeps keeper.old) (F.keeps keeper.new) (F.is_lost keeper.new) (F.faults keeper.old) (F.faults keeper.new) (known pass.old) (known pass.new) (is_loss_if result) }
     ensures idle { result ≡ None → serving.new.reader.ready ≡ None }
     ensures feeds { (role : RoleSeen) (bytes : List ℕ) (k : PassSeen) (taken : Option (List ℕ)) → Midway role bytes service.now.limit k (known pass.old) taken (K.taken link.old) serving.old.reader serving.old.served.items
         → Feeds role bytes piece.now service.now.limit k (known pass.new) taken (K.taken link.new) serving.new.reader serving.new.served.items result }
@@ -89,7 +99,7 @@ fn feed<K: Link, R: Wait + Clock>(
     let mut done = 0;
     while done < piece.len() {
         let (_, rest) = piece.split_at(done);
-        match step(service, pass, link, serving, rest) {
+        match step(service, pass, link, keeper, serving, rest) {
             Ok(taken) => done += taken,
             Err(end) => return Some(end),
         }
@@ -98,17 +108,20 @@ fn feed<K: Link, R: Wait + Clock>(
 }
 
 // Reads up to the end of the next request, and serves it where it is whole. An error is the end of the connection.
-fn step<K: Link, R: Wait + Clock>(
+fn step<K: Link, F: Keeps, R: Wait + Clock>(
     service: &Service<'_, R>,
     pass: &mut Pass<Share>,
     link: &mut K,
+    keeper: &mut F,
     serving: &mut Serving,
     piece: &[u8],
 ) -> Result<usize, LinkEnd>
     requires ready { IsReady (lock_id service.now.lock.now) pass.old }
     requires idle { serving.old.reader.ready ≡ None }
     requires some { piece.now ≢ [] }
+    requires going { F.is_lost keeper.old ≡ false }
     ensures ready { IsReady (lock_id service.now.lock.now) pass.new }
+    ensures keeping { Keeping (F.keeps keeper.old) (F.keeps keeper.new) (F.is_lost keeper.new) (F.faults keeper.old) (F.faults keeper.new) (known pass.old) (known pass.new) (is_loss_in result) }
     ensures idle { IfOk result (λ _. serving.new.reader.ready ≡ None) }
     ensures moves { IfOk result (λ n. 0 < n) }
     ensures within { IfOk result (λ n. n ≤ length piece.now) }
@@ -124,7 +137,7 @@ fn step<K: Link, R: Wait + Clock>(
     let Some(ask) = serving.reader.next() else {
         return Ok(taken);
     };
-    match exchange(service, pass, link, &mut serving.served, &ask) {
+    match exchange(service, pass, link, keeper, &mut serving.served, &ask) {
         None => Ok(taken),
         Some(end) => Err(end),
     }

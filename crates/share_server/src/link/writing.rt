@@ -1,9 +1,10 @@
 //! The writing of one reply.
 
-ghost use Rattle.std.specs.Prelude.{◌≡◌, Some, is_some};
+ghost use Rattle.std.specs.Prelude.{◌≡◌, Some, false, is_some};
 ghost use Rattle.http_front.specs.ReplyHeads.{HasReason};
 ghost use Rattle.listing_plan.specs.Plans.{IsWritable, plan_bytes};
 ghost use Rattle.reply_bytes.specs.ReplyBytes.{with_head, failure_bytes};
+ghost use Rattle.share_server.specs.Losses.{is_loss, is_loss_if};
 ghost use Rattle.share_server.specs.Serving.{CountsEnd};
 ghost use Rattle.share_server.specs.Written.{WasWritten, IsSayable, said_bytes, CountsMaybe, IsCalm};
 
@@ -27,9 +28,11 @@ pub(crate) fn reply<K: Link>(
 ) -> Option<LinkEnd>
     requires sayable { IsSayable said }
     requires calm { IsCalm due }
+    requires goes_on { is_loss_if due ≡ false }
     ensures written { WasWritten (said_bytes said (is_some due)) added due (K.taken link.old) (K.taken link.new) result }
     ensures beside { K.beside_taken link.new ≡ K.beside_taken link.old }
     ensures count { CountsMaybe (K.faults link.old) (K.faults link.new) result }
+    ensures goes_on { is_loss_if result ≡ false }
 {
     match said {
         None => failure(link, due),
@@ -39,9 +42,11 @@ pub(crate) fn reply<K: Link>(
 
 fn failure<K: Link>(link: &mut K, due: Option<LinkEnd>) -> Option<LinkEnd>
     requires calm { IsCalm due }
+    requires goes_on { is_loss_if due ≡ false }
     ensures written { (added : _) → WasWritten (failure_bytes (is_some due)) added due (K.taken link.old) (K.taken link.new) result }
     ensures beside { K.beside_taken link.new ≡ K.beside_taken link.old }
     ensures count { CountsMaybe (K.faults link.old) (K.faults link.new) result }
+    ensures goes_on { is_loss_if result ≡ false }
 {
     match write_failure(due.is_some(), link) {
         Ok(()) => due,
@@ -61,9 +66,11 @@ fn whole<K: Link>(
     requires reason { HasReason status }
     requires writable { IsWritable plan }
     requires calm { IsCalm due }
+    requires goes_on { is_loss_if due ≡ false }
     ensures written { WasWritten (with_head status form (plan_bytes plan) (is_some due)) added due (K.taken link.old) (K.taken link.new) result }
     ensures beside { K.beside_taken link.new ≡ K.beside_taken link.old }
     ensures count { CountsMaybe (K.faults link.old) (K.faults link.new) result }
+    ensures goes_on { is_loss_if result ≡ false }
 {
     match write_reply(alloc, status, form, &plan, due.is_some(), link) {
         Ok(()) => due,
@@ -77,6 +84,7 @@ fn unwritten<K: Link>(link: &mut K, added: bool) -> LinkEnd
     ensures written { (bytes : _) (due : _) → WasWritten bytes added due (K.taken link.old) (K.taken link.new) (Some result) }
     ensures beside { K.beside_taken link.new ≡ K.beside_taken link.old }
     ensures count { CountsEnd (K.faults link.old) (K.faults link.new) result }
+    ensures goes_on { is_loss result ≡ false }
 {
     if added {
         return LinkEnd::Memory;

@@ -1,16 +1,20 @@
 //! Turns until a request is answered.
 
-ghost use Rattle.std.specs.Prelude.{◌≡◌};
+ghost use Rattle.std.specs.Prelude.{◌≡◌, false};
+ghost use Rattle.http_front.specs.Readable.{IsReadableWant};
 ghost use Rattle.share_asks.specs.Valid.{IsValidWant};
 ghost use Rattle.share_lock.specs.Passes.{lock_id, known, IsReady};
-ghost use Rattle.share_server.specs.Answering.{IsOutcome, CountsOutcome};
+ghost use Rattle.share_server.specs.Answering.{IsOutcome, CountsOutcome, loses};
+ghost use Rattle.share_server.specs.Kept.{Keeping};
 
-use crate::turns::looks::looked;
+use crate::turns::looks::turn;
 use crate::turns::outcome::{Answered, Look, Unanswered};
 use daap_outside::Link;
+use edit_keeping::Keeps;
 use share_asks::Ask;
 use share_core::Share;
 use share_lock::{Bell, Pass, ShareLock};
+use std::alloc::Global;
 use std::sync::Wait;
 use std::time::{Clock, Duration, Instant};
 
@@ -19,30 +23,37 @@ pub const PROBE_SECONDS: u64 = 5;
 
 /// Answers a request of a pass. The share is held for the answer alone, and nothing of it is written here. An update
 /// that is yet to come waits at the bell, outside any turn, for at most `PROBE_SECONDS`; then its link is probed, and it
-/// looks at the share again. An answer that adds an entry rings the bell. Where there is no memory for the answer the
-/// share stays as it was, and the status is 500. The call takes no memory beside what the answer takes.
+/// looks at the share again. An answer that adds an entry rings the bell. An edit that adds one is kept in its turn: the
+/// keeper makes it ready before. Where there is no memory for that or for the answer the share stays as it was, and the
+/// status is 500. The call takes no memory beside what these take.
 ///
 /// # Errors
 ///
-/// Returns `Gone` if the link's probe failed while the update was held. Nothing was served then.
-pub fn answer_request<K: Link, R: Wait + Clock>(
+/// Returns `Gone` if the link's probe failed while the update was held. Nothing was served then. Returns `Lost` if the
+/// keeper lost the edit. Then it was added, and the share was stopped in the same turn.
+pub fn answer_request<K: Link, F: Keeps, R: Wait + Clock>(
     rt: &R,
+    alloc: Global,
     lock: &ShareLock<Share>,
     bell: &Bell,
     pass: &mut Pass<Share>,
     link: &mut K,
+    keeper: &mut F,
     ask: &Ask,
 ) -> Result<Answered, Unanswered>
     requires ready { IsReady (lock_id lock.now) pass.old }
     requires valid { IsValidWant ask.now.want }
+    requires readable { IsReadableWant ask.now.want }
+    requires going { F.is_lost keeper.old ≡ false }
     ensures ready { IsReady (lock_id lock.now) pass.new }
     ensures outcome { IsOutcome (known pass.old) (known pass.new) ask.now result }
+    ensures keeping { Keeping (F.keeps keeper.old) (F.keeps keeper.new) (F.is_lost keeper.new) (F.faults keeper.old) (F.faults keeper.new) (known pass.old) (known pass.new) (loses result) }
     ensures taken { K.taken link.new ≡ K.taken link.old }
     ensures beside { K.beside_taken link.new ≡ K.beside_taken link.old }
     ensures count { CountsOutcome (K.faults link.old) (K.faults link.new) result }
 {
     for _ in rt.forever() {
-        match looked(rt, lock, pass, ask) {
+        match turn(rt, alloc, lock, pass, keeper, ask) {
             Look::Answered(answered) => {
                 if answered.served.added {
                     bell.ring(rt, answered.served.point);
@@ -54,6 +65,10 @@ pub fn answer_request<K: Link, R: Wait + Clock>(
                 if link.probe().is_err() {
                     return Err(Unanswered::Gone);
                 }
+            }
+            Look::Lost { point } => {
+                bell.ring(rt, point);
+                return Err(Unanswered::Lost);
             }
         }
     }

@@ -1,85 +1,110 @@
 //! One turn at the share.
 
-ghost use Rattle.std.specs.Prelude.{◌≡◌, ◌<◌};
+ghost use Rattle.std.specs.Prelude.{◌≡◌, false, IfOk, OnErr, []};
+ghost use Rattle.http_front.specs.Readable.{IsReadableWant};
+ghost use Rattle.share_asks.specs.declared.ask.Ask.{Ask as AskSeen};
 ghost use Rattle.share_asks.specs.Valid.{IsValidWant};
-ghost use Rattle.share_lock.specs.Known.{after_turn};
 ghost use Rattle.share_lock.specs.Passes.{lock_id, known, IsReady};
-ghost use Rattle.share_core.specs.Laws.{Grows};
-ghost use Rattle.share_server.specs.Passes.{Pass as Known};
-ghost use Rattle.share_server.specs.Answering.{IsLooked, Finds, look_of};
+ghost use Rattle.share_core.specs.Wants.{is_free};
+ghost use Rattle.share_server.specs.Passes.{Serves};
+ghost use Rattle.share_server.specs.Answering.{IsLooked, loses_in};
+ghost use Rattle.share_server.specs.Kept.{IsReadyFor, Keeping, edits_wanted};
 
-use crate::report::Served;
-use crate::turns::outcome::{Answered, Look};
-use share_asks::Ask;
-use share_core::{Answer, Share};
+use crate::turns::keeping::{asked, look_of};
+use crate::turns::outcome::Look;
+use edit_keeping::Keeps;
+use share_asks::{Ask, Want};
+use share_core::Share;
 use share_lock::{Pass, ShareLock};
-use song_query::Steps;
-use std::alloc::AllocError;
+use std::alloc::{AllocError, Global};
 use std::marker::Brand;
 use std::sync::Wait;
-use std::sync::ledger::{Blank, Ledger};
+use std::sync::ledger::Blank;
 
-/// Takes a turn for a request, and gives it back before anything is written.
-pub(crate) fn looked<R: Wait>(
+/// Takes a turn for a request. An edit is made ready to be kept before it; where there is no memory for that, the turn
+/// only looks.
+pub(crate) fn turn<F: Keeps, R: Wait>(
     rt: &R,
+    alloc: Global,
     lock: &ShareLock<Share>,
     pass: &mut Pass<Share>,
+    keeper: &mut F,
     ask: &Ask,
 ) -> Look
     requires ready { IsReady (lock_id lock.now) pass.old }
     requires valid { IsValidWant ask.now.want }
+    requires readable { IsReadableWant ask.now.want }
+    requires going { F.is_lost keeper.old ≡ false }
     ensures ready { IsReady (lock_id lock.now) pass.new }
     ensures looked { IsLooked (known pass.old) (known pass.new) ask.now result }
+    ensures keeping { Keeping (F.keeps keeper.old) (F.keeps keeper.new) (F.is_lost keeper.new) (F.faults keeper.old) (F.faults keeper.new) (known pass.old) (known pass.new) (loses_in result) }
+{
+    match ready_for(alloc, keeper, &ask.want) {
+        Ok(ready) => looked(rt, lock, pass, keeper, ask, ready),
+        Err(AllocError) => passed_over(rt, lock, pass),
+    }
+}
+
+// What the keeper makes ready for a want: an edit, where it has one.
+fn ready_for<F: Keeps>(
+    alloc: Global,
+    keeper: &F,
+    want: &Want,
+) -> Result<Option<F::Ready>, AllocError>
+    requires readable { IsReadableWant want.now }
+    ensures ready { IfOk result (IsReadyFor F.is_for (edits_wanted want.now)) }
+    ensures edits { OnErr result (is_free want.now ≡ false) }
+{
+    let Want::Edit { body: Ok(batch) } = want else {
+        return Ok(None);
+    };
+    if batch.edits.as_slice().is_empty() {
+        return Ok(None);
+    }
+    let ready = keeper.ready(alloc, batch)?;
+    Ok(Some(ready))
+}
+
+// Takes a turn, and gives it back before anything is written.
+fn looked<F: Keeps, R: Wait>(
+    rt: &R,
+    lock: &ShareLock<Share>,
+    pass: &mut Pass<Share>,
+    keeper: &mut F,
+    ask: &Ask,
+    ready: Option<F::Ready>,
+) -> Look
+    requires ready { IsReady (lock_id lock.now) pass.old }
+    requires valid { IsValidWant ask.now.want }
+    requires made { IsReadyFor F.is_for (edits_wanted ask.now.want) ready }
+    requires going { F.is_lost keeper.old ≡ false }
+    ensures ready { IsReady (lock_id lock.now) pass.new }
+    ensures looked { IsLooked (known pass.old) (known pass.new) ask.now result }
+    ensures keeping { Keeping (F.keeps keeper.old) (F.keeps keeper.new) (F.is_lost keeper.new) (F.faults keeper.old) (F.faults keeper.new) (known pass.old) (known pass.new) (loses_in result) }
 {
     let by = pass.number();
     let mut turn = lock.take(rt, pass);
-    let look = asked::<Brand>(Blank::new(1), turn.state(), by, ask);
+    let look = asked::<Brand, F>(Blank::new(1), turn.state(), by, keeper, ask, ready);
     lock.give(turn);
     look
 }
 
-// Asks the share, for the pass of a number that found it so. Looks of queries at items are not counted.
-fn asked<L: Ledger>(blank: Blank, share: &mut Share, by: u32, ask: &Ask) -> Look
-    requires name { blank.name ≡ L.name }
-    requires parts { blank.parts ≡ L.parts }
-    requires any { 0 < blank.parts }
-    requires valid { IsValidWant ask.now.want }
-    ensures grows { Grows share.old by share.new }
-    ensures looked { (k : Known) → k.number ≡ by → Finds k share.old → IsLooked k (after_turn k share.new.history) ask.now result }
+// A turn in which nothing is asked, since there was no memory: the request is told so.
+fn passed_over<R: Wait>(rt: &R, lock: &ShareLock<Share>, pass: &mut Pass<Share>) -> Look
+    requires ready { IsReady (lock_id lock.now) pass.old }
+    ensures ready { IsReady (lock_id lock.now) pass.new }
+    ensures looked { (ask : AskSeen) → is_free ask.want ≡ false → IsLooked (known pass.old) (known pass.new) ask result }
+    ensures quiet { Serves (known pass.old) (known pass.new) [] [] }
+    ensures goes_on { loses_in result ≡ false }
 {
-    let answer = share.answer(by, ask, &mut Steps::<L>::open(blank));
-    let stopped = share.stopped();
-    let end = share.len();
-    look_of(answer, stopped, end)
-}
-
-/// What is told of an answer, or of want of memory at the end of the history.
-pub(crate) fn look_of(answer: Result<Answer, AllocError>, stopped: bool, end: u64) -> Look
-    ensures { result ≡ look_of answer stopped end }
-{
-    match answer {
-        Ok(Answer::Reply(reply)) => Look::Answered(Answered {
-            served: Served {
-                session: reply.session,
-                seen: reply.seen,
-                point: reply.point,
-                status: reply.said.status,
-                added: reply.added,
-            },
-            said: Some(reply.said),
-            stopped,
-        }),
-        Ok(Answer::Wait { point, .. }) => Look::Held { point },
-        Err(_) => Look::Answered(Answered {
-            served: Served {
-                session: 0,
-                seen: 0,
-                point: end,
-                status: 500,
-                added: false,
-            },
-            said: None,
-            stopped,
-        }),
-    }
+    let mut turn = lock.take(rt, pass);
+    let share = turn.state();
+    let look = look_of(
+        Err(AllocError),
+        share.stopped(),
+        share.revision(),
+        share.len(),
+    );
+    lock.give(turn);
+    look
 }

@@ -1,5 +1,8 @@
 //! What a request is answered.
 
+ghost use Rattle.std.specs.Prelude.{◌≡◌};
+ghost use Rattle.share_server.specs.Answering.{has_added};
+
 use crate::report::Served;
 use share_core::Said;
 
@@ -12,6 +15,8 @@ pub struct Answered {
     pub said: Option<Said>,
     /// Whether the share was stopped at the point of the answer.
     pub stopped: bool,
+    /// The share's revision at the point of the answer.
+    pub revision: u32,
 }
 
 /// Why a request was not answered.
@@ -19,6 +24,8 @@ pub struct Answered {
 pub enum Unanswered {
     /// Its peer went while the update was held.
     Gone,
+    /// Its edit was added and may not have been kept. The share was stopped behind it, before anyone saw it.
+    Lost,
 }
 
 /// What one look at the share gives.
@@ -27,4 +34,18 @@ pub(crate) enum Look {
     Answered(Answered),
     /// The request is held until the history has more entries than this.
     Held { point: u64 },
+    /// The request's edit may not have been kept. Behind the stop the history has so many entries.
+    Lost { point: u64 },
+}
+
+impl Look {
+    /// Whether the answer added an entry.
+    pub(crate) fn has_added(&self) -> bool
+        ensures { result ≡ has_added self.now }
+    {
+        match self {
+            Look::Answered(answered) => answered.served.added,
+            Look::Held { .. } | Look::Lost { .. } => false,
+        }
+    }
 }

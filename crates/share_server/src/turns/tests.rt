@@ -1,14 +1,17 @@
-//! Updates that are held, want of memory, and two passes at one share.
+//! Updates that are held, edits that are lost, want of memory, and two passes at one share.
 
-ghost use Rattle.std.specs.Prelude.{◌≡◌, IfOk};
+ghost use Rattle.std.specs.Prelude.{◌≡◌, IfOk, false};
+ghost use Rattle.http_front.specs.Readable.{IsReadableWant};
 ghost use Rattle.share_asks.specs.Valid.{IsValidWant};
 ghost use Rattle.share_lock.specs.Passes.{lock_id, IsReady};
 
 use crate::report::Served;
 use crate::turns::answers::{PROBE_SECONDS, answer_request};
-use crate::turns::looks::{look_of, looked};
+use crate::turns::keeping::look_of;
+use crate::turns::looks::turn;
 use crate::turns::outcome::{Answered, Look, Unanswered};
 use daap_outside::{MemLink, MemSink, MemSource};
+use edit_keeping::{Keeps, Lost, Unkept};
 use item_model::{Batch, Edits, Entry};
 use records_import::read_batch;
 use share_asks::{Ask, BodyForm, Role, Want};
@@ -43,11 +46,43 @@ fn asks(want: Want) -> Ask
 }
 
 fn edit(alloc: Global) -> Result<Want, AllocError>
-    ensures { IfOk result IsValidWant }
+    ensures valid { IfOk result IsValidWant }
+    ensures readable { IfOk result IsReadableWant }
 {
     match read_batch(alloc, b"op,kind,id,dmap.itemname\nput,item,7,Hey\n") {
         Ok(batch) => Ok(Want::Edit { body: Ok(batch) }),
         Err(_) => Err(AllocError),
+    }
+}
+
+// A keeper that loses each batch.
+#[derive(Drop)]
+struct Losing {
+    lost: bool,
+    faults: u64,
+}
+
+impl Keeps for Losing {
+    ghost use Rattle.std.specs.Prelude.{⊤};
+
+    type Ready = ();
+
+    ghost keeps = { λ _ _. ⊤ };
+
+    ghost is_lost = { λ a. a.lost };
+
+    ghost faults = { λ a. a.faults };
+
+    ghost is_for = { λ _ _. ⊤ };
+
+    fn ready(&self, _alloc: Global, _batch: &Batch) -> Result<(), AllocError> {
+        Ok(())
+    }
+
+    fn keep(&mut self, _ready: ()) -> Result<(), Lost> {
+        self.lost = true;
+        self.faults = self.faults.saturating_add(1);
+        Err(Lost)
     }
 }
 
@@ -68,7 +103,31 @@ fn read_clock<C: Clock>(clock: &C) -> Result<Duration, AllocError> {
     }
 }
 
-// The answer to a request on a link of which no probe fails.
+// The answer to a request on a link of which no probe fails, or that its edit was lost.
+fn kept<F: Keeps, R: Wait + Clock>(
+    rt: &R,
+    alloc: Global,
+    lock: &ShareLock<Share>,
+    bell: &Bell,
+    pass: &mut Pass<Share>,
+    keeper: &mut F,
+    want: Want,
+) -> Result<Option<Answered>, AllocError>
+    requires ready { IsReady (lock_id lock.now) pass.old }
+    requires valid { IsValidWant want }
+    requires readable { IsReadableWant want }
+    requires going { F.is_lost keeper.old ≡ false }
+    ensures ready { IsReady (lock_id lock.now) pass.new }
+{
+    let mut link = linked(alloc, &[])?;
+    match answer_request(rt, alloc, lock, bell, pass, &mut link, keeper, &asks(want)) {
+        Ok(answered) => Ok(Some(answered)),
+        Err(Unanswered::Lost) => Ok(None),
+        Err(Unanswered::Gone) => Err(AllocError),
+    }
+}
+
+// The same where nothing is kept.
 fn answered<R: Wait + Clock>(
     rt: &R,
     alloc: Global,
@@ -79,12 +138,12 @@ fn answered<R: Wait + Clock>(
 ) -> Result<Answered, AllocError>
     requires ready { IsReady (lock_id lock.now) pass.old }
     requires valid { IsValidWant want }
+    requires readable { IsReadableWant want }
     ensures ready { IsReady (lock_id lock.now) pass.new }
 {
-    let mut link = linked(alloc, &[])?;
-    match answer_request(rt, lock, bell, pass, &mut link, &asks(want)) {
-        Ok(answered) => Ok(answered),
-        Err(Unanswered::Gone) => Err(AllocError),
+    match kept(rt, alloc, lock, bell, pass, &mut Unkept, want)? {
+        Some(answered) => Ok(answered),
+        None => Err(AllocError),
     }
 }
 
@@ -98,6 +157,7 @@ fn told<R: Wait + Clock>(
 ) -> Result<Told, AllocError>
     requires ready { IsReady (lock_id lock.now) pass }
     requires valid { IsValidWant want }
+    requires readable { IsReadableWant want }
 {
     let mut pass = pass;
     let answered = answered(rt, alloc, lock, bell, &mut pass, want)?;
@@ -107,7 +167,8 @@ fn told<R: Wait + Clock>(
 
 // Of session 1, for the revision behind the first one.
 fn update() -> Want
-    ensures { IsValidWant result }
+    ensures valid { IsValidWant result }
+    ensures readable { IsReadableWant result }
 {
     Want::Update {
         session: 1,
@@ -127,9 +188,9 @@ fn held_from<R: Wait + Clock>(
     ensures { IsReady (lock_id lock.now) pass.new }
 {
     answered(rt, alloc, lock, bell, pass, Want::Login)?;
-    match looked(rt, lock, pass, &asks(update())) {
+    match turn(rt, alloc, lock, pass, &mut Unkept, &asks(update())) {
         Look::Held { point } => Ok(Some(point)),
-        Look::Answered(_) => Ok(None),
+        Look::Answered(_) | Look::Lost { .. } => Ok(None),
     }
 }
 
@@ -139,7 +200,8 @@ fn held_before<R: Wait + Clock>(
     alloc: Global,
     other: Want,
 ) -> Result<(Option<u64>, Told, Told), AllocError>
-    requires { IsValidWant other }
+    requires valid { IsValidWant other }
+    requires readable { IsReadableWant other }
 {
     let (lock, mut first) = opened(alloc)?;
     let bell = Bell::new();
@@ -167,6 +229,42 @@ fn a_stop_ends_what_holds_an_update(rt: HostRuntime) -> Result<(), Fail> {
     Ok(())
 }
 
+// Pass 0 asks for an update, which is held, then pass 1 for an edit, which is lost, and then pass 0 again. How many entries
+// the history has in the end is told, too.
+fn held_before_a_loss<R: Wait + Clock>(
+    rt: &R,
+    alloc: Global,
+) -> Result<(bool, Told, u64), AllocError> {
+    let (lock, mut first) = opened(alloc)?;
+    let bell = Bell::new();
+    let mut second = lock.split(rt, &mut first)?;
+    held_from(rt, alloc, &lock, &bell, &mut first)?;
+    let mut keeper = Losing {
+        lost: false,
+        faults: 0,
+    };
+    let lost = kept(
+        rt,
+        alloc,
+        &lock,
+        &bell,
+        &mut second,
+        &mut keeper,
+        edit(alloc)?,
+    )?;
+    let held = told(rt, alloc, &lock, &bell, first, update())?;
+    Ok((lost.is_none(), held, second.seen()))
+}
+
+#[test]
+fn a_lost_edit_ends_what_holds_an_update(rt: HostRuntime) -> Result<(), Fail> {
+    let (lost, held, seen) = held_before_a_loss(&rt, rt.alloc())?;
+    assert!(rt; lost);
+    assert!(rt; held == (503, 3, false, true));
+    assert!(rt; seen == 3);
+    Ok(())
+}
+
 fn logged_in<R: Wait + Clock>(rt: &R, alloc: Global) -> Result<Answered, AllocError> {
     let (lock, mut pass) = opened(alloc)?;
     answered(rt, alloc, &lock, &Bell::new(), &mut pass, Want::Login)
@@ -179,7 +277,16 @@ fn held_alone<R: Wait + Clock>(rt: &R, alloc: Global) -> Result<(bool, Duration)
     held_from(rt, alloc, &lock, &bell, &mut pass)?;
     let mut link = linked(alloc, &[2])?;
     let begun = read_clock(rt)?;
-    let ended = answer_request(rt, &lock, &bell, &mut pass, &mut link, &asks(update()));
+    let ended = answer_request(
+        rt,
+        alloc,
+        &lock,
+        &bell,
+        &mut pass,
+        &mut link,
+        &mut Unkept,
+        &asks(update()),
+    );
     let ended_at = read_clock(rt)?;
     let gone = matches!(ended, Err(Unanswered::Gone));
     Ok((gone, ended_at.saturating_sub(begun)))
@@ -213,7 +320,7 @@ fn a_request_is_told_with_what_is_to_be_written(rt: HostRuntime) -> Result<(), F
 
 #[test]
 fn want_of_memory_is_told_at_the_end_of_the_history(rt: HostRuntime) -> Result<(), Fail> {
-    let Look::Answered(answered) = look_of(Err(AllocError), true, 5) else {
+    let Look::Answered(answered) = look_of(Err(AllocError), true, 2, 5) else {
         return Err(Fail::from(AllocError));
     };
     let served = Served {

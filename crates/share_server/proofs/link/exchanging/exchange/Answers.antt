@@ -1,15 +1,18 @@
-use Rattle.std.proofs.Common.{◌≡◌, List, Some, rules, sym, subst}
+use Rattle.std.proofs.Common.{◌≡◌, Bool, List, Some, rules, sym, ap, ◌∙◌, subst}
 use Rattle.std.specs.Prelude.{Result, Err}
 use Rattle.share_lock.specs.Passes.{known}
 use Rattle.share_server.specs.declared.report.Served.{Served}
-use Rattle.share_server.specs.declared.report.LinkEnd.TheVariants.{LinkFault}
-use Rattle.share_server.specs.Answering.{IsOutcome}
+use Rattle.share_server.specs.declared.report.LinkEnd.TheVariants.{LinkFault, FileFault}
+use Rattle.share_server.specs.Answering.{IsOutcome, loses}
+use Rattle.share_server.specs.Kept.{Keeping}
 use Rattle.share_server.specs.declared.turns.outcome.Answered.{Answered}
 use Rattle.share_server.specs.declared.turns.outcome.Unanswered.{Unanswered}
-use Rattle.share_server.specs.declared.turns.outcome.Unanswered.TheVariants.{Gone}
+use Rattle.share_server.specs.declared.turns.outcome.Unanswered.TheVariants.{Gone, Lost}
 use Rattle.share_server.specs.Served.{at_point}
 use Rattle.share_server.specs.Steps.{Goes, Exchanges}
-use Rattle.share_server.proofs.Requests.{gone, sayable, unserved}
+use Rattle.share_server.proofs.Losing.{keeping_none}
+use Rattle.share_server.proofs.Requests.{gone, sayable, unkept, unserved}
+use Rattle.share_server.proofs.Waiting.{serves_none}
 use Rattle.share_server.proofs.link.exchanging.exchange.Goals as goal
 
 -- there was no room for the report
@@ -45,3 +48,48 @@ returns-in-Err-Gone-clause-exchanges g c = λ k taken asks goes.
     (g.K.Sink.taken c.answer_request.new.link) asks c.args.ask.now c.args.served.now.items goes
     (subst (IsOutcome (known c.args.pass.now) (known c.answer_request.new.pass) c.args.ask.now) is c.answer_request.ensures.outcome)
     c.answer_request.ensures.taken)
+
+-- its edit was lost
+pub returns-in-Err-Lost-clause-exchanges : goal.returns-in-Err-Lost-clause-exchanges
+returns-in-Err-Lost-clause-exchanges g c = λ k taken asks goes.
+    let is : ◌≡◌ {A = Result Answered Unanswered} c.answer_request.result (Err Lost) = search rules in
+    subst
+    (λ (served : List Served). Exchanges c.args.service.now.limit k (known c.answer_request.new.pass) taken (g.K.Sink.taken c.answer_request.new.link) asks c.args.ask.now served (Some FileFault))
+    (sym c.reserve.ensures.items)
+    (unkept c.args.service.now.limit k (known c.args.pass.now) (known c.answer_request.new.pass) taken (g.K.Sink.taken c.args.link.now)
+    (g.K.Sink.taken c.answer_request.new.link) asks c.args.ask.now c.args.served.now.items goes
+    (subst (IsOutcome (known c.args.pass.now) (known c.answer_request.new.pass) c.args.ask.now) is c.answer_request.ensures.outcome)
+    c.answer_request.ensures.taken)
+
+-- ---- the keeper
+
+pub returns-then-is_err-clause-keeping : goal.returns-then-is_err-clause-keeping
+returns-then-is_err-clause-keeping g c =
+    subst
+    (λ (b : Bool). Keeping (g.F.Keeps.keeps c.args.keeper.now) (g.F.Keeps.keeps c.args.keeper.now) (g.F.Keeps.is_lost c.args.keeper.now) (g.F.Keeps.faults c.args.keeper.now) (g.F.Keeps.faults c.args.keeper.now) (known c.args.pass.now) (known c.args.pass.now) b)
+    (sym c.given_up.ensures.goes_on)
+    (keeping_none (g.F.Keeps.keeps c.args.keeper.now) (g.F.Keeps.is_lost c.args.keeper.now) (g.F.Keeps.faults c.args.keeper.now) (known c.args.pass.now)
+    (known c.args.pass.now) c.requires.going (serves_none (known c.args.pass.now)))
+
+pub returns-in-Ok-clause-keeping : goal.returns-in-Ok-clause-keeping
+returns-in-Ok-clause-keeping g c =
+    subst
+    (λ (b : Bool). Keeping (g.F.Keeps.keeps c.args.keeper.now) (g.F.Keeps.keeps c.answer_request.new.keeper) (g.F.Keeps.is_lost c.answer_request.new.keeper) (g.F.Keeps.faults c.args.keeper.now) (g.F.Keeps.faults c.answer_request.new.keeper) (known c.args.pass.now) (known c.answer_request.new.pass) b)
+    (sym c.tell.ensures.goes_on)
+    c.in-Ok.ensures.keeping
+
+pub returns-in-Err-Gone-clause-keeping : goal.returns-in-Err-Gone-clause-keeping
+returns-in-Err-Gone-clause-keeping g c =
+    let is : ◌≡◌ {A = Result Answered Unanswered} c.answer_request.result (Err Gone) = search rules in
+    subst
+    (λ (r : Result Answered Unanswered). Keeping (g.F.Keeps.keeps c.args.keeper.now) (g.F.Keeps.keeps c.answer_request.new.keeper) (g.F.Keeps.is_lost c.answer_request.new.keeper) (g.F.Keeps.faults c.args.keeper.now) (g.F.Keeps.faults c.answer_request.new.keeper) (known c.args.pass.now) (known c.answer_request.new.pass) (loses r))
+    is
+    c.answer_request.ensures.keeping
+
+pub returns-in-Err-Lost-clause-keeping : goal.returns-in-Err-Lost-clause-keeping
+returns-in-Err-Lost-clause-keeping g c =
+    let is : ◌≡◌ {A = Result Answered Unanswered} c.answer_request.result (Err Lost) = search rules in
+    subst
+    (λ (r : Result Answered Unanswered). Keeping (g.F.Keeps.keeps c.args.keeper.now) (g.F.Keeps.keeps c.answer_request.new.keeper) (g.F.Keeps.is_lost c.answer_request.new.keeper) (g.F.Keeps.faults c.args.keeper.now) (g.F.Keeps.faults c.answer_request.new.keeper) (known c.args.pass.now) (known c.answer_request.new.pass) (loses r))
+    is
+    c.answer_request.ensures.keeping

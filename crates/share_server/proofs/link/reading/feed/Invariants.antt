@@ -1,11 +1,12 @@
-use Rattle.std.proofs.Common.{◌≡◌, ◌≤◌, ◌-◌, ◌++◌, ℕ, List, Option, None, length, take}
+use Rattle.std.proofs.Common.{◌≡◌, ◌≤◌, ◌-◌, ◌++◌, ℕ, List, Option, None, false, length, take}
 use Rattle.share_asks.specs.declared.ask.Role.{Role}
 use Rattle.share_lock.specs.Passes.{lock_id, known, IsReady}
 use Rattle.share_server.specs.Passes.{Pass}
+use Rattle.share_server.specs.Kept.{Keeping}
 use Rattle.share_server.specs.Steps.{Midway}
 use Rattle.share_server.proofs.link.reading.feed.Given as goal
 
--- so many bytes of the piece were fed, and the connection goes on
+-- so many bytes of the piece were fed, the keeper lost nothing, and the connection goes on
 abbrev pub invariant-loop-done : goal.invariant-loop-done
 invariant-loop-done g l = record {
   within : l.done ≤ length l.piece;
@@ -14,6 +15,10 @@ invariant-loop-done g l = record {
   fed : (role : Role) (bytes : List ℕ) (k : Pass) (taken : Option (List ℕ))
       → Midway role bytes l.service.limit k (known l.initial.pass) taken (g.K.Sink.taken l.initial.link) l.initial.serving.reader l.initial.serving.served.items
       → Midway role (bytes ++ take l.done l.piece) l.service.limit k (known l.pass) taken (g.K.Sink.taken l.link) l.serving.reader l.serving.served.items;
+  going : g.F.Keeps.is_lost l.keeper ≡ false;
+  keeping :
+      Keeping (g.F.Keeps.keeps l.initial.keeper) (g.F.Keeps.keeps l.keeper) (g.F.Keeps.is_lost l.keeper) (g.F.Keeps.faults l.initial.keeper) (g.F.Keeps.faults l.keeper)
+      (known l.initial.pass) (known l.pass) false;
   beside : g.K.Sink.beside_taken l.link ≡ g.K.Sink.beside_taken l.initial.link;
   count : g.K.Faulted.faults l.link ≡ g.K.Faulted.faults l.initial.link;
 }

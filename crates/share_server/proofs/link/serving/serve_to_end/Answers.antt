@@ -39,6 +39,10 @@ loop-init g c =
           (sym c.new-served.ensures.items)
           (started c.args.role c.args.service.now.limit (known c.args.pass.now) (g.K.Source.left c.args.link.now) (g.K.Sink.taken c.args.link.now) c.in-Ok.reader some
           c.in-Ok.ensures.role c.in-Ok.ensures.idle.0 c.in-Ok.ensures.idle.1 c.in-Ok.ensures.begins);
+      going = c.requires.going;
+      keeping =
+          keeping_none (g.F.Keeps.keeps c.args.keeper.now) (g.F.Keeps.is_lost c.args.keeper.now) (g.F.Keeps.faults c.args.keeper.now) (known c.args.pass.now)
+          (known c.args.pass.now) c.requires.going (serves_nothing (known c.args.pass.now));
       count = refl;
     }
 
@@ -49,6 +53,11 @@ loop-preserved g c =
       ready = c.pump.ensures.ready;
       idle = c.in-None-pump.ensures.idle refl;
       under = c.in-None-pump.ensures.pumps c.args.role (known c.args.pass.now) (g.K.Source.left c.args.link.now) (g.K.Sink.taken c.args.link.now) inv.under;
+      going = c.pump.ensures.keeping.is_lost;
+      keeping =
+          keeping_then (g.F.Keeps.keeps c.args.keeper.now) (g.F.Keeps.keeps c.loop.keeper) (g.F.Keeps.keeps c.pump.new.keeper) (g.F.Keeps.is_lost c.loop.keeper)
+          (g.F.Keeps.is_lost c.pump.new.keeper) (g.F.Keeps.faults c.args.keeper.now) (g.F.Keeps.faults c.loop.keeper) (g.F.Keeps.faults c.pump.new.keeper)
+          (known c.args.pass.now) (known c.loop.pass) (known c.pump.new.pass) false inv.keeping c.in-None-pump.ensures.keeping;
       count = c.in-None-pump.ensures.count ∙ inv.count;
     }
 

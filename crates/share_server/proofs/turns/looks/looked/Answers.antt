@@ -1,7 +1,8 @@
 -- The pass found the share by its turn, and has then seen what the answer left.
 use Rattle.std.proofs.Common.{rules, ◌≡◌, sym, subst}
 use Rattle.share_lock.specs.Passes.{known}
-use Rattle.share_server.specs.Answering.{Finds}
+use Rattle.share_server.specs.Answering.{Finds, loses_in}
+use Rattle.share_server.proofs.Kept.{kept_in}
 use Rattle.share_server.proofs.Turning.{turned}
 use Rattle.share_server.proofs.turns.looks.looked.Goals as goal
 
@@ -12,3 +13,12 @@ returns-clause-looked g c =
     let found : Finds k c.state.result.now =
     subst (Finds k) (sym c.state.ensures.value) (record { settings = c.take-turn.ensures.settings; history = c.take-turn.ensures.history }) in
     turned k _ c.asked-look.new.share.history c.args.ask.now c.asked-look.result (search rules) (c.asked-look.ensures.looked k own found)
+
+pub returns-clause-keeping : goal.returns-clause-keeping
+returns-clause-keeping g c =
+    let k = known c.args.pass.now in
+    let own : k.number ≡ c.number-by.result = search rules in
+    let found : Finds k c.state.result.now =
+    subst (Finds k) (sym c.state.ensures.value) (record { settings = c.take-turn.ensures.settings; history = c.take-turn.ensures.history }) in
+    kept_in k _ c.asked-look.new.share.history (g.F.Keeps.keeps c.args.keeper.now) (g.F.Keeps.keeps c.asked-look.new.keeper) (g.F.Keeps.is_lost c.asked-look.new.keeper)
+    (g.F.Keeps.faults c.args.keeper.now) (g.F.Keeps.faults c.asked-look.new.keeper) (loses_in c.asked-look.result) (search rules) (c.asked-look.ensures.keeping k own found)

@@ -1,0 +1,39 @@
+-- What a keeper of edits did while a pass made entries: it keeps the edits of each of them in order, but a last one that it lost.
+use Rattle.std.specs.Prelude.{◌≡◌, ◌≢◌, ℕ, List, [], ◌∷◌, ◌++◌, Bool, true, false, MatchBool, Option, Some, None, Ok}
+use Rattle.daap_outside.specs.Counts.{Rose}
+use Rattle.item_model.specs.declared.changes.Edit.{Edit}
+use Rattle.item_model.specs.declared.changes.Entry.{Entry}
+use Rattle.share_asks.specs.declared.ask.Want.{Want}
+use Rattle.share_asks.specs.declared.ask.Want.TheVariants as want
+use Rattle.share_history.specs.Histories.{batches}
+use Rattle.share_lock.specs.Histories.{entries_of}
+use Rattle.share_replies.specs.Laws.{maker}
+use Rattle.share_server.specs.Passes.{Pass}
+use Rattle.share_server.specs.Losses.{edit_and_stop}
+
+-- the edits that a want brings
+abbrev pub edits_wanted : Want → List Edit
+edits_wanted (want.Edit (Ok batch)) = batch
+edits_wanted other = []
+
+-- what was made ready for a batch, which is nothing where that has no edits
+abbrev pub IsReadyFor : {R : Type 0} → (R → List Edit → Type 0) → List Edit → Option R → Type 0
+IsReadyFor is_for batch None = batch ≡ []
+IsReadyFor is_for batch (Some ready) = (batch ≢ []) × is_for ready batch
+
+-- the entries of which no request is told: none, or an edit and the stop behind it
+abbrev pub IsUnheard : Bool → ℕ → List Entry → Type 0
+IsUnheard false number lost = lost ≡ []
+IsUnheard true number lost = (batch : List Edit) × (lost ≡ edit_and_stop number batch)
+
+-- what a keeper was said to keep before and after, and its count of faults: the pass made these entries, all their batches are
+-- kept behind those before, and it lost one exactly where a fault was counted
+pub record Keeping (keeps keeps' : List (List Edit) → Type 0) (is_lost' : Bool) (faults faults' : ℕ) (k k' : Pass) (loses : Bool) : Type 0 where
+  pub number : k'.number ≡ k.number
+  pub made : List Entry
+  pub lost : List Entry
+  pub unheard : IsUnheard loses k.number lost
+  pub own : entries_of maker k.number k'.seen ≡ entries_of maker k.number k.seen ++ (made ++ lost)
+  pub kept : (bs : List (List Edit)) → keeps bs → keeps' (bs ++ batches made)
+  pub is_lost : is_lost' ≡ loses
+  pub counts : MatchBool loses (Rose faults faults') (faults' ≡ faults)
