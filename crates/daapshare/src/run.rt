@@ -1,12 +1,12 @@
 //! A run of the program over any input, output, files and net.
 
 ghost use Rattle.std.specs.Prelude.{◌≡◌, true};
-ghost use Rattle.command_core.specs.Seen.{Around, input_seen, output_seen, told_beside};
+ghost use Rattle.command_core.specs.Seen.{Around, files_seen, input_seen, net_seen, output_seen, told_beside};
 ghost use Rattle.command_core.specs.Endings.{IsAnswered};
 ghost use Rattle.daapshare_words.specs.Grammar.{texts_of};
 ghost use Rattle.daapshare_words.specs.Words.{command_of, IsLocalRanged};
 ghost use Rattle.daapshare.specs.Table.{meaning_of, leaves_net, target_of, IsRun};
-ghost use Rattle.daapshare.specs.Told.{files_seen, net_seen, seen, told_in};
+ghost use Rattle.daapshare.specs.Told.{seen, told_in};
 
 use crate::outcome::{Outcome, unlinked};
 use crate::over_net::obeyed_over_net;

@@ -1,13 +1,13 @@
 -- A share may go to another thread: nothing that it owns is tied to one.
 use mathlib.Core.List.{[], ◌∷◌}
 use base.Fml.{Lft}
-use mir.Syntax.{named}
+use mir.Syntax.{Lifetime, named}
 use denote.RattleType.{RattleType, Denots}
-use denote.Ref.{ShrRef}
+use denote.Ref.{MutRef, ShrRef}
 use denote.Struct.Struct.{Shape, Struct}
 use denote.Param.SendFields.{declared_send, as_row_send}
 use denote.Struct.Field.{row_field}
-use denote.Param.Send.{IsSend, IsSync, SyncAt, sendable, view_send, shr_sync, struct_sync_at}
+use denote.Param.Send.{IsSend, IsSync, SyncAt, sendable, view_send, mut_send, shr_send, shr_sync, struct_send, struct_sync_at}
 use Rattle.std.proofs.Crossing as std
 use Rattle.std.proofs.MapsCrossing as maps
 use Rattle.std.proofs.option.Option.TheSendSync as option
@@ -154,6 +154,31 @@ borrowed_sync R runtime allocator share rings sync a =
         (
           (shr_sync (named 0) share (lock_row share_row entry_row settings_row ghosts) lock_sync).shared a.1.1.0,
           ((shr_sync (named 0) rings bell_row bell.the_sync).shared a.1.1.1.0, tt),
+        ),
+      ),
+    )
+
+-- what the thread of the worker with a keeper borrows: the same, and the worker and its keeper
+abbrev pub lent : (R D F : RattleType) → (runtime allocator share rings served kept : Lft) (one two : Lifetime) → Shape
+lent R D F runtime allocator share rings served kept one two = record {
+  name = [];
+  args = [];
+  types = [];
+  fields =
+      ShrRef (named 0) runtime R ∷ ShrRef (named 0) allocator heap_row ∷ ShrRef (named 0) share (lock_row share_row entry_row settings_row ghosts) ∷ ShrRef (named 0) rings bell_row
+      ∷ MutRef one served (worker_row D) ∷ MutRef two kept F ∷ [];
+}
+
+pub lent_send : (R D F : RattleType) (runtime allocator share rings served kept : Lft) (one two : Lifetime) → IsSync R → IsSend D → IsSend F
+    → IsSend (Struct (lent R D F runtime allocator share rings served kept one two))
+lent_send R D F runtime allocator share rings served kept one two sync door keeper =
+    struct_send (lent R D F runtime allocator share rings served kept one two) (
+      shr_send (named 0) runtime R sync,
+      (
+        shr_send (named 0) allocator heap_row std.sync,
+        (
+          shr_send (named 0) share (lock_row share_row entry_row settings_row ghosts) lock_sync,
+          (shr_send (named 0) rings bell_row bell.the_sync, (mut_send one served (worker_row D) (worker_send D door), (mut_send two kept F keeper, tt))),
         ),
       ),
     )

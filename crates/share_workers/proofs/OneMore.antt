@@ -1,10 +1,11 @@
 -- A worker's links, one more behind the others.
-use Rattle.std.proofs.Common.{◌≡◌, ◌≢◌, ◌⊎◌, ℕ, ◌+◌, ◌-◌, ◌≤◌, ◌<◌, min, List, [], ◌∷◌, ◌++◌, length, get_or, refl, sym, ap, ◌∙◌, subst, inl, inr, true, false, nat_lt, Option, Some, None, MatchOption, append_assoc, append-nil, length-append, arith}
+use Rattle.std.proofs.Common.{◌≡◌, ◌≢◌, ◌⊎◌, ℕ, ◌+◌, ◌-◌, ◌≤◌, ◌<◌, min, List, [], ◌∷◌, ◌++◌, length, get_or, refl, sym, ap, ◌∙◌, subst, inl, inr, Bool, true, false, nat_lt, Option, Some, None, MatchOption, append_assoc, append-nil, length-append, arith}
 use Rattle.std.proofs.lemmas.List.Concat.{flat_map-append}
 use Rattle.std.proofs.lemmas.List.Elements.{Contains-append_left}
 use Rattle.item_model.specs.declared.changes.Entry.{Entry}
 use Rattle.daap_outside.specs.Places.{Accepts, Returned, returned}
 use Rattle.daap_outside.specs.Told.{BeginsEmpty, Grows, GrowsByTold}
+use Rattle.share_asks.specs.declared.ask.Ask.{Ask}
 use Rattle.share_asks.specs.declared.ask.Role.{Role}
 use Rattle.share_history.specs.Sessions.{is_stopped}
 use Rattle.share_lock.specs.Histories.{entries_of, Continues}
@@ -12,19 +13,20 @@ use Rattle.share_lock.specs.Known.{numbers_of, after_turn}
 use Rattle.share_replies.specs.Laws.{maker}
 use Rattle.share_replies.specs.Settings.{Settings}
 use Rattle.share_server.specs.declared.report.LinkReport.{LinkReport}
+use Rattle.share_server.specs.declared.report.Served.{Served}
 use Rattle.share_server.specs.Links.{LinkEnded}
+use Rattle.share_server.specs.Losses.{is_loss, ServesBut}
 use Rattle.share_server.specs.Passes.{Pass, Serves}
 use Rattle.share_server.proofs.Counting.{none_beyond_the_limit}
-use Rattle.share_server.proofs.InTurn.{nothing_but, rises_wider, serves_in_turn, quiet_turns_serve_nothing}
-use Rattle.share_server.proofs.Losing.{lost_none}
-use Rattle.share_server.specs.Losses.{is_loss}
+use Rattle.share_server.proofs.InTurn.{nothing_but, rises_wider, serves_then_but, but_then_quiet, lost_behind, quiet_turns_serve_nothing}
 use Rattle.share_server.specs.Serving.{limit_of, LinkServed, CountsEnd}
 use Rattle.share_workers.specs.declared.worker.WorkerEnd.{WorkerEnd}
-use Rattle.share_workers.specs.declared.worker.WorkerEnd.TheVariants.{Stopped, Spent, NoMoreLinks, AcceptFault, Memory}
-use Rattle.share_workers.specs.Works.{all_served, LinkAt, LinksAt, ServesThenLooks, LooksBehind, Looks, Came, Works}
-use Rattle.share_workers.specs.Ends.{GoesOnToLast, CountsAccepts, IsWithin, WorkerServed}
+use Rattle.share_workers.specs.declared.worker.WorkerEnd.TheVariants.{Running, Stopped, Spent, NoMoreLinks, AcceptFault, FileFault, Memory}
+use Rattle.share_workers.specs.Works.{all_served, loses_any, IsLostBy, LinkAt, LinksAt, ServesThenLooks, LooksBehind, Looks, Came, Works}
+use Rattle.share_workers.specs.Ends.{GoesOnToLast, CountsAccepts, EndsWorker, IsWithin, WorkerServed, is_worker_loss}
 use Rattle.share_workers.specs.Steps.{LinkDone, Underway, GoesOnOrEnds}
 use Rattle.share_workers.proofs.Later.{link_later, links_later}
+use Rattle.share_workers.proofs.Losses.{link_loses, loses_more, lost_stops, none_lost}
 use Rattle.share_workers.proofs.Telling.{came_more, grown_more, is_over, counted}
 
 -- ---- one link
@@ -41,14 +43,13 @@ looked k j k' h same on after = record {
 }
 
 pub link_done : (role : Role) (budget : ℕ) (k j k' : Pass) (left taken taken' : Option (List ℕ)) (written written' : Option (List Returned)) (faults faults' : ℕ) (report : LinkReport)
-    → LinkServed role budget k j left taken taken' report → is_loss report.end ≡ false → faults ≡ 0 → CountsEnd faults faults' report.end → GrowsByTold written written' (returned taken' faults') → Looks j k'
+    → LinkServed role budget k j left taken taken' report → faults ≡ 0 → CountsEnd faults faults' report.end → GrowsByTold written written' (returned taken' faults') → Looks j k'
     → LinkDone role budget k k' left taken written written' report
-link_done role budget k j k' left taken taken' written written' faults faults' report served no fresh counts given looks = record {
+link_done role budget k j k' left taken taken' written written' faults faults' report served fresh counts given looks = record {
   before = j;
   taken' = taken';
   faults = faults';
   served = served;
-  unlost = no;
   counted = subst (λ n. CountsEnd n faults' report.end) fresh counts;
   given_back = given;
   looks = looks;
@@ -83,30 +84,36 @@ count_more reports report =
     ap length (all_served_more reports report)
     ∙ (length-append (all_served reports) (report.served ++ []) ∙ ap (λ l. length (all_served reports) + length l) (append-nil report.served))
 
-behind : (k k' : Pass) (reports : List LinkReport) (report : LinkReport) → ServesThenLooks k k' (all_served (reports ++ report ∷ [])) → LooksBehind k k' (reports ++ report ∷ [])
-behind k k' [] report serves = serves
-behind k k' (r ∷ reports) report serves = serves
+behind : (k k' : Pass) (reports : List LinkReport) (report : LinkReport) (lost : List Entry) → ServesThenLooks k k' (all_served (reports ++ report ∷ [])) lost
+    → LooksBehind k k' (reports ++ report ∷ []) lost
+behind k k' [] report lost serves = serves
+behind k k' (r ∷ reports) report lost serves = serves
+
+-- where nothing was lost
+looks_whole : (k k' : Pass) (reports : List LinkReport) (lost : List Entry) → lost ≡ [] → LooksBehind k k' reports lost → LooksBehind k k' reports []
+looks_whole k k' reports lost none looks = subst (λ (l : List Entry). LooksBehind k k' reports l) none looks
+
+-- what links lost behind others that lost nothing
+lost_by_more : (k j k' : Pass) (asks : List Ask) (earlier served : List Served) (lost : List Entry) (loses : Bool) → Serves k j asks earlier → IsLostBy j k' served loses lost
+    → IsLostBy k k' (earlier ++ served) loses lost
+lost_by_more k j k' asks earlier served lost true serves is = (is.0, lost_behind k j k' asks earlier served is.0 lost serves is.1)
+lost_by_more k j k' asks earlier served lost false serves is = is
 
 -- ---- one link more
 
 -- what one link more leaves of a worker
-pub record HasOneMore (role : Role) (k k' : Pass) (coming coming' : Option (List (List ℕ))) (written written' : Option (List Returned)) (reports : List LinkReport) (budget : ℕ) : Type 0 where
+pub record HasOneMore (role : Role) (k k' : Pass) (coming coming' : Option (List (List ℕ))) (written written' : Option (List Returned)) (reports : List LinkReport) (budget : ℕ) (lost : Bool) : Type 0 where
   pub works : Works role k k' coming coming' written written' reports
   pub to_last : GoesOnToLast k k' reports
   pub within : IsWithin reports
   pub left : budget + length (all_served reports) ≡ 262144
+  pub loses : loses_any reports ≡ lost
 
 module _ {L : Type 0} (left taken : L → Option (List ℕ)) (link : L) (role : Role) (k j k' : Pass) (coming before now : Option (List (List ℕ))) (written wrote written' : Option (List Returned))
     (reports : List LinkReport) (report : LinkReport) (budget : ℕ) (under : Underway role k j coming before written wrote reports budget)
     (done : LinkDone role budget j k' (left link) (taken link) wrote written' report) where
   ended : LinkEnded role (limit_of budget) j done.before (left link) (taken link) done.taken' report.served report.end
   ended = done.served.ended
-
-  -- the link lost no edit
-  link_serves : Serves j done.before ended.asks report.served
-  link_serves =
-      nothing_but j done.before ended.asks report.served ended.lost
-      (lost_none role ended.asks j done.before report.served report.end ended.input ended.lost done.unlost ended.loses) ended.serves
 
   settings_stay : j.settings ≡ k.settings
   settings_stay = ap (λ (p : Pass). p.settings) under.works.serves.stays
@@ -135,7 +142,7 @@ module _ {L : Type 0} (left taken : L → Option (List ℕ)) (link : L) (role : 
         rest = ended.rest;
         joins = ended.joins;
         are_served = ended.serves.are_served;
-        rises = rises_wider 0 (length j.seen) (length done.before.seen) (length done.before.seen) report.served (omega arith) (omega arith) ended.serves.fresh.rises;
+        rises = rises_wider (length j.seen) 0 (length done.before.seen) (length done.before.seen) report.served (omega arith) (omega arith) ended.serves.fresh.rises;
         how = ended.how;
         faulted = counted done.faults report.end done.counted;
       })))))
@@ -147,23 +154,42 @@ module _ {L : Type 0} (left taken : L → Option (List ℕ)) (link : L) (role : 
       (links_later k.settings k.number role 262144 j.seen (ended.serves.fresh.more ++ done.looks.more) under.works.inputs reports under.works.returns under.works.links))
       link_at
 
+  -- nothing was lost before
+  none_before : under.works.lost ≡ []
+  none_before = none_lost k j (all_served reports) under.works.lost (loses_any reports) under.may.whole under.works.loses
+
+  served_before : Serves k j under.works.asks (all_served reports)
+  served_before = nothing_but k j under.works.asks (all_served reports) under.works.lost none_before under.works.serves
+
+  all_of : all_served (reports ++ report ∷ []) ≡ all_served reports ++ report.served
+  all_of = all_served_more reports report ∙ ap (λ l. all_served reports ++ l) (append-nil report.served)
+
   quiet : Serves done.before k' [] []
   quiet = subst (λ p. Serves done.before p [] []) (sym done.looks.after) (quiet_turns_serve_nothing done.before done.looks.more done.looks.none)
 
-  serves : Serves k k' (under.works.asks ++ (ended.asks ++ [])) (all_served (reports ++ report ∷ []))
-  serves =
-      subst (λ l. Serves k k' (under.works.asks ++ (ended.asks ++ [])) l) (sym (all_served_more reports report))
-      (serves_in_turn k j k' under.works.asks (ended.asks ++ []) (all_served reports) (report.served ++ []) under.works.serves
-      (serves_in_turn j done.before k' ended.asks [] report.served [] link_serves quiet))
+  looked_on : ServesBut j k' ended.asks report.served ended.lost
+  looked_on = but_then_quiet j done.before k' ended.asks report.served ended.lost ended.serves quiet
 
-  looks : LooksBehind k k' (reports ++ report ∷ [])
-  looks = behind k k' reports report record {
+  serves : ServesBut k k' (under.works.asks ++ ended.asks) (all_served (reports ++ report ∷ [])) ended.lost
+  serves = subst (λ l. ServesBut k k' (under.works.asks ++ ended.asks) l ended.lost) (sym all_of)
+      (serves_then_but k j k' under.works.asks ended.asks (all_served reports) report.served ended.lost served_before looked_on)
+
+  looks : LooksBehind k k' (reports ++ report ∷ []) ended.lost
+  looks = behind k k' reports report ended.lost record {
     asks = under.works.asks ++ ended.asks;
     before = done.before;
-    serves = subst (λ l. Serves k done.before (under.works.asks ++ ended.asks) l) (sym (all_served_more reports report ∙ ap (λ l. all_served reports ++ l) (append-nil report.served)))
-        (serves_in_turn k j done.before under.works.asks ended.asks (all_served reports) report.served under.works.serves link_serves);
+    serves = subst (λ l. ServesBut k done.before (under.works.asks ++ ended.asks) l ended.lost) (sym all_of)
+        (serves_then_but k j done.before under.works.asks ended.asks (all_served reports) report.served ended.lost served_before ended.serves);
     looks = done.looks;
   }
+
+  last_loses : IsLostBy j k' report.served (is_loss report.end) ended.lost
+  last_loses = link_loses role ended.input ended.asks j done.before k' report.served ended.lost done.looks.more (is_loss report.end) ended.loses seen_last
+
+  loses : IsLostBy k k' (all_served (reports ++ report ∷ [])) (loses_any (reports ++ report ∷ [])) ended.lost
+  loses = subst (λ b. IsLostBy k k' (all_served (reports ++ report ∷ [])) b ended.lost) (sym (loses_more reports report under.may.whole))
+      (subst (λ l. IsLostBy k k' l (is_loss report.end) ended.lost) (sym all_of)
+      (lost_by_more k j k' under.works.asks (all_served reports) report.served ended.lost (is_loss report.end) served_before last_loses))
 
   to_last : GoesOnToLast k k' (reports ++ report ∷ [])
   to_last = record {
@@ -171,9 +197,11 @@ module _ {L : Type 0} (left taken : L → Option (List ℕ)) (link : L) (role : 
     last = report;
     are = refl;
     before = j;
-    looks = under.works.looks;
+    looks = looks_whole k j reports under.works.lost none_before under.works.looks;
     may = under.may;
-    serves = record { asks = ended.asks; before = done.before; serves = link_serves; looks = done.looks };
+    lost = ended.lost;
+    serves = record { asks = ended.asks; before = done.before; serves = ended.serves; looks = done.looks };
+    loses = last_loses;
   }
 
   served_within : length report.served ≤ limit_of budget
@@ -188,19 +216,22 @@ module _ {L : Type 0} (left taken : L → Option (List ℕ)) (link : L) (role : 
       let most : length report.served ≤ min budget 65536 = served_within in
       (omega arith, omega arith)
 
-  pub one_more : (budget' : ℕ) → Accepts left taken before now (Some link) → BeginsEmpty wrote (taken link) → budget' + length report.served ≡ budget
-      → HasOneMore role k k' coming now written written' (reports ++ report ∷ []) budget'
-  one_more budget' accepts begins rest = record {
+  pub one_more : (budget' : ℕ) (lost : Bool) → Accepts left taken before now (Some link) → BeginsEmpty wrote (taken link) → budget' + length report.served ≡ budget
+      → is_loss report.end ≡ lost → HasOneMore role k k' coming now written written' (reports ++ report ∷ []) budget' lost
+  one_more budget' lost accepts begins rest is_lost = record {
     works = record {
       inputs = under.works.inputs ++ ended.input ∷ [];
       came = came_more left taken link coming before now under.works.inputs ended.input under.works.came accepts ended.told;
       returns = under.works.returns ++ (ended.output, nat_lt 0 done.faults) ∷ [];
       given_back = grown_more written wrote written' (taken link) done.taken' under.works.returns ended.output done.faults under.works.given_back begins ended.written done.given_back;
       links = links;
-      asks = under.works.asks ++ (ended.asks ++ []);
+      asks = under.works.asks ++ ended.asks;
+      lost = ended.lost;
       serves = serves;
+      loses = loses;
       looks = looks;
     };
+    loses = loses_more reports report under.may.whole ∙ is_lost;
     to_last = to_last;
     within = both_within;
     left =
@@ -212,33 +243,43 @@ module _ {L : Type 0} (left taken : L → Option (List ℕ)) (link : L) (role : 
 -- ---- how it goes on
 
 pub more_at : {L : Type 0} (left taken : L → Option (List ℕ)) (link : L) (role : Role) (k j k' : Pass) (coming before now now' : Option (List (List ℕ))) (written wrote written' written'' : Option (List Returned))
-    (reports reports' : List LinkReport) (report : LinkReport) (budget budget' : ℕ) → Underway role k j coming before written wrote reports budget
+    (reports reports' : List LinkReport) (report : LinkReport) (budget budget' : ℕ) (lost : Bool) → Underway role k j coming before written wrote reports budget
     → LinkDone role budget j k' (left link) (taken link) wrote written' report → Accepts left taken before now (Some link) → BeginsEmpty wrote (taken link) → budget' + length report.served ≡ budget
-    → reports' ≡ reports ++ report ∷ [] → now' ≡ now → written'' ≡ written' → HasOneMore role k k' coming now' written written'' reports' budget'
-more_at left taken link role k j k' coming before now now' written wrote written' written'' reports reports' report budget budget' under done accepts begins rest are links bytes =
-    subst (λ l. HasOneMore role k k' coming now' written written'' l budget') (sym are)
-    (subst (λ l. HasOneMore role k k' coming l written written'' (reports ++ report ∷ []) budget') (sym links)
-    (subst (λ l. HasOneMore role k k' coming now written l (reports ++ report ∷ []) budget') (sym bytes)
-    (one_more left taken link role k j k' coming before now written wrote written' reports report budget under done budget' accepts begins rest)))
+    → is_loss report.end ≡ lost → reports' ≡ reports ++ report ∷ [] → now' ≡ now → written'' ≡ written' → HasOneMore role k k' coming now' written written'' reports' budget' lost
+more_at left taken link role k j k' coming before now now' written wrote written' written'' reports reports' report budget budget' lost under done accepts begins rest is_lost are links bytes =
+    subst (λ l. HasOneMore role k k' coming now' written written'' l budget' lost) (sym are)
+    (subst (λ l. HasOneMore role k k' coming l written written'' (reports ++ report ∷ []) budget' lost) (sym links)
+    (subst (λ l. HasOneMore role k k' coming now written l (reports ++ report ∷ []) budget' lost) (sym bytes)
+    (one_more left taken link role k j k' coming before now written wrote written' reports report budget under done budget' lost accepts begins rest is_lost)))
 
-module _ (role : Role) (k k' : Pass) (coming now : Option (List (List ℕ))) (written written' : Option (List Returned)) (reports : List LinkReport) (budget : ℕ)
-    (more : HasOneMore role k k' coming now written written' reports budget) where
-  pub stops : is_stopped k'.seen ≡ true → GoesOnOrEnds role k k' coming now written written' reports budget (Some Stopped)
-  stops stopped = (more.works, (more.to_last, stopped), more.within)
+module _ (role : Role) (k k' : Pass) (coming now : Option (List (List ℕ))) (written written' : Option (List Returned)) (reports : List LinkReport) (budget : ℕ) (lost : Bool)
+    (more : HasOneMore role k k' coming now written written' reports budget lost) where
+  pub fails : lost ≡ true → GoesOnOrEnds role k k' coming now written written' reports budget (Some FileFault)
+  fails some =
+      let loses : loses_any reports ≡ true = more.loses ∙ some in
+      (more.works, (more.to_last, lost_stops k k' (all_served reports) more.works.lost (loses_any reports) loses more.works.loses, loses), more.within)
 
-  pub spends : is_stopped k'.seen ≡ false → (length reports ≡ 65536) ⊎ (budget ≡ 0) → GoesOnOrEnds role k k' coming now written written' reports budget (Some Spent)
-  spends going (inl links) = (more.works, (more.to_last, going, inl links), more.within)
-  spends going (inr nothing) =
+  pub stops : lost ≡ false → is_stopped k'.seen ≡ true → GoesOnOrEnds role k k' coming now written written' reports budget (Some Stopped)
+  stops none stopped = (more.works, (more.to_last, stopped, more.loses ∙ none), more.within)
+
+  pub spends : lost ≡ false → is_stopped k'.seen ≡ false → (length reports ≡ 65536) ⊎ (budget ≡ 0) → GoesOnOrEnds role k k' coming now written written' reports budget (Some Spent)
+  spends none going (inl links) = (more.works, (more.to_last, going, inl links, more.loses ∙ none), more.within)
+  spends none going (inr nothing) =
       let sum : budget + length (all_served reports) ≡ 262144 = more.left in
-      (more.works, (more.to_last, going, inr (omega arith)), more.within)
+      (more.works, (more.to_last, going, inr (omega arith), more.loses ∙ none), more.within)
 
-  pub goes_on : is_stopped k'.seen ≡ false → length reports ≢ 65536 → budget ≢ 0 → GoesOnOrEnds role k k' coming now written written' reports budget None
-  goes_on going links some =
+  pub goes_on : lost ≡ false → is_stopped k'.seen ≡ false → length reports ≢ 65536 → budget ≢ 0 → GoesOnOrEnds role k k' coming now written written' reports budget None
+  goes_on none going links some =
       let sum : budget + length (all_served reports) ≡ 262144 = more.left in
       let few : length reports ≤ 65536 = more.within.0 in
       record {
         works = more.works;
-        may = record { links = below (length reports) 65536 few links; requests = less budget (length (all_served reports)) sum some; going = λ any. going };
+        may = record {
+          links = below (length reports) 65536 few links;
+          requests = less budget (length (all_served reports)) sum some;
+          going = λ any. going;
+          whole = more.loses ∙ none;
+        };
         left = more.left;
       }
     where
@@ -265,7 +306,9 @@ module _ (role : Role) (k j : Pass) (coming before now : Option (List (List ℕ)
           given_back = under.works.given_back;
           links = under.works.links;
           asks = under.works.asks;
+          lost = under.works.lost;
           serves = under.works.serves;
+          loses = under.works.loses;
           looks = under.works.looks;
         },
         (under.may, over.0),
@@ -280,6 +323,17 @@ module _ (role : Role) (k j : Pass) (coming before now : Option (List (List ℕ)
 
 -- ---- the begin and the end
 
+-- an edit was lost exactly where the end says so
+whole_by : (k k' : Pass) (coming coming' : Option (List (List ℕ))) (reports : List LinkReport) (end : WorkerEnd) → EndsWorker k k' coming coming' reports end
+    → loses_any reports ≡ is_worker_loss end
+whole_by k k' coming coming' reports Running ends = absurd ends
+whole_by k k' coming coming' reports Stopped ends = ends.2
+whole_by k k' coming coming' reports NoMoreLinks ends = ends.0.whole
+whole_by k k' coming coming' reports Spent ends = ends.3
+whole_by k k' coming coming' reports AcceptFault ends = ends.whole
+whole_by k k' coming coming' reports FileFault ends = ends.2
+whole_by k k' coming coming' reports Memory ends = ends.whole
+
 begins_work : (role : Role) (k : Pass) (coming : Option (List (List ℕ))) (written : Option (List Returned)) → Underway role k k coming coming written written [] 262144
 begins_work role k coming written = record {
   works = record {
@@ -289,10 +343,12 @@ begins_work role k coming written = record {
     given_back = none_back written;
     links = tt;
     asks = [];
+    lost = [];
     serves = serves_nothing k;
+    loses = refl;
     looks = refl;
   };
-  may = record { links = omega arith; requests = omega arith; going = λ some. absurd (some refl) };
+  may = record { links = omega arith; requests = omega arith; going = λ some. absurd (some refl); whole = refl };
   left = omega arith;
 }
   where
@@ -304,7 +360,7 @@ begins_work role k coming written = record {
     none_back None = tt
     none_back (Some all) = sym (append-nil all)
 
-    serves_nothing : (k : Pass) → Serves k k [] []
+    serves_nothing : (k : Pass) → ServesBut k k [] [] []
     serves_nothing k = record {
       fresh = record { more = []; grows = sym (append-nil k.seen); looks = []; looked = sym (append-nil k.looks); rises = omega arith; among = tt; marked = tt };
       stays = refl;
@@ -335,6 +391,7 @@ ends role k j coming before written wrote faults faults' faults'' reports budget
       ends = all.1;
       counts = subst (λ n. CountsAccepts n faults'' at) same (subst (λ e. MatchOption e (faults'' ≡ faults') (CountsAccepts faults' faults'')) is counts);
       within = all.2;
+      whole = whole_by k j coming before reports at all.1;
     }
 
 pub next_on : (role role' : Role) (k j j' : Pass) (coming before now : Option (List (List ℕ))) (written wrote written' : Option (List Returned)) (reports reports' : List LinkReport) (budget budget' : ℕ) (end : Option WorkerEnd) → role' ≡ role

@@ -1,20 +1,24 @@
 -- How a worker ends: exactly one end fits what its links left, but for faults of its door and want of memory.
-use Rattle.std.specs.Prelude.{◌≡◌, ◌≢◌, ◌⊎◌, ℕ, ◌<◌, ◌≤◌, List, [], ◌∷◌, ◌++◌, length, true, false, Option}
+use Rattle.std.specs.Prelude.{◌≡◌, ◌≢◌, ◌⊎◌, ℕ, ◌<◌, ◌≤◌, List, [], ◌∷◌, ◌++◌, length, Bool, true, false, Option}
+use Rattle.item_model.specs.declared.changes.Entry.{Entry}
 use Rattle.daap_outside.specs.Counts.{Rose}
 use Rattle.daap_outside.specs.Places.{Returned}
 use Rattle.share_asks.specs.declared.ask.Role.{Role}
 use Rattle.share_history.specs.Sessions.{is_stopped}
 use Rattle.share_server.specs.declared.report.LinkReport.{LinkReport}
+use Rattle.share_server.specs.Losses.{is_loss}
 use Rattle.share_server.specs.Passes.{Pass}
 use Rattle.share_workers.specs.declared.worker.WorkerEnd.{WorkerEnd}
-use Rattle.share_workers.specs.declared.worker.WorkerEnd.TheVariants.{Running, Stopped, NoMoreLinks, Spent, AcceptFault, Memory}
-use Rattle.share_workers.specs.Works.{all_served, IsOver, ServesThenLooks, LooksBehind, Works}
+use Rattle.share_workers.specs.declared.worker.WorkerEnd.TheVariants.{Running, Stopped, NoMoreLinks, Spent, AcceptFault, FileFault, Memory}
+use Rattle.share_workers.specs.Works.{all_served, loses_any, IsLostBy, IsOver, ServesThenLooks, LooksBehind, Works}
 
--- a worker may go on behind these links: it may serve one more link and one more request, and saw no stop behind the last
+-- a worker may go on behind these links: it may serve one more link and one more request, saw no stop behind the last, and
+-- lost no edit
 pub record MayGoOn (k : Pass) (reports : List LinkReport) : Type 0 where
   pub links : length reports < 65536
   pub requests : length (all_served reports) < 262144
   pub going : reports ≢ [] → is_stopped k.seen ≡ false
+  pub whole : loses_any reports ≡ false
 
 -- it might go on behind all links but the last, and served the last
 pub record GoesOnToLast (k k' : Pass) (reports : List LinkReport) : Type 0 where
@@ -22,19 +26,34 @@ pub record GoesOnToLast (k k' : Pass) (reports : List LinkReport) : Type 0 where
   pub last : LinkReport
   pub are : reports ≡ earlier ++ last ∷ []
   pub before : Pass
-  pub looks : LooksBehind k before earlier
+  pub looks : LooksBehind k before earlier []
   pub may : MayGoOn before earlier
-  pub serves : ServesThenLooks before k' last.served
+  pub lost : List Entry
+  pub serves : ServesThenLooks before k' last.served lost
+  pub loses : IsLostBy before k' last.served (is_loss last.end) lost
 
 abbrev pub EndsWorker : Pass → Pass → Option (List (List ℕ)) → Option (List (List ℕ)) → List LinkReport → WorkerEnd → Type 0
 EndsWorker k k' coming coming' reports Running = ⊥
-EndsWorker k k' coming coming' reports Stopped = GoesOnToLast k k' reports × (is_stopped k'.seen ≡ true)
+EndsWorker k k' coming coming' reports Stopped =
+    GoesOnToLast k k' reports × (is_stopped k'.seen ≡ true) × (loses_any reports ≡ false)
 EndsWorker k k' coming coming' reports NoMoreLinks = MayGoOn k' reports × IsOver coming coming'
 EndsWorker k k' coming coming' reports Spent =
     GoesOnToLast k k' reports × (is_stopped k'.seen ≡ false)
-    × ((length reports ≡ 65536) ⊎ (length (all_served reports) ≡ 262144))
+    × ((length reports ≡ 65536) ⊎ (length (all_served reports) ≡ 262144)) × (loses_any reports ≡ false)
 EndsWorker k k' coming coming' reports AcceptFault = MayGoOn k' reports
+EndsWorker k k' coming coming' reports FileFault =
+    GoesOnToLast k k' reports × (is_stopped k'.seen ≡ true) × (loses_any reports ≡ true)
 EndsWorker k k' coming coming' reports Memory = MayGoOn k' reports
+
+-- whether it ended because an edit could not be kept
+abbrev pub is_worker_loss : WorkerEnd → Bool
+is_worker_loss Running = false
+is_worker_loss Stopped = false
+is_worker_loss NoMoreLinks = false
+is_worker_loss Spent = false
+is_worker_loss AcceptFault = false
+is_worker_loss FileFault = true
+is_worker_loss Memory = false
 
 -- the count of the door's faults, by the worker's end
 abbrev pub CountsAccepts : ℕ → ℕ → WorkerEnd → Type 0
@@ -43,6 +62,7 @@ CountsAccepts before now Running = now ≡ before
 CountsAccepts before now Stopped = now ≡ before
 CountsAccepts before now NoMoreLinks = now ≡ before
 CountsAccepts before now Spent = now ≡ before
+CountsAccepts before now FileFault = now ≡ before
 CountsAccepts before now Memory = now ≡ before
 
 -- how much a worker serves at most
@@ -55,3 +75,4 @@ pub record WorkerServed (role : Role) (k k' : Pass) (coming coming' : Option (Li
   pub ends : EndsWorker k k' coming coming' reports end
   pub counts : CountsAccepts faults faults' end
   pub within : IsWithin reports
+  pub whole : loses_any reports ≡ is_worker_loss end

@@ -1,3 +1,4 @@
 pub mod Works
 pub mod Ends
 pub mod Steps
+pub mod Keepers

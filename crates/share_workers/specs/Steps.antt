@@ -1,15 +1,14 @@
 -- One link more of a worker that has not ended.
-use Rattle.std.specs.Prelude.{◌≡◌, ℕ, ◌+◌, List, length, false, Option, Some, None}
+use Rattle.std.specs.Prelude.{◌≡◌, ℕ, ◌+◌, List, length, Bool, false, Option, Some, None}
 use Rattle.daap_outside.specs.Places.{Returned, returned}
 use Rattle.daap_outside.specs.Told.{GrowsByTold}
 use Rattle.share_asks.specs.declared.ask.Role.{Role}
 use Rattle.share_server.specs.declared.report.LinkReport.{LinkReport}
-use Rattle.share_server.specs.Losses.{is_loss}
 use Rattle.share_server.specs.Passes.{Pass}
 use Rattle.share_server.specs.Serving.{LinkServed, CountsEnd}
 use Rattle.share_workers.specs.declared.worker.WorkerEnd.{WorkerEnd}
 use Rattle.share_workers.specs.Works.{all_served, Looks, Works}
-use Rattle.share_workers.specs.Ends.{MayGoOn, EndsWorker, IsWithin}
+use Rattle.share_workers.specs.Ends.{MayGoOn, EndsWorker, IsWithin, is_worker_loss}
 
 -- a link with no fault counted was served and given back, and then a turn was taken
 pub record LinkDone (role : Role) (budget : ℕ) (k k' : Pass) (left taken : Option (List ℕ)) (written written' : Option (List Returned)) (report : LinkReport) : Type 0 where
@@ -17,7 +16,6 @@ pub record LinkDone (role : Role) (budget : ℕ) (k k' : Pass) (left taken : Opt
   pub taken' : Option (List ℕ)
   pub faults : ℕ
   pub served : LinkServed role budget k before left taken taken' report
-  pub unlost : is_loss report.end ≡ false
   pub counted : CountsEnd 0 faults report.end
   pub given_back : GrowsByTold written written' (returned taken' faults)
   pub looks : Looks before k'
@@ -33,3 +31,8 @@ abbrev pub GoesOnOrEnds : Role → Pass → Pass → Option (List (List ℕ)) �
 GoesOnOrEnds role k k' coming coming' written written' reports budget None = Underway role k k' coming coming' written written' reports budget
 GoesOnOrEnds role k k' coming coming' written written' reports budget (Some end) =
     Works role k k' coming coming' written written' reports × EndsWorker k k' coming coming' reports end × IsWithin reports
+
+-- whether it has ended because an edit could not be kept
+abbrev pub ends_by_loss : Option WorkerEnd → Bool
+ends_by_loss None = false
+ends_by_loss (Some end) = is_worker_loss end

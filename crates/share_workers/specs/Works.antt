@@ -1,6 +1,7 @@
 -- The links that a worker served, and what stands on each of them, by the history that its pass has seen.
-use Rattle.std.specs.Prelude.{◌≡◌, ◌⊎◌, ℕ, ◌-◌, List, [], ◌∷◌, ◌++◌, length, ⊤, Option, Some, None}
-use Rattle.std.specs.List.{flat_map}
+use Rattle.std.specs.Prelude.{◌≡◌, ◌⊎◌, ℕ, ◌-◌, List, [], ◌∷◌, ◌++◌, length, ⊤, Bool, true, false, Option, Some, None}
+use Rattle.std.specs.List.{flat_map, list_any}
+use Rattle.item_model.specs.declared.changes.Edit.{Edit}
 use Rattle.item_model.specs.declared.changes.Entry.{Entry}
 use Rattle.daap_outside.specs.Places.{Returned}
 use Rattle.daap_outside.specs.Told.{Grows}
@@ -15,13 +16,23 @@ use Rattle.share_server.specs.declared.report.Served.{Served}
 use Rattle.share_server.specs.declared.report.LinkReport.{LinkReport}
 use Rattle.share_server.specs.declared.report.LinkEnd.TheVariants.{Spent}
 use Rattle.share_server.specs.Served.{AreServed}
-use Rattle.share_server.specs.Passes.{Pass, Rises, Serves}
+use Rattle.share_server.specs.Losses.{is_loss, ServesBut, Unacknowledged}
+use Rattle.share_server.specs.Passes.{Pass, Rises}
 use Rattle.share_server.specs.Ends.{EndsInside, EndsAtEnd}
 use Rattle.share_server.specs.Serving.{is_fault, limit_of}
 
 -- the requests of all links, in order
 abbrev pub all_served : List LinkReport → List Served
 all_served reports = flat_map (λ report. report.served) reports
+
+-- whether a link ended because its edit could not be kept
+abbrev pub loses_any : List LinkReport → Bool
+loses_any reports = list_any (λ report. is_loss report.end) reports
+
+-- what was added to the history and told to no request: an edit that could not be kept, and the stop behind it
+abbrev pub IsLostBy : Pass → Pass → List Served → Bool → List Entry → Type 0
+IsLostBy k k' served false lost = lost ≡ []
+IsLostBy k k' served true lost = (batch : List Edit) × Unacknowledged k k' served batch lost
 
 -- one link, by its input, its report, and what its door tells of it: the bytes written on it, and whether it failed. The
 -- first asks of the input were served, in order and at points that rise at each entry that was added, the bytes are theirs, and
@@ -66,17 +77,17 @@ pub record Looks (k k' : Pass) : Type 0 where
   pub none : NoneOf maker (k.number ∷ []) more
   pub after : k' ≡ after_turn k (k.seen ++ more)
 
--- requests were served, and then such a turn was taken
-pub record ServesThenLooks (k k' : Pass) (served : List Served) : Type 0 where
+-- requests were served, but these entries were told to none, and then such a turn was taken
+pub record ServesThenLooks (k k' : Pass) (served : List Served) (lost : List Entry) : Type 0 where
   pub asks : List Ask
   pub before : Pass
-  pub serves : Serves k before asks served
+  pub serves : ServesBut k before asks served lost
   pub looks : Looks before k'
 
 -- the pass after these links: it took such a turn behind the last of them
-abbrev pub LooksBehind : Pass → Pass → List LinkReport → Type 0
-LooksBehind k k' [] = k' ≡ k
-LooksBehind k k' (report ∷ reports) = ServesThenLooks k k' (all_served (report ∷ reports))
+abbrev pub LooksBehind : Pass → Pass → List LinkReport → List Entry → Type 0
+LooksBehind k k' [] lost = k' ≡ k
+LooksBehind k k' (report ∷ reports) lost = ServesThenLooks k k' (all_served (report ∷ reports)) lost
 
 -- what a worker did: the links that it accepted, what stands on them, and what its pass has seen
 pub record Works (role : Role) (k k' : Pass) (coming coming' : Option (List (List ℕ))) (written written' : Option (List Returned)) (reports : List LinkReport) : Type 0 where
@@ -86,5 +97,7 @@ pub record Works (role : Role) (k k' : Pass) (coming coming' : Option (List (Lis
   pub given_back : Grows written written' returns
   pub links : LinksAt k.settings k.number role 262144 k'.seen inputs reports returns
   pub asks : List Ask
-  pub serves : Serves k k' asks (all_served reports)
-  pub looks : LooksBehind k k' reports
+  pub lost : List Entry
+  pub serves : ServesBut k k' asks (all_served reports) lost
+  pub loses : IsLostBy k k' (all_served reports) (loses_any reports) lost
+  pub looks : LooksBehind k k' reports lost

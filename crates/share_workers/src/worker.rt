@@ -18,6 +18,8 @@ pub enum WorkerEnd {
     Spent,
     /// Its door could not wait for a link.
     AcceptFault,
+    /// An edit was added and could not be kept. It is in the history, and the stop behind it.
+    FileFault,
     /// There was no memory for the report of one link more.
     Memory,
 }

@@ -1,20 +1,23 @@
 //! The work of one worker.
-ghost use Rattle.std.specs.Prelude.{◌≡◌, ◌+◌, ◌<◌, ◌++◌, [], ◌∷◌, List, ℕ, Some, Option, MatchOption, IsNone, length, vec_len, vec_capacity};
+ghost use Rattle.std.specs.Prelude.{◌≡◌, ◌+◌, ◌<◌, ◌++◌, [], ◌∷◌, List, ℕ, false, Some, Option, MatchOption, IsNone, length, vec_len, vec_capacity};
 ghost use Rattle.daap_outside.specs.Places.{Accepts, Returned};
 ghost use Rattle.daap_outside.specs.Told.{BeginsEmpty};
 ghost use Rattle.share_history.specs.Sessions.{is_stopped};
 ghost use Rattle.share_lock.specs.Passes.{lock_id, known, IsReady};
 ghost use Rattle.share_server.specs.declared.report.LinkReport.{LinkReport as Report};
+ghost use Rattle.share_server.specs.Kept.{Keeping};
+ghost use Rattle.share_server.specs.Losses.{is_loss};
 ghost use Rattle.share_server.specs.Passes.{Pass as Seen};
 ghost use Rattle.share_workers.specs.Works.{Looks};
-ghost use Rattle.share_workers.specs.Ends.{CountsAccepts, WorkerServed};
-ghost use Rattle.share_workers.specs.Steps.{LinkDone, Underway, GoesOnOrEnds};
+ghost use Rattle.share_workers.specs.Ends.{CountsAccepts, WorkerServed, is_worker_loss};
+ghost use Rattle.share_workers.specs.Steps.{LinkDone, Underway, GoesOnOrEnds, ends_by_loss};
 
 use crate::worker::{Worker, WorkerEnd};
 use daap_outside::{Door, Failed};
+use edit_keeping::{Keeps, Unkept};
 use share_core::Share;
 use share_lock::{Bell, Pass, ShareLock};
-use share_server::serve_link;
+use share_server::{LinkEnd, keep_link};
 use std::alloc::Global;
 use std::sync::Wait;
 use std::time::Clock;
@@ -26,7 +29,7 @@ const MOST_LINKS: usize = 65_536;
 const MOST_REQUESTS: u32 = 262_144;
 
 /// Serves links until the share is stopped, no more will come, the worker has served as many as it may, its door fails, or
-/// there is no memory. Behind each link it takes one turn that adds nothing.
+/// there is no memory. Behind each link it takes one turn that adds nothing. No edit is kept.
 pub fn serve_worker<D: Door, R: Wait + Clock>(
     rt: &R,
     alloc: Global,
@@ -40,43 +43,72 @@ pub fn serve_worker<D: Door, R: Wait + Clock>(
     ensures ready { IsReady (lock_id lock.now) worker.new.pass }
     ensures role { worker.new.role ≡ worker.old.role }
     ensures served { WorkerServed worker.old.role (known worker.old.pass) (known worker.new.pass) (D.coming worker.old.door) (D.coming worker.new.door) (D.written worker.old.door) (D.written worker.new.door) (D.faults worker.old.door) (D.faults worker.new.door) worker.new.reports.items worker.new.end }
+    ensures whole { is_worker_loss worker.new.end ≡ false }
 {
-    let end = work(rt, alloc, lock, bell, worker);
-    worker.end = end;
+    keep_worker(rt, alloc, lock, bell, worker, &mut Unkept);
 }
 
-// Serves links to the worker's end.
-fn work<D: Door, R: Wait + Clock>(
+/// Serves links as `serve_worker` does, and lets the keeper keep each batch of edits that is added, in order, before its
+/// request is answered. A batch that it could not keep stays in the history: no request is told of it, the share is stopped
+/// behind it, and the worker ends by `FileFault`.
+pub fn keep_worker<D: Door, F: Keeps, R: Wait + Clock>(
     rt: &R,
     alloc: Global,
     lock: &ShareLock<Share>,
     bell: &Bell,
     worker: &mut Worker<D>,
+    keeper: &mut F,
+)
+    requires ready { IsReady (lock_id lock.now) worker.old.pass }
+    requires running { worker.old.end ≡ WorkerEnd.Running }
+    requires unreported { worker.old.reports.items ≡ [] }
+    requires going { F.is_lost keeper.old ≡ false }
+    ensures ready { IsReady (lock_id lock.now) worker.new.pass }
+    ensures role { worker.new.role ≡ worker.old.role }
+    ensures served { WorkerServed worker.old.role (known worker.old.pass) (known worker.new.pass) (D.coming worker.old.door) (D.coming worker.new.door) (D.written worker.old.door) (D.written worker.new.door) (D.faults worker.old.door) (D.faults worker.new.door) worker.new.reports.items worker.new.end }
+    ensures keeping { Keeping (F.keeps keeper.old) (F.keeps keeper.new) (F.is_lost keeper.new) (F.faults keeper.old) (F.faults keeper.new) (known worker.old.pass) (known worker.new.pass) (is_worker_loss worker.new.end) }
+{
+    let end = work(rt, alloc, lock, bell, worker, keeper);
+    worker.end = end;
+}
+
+// Serves links to the worker's end.
+fn work<D: Door, F: Keeps, R: Wait + Clock>(
+    rt: &R,
+    alloc: Global,
+    lock: &ShareLock<Share>,
+    bell: &Bell,
+    worker: &mut Worker<D>,
+    keeper: &mut F,
 ) -> WorkerEnd
     requires ready { IsReady (lock_id lock.now) worker.old.pass }
     requires unreported { worker.old.reports.items ≡ [] }
+    requires going { F.is_lost keeper.old ≡ false }
     ensures ready { IsReady (lock_id lock.now) worker.new.pass }
     ensures role { worker.new.role ≡ worker.old.role }
     ensures served { WorkerServed worker.old.role (known worker.old.pass) (known worker.new.pass) (D.coming worker.old.door) (D.coming worker.new.door) (D.written worker.old.door) (D.written worker.new.door) (D.faults worker.old.door) (D.faults worker.new.door) worker.new.reports.items result }
+    ensures keeping { Keeping (F.keeps keeper.old) (F.keeps keeper.new) (F.is_lost keeper.new) (F.faults keeper.old) (F.faults keeper.new) (known worker.old.pass) (known worker.new.pass) (is_worker_loss result) }
 {
     let mut budget = MOST_REQUESTS;
     loop {
-        if let Some(end) = serve_next(rt, alloc, lock, bell, worker, &mut budget) {
+        if let Some(end) = serve_next(rt, alloc, lock, bell, worker, keeper, &mut budget) {
             return end;
         }
     }
 }
 
 // Waits for a link and serves it. Tells the worker's end, if it has come. Room for the report is taken before the link is.
-fn serve_next<D: Door, R: Wait + Clock>(
+fn serve_next<D: Door, F: Keeps, R: Wait + Clock>(
     rt: &R,
     alloc: Global,
     lock: &ShareLock<Share>,
     bell: &Bell,
     worker: &mut Worker<D>,
+    keeper: &mut F,
     budget: &mut u32,
 ) -> Option<WorkerEnd>
     requires ready { IsReady (lock_id lock.now) worker.old.pass }
+    requires going { F.is_lost keeper.old ≡ false }
     ensures ready { IsReady (lock_id lock.now) worker.new.pass }
     ensures role { worker.new.role ≡ worker.old.role }
     ensures grows { IsNone result → vec_len worker.new.reports ≡ vec_len worker.old.reports + 1 }
@@ -84,6 +116,7 @@ fn serve_next<D: Door, R: Wait + Clock>(
         → Underway worker.old.role k (known worker.old.pass) coming (D.coming worker.old.door) written (D.written worker.old.door) worker.old.reports.items budget.old
         → GoesOnOrEnds worker.old.role k (known worker.new.pass) coming (D.coming worker.new.door) written (D.written worker.new.door) worker.new.reports.items budget.new result }
     ensures count { MatchOption result (D.faults worker.new.door ≡ D.faults worker.old.door) (CountsAccepts (D.faults worker.old.door) (D.faults worker.new.door)) }
+    ensures keeping { Keeping (F.keeps keeper.old) (F.keeps keeper.new) (F.is_lost keeper.new) (F.faults keeper.old) (F.faults keeper.new) (known worker.old.pass) (known worker.new.pass) (ends_by_loss result) }
 {
     if worker.reports.reserve(1).is_err() {
         return Some(WorkerEnd::Memory);
@@ -91,23 +124,25 @@ fn serve_next<D: Door, R: Wait + Clock>(
     match worker.door.accept() {
         Err(Failed) => Some(WorkerEnd::AcceptFault),
         Ok(None) => Some(WorkerEnd::NoMoreLinks),
-        Ok(Some(link)) => serve_accepted(rt, alloc, lock, bell, worker, link, budget),
+        Ok(Some(link)) => serve_accepted(rt, alloc, lock, bell, worker, keeper, link, budget),
     }
 }
 
 // Serves a link that was accepted. A worker that sees a stop lets others stop waiting.
-fn serve_accepted<D: Door, R: Wait + Clock>(
+fn serve_accepted<D: Door, F: Keeps, R: Wait + Clock>(
     rt: &R,
     alloc: Global,
     lock: &ShareLock<Share>,
     bell: &Bell,
     worker: &mut Worker<D>,
+    keeper: &mut F,
     link: D::L,
     budget: &mut u32,
 ) -> Option<WorkerEnd>
     requires ready { IsReady (lock_id lock.now) worker.old.pass }
     requires room { vec_len worker.old.reports < vec_capacity worker.old.reports }
     requires fresh { D.L.faults link ≡ 0 }
+    requires going { F.is_lost keeper.old ≡ false }
     ensures ready { IsReady (lock_id lock.now) worker.new.pass }
     ensures role { worker.new.role ≡ worker.old.role }
     ensures grows { vec_len worker.new.reports ≡ vec_len worker.old.reports + 1 }
@@ -116,8 +151,14 @@ fn serve_accepted<D: Door, R: Wait + Clock>(
         → Accepts D.L.left D.L.taken before (D.coming worker.old.door) (Some link) → BeginsEmpty (D.written worker.old.door) (D.L.taken link)
         → GoesOnOrEnds worker.old.role k (known worker.new.pass) coming (D.coming worker.new.door) written (D.written worker.new.door) worker.new.reports.items budget.new result }
     ensures count { MatchOption result (D.faults worker.new.door ≡ D.faults worker.old.door) (CountsAccepts (D.faults worker.old.door) (D.faults worker.new.door)) }
+    ensures keeping { Keeping (F.keeps keeper.old) (F.keeps keeper.new) (F.is_lost keeper.new) (F.faults keeper.old) (F.faults keeper.new) (known worker.old.pass) (known worker.new.pass) (ends_by_loss result) }
 {
-    if serve_one(rt, alloc, lock, bell, worker, link, budget) {
+    let behind = serve_one(rt, alloc, lock, bell, worker, keeper, link, budget);
+    if behind.lost {
+        worker.door.nudge();
+        return Some(WorkerEnd::FileFault);
+    }
+    if behind.stopped {
         worker.door.nudge();
         return Some(WorkerEnd::Stopped);
     }
@@ -127,41 +168,63 @@ fn serve_accepted<D: Door, R: Wait + Clock>(
     None
 }
 
-// Serves a link, gives it back, and takes a turn. Tells whether the share was stopped by then.
-fn serve_one<D: Door, R: Wait + Clock>(
+// What a worker knows behind a link that it gave back.
+#[derive(Clone, Copy)]
+struct Behind {
+    // The link's edit could not be kept.
+    lost: bool,
+    // The share was stopped by then.
+    stopped: bool,
+}
+
+// Serves a link, gives it back, and takes a turn.
+fn serve_one<D: Door, F: Keeps, R: Wait + Clock>(
     rt: &R,
     alloc: Global,
     lock: &ShareLock<Share>,
     bell: &Bell,
     worker: &mut Worker<D>,
+    keeper: &mut F,
     mut link: D::L,
     budget: &mut u32,
-) -> bool
+) -> Behind
     requires ready { IsReady (lock_id lock.now) worker.old.pass }
     requires room { vec_len worker.old.reports < vec_capacity worker.old.reports }
     requires fresh { D.L.faults link ≡ 0 }
+    requires going { F.is_lost keeper.old ≡ false }
     ensures ready { IsReady (lock_id lock.now) worker.new.pass }
     ensures role { worker.new.role ≡ worker.old.role }
     ensures coming { D.coming worker.new.door ≡ D.coming worker.old.door }
     ensures count { D.faults worker.new.door ≡ D.faults worker.old.door }
-    ensures stopped { result ≡ is_stopped (known worker.new.pass).seen }
+    ensures stopped { result.stopped ≡ is_stopped (known worker.new.pass).seen }
+    ensures keeping { Keeping (F.keeps keeper.old) (F.keeps keeper.new) (F.is_lost keeper.new) (F.faults keeper.old) (F.faults keeper.new) (known worker.old.pass) (known worker.new.pass) result.lost }
     ensures done { (report : Report) × (worker.new.reports.items ≡ worker.old.reports.items ++ report ∷ []) × (budget.new + length report.served ≡ budget.old)
+        × (is_loss report.end ≡ result.lost)
         × LinkDone worker.old.role budget.old (known worker.old.pass) (known worker.new.pass) (D.L.left link) (D.L.taken link) (D.written worker.old.door) (D.written worker.new.door) report }
 {
-    let report = serve_link(
+    let report = keep_link(
         rt,
         alloc,
         lock,
         bell,
         &mut worker.pass,
         &mut link,
+        keeper,
         worker.role,
         *budget,
     );
     worker.door.done(link);
+    let lost = is_loss(report.end);
     *budget -= report.served.as_slice().len() as u32;
     worker.reports.push_reserved(report);
-    look(rt, lock, &mut worker.pass)
+    let stopped = look(rt, lock, &mut worker.pass);
+    Behind { lost, stopped }
+}
+
+fn is_loss(end: LinkEnd) -> bool
+    ensures { result ≡ is_loss end }
+{
+    matches!(end, LinkEnd::FileFault)
 }
 
 // Takes a turn that adds nothing. Tells whether the share was stopped by then.

@@ -21,32 +21,36 @@ const PLAYERS_REQUESTS: &str =
     "GET /login HTTP/1.1\r\n\r\nGET /update?session-id=1&revision-number=1 HTTP/1.1\r\n\r\nGET /update?session-id=1&revision-number=2 HTTP/1.1\r\n\r\nGET /update?session-id=1&revision-number=3 HTTP/1.1\r\n\r\n";
 
 // An edit, whose last byte is in the third piece, and a stop, whose last byte is in the fourth.
-const EDITORS_REQUESTS: &str =
+pub const EDITORS_REQUESTS: &str =
     "POST /edit HTTP/1.1\r\nContent-Length: 38\r\n\r\nop,kind,id,dmap.itemname\nput,item,7,A\nPOST /stop HTTP/1.1\r\n\r\n";
 
-// How many bytes the player's replies are: up to the one before the edit, and with the one after it.
-const BEFORE_EDIT: u64 = 224;
+// The same edit twice.
+pub const TWO_EDITS: &str =
+    "POST /edit HTTP/1.1\r\nContent-Length: 38\r\n\r\nop,kind,id,dmap.itemname\nput,item,7,APOST /edit HTTP/1.1\r\nContent-Length: 38\r\n\r\nop,kind,id,dmap.itemname\nput,item,7,A";
 
-const AFTER_EDIT: u64 = 336;
+// How many bytes the player's replies are: up to the one before the edit, and with the one after it.
+pub const BEFORE_EDIT: u64 = 224;
+
+pub const AFTER_EDIT: u64 = 336;
 
 // What the player's requests are answered.
-const ALL_HEARD: [u16; 4] = [200, 200, 200, 503];
+pub const ALL_HEARD: [u16; 4] = [200, 200, 200, 503];
 
 /// What a worker leaves.
 #[derive(Drop)]
-struct Told {
-    end: WorkerEnd,
-    reports: Vec<LinkReport>,
+pub struct Told {
+    pub end: WorkerEnd,
+    pub reports: Vec<LinkReport>,
     /// The bytes on its first link.
     bytes: Vec<u8>,
     /// The points at which the share's history has entries of its number.
-    own: Vec<u64>,
+    pub own: Vec<u64>,
     /// The points of those requests in its reports that added an entry.
-    named: Vec<u64>,
+    pub named: Vec<u64>,
 }
 
 /// The player, of whose writes one may fail.
-fn player(failing_write: u64) -> WorkerPlan {
+pub fn player(failing_write: u64) -> WorkerPlan {
     of_one(
         Role::Listen,
         LinkPlan {
@@ -108,7 +112,7 @@ fn named_points(alloc: Global, reports: &[LinkReport]) -> Result<Vec<u64>, Alloc
     Ok(points)
 }
 
-fn told_of(
+pub fn told_of(
     alloc: Global,
     worker: Worker<GatedDoor<'_>>,
     history: &[Entry],

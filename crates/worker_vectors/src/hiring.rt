@@ -142,6 +142,30 @@ fn drawn<R: Wait>(rt: &R, lock: &ShareLock<Share>, first: &mut Pass<Share>) -> P
     lock.split(rt, first).unwrap()
 }
 
+/// A worker at a door, which has not begun.
+pub fn worker_at<D: Drop, R: Wait>(
+    rt: &R,
+    alloc: Global,
+    lock: &ShareLock<Share>,
+    first: &mut Pass<Share>,
+    role: Role,
+    door: D,
+) -> Worker<D>
+    requires first { IsReady (lock_id lock.now) first.old }
+    ensures first { IsReady (lock_id lock.now) first.new }
+    ensures ready { IsReady (lock_id lock.now) result.pass }
+    ensures running { result.end ≡ WorkerEnd.Running }
+    ensures unreported { result.reports.items ≡ [] }
+{
+    Worker {
+        pass: drawn(rt, lock, first),
+        door,
+        role,
+        reports: Vec::new(alloc),
+        end: WorkerEnd::Running,
+    }
+}
+
 /// Adds a worker at a door.
 pub fn hire<D: Drop, R: Wait>(
     rt: &R,
@@ -161,15 +185,29 @@ pub fn hire<D: Drop, R: Wait>(
     ensures running { OnOk result (All (λ w. w.end ≡ WorkerEnd.Running) workers.new.items) }
     ensures unreported { OnOk result (All (λ w. w.reports.items ≡ []) workers.new.items) }
 {
-    let pass = drawn(rt, lock, first);
-    workers.push(Worker {
-        pass,
-        door,
-        role,
-        reports: Vec::new(alloc),
-        end: WorkerEnd::Running,
-    })?;
+    workers.push(worker_at(rt, alloc, lock, first, role, door))?;
     Ok(())
+}
+
+/// A worker whose links may wait for those of another one.
+pub fn planned<'a, R: Wait>(
+    rt: &R,
+    alloc: Global,
+    lock: &ShareLock<Share>,
+    first: &mut Pass<Share>,
+    plan: &WorkerPlan,
+    looks: u64,
+    own: &'a AtomicU64,
+    other: &'a AtomicU64,
+) -> Result<Worker<GatedDoor<'a>>, AllocError>
+    requires first { IsReady (lock_id lock.now) first.old }
+    ensures first { IsReady (lock_id lock.now) first.new }
+    ensures ready { IfOk result (λ w. IsReady (lock_id lock.now) w.pass) }
+    ensures running { IfOk result (λ w. w.end ≡ WorkerEnd.Running) }
+    ensures unreported { IfOk result (λ w. w.reports.items ≡ []) }
+{
+    let door = door_of(alloc, plan, looks, own, other)?;
+    Ok(worker_at(rt, alloc, lock, first, plan.role, door))
 }
 
 /// Adds a worker whose links may wait for those of another one.

@@ -12,6 +12,8 @@ mod held;
 #[cfg(test)]
 mod hiring;
 #[cfg(test)]
+mod kept;
+#[cfg(test)]
 mod many;
 #[cfg(test)]
 mod pairs;

@@ -1,21 +1,28 @@
 use Rattle.std.proofs.Common.{sym, ◌∙◌, refl, inl, inr, arith}
-use Rattle.share_workers.proofs.OneMore.{more_at, stops, spends, goes_on}
+use Rattle.share_workers.proofs.OneMore.{more_at, fails, stops, spends, goes_on}
 use Rattle.share_workers.proofs.working.serve_accepted.Goals as goal
 use Rattle.share_workers.proofs.working.serve_accepted.Goals.{then-budget-eq0-via-then-budget-eq0, then-budget-eq0-via-else-budget-eq0+then-len-eq-MOST_LINKS}
 
-pub returns-then-serve_one-clause-served : goal.returns-then-serve_one-clause-served
-returns-then-serve_one-clause-served g c k coming before written under accepts begins =
-    let did = c.serve_one.ensures.done in
-    stops _ k _ coming _ written _ _ _
-    (more_at _ _ c.args.link _ k _ _ coming before _ _ written _ _ _ _ _ did.0 _ _ under did.3 accepts begins did.2 did.1 (c.nudge.ensures.coming_stays ∙ c.serve_one.ensures.coming) c.nudge.ensures.written_stays)
-    (sym c.serve_one.ensures.stopped ∙ c.if-serve_one.true)
+pub returns-then-behind-clause-served : goal.returns-then-behind-clause-served
+returns-then-behind-clause-served g c k coming before written under accepts begins =
+    let did = c.serve_one-behind.ensures.done in
+    fails _ k _ coming _ written _ _ _ _
+    (more_at _ _ c.args.link _ k _ _ coming before _ _ written _ _ _ _ _ did.0 _ _ _ under did.4 accepts begins did.2 did.3 did.1 (c.nudge.ensures.coming_stays ∙ c.serve_one-behind.ensures.coming) c.nudge.ensures.written_stays)
+    c.if-behind.true
+
+pub returns-then-behind-2-clause-served : goal.returns-then-behind-2-clause-served
+returns-then-behind-2-clause-served g c k coming before written under accepts begins =
+    let did = c.serve_one-behind.ensures.done in
+    stops _ k _ coming _ written _ _ _ _
+    (more_at _ _ c.args.link _ k _ _ coming before _ _ written _ _ _ _ _ did.0 _ _ _ under did.4 accepts begins did.2 did.3 did.1 (c.nudge-then-behind-2.ensures.coming_stays ∙ c.serve_one-behind.ensures.coming) c.nudge-then-behind-2.ensures.written_stays)
+    c.if-behind.false (sym c.serve_one-behind.ensures.stopped ∙ c.if-behind-2.true)
 
 pub returns-then-budget-eq0-clause-served : goal.returns-then-budget-eq0-clause-served
 returns-then-budget-eq0-clause-served g c k coming before written under accepts begins =
-    let did = c.serve_one.ensures.done in
-    spends _ k _ coming _ written _ _ _
-    (more_at _ _ c.args.link _ k _ _ coming before _ _ written _ _ _ _ _ did.0 _ _ under did.3 accepts begins did.2 did.1 c.serve_one.ensures.coming refl)
-    (sym c.serve_one.ensures.stopped ∙ c.if-serve_one.false)
+    let did = c.serve_one-behind.ensures.done in
+    spends _ k _ coming _ written _ _ _ _
+    (more_at _ _ c.args.link _ k _ _ coming before _ _ written _ _ _ _ _ did.0 _ _ _ under did.4 accepts begins did.2 did.3 did.1 c.serve_one-behind.ensures.coming refl)
+    c.if-behind.false (sym c.serve_one-behind.ensures.stopped ∙ c.if-behind-2.false)
     (elim c.then-budget-eq0.branch [
       | then-budget-eq0-via-then-budget-eq0 w ↦ inr (omega arith)
       | then-budget-eq0-via-else-budget-eq0+then-len-eq-MOST_LINKS w ↦ inl (omega arith)
@@ -23,9 +30,9 @@ returns-then-budget-eq0-clause-served g c k coming before written under accepts 
 
 pub returns-clause-served : goal.returns-clause-served
 returns-clause-served g c k coming before written under accepts begins =
-    let did = c.serve_one.ensures.done in
-    goes_on _ k _ coming _ written _ _ _
-    (more_at _ _ c.args.link _ k _ _ coming before _ _ written _ _ _ _ _ did.0 _ _ under did.3 accepts begins did.2 did.1 c.serve_one.ensures.coming refl)
-    (sym c.serve_one.ensures.stopped ∙ c.if-serve_one.false)
+    let did = c.serve_one-behind.ensures.done in
+    goes_on _ k _ coming _ written _ _ _ _
+    (more_at _ _ c.args.link _ k _ _ coming before _ _ written _ _ _ _ _ did.0 _ _ _ under did.4 accepts begins did.2 did.3 did.1 c.serve_one-behind.ensures.coming refl)
+    c.if-behind.false (sym c.serve_one-behind.ensures.stopped ∙ c.if-behind-2.false)
     (λ full. absurd (omega arith))
     (λ nothing. absurd (omega arith))

@@ -1,5 +1,6 @@
-use Rattle.std.proofs.Common.{◌≡◌, ◌-◌, vec_len}
+use Rattle.std.proofs.Common.{◌≡◌, ◌-◌, false, vec_len}
 use Rattle.share_lock.specs.Passes.{lock_id, known, IsReady}
+use Rattle.share_server.specs.Kept.{Keeping}
 use Rattle.share_workers.specs.Steps.{Underway}
 use Rattle.share_workers.proofs.working.work.Given as goal
 
@@ -9,6 +10,7 @@ invariant-loop-end g l = record {
   role : l.worker.role ≡ l.fn.worker.role;
   count : g.D.Faulted.faults l.worker.door ≡ g.D.Faulted.faults l.fn.worker.door;
   under : Underway l.fn.worker.role (known l.fn.worker.pass) (known l.worker.pass) (g.D.Door.coming l.fn.worker.door) (g.D.Door.coming l.worker.door) (g.D.Door.written l.fn.worker.door) (g.D.Door.written l.worker.door) l.worker.reports.items l.budget;
+  keeping : Keeping (g.F.Keeps.keeps l.fn.keeper) (g.F.Keeps.keeps l.keeper) (g.F.Keeps.is_lost l.keeper) (g.F.Keeps.faults l.fn.keeper) (g.F.Keeps.faults l.keeper) (known l.fn.worker.pass) (known l.worker.pass) false;
 }
 
 abbrev pub decreases-loop-end : goal.decreases-loop-end

@@ -1,0 +1,25 @@
+-- What a keeper has of the batches of a history, where its worker alone edits the share.
+use Rattle.std.specs.Prelude.{◌≡◌, ℕ, List, [], ◌∷◌, ◌++◌, All, Bool, true, false}
+use Rattle.item_model.specs.declared.changes.Edit.{Edit}
+use Rattle.item_model.specs.declared.changes.Entry.{Entry}
+use Rattle.share_history.specs.Histories.{batches}
+use Rattle.share_lock.specs.Histories.{NoneOf}
+use Rattle.share_replies.specs.Laws.{is_edit, maker}
+use Rattle.share_server.specs.Kept.{Keeping}
+use Rattle.share_server.specs.Passes.{Pass}
+
+-- each edit among the entries is of this number
+abbrev pub EditsAreBy : ℕ → List Entry → Type 0
+EditsAreBy number entries = All (λ e. is_edit e ≡ true → maker e ≡ number) entries
+
+-- all batches are kept, or all but the last, which was lost
+abbrev pub KeepsBut : Bool → (List (List Edit) → Type 0) → List (List Edit) → Type 0
+KeepsBut false keeps bs = keeps bs
+KeepsBut true keeps bs = (earlier : List (List Edit)) × (last : List Edit) × (bs ≡ earlier ++ last ∷ []) × keeps earlier
+
+-- A keeper had the batches of what its pass had seen. Then it has those of each history that begins with what the pass has
+-- seen by the end, where the edits behind the begin are of the pass and none of those behind the end is.
+abbrev pub KeepsHistory : (keeps keeps' : List (List Edit) → Type 0) → Bool → ℕ → ℕ → Type 0
+KeepsHistory keeps keeps' is_lost' faults faults' =
+    (k k' : Pass) (loses : Bool) (h behind later : List Entry) → Keeping keeps keeps' is_lost' faults faults' k k' loses → keeps (batches k.seen)
+    → h ≡ k.seen ++ behind → h ≡ k'.seen ++ later → EditsAreBy k.number behind → NoneOf maker (k.number ∷ []) later → KeepsBut loses keeps' (batches h)
