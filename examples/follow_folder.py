@@ -7,7 +7,7 @@
 LISTEN and EDIT are the two addresses of the share, such as 127.0.0.1:3689 and 127.0.0.1:3690. The script keeps no file: it
 reads at LISTEN what the share holds, and sends the difference to EDIT. So it needs to know nothing of what happened before.
 
-It reads the folder as records.py does, which has to be in the same folder as this script. The row of a file that can't be
+It reads the folder as records.py does. That script and catalogue.py have to be in the same folder as this one. The row of a file that can't be
 read stays as it is in the share. If more than a quarter of the share's songs would be dropped, the script sends nothing,
 unless --drop-many is given.
 
@@ -25,7 +25,8 @@ import signal
 import sys
 import time
 
-from records import Folder, Library, Playlist, Refusal, batches, counts, differences, shown, why
+from catalogue import Library, Playlist, Refusal, batches, counts, differences, shown, why
+from records import Folder
 
 SECONDS = 60  # the time in which a share has to reply
 PASSES = 4  # how often a round reads folder and share if somebody changes them in the meantime

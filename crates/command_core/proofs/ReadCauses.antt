@@ -11,12 +11,13 @@ use Rattle.records_import.specs.declared.refusal.RecordError.TheVariants as reco
 use Rattle.command_core.specs.declared.fault.Fault.TheVariants.{Own}
 use Rattle.command_core.specs.Seen.{InputSeen}
 use Rattle.command_core.proofs.Reading.{all_read_on, past_limit, failed_within, of_input}
-use Rattle.command_core.specs.declared.records.InputFault.TheVariants.{Records}
-use Rattle.command_core.specs.ReadRecords.{records_limit, IsWithin, IsRefused, StopsReading, read_fault, record_fault}
+use Rattle.command_core.specs.declared.records.InputFault.TheVariants.{Records, TooLong}
+use Rattle.command_core.specs.ReadRecords.{records_limit, IsWithin, IsRefused, StopsReading, record_fault}
+use Rattle.command_core.specs.Faults.{read_fault}
 
 pub unread_cause : (before after : InputSeen) (e : ReadError) → (e ≡ reads.Failed → ConsumesUpTo records_limit before.left after.left)
     → ConsumesUpTo (records_limit + 32768) before.left after.left → (e ≡ reads.TooLong → IfSome before.left (λ input. records_limit < length input))
-    → CountsReadFaults {T = Vec ℕ Global} before.faults after.faults (Err e) → StopsReading before after (read_fault e)
+    → CountsReadFaults {T = Vec ℕ Global} before.faults after.faults (Err e) → StopsReading before after (read_fault TooLong e)
 unread_cause before after reads.Failed failed some long count = failed_within IsWithin before after records_limit (λ bytes within. within) (failed refl) count
 unread_cause before after reads.TooLong failed some long count = record {
   words = tt;

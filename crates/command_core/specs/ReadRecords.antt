@@ -8,8 +8,6 @@ use Rattle.records_import.specs.Table.{table_of}
 use Rattle.records_import.specs.Records.{BatchReads}
 use Rattle.records_import.specs.declared.refusal.RecordError.{RecordError}
 use Rattle.records_import.specs.declared.refusal.RecordError.TheVariants as records
-use Rattle.daap_outside.specs.declared.reading.ReadError.{ReadError}
-use Rattle.daap_outside.specs.declared.reading.ReadError.TheVariants as reads
 use Rattle.command_core.specs.declared.fault.Fault.{Fault}
 use Rattle.command_core.specs.declared.fault.Fault.TheVariants as fault
 use Rattle.command_core.specs.Seen.{InputSeen}
@@ -56,12 +54,7 @@ input_cause (Records error) = OfInput (error ≢ records.Memory) (IsRefused erro
 abbrev pub StopsReading : InputSeen → InputSeen → Fault InputFault → Type 0
 StopsReading before after stop = StopsBy input_cause IsWithin (Unit {0}) before after stop
 
--- the faults that refusals of the input and of its records are
-abbrev pub read_fault : ReadError → Fault InputFault
-read_fault reads.Failed = fault.Read
-read_fault reads.TooLong = fault.Own TooLong
-read_fault reads.Memory = fault.Memory
-
+-- the faults that refusals of the records are
 abbrev pub record_fault : RecordError → Fault InputFault
 record_fault (records.Header column) = fault.Own (Records (records.Header column))
 record_fault (records.Field row column reason) = fault.Own (Records (records.Field row column reason))

@@ -64,7 +64,23 @@ input_seen left faults = record { left = left; faults = faults }
 abbrev pub output_seen : Option (List ℕ) → ℕ → OutputSeen
 output_seen taken faults = record { taken = taken; faults = faults }
 
--- a run that leaves files and the net alone
+abbrev pub files_seen : Option (List (List ℕ)) → Option Contents → ℕ → FilesSeen
+files_seen asked contents faults = record { asked = asked; contents = contents; faults = faults }
+
+abbrev pub net_seen : Option (List (List ℕ × ℕ)) → Option (List (List ℕ × Bool)) → Option (List (List (List ℕ))) → Option (List ℕ) → ℕ → NetSeen
+net_seen asked written door_links next_input faults =
+    record { asked = asked; written = written; door_links = door_links; next_input = next_input; faults = faults }
+
+-- a run that leaves files alone
+abbrev pub told_over : FilesSeen → (input_before input_after : InputSeen) (net_before net_after : NetSeen) (output_before output_after : OutputSeen) → Told
+told_over files input_before input_after net_before net_after output_before output_after = record {
+  before = record { input = input_before; around = record { files = files; net = net_before } };
+  after = record { input = input_after; around = record { files = files; net = net_after } };
+  output_before = output_before;
+  output_after = output_after;
+}
+
+-- and one that leaves the net alone, too
 abbrev pub told_beside : Around → (input_before input_after : InputSeen) (output_before output_after : OutputSeen) → Told
 told_beside around input_before input_after output_before output_after = record {
   before = record { input = input_before; around = around };

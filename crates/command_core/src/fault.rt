@@ -1,9 +1,9 @@
 //! Why a command did not do its work.
 
 ghost use Rattle.std.specs.Prelude.{◌≡◌, ℕ, List, IfOk};
-ghost use Rattle.command_core.specs.Faults.{fault_line, fault_status};
+ghost use Rattle.command_core.specs.Faults.{fault_line, fault_status, read_fault};
 
-use daap_outside::Failed;
+use daap_outside::{Failed, ReadError};
 use std::alloc::{AllocError, Global};
 
 /// What ended a command early: one of its own faults, or what may end any command.
@@ -71,5 +71,16 @@ impl<E: Refusal> Fault<E> {
             Fault::Read => 4,
             Fault::Memory => 9,
         }
+    }
+}
+
+/// What an input that was not read to its end is to a command, by its fault where the input is too long.
+pub fn read_fault<E: Drop>(error: ReadError, too_long: E) -> Fault<E>
+    ensures { result ≡ read_fault too_long error }
+{
+    match error {
+        ReadError::Failed => Fault::Read,
+        ReadError::TooLong => Fault::Own(too_long),
+        ReadError::Memory => Fault::Memory,
     }
 }

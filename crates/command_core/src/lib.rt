@@ -7,6 +7,6 @@ mod fault;
 mod outcome;
 mod records;
 
-pub use fault::{Fault, Refusal};
+pub use fault::{Fault, Refusal, read_fault};
 pub use outcome::{Outcome, done, out_of_memory, refused, written};
 pub use records::{InputFault, read_records};

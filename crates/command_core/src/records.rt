@@ -4,10 +4,10 @@ ghost use Rattle.std.specs.Prelude.{◌≡◌, ◌≤◌, length, IfOk, IfErr};
 ghost use Rattle.item_model.specs.Valid.{AreValid};
 ghost use Rattle.records_import.specs.Limits.{most_records};
 ghost use Rattle.command_core.specs.Seen.{input_seen};
-ghost use Rattle.command_core.specs.ReadRecords.{HasReadAs, StopsReading, read_fault, record_fault};
+ghost use Rattle.command_core.specs.ReadRecords.{HasReadAs, StopsReading, record_fault};
 
-use crate::fault::Fault;
-use daap_outside::{ReadError, Source, read_within};
+use crate::fault::{Fault, read_fault};
+use daap_outside::{Source, read_within};
 use item_model::Batch;
 use records_import::{RecordError, read_batch};
 use std::alloc::Global;
@@ -38,22 +38,11 @@ pub fn read_records<I: Source>(alloc: Global, input: &mut I) -> Result<Batch, Fa
 {
     let bytes = match read_within(alloc, input, RECORDS_LIMIT) {
         Ok(bytes) => bytes,
-        Err(error) => return Err(read_fault(error)),
+        Err(error) => return Err(read_fault(error, InputFault::TooLong)),
     };
     match read_batch(alloc, bytes.as_slice()) {
         Ok(batch) => Ok(batch),
         Err(error) => Err(record_fault(error)),
-    }
-}
-
-/// What an input that is not read to its end is.
-fn read_fault(error: ReadError) -> Fault<InputFault>
-    ensures { result ≡ read_fault error }
-{
-    match error {
-        ReadError::Failed => Fault::Read,
-        ReadError::TooLong => Fault::Own(InputFault::TooLong),
-        ReadError::Memory => Fault::Memory,
     }
 }
 

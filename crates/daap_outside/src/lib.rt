@@ -11,8 +11,6 @@ mod reading;
 mod sink;
 mod source;
 mod tcp;
-#[cfg(test)]
-mod tests;
 
 pub use adapters::{Reading, Writing};
 pub use link::Link;

@@ -122,7 +122,7 @@ fn opens(alloc: Global, last: u32) -> Result<bool, AllocError> {
     let lists = records(alloc, "put,list", 2, last)?;
     match begun(alloc, 16, lists.as_str()) {
         Ok(_) => Ok(true),
-        Err(OpenError::Lists) => Ok(false),
+        Err(OpenError::Edits | OpenError::Lists) => Ok(false),
         Err(OpenError::Memory) => Err(AllocError),
     }
 }

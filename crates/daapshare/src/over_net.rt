@@ -1,15 +1,15 @@
 //! What the commands over the net do.
 
 ghost use Rattle.std.specs.Prelude.{◌≡◌};
-ghost use Rattle.command_core.specs.Seen.{FilesSeen, input_seen, output_seen};
+ghost use Rattle.command_core.specs.Seen.{FilesSeen, input_seen, net_seen, output_seen};
 ghost use Rattle.daapshare_words.specs.Serve.{AreServeWords};
 ghost use Rattle.daapshare_words.specs.Words.{IsNetRanged};
 ghost use Rattle.serve_command.specs.Terms.{MayServe};
 ghost use Rattle.daapshare.specs.Table.{serving_of, IsRunOverNet};
-ghost use Rattle.daapshare.specs.Told.{net_seen, seen, told_in};
+ghost use Rattle.daapshare.specs.Told.{seen, told_in};
 
+use crate::local::target_of;
 use crate::outcome::{Outcome, linked, unlinked};
-use crate::run::target_of;
 use daap_outside::{Net, Sink, Source};
 use daapshare_words::{NetCommand, ServeWords};
 use link_commands::{edit_share, follow_share};

@@ -1,6 +1,6 @@
 -- A number that is given as a word: from one to ten decimal digits, zeros in front counted among
 -- them, and no other byte. It is at most 4,294,967,295.
-use Rattle.std.specs.Prelude.{◌≤◌, ◌&&◌, ℕ, Bool, Option, Some, None, if◌then◌else◌, length, nat_le, option_and_then, option_map}
+use Rattle.std.specs.Prelude.{◌≤◌, ◌&&◌, ℕ, Bool, true, false, Option, Some, None, if◌then◌else◌, length, nat_le, option_and_then, option_map}
 use Rattle.std.specs.Char.{is_ascii_digit}
 use Rattle.std.specs.List.{list_all}
 use Rattle.std.specs.Str.Parse.{digits_value}
@@ -35,10 +35,15 @@ abbrev pub workers_of : Option Text → Option ℕ
 workers_of None = Some 16
 workers_of (Some word) = number_within 1 64 (Some word)
 
--- and how many those of editors: 2
-abbrev pub editors_of : Option Text → Option ℕ
-editors_of None = Some 2
-editors_of (Some word) = number_within 1 8 (Some word)
+-- and how many those of editors, by whether their edits are kept in a file: then 1, else 2 where it is not said
+abbrev pub most_editors : (kept : Bool) → ℕ
+most_editors true = 1
+most_editors false = 8
+
+abbrev pub editors_of : (kept : Bool) → Option Text → Option ℕ
+editors_of true None = Some 1
+editors_of false None = Some 2
+editors_of kept (Some word) = number_within 1 (most_editors kept) (Some word)
 
 -- the id of a container, from 1: none where no word says one
 abbrev pub list_of : Option Text → Option (Option ℕ)

@@ -1,9 +1,9 @@
 //! Numbers among the words of the command line.
 
-ghost use Rattle.std.specs.Prelude.{◌≡◌, IfSome, option_map};
+ghost use Rattle.std.specs.Prelude.{◌≡◌, true, IfSome, option_map};
 ghost use Rattle.std.specs.Char.{is_ascii_digit};
 ghost use Rattle.std.specs.List.{list_all};
-ghost use Rattle.daapshare_words.specs.Numbers.{IsWithin, number_of_word, number_within, keep_of, workers_of, editors_of, list_of};
+ghost use Rattle.daapshare_words.specs.Numbers.{IsWithin, number_of_word, number_within, keep_of, workers_of, editors_of, most_editors, list_of};
 
 /// The number that a word of 1 to 10 decimal digits writes, where it is at most 4,294,967,295.
 pub fn number_word(word: &str) -> Option<u32>
@@ -65,14 +65,28 @@ pub fn workers_of(word: Option<&str>) -> Option<u32>
     }
 }
 
-/// How many threads serve the links of editors, where the word is that of `--editors`.
-pub fn editors_of(word: Option<&str>) -> Option<u32>
-    ensures read { result ≡ editors_of (option_map (λ s. s.now) word.entry) }
-    ensures within { IfSome result (IsWithin 1 8) }
+/// How many threads serve the links of editors, where the word is that of `--editors`: one where their edits are kept in a file.
+pub fn editors_of(word: Option<&str>, is_kept: bool) -> Option<u32>
+    ensures read { result ≡ editors_of is_kept (option_map (λ s. s.now) word.entry) }
+    ensures within { IfSome result (IsWithin 1 (most_editors is_kept)) }
 {
+    if is_kept {
+        return one_editor(word);
+    }
     match word {
         Some(_) => number_of(word, 1, 8),
         None => Some(DEFAULT_EDITORS),
+    }
+}
+
+/// The one thread that serves the links of an editor, where the word is that of `--editors`, if there is one.
+fn one_editor(word: Option<&str>) -> Option<u32>
+    ensures read { result ≡ editors_of true (option_map (λ s. s.now) word.entry) }
+    ensures within { IfSome result (IsWithin 1 1) }
+{
+    match word {
+        Some(_) => number_of(word, 1, 1),
+        None => Some(1),
     }
 }
 

@@ -7,18 +7,19 @@ ghost use Rattle.daapshare_words.specs.Serve.{serve_command, serve_of};
 ghost use Rattle.daapshare_words.specs.Words.{Reads, IsRanged};
 
 use crate::command::{Command, NetCommand, WordsError};
-use crate::grammar::{Part, matches_for, value_of};
+use crate::grammar::{Part, matches_for, text_of, value_of};
 use crate::numbers::{editors_of, keep_of, workers_of};
 use crate::texts::{name_of, place_of};
 use clap::ArgMatches;
 use dmap_tags::Text;
 use std::alloc::Global;
 
-pub const USAGE: &str = "serve LISTEN EDIT [--name N] [--keep K] [--workers W] [--editors E]";
+pub const USAGE: &str =
+    "serve LISTEN EDIT [--name N] [--keep K] [--workers W] [--editors E] [--file F]";
 
 /// The share that is served: the places where it listens for players and for editors, each of 1 to 255 bytes, its name of
 /// at most 255, for how many revisions, 1 to 65,536, it keeps what changed, and how many threads serve the links of each
-/// place, one link at a time: 1 to 64 those of players, 1 to 8 those of editors.
+/// place, one link at a time: 1 to 64 those of players, 1 to 8 those of editors, but 1 where their edits are kept in a file.
 #[derive(Debug, Drop)]
 pub struct ServeWords {
     pub listen: Text,
@@ -27,15 +28,18 @@ pub struct ServeWords {
     pub keep: u32,
     pub workers: u32,
     pub editors: u32,
+    /// The name of the file that keeps the edits, as given.
+    pub file: Option<Text>,
 }
 
-static PARTS: [(&str, Part); 6] = [
+static PARTS: [(&str, Part); 7] = [
     ("listen", Part::Place),
     ("edit", Part::Place),
     ("name", Part::Valued),
     ("keep", Part::Valued),
     ("workers", Part::Valued),
     ("editors", Part::Valued),
+    ("file", Part::Valued),
 ];
 
 pub fn read(alloc: Global, words: &[&str]) -> Result<Command, WordsError>
@@ -57,6 +61,11 @@ fn words_of(alloc: Global, matches: &ArgMatches<'_>) -> Result<Command, WordsErr
         name: name_of(alloc, value_of(matches, "name"))?,
         keep: keep_of(value_of(matches, "keep")).ok_or(WordsError::Usage)?,
         workers: workers_of(value_of(matches, "workers")).ok_or(WordsError::Usage)?,
-        editors: editors_of(value_of(matches, "editors")).ok_or(WordsError::Usage)?,
+        editors: editors_of(
+            value_of(matches, "editors"),
+            value_of(matches, "file").is_some(),
+        )
+        .ok_or(WordsError::Usage)?,
+        file: text_of(alloc, matches, "file")?,
     })))
 }

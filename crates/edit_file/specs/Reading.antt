@@ -1,6 +1,7 @@
 -- What reading a disk gives: bytes from an offset on, and the frame or the closing byte that stands there.
 use Rattle.std.specs.Prelude.{◌≡◌, ◌≢◌, ℕ, ◌+◌, ◌<◌, ◌≤◌, List, [], ◌∷◌, length, take, drop, Ok, Option, MatchOption}
 use Rattle.item_model.specs.declared.changes.Edit.{Edit}
+use Rattle.item_model.specs.Valid.{AreValid}
 use Rattle.records_import.specs.Records.{BatchReads}
 use Rattle.records_import.specs.Table.{table_of}
 use Rattle.edit_file.specs.Standing.{opened, IsFrame, EndsBadly}
@@ -34,3 +35,9 @@ abbrev pub IsWithin : ℕ → ℕ → Found → Type 0
 IsWithin at len (found.Frame batch size) = (at + size ≤ len) × (5 ≤ size)
 IsWithin at len found.Closed = Unit {0}
 IsWithin at len found.Broken = Unit {0}
+
+-- a frame's batch has edits, and all of them are valid
+abbrev pub IsUsable : Found → Type 0
+IsUsable (found.Frame batch size) = (batch ≢ []) × AreValid batch
+IsUsable found.Closed = Unit {0}
+IsUsable found.Broken = Unit {0}

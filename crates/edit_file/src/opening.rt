@@ -1,6 +1,7 @@
 //! Opening a file: its batches are read, a file that was not finished is made, and what follows the closing byte is cut off.
-ghost use Rattle.std.specs.Prelude.{◌≡◌, ℕ, ◌^◌, ◌<◌, List, ◌∷◌, ◌++◌, length, false, Some, Err, IfOk, IfErr, IfSome, OnOk, MatchBool, is_some};
+ghost use Rattle.std.specs.Prelude.{◌≡◌, ◌≢◌, ℕ, ◌^◌, ◌<◌, All, List, [], ◌∷◌, ◌++◌, length, false, Some, Err, IfOk, IfErr, IfSome, OnOk, MatchBool, is_some};
 ghost use Rattle.item_model.specs.declared.changes.Edit.{Edit};
+ghost use Rattle.item_model.specs.Valid.{AreValid};
 ghost use Rattle.outside_disks.specs.Counts.{CountsFaults};
 ghost use Rattle.edit_file.specs.Files.{AtRest, HasBatches, is_broken};
 ghost use Rattle.edit_file.specs.Moments.{Holds, IsQuiet, LeavesOnly};
@@ -27,6 +28,8 @@ impl<D: Disk + Drop> EditFile<D> {
     pub fn open(alloc: Global, disk: D) -> Result<(EditFile<D>, Vec<Batch>), (FileError, D)>
         ensures stands { IfOk result (λ r. IfSome (D.bytes disk) (λ b. FileStands b r.1.items)) }
         ensures keeps { IfOk result (λ r. HasBatches D.Disk.own r.0 r.1.items) }
+        ensures filled { IfOk result (λ r. All (λ batch. batch ≢ []) r.1.items) }
+        ensures valid { IfOk result (λ r. All AreValid r.1.items) }
         ensures sound { IfOk result (λ r. is_broken D.Disk.own r.0 ≡ false) }
         ensures breaks { (at : ℕ) → IfErr result (λ e. e.0 ≡ FileError.NotEditFile at → IfSome (D.bytes disk) (λ b. BreaksAt b at)) }
         ensures unchanged { (at : ℕ) → IfErr result (λ e. e.0 ≡ FileError.NotEditFile at → IsSameDisk D.Disk.own disk e.1) }
@@ -56,6 +59,8 @@ fn settle<D: Disk>(alloc: Global, disk: &mut D) -> Result<(u64, Vec<Batch>), Fil
     ensures stands { (b : List ℕ) → D.bytes disk.old ≡ Some b → IfOk result (λ r. FileStands b r.1.items) }
     ensures rests { (b : List ℕ) → D.bytes disk.old ≡ Some b → IfOk result (λ r. (c : List ℕ) × AtRest c r.0 r.1.items × Holds D.Disk.own disk.new c) }
     ensures near { IfOk result (λ r. r.0 < 2 ^ 63) }
+    ensures filled { IfOk result (λ r. All (λ batch. batch ≢ []) r.1.items) }
+    ensures valid { IfOk result (λ r. All AreValid r.1.items) }
     ensures breaks { (b : List ℕ) (at : ℕ) → D.bytes disk.old ≡ Some b → result ≡ Err (FileError.NotEditFile at) → BreaksAt b at }
     ensures unchanged { LeavesRefused D.Disk.own disk.old disk.new result }
     ensures crash { (b : List ℕ) (batches : List (List Edit)) → FileStands b batches → Holds D.Disk.own disk.old b
@@ -138,6 +143,8 @@ fn read_made<D: Disk>(alloc: Global, disk: &mut D, len: u64) -> Result<(u64, Vec
     ensures rests { (b : List ℕ) → Holds D.Disk.own disk.old b
         → IfOk result (λ r. (c : List ℕ) × AtRest c r.0 r.1.items × Holds D.Disk.own disk.new c) }
     ensures near { IfOk result (λ r. r.0 < 2 ^ 63) }
+    ensures filled { IfOk result (λ r. All (λ batch. batch ≢ []) r.1.items) }
+    ensures valid { IfOk result (λ r. All AreValid r.1.items) }
     ensures breaks { (b : List ℕ) (at : ℕ) → (IsUnmade b → ⊥) → Holds D.Disk.own disk.old b → result ≡ Err (FileError.NotEditFile at)
         → BreaksAt b at }
     ensures unchanged { LeavesRefused D.Disk.own disk.old disk.new result }
@@ -165,6 +172,8 @@ fn read_frames<D: Disk>(
     ensures found { (b rest : List ℕ) → length b ≡ len → D.bytes disk.old ≡ Some b → b ≡ opened ∷ signature ++ rest
         → IfOk result (λ r. ClosesAt b r.0 r.1.items) }
     ensures near { IfOk result (λ r. r.0 < 2 ^ 63) }
+    ensures filled { IfOk result (λ r. All (λ batch. batch ≢ []) r.1.items) }
+    ensures valid { IfOk result (λ r. All AreValid r.1.items) }
     ensures breaks { (b rest : List ℕ) (at : ℕ) → length b ≡ len → D.bytes disk.old ≡ Some b → b ≡ opened ∷ signature ++ rest
         → result ≡ Err (FileError.NotEditFile at) → IsNoFrame b at }
     ensures unchanged { LeavesRefused D.Disk.own disk.old disk.new result }

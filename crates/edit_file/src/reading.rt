@@ -1,10 +1,11 @@
 //! Reading a disk, frame by frame.
-ghost use Rattle.std.specs.Prelude.{◌≡◌, ℕ, ◌+◌, ◌^◌, ◌<◌, ◌≤◌, length, drop, Err, IfOk, IfSome, OnOk, is_some, option_map};
+ghost use Rattle.std.specs.Prelude.{◌≡◌, ◌≢◌, ℕ, ◌+◌, ◌^◌, ◌<◌, ◌≤◌, [], length, drop, Err, IfOk, IfSome, OnOk, is_some, option_map};
 ghost use Rattle.std.specs.Int.{w32, from_be_bytes, to_be_bytes};
+ghost use Rattle.item_model.specs.Valid.{AreValid};
 ghost use Rattle.outside_disks.specs.Counts.{CountsFaults};
 ghost use Rattle.edit_file.specs.Moments.{IsQuiet};
 ghost use Rattle.edit_file.specs.Opening.{CountsOpening};
-ghost use Rattle.edit_file.specs.Reading.{FillsFrom, IsPayload, IsBatchIn, IsFound, IsWithin};
+ghost use Rattle.edit_file.specs.Reading.{FillsFrom, IsPayload, IsBatchIn, IsFound, IsUsable, IsWithin};
 
 use crate::refusal::FileError;
 use item_model::Batch;
@@ -59,6 +60,7 @@ pub(crate) fn read_frame<D: Disk>(
     requires short { len < 2 ^ 63 }
     ensures exact { IfOk result (λ found. IfSome (D.bytes disk.old) (λ b. length b ≡ len → IsFound (drop at b) found)) }
     ensures within { IfOk result (λ found. IsWithin at len found) }
+    ensures usable { IfOk result IsUsable }
     ensures whole { (at' : ℕ) → result ≡ Err (FileError.NotEditFile at') → ⊥ }
     ensures bytes_stay { OnOk result (D.bytes disk.new ≡ D.bytes disk.old) }
     ensures quiet { IsQuiet D.Disk.own disk.old disk.new }
@@ -132,7 +134,9 @@ fn read_payload<D: Disk>(
 // The batch that the payload reads as, where that is one with an edit.
 #[tactic(auto, using(records_import::proofs::Once::batch_same, records_import::proofs::Once::batch_once))]
 fn batch_in(alloc: Global, payload: &[u8]) -> Result<Option<Batch>, AllocError>
-    ensures { IfOk result (λ o. IsBatchIn payload.now o) }
+    ensures read { IfOk result (λ o. IsBatchIn payload.now o) }
+    ensures filled { IfOk result (λ o. IfSome o (λ batch. batch ≢ [])) }
+    ensures valid { IfOk result (λ o. IfSome o AreValid) }
 {
     match read_batch(alloc, payload) {
         Ok(batch) if batch.edits.as_slice().is_empty() => Ok(None),

@@ -1,5 +1,5 @@
 //! A place that keeps accepted batches.
-ghost use Rattle.std.specs.Prelude.{◌≡◌, ◌≢◌, ℕ, List, [], ◌∷◌, ◌++◌, Bool, false, IfOk, OnOk, OnErr, is_err};
+ghost use Rattle.std.specs.Prelude.{◌≡◌, ◌≢◌, ℕ, List, [], ◌∷◌, ◌++◌, Bool, false, Option, IfOk, OnOk, OnErr, is_err};
 ghost use Rattle.item_model.specs.declared.changes.Edit.{Edit};
 ghost use Rattle.outside_disks.specs.Counts.{CountsFaults};
 ghost use Rattle.records_import.specs.Written.{IsReadable};
@@ -27,6 +27,9 @@ pub trait Keeps {
     // The count of faults of what it keeps batches on.
     ghost faults: { Self → ℕ };
 
+    // The name under which its batches are found, where that name and the bytes there are told.
+    ghost place: { Self → Option (List ℕ) };
+
     // The batch that was made ready.
     ghost is_for: { Self.Ready → List Edit → Type 0 };
 
@@ -51,5 +54,6 @@ pub trait Keeps {
             → OnOk result (keeps self.new (batches ++ batch ∷ [])) }
         ensures kept { (batches : List (List Edit)) → keeps self.old batches → OnErr result (keeps self.new batches) }
         ensures lost { is_lost self.new ≡ is_err result }
+        ensures place_stays { place self.new ≡ place self.old }
         ensures count { CountsFaults (faults self.old) (faults self.new) result };
 }

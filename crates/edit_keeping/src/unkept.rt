@@ -1,5 +1,5 @@
 //! A keeper that keeps nothing.
-ghost use Rattle.std.specs.Prelude.{⊤, false};
+ghost use Rattle.std.specs.Prelude.{⊤, false, None};
 
 use crate::keeps::{Keeps, Lost};
 use item_model::Batch;
@@ -17,6 +17,8 @@ impl Keeps for Unkept {
     ghost is_lost = { λ _. false };
 
     ghost faults = { λ _. 0 };
+
+    ghost place = { λ _. None };
 
     ghost is_for = { λ _ _. ⊤ };
 

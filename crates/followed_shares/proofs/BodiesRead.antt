@@ -2,7 +2,7 @@
 use Rattle.std.proofs.Common.{◌≡◌, ◌<◌, ◌≤◌, ◌^◌, ℕ, suc, List, [], ◌∷◌, ◌++◌, Bool, true, false, cond, ◌&&◌, nat_le, not, Option, Some, None, IfSome, map, filter, length, All, refl, sym, ap, ◌∙◌, subst, arith}
 use Rattle.std.specs.List.{AllByRecursion, cons_option}
 use Rattle.std.specs.Option.{option_map}
-use Rattle.std.proofs.lemmas.Bool.{le-leb, ltb-true}
+use Rattle.std.proofs.lemmas.Bool.{le-leb, ltb-true, and_from}
 use Rattle.std.proofs.lemmas.List.{length-map}
 use Rattle.std.proofs.lemmas.List.Elements.{All-nil, All-cons}
 use Rattle.dmap_tags.specs.Codes.{Four, code}
@@ -49,10 +49,6 @@ use Rattle.item_model.specs.Valid.{is_valid}
 use Rattle.followed_shares.specs.Whole.{AreWhole, IsText, IsWhole, PutsWhole}
 use Rattle.followed_shares.proofs.WholeFacts.{AreSmall, IsRow, each_both, each_filtered, each_front, rows_are, small_keys}
 
-both : (a b : Bool) → a ≡ true → b ≡ true → (a && b) ≡ true
-both true b h k = k
-both false b h k = h
-
 -- ---- tags that fit below a list
 
 -- of at most so many levels
@@ -66,7 +62,7 @@ AreGood parent n ts = AllByRecursion (IsGood parent n) ts
 
 all_fit_of : (parent : Four) (n : ℕ) (ts : List Tree) → AreGood parent n ts → all_fit standard_rows parent (trees_of ts) ≡ true
 all_fit_of parent n [] good = refl
-all_fit_of parent n (t ∷ ts) good = both (fits standard_rows (Some parent) t) (all_fit standard_rows parent (trees_of ts)) good.0.fit (all_fit_of parent n ts good.1)
+all_fit_of parent n (t ∷ ts) good = and_from (fits standard_rows (Some parent) t) (all_fit standard_rows parent (trees_of ts)) good.0.fit (all_fit_of parent n ts good.1)
 
 deep_of : (parent : Four) (n : ℕ) (ts : List Tree) → AreGood parent n ts → levels_in (trees_of ts) ≤ n
 deep_of parent n [] good = omega arith
@@ -79,7 +75,7 @@ proper_of parent n (t ∷ ts) good = (good.0.proper, proper_of parent n ts good.
 -- a list of them
 list_good : (parent c : Four) (n : ℕ) (ts : List Tree) → is_list (kind_in standard_rows (Some parent) c) ≡ true → AreGood c n ts → IsGood parent (suc n) (list c (trees_of ts))
 list_good parent c n ts is good = record {
-  fit = both (is_list (kind_in standard_rows (Some parent) c)) (all_fit standard_rows c (trees_of ts)) is (all_fit_of c n ts good);
+  fit = and_from (is_list (kind_in standard_rows (Some parent) c)) (all_fit standard_rows c (trees_of ts)) is (all_fit_of c n ts good);
   deep = let d = deep_of c n ts good in omega (arith, d);
   proper = proper_of c n ts good;
 }
@@ -319,9 +315,9 @@ pub body_read : (target : Target) (meta : Meta) (pairs : List (ℕ × Row)) (l :
 unfolding members
 body_read target meta pairs l r = record {
   spelled = refl;
-  accepted = both (fits standard_rows None (body_tree target l)) (nat_le (levels (body_tree target l)) 32 && nat_le (length (payload (body_tree target l))) 1073741824)
-      (both (is_list (kind_in standard_rows None (body_code target))) (all_fit standard_rows (body_code target) (trees_of (members target l))) (top_list target) (all_fit_of (body_code target) 3 (members target l) good))
-      (both (nat_le (levels (body_tree target l)) 32) (nat_le (length (payload (body_tree target l))) 1073741824) (le-leb (levels (body_tree target l)) 32 deep)
+  accepted = and_from (fits standard_rows None (body_tree target l)) (nat_le (levels (body_tree target l)) 32 && nat_le (length (payload (body_tree target l))) 1073741824)
+      (and_from (is_list (kind_in standard_rows None (body_code target))) (all_fit standard_rows (body_code target) (trees_of (members target l))) (top_list target) (all_fit_of (body_code target) 3 (members target l) good))
+      (and_from (nat_le (levels (body_tree target l)) 32) (nat_le (length (payload (body_tree target l))) 1073741824) (le-leb (levels (body_tree target l)) 32 deep)
       (le-leb (length (payload (body_tree target l))) 1073741824 (short target meta pairs l r)));
   proper = proper_of (body_code target) 3 (members target l) good;
 }

@@ -17,6 +17,7 @@ use Rattle.share_history.specs.Listings.{Listing, listing}
 use Rattle.share_history.specs.Mirror.{Held, mirror_look}
 use Rattle.share_history.specs.Sessions.{next_session}
 use Rattle.share_history.proofs.EditFacts.{batches-append}
+use Rattle.share_history.proofs.DeltaFacts.{listing_revision}
 use Rattle.share_asks.specs.declared.ask.Want.TheVariants as want
 use Rattle.share_replies.specs.Settings.{Settings}
 use Rattle.share_replies.specs.SmallBodies.{login_body, revision_body}
@@ -44,7 +45,7 @@ use Rattle.followed_shares.specs.Laws.{ServedRunsGoOn}
 use Rattle.followed_shares.specs.Served.{Rise, Round, Serves, ServesRounds, ServesRun, asked_behind, points_of}
 use Rattle.followed_shares.specs.Whole.{IsWhole}
 use Rattle.followed_shares.proofs.BodiesRead.{listing_body_read}
-use Rattle.followed_shares.proofs.FilterShown.{each_whole, few, learned, left_owed, listing_is, listing_revision, login_tag, owed_split, revision_tag, split_on, standard_back, table_tag}
+use Rattle.followed_shares.proofs.FilterShown.{each_whole, few, learned, left_owed, listing_is, login_tag, owed_split, revision_tag, split_on, standard_back, table_tag}
 use Rattle.followed_shares.proofs.Successes.{Begins, answer_is, empty_served, tag_served}
 
 -- ---- what is still to come

@@ -1,12 +1,11 @@
 -- A client that followed a share was told what the share has, and so holds it.
-use Rattle.std.proofs.Common.{rules, ◌≡◌, ◌≤◌, ◌<◌, ◌^◌, ℕ, ◌==◌, List, [], ◌∷◌, ◌++◌, take, length, map, Bool, true, false, cond, ◌&&◌, nat_le, nat_lt, count_by, Option, Some, None, Result, Ok, Err, All, refl, sym, ap, ◌∙◌, subst, append_assoc, arith}
+use Rattle.std.proofs.Common.{rules, ◌≡◌, ◌≤◌, ◌<◌, ◌^◌, ℕ, ◌==◌, List, [], ◌∷◌, ◌++◌, take, length, map, Bool, true, false, ◌&&◌, nat_le, nat_lt, Option, Some, None, Result, Ok, Err, All, refl, sym, ap, ◌∙◌, subst, append_assoc, arith}
 use Rattle.std.specs.List.{AllByRecursion, list_all}
 use Rattle.std.specs.Str.{is_utf8}
 use Rattle.std.proofs.lemmas.Str.{IsUtf8-from_ascii, is_utf8-from_IsUtf8}
 use Rattle.std.proofs.lemmas.Str.Ascii.{IsAscii-from_all}
 use Rattle.std.specs.Io.KnownBytes.{Consumes}
 use Rattle.std.proofs.lemmas.Bool.{and_parts, leb-true, ltb-true}
-use Rattle.std.proofs.lemmas.List.Sums.{sum_by-cons}
 use Rattle.std.proofs.lemmas.List.Elements.{All-nil, All-cons}
 use Rattle.dmap_tags.specs.Spelling.{payload, spelling}
 use Rattle.dmap_tags.specs.Tree.{Tree, levels, trees_of}
@@ -20,20 +19,18 @@ use Rattle.code_table.specs.Standard.{standard_rows}
 use Rattle.code_table.proofs.ReadsBack.{ReadsBack, table_back}
 use Rattle.item_model.specs.declared.changes.Edit.{Edit}
 use Rattle.item_model.specs.declared.changes.Entry.{Entry}
-use Rattle.item_model.specs.declared.changes.Entry.TheVariants.{Edits, Login, Logout, Stop}
-use Rattle.item_model.specs.declared.request.Look.{Look}
 use Rattle.item_model.specs.declared.query.Query.{Query}
 use Rattle.item_model.specs.declared.request.Meta.{Meta}
 use Rattle.item_model.specs.declared.request.Target.{Target}
 use Rattle.share_history.specs.Bodies.{listing_body}
 use Rattle.share_history.specs.Histories.{at_revision, batches, edits, revision, up_to}
-use Rattle.share_history.specs.Kept.{is_kept}
-use Rattle.share_history.specs.Limits.{takes_place}
-use Rattle.share_history.specs.Listings.{Listing, delta_listing, full_listing, listing, shown_rows}
+use Rattle.share_history.specs.Listings.{Listing, listing, shown_rows}
 use Rattle.share_history.specs.Mirror.{Held, mirror_after, mirror_look, mirrored}
 use Rattle.share_history.specs.Rows.{rows}
-use Rattle.share_history.specs.Sessions.{is_login, next_session}
+use Rattle.share_history.specs.Sessions.{next_session}
 use Rattle.share_history.proofs.EditFacts.{batches-append, batches-at_revision}
+use Rattle.share_history.proofs.DeltaFacts.{listing_revision}
+use Rattle.share_history.proofs.SessionFacts.{few_logins}
 use Rattle.share_asks.specs.declared.ask.Want.TheVariants as want
 use Rattle.share_replies.specs.Settings.{Settings}
 use Rattle.share_replies.specs.SmallBodies.{login_body, revision_body}
@@ -147,13 +144,6 @@ learned answer rows same t =
 
 -- ---- small bodies
 
-few_logins : (h : List Entry) → count_by is_login h ≤ count_by takes_place h
-few_logins [] = omega arith
-few_logins (Edits by batch ∷ h) = omega (arith, few_logins h, sum_by-cons (λ e. cond (takes_place e) 1 0) (Edits by batch) h, sum_by-cons (λ e. cond (is_login e) 1 0) (Edits by batch) h)
-few_logins (Login by id ∷ h) = omega (arith, few_logins h, sum_by-cons (λ e. cond (takes_place e) 1 0) (Login by id) h, sum_by-cons (λ e. cond (is_login e) 1 0) (Login by id) h)
-few_logins (Logout by id ∷ h) = omega (arith, few_logins h, sum_by-cons (λ e. cond (takes_place e) 1 0) (Logout by id) h, sum_by-cons (λ e. cond (is_login e) 1 0) (Logout by id) h)
-few_logins (Stop by ∷ h) = omega (arith, few_logins h, sum_by-cons (λ e. cond (takes_place e) 1 0) (Stop by) h, sum_by-cons (λ e. cond (is_login e) 1 0) (Stop by) h)
-
 pub login_tag : (h : List Entry) → IsWhole h → IsTag standard_rows (spelling (login_body (next_session h))) (login_body (next_session h))
 login_tag h whole = record {
   spelled = refl;
@@ -166,13 +156,6 @@ number_tag v small = record { spelled = refl; accepted = refl; proper = (omega a
 
 pub revision_tag : (h : List Entry) → IsWhole h → IsTag standard_rows (spelling (revision_body (revision (batches h)))) (revision_body (revision (batches h)))
 revision_tag h whole = number_tag (revision (batches h)) (small_revision h whole)
-
-pub listing_revision : (keep : ℕ) (bs : List (List Edit)) (target : Target) (look : Look) → (listing keep bs target look).revision ≡ revision bs
-listing_revision keep bs target look = by_kept (is_kept keep bs target look.base)
-  where
-    by_kept : (b : Bool) → (cond b (delta_listing bs target look look.base) (full_listing bs target look)).revision ≡ revision bs
-    by_kept true = refl
-    by_kept false = refl
 
 -- the listing that was taken in tells the revision of the share that answered
 pub listing_is : (keep : ℕ) (rows : List CodeRow) (m : Mirrored) (answer : Reply) (l : Listing) (h : List Entry) → TellsListing rows m answer l

@@ -1,11 +1,7 @@
 -- The rows and the keys of a listing of a whole history.
-use Rattle.std.proofs.Common.{◌≡◌, ◌<◌, ◌≤◌, ◌^◌, ℕ, ◌==◌, List, [], ◌∷◌, ◌++◌, Bool, true, false, cond, ◌&&◌, nat_le, nat_lt, Option, Some, None, filter, fold, length, unwrap_or, count_by, refl, sym, ap, ◌∙◌, subst, arith, append_assoc, length-append}
+use Rattle.std.proofs.Common.{◌≡◌, ◌<◌, ◌≤◌, ◌^◌, ℕ, ◌==◌, List, [], ◌∷◌, ◌++◌, Bool, true, false, cond, ◌&&◌, nat_le, nat_lt, Option, Some, None, filter, length, unwrap_or, count_by, refl, sym, ap, ◌∙◌, subst, arith, append_assoc, length-append}
 use Rattle.std.specs.List.{AllByRecursion, cons_option}
 use Rattle.std.specs.Option.{option_map, option_and_then, option_or}
-use Rattle.std.specs.Ordering.{nat_cmp, match_ordering}
-use Rattle.std.specs.declared.cmp.Ordering.{Ordering}
-use Rattle.std.specs.declared.cmp.Ordering.TheVariants.{Less, Equal, Greater}
-use Rattle.std.specs.BTreeSet.{insert_key}
 use Rattle.std.proofs.lemmas.Bool.{and_parts, ltb-true}
 use Rattle.std.proofs.lemmas.List.Sums.{sum_by-cons}
 use Rattle.item_model.specs.declared.changes.Edit.{Edit}
@@ -24,6 +20,7 @@ use Rattle.share_history.specs.Named.{keys_in, named_keys}
 use Rattle.share_history.specs.Numbers.{base_list}
 use Rattle.share_history.specs.Rows.{if_asked, in_list, in_target, is_asked, row_at, rows}
 use Rattle.share_history.proofs.EditFacts.{batches-append}
+use Rattle.share_history.proofs.KeyedFacts.{all-ascending}
 use Rattle.followed_shares.specs.Whole.{AreWhole, IsWhole, IsWholeRow, PutsWhole}
 
 -- ---- lists by recursion
@@ -140,21 +137,8 @@ small_named : (es : List Edit) → AreWhole es → AreSmall (named_keys es)
 small_named [] whole = tt
 small_named (e ∷ es) whole = each_both (λ key. key < 2 ^ 32) (keys_in e) (named_keys es) (small_in e whole.0.0) (small_named es whole.1)
 
-small_insert : (ks : List ℕ) (k : ℕ) → AreSmall ks → k < 2 ^ 32 → AreSmall (insert_key nat_cmp ks k)
-small_insert [] k h lt = (lt, tt)
-small_insert (x ∷ xs) k h lt = by_order (nat_cmp k x) (small_insert xs k h.1 lt)
-  where
-    by_order : (r : Ordering) → AreSmall (insert_key nat_cmp xs k) → AreSmall (match_ordering r (k ∷ x ∷ xs) (x ∷ xs) (x ∷ insert_key nat_cmp xs k))
-    by_order Less rest = (lt, h)
-    by_order Equal rest = h
-    by_order Greater rest = (h.0, rest)
-
-small_folded : (acc ks : List ℕ) → AreSmall acc → AreSmall ks → AreSmall (fold (insert_key nat_cmp) acc ks)
-small_folded acc [] h k = h
-small_folded acc (x ∷ ks) h k = small_folded (insert_key nat_cmp acc x) ks (small_insert acc x h k.0) k.1
-
 pub small_keys : (es : List Edit) → AreWhole es → AreSmall (ascending (named_keys es))
-small_keys es whole = small_folded [] (named_keys es) tt (small_named es whole)
+small_keys es whole = all-ascending (λ key. key < 2 ^ 32) (named_keys es) (small_named es whole)
 
 -- ---- rows
 

@@ -3,7 +3,7 @@
 use crate::histories::{SIX_SONGS, WITH_ALBUM, bytes_of, history_of, is_small, query_of};
 use dmap_tags::{Tag, Text};
 use item_model::{Browse, Entry};
-use share_history::{browse_body, browse_values, containers_body, databases_body, playlists};
+use plain_share::{browse_body, browse_values, containers_body, databases_body, playlists};
 use std::alloc::{AllocError, Global};
 use std::test::Fail;
 

@@ -3,7 +3,7 @@
 use crate::histories::{DROP_1, SIX_SONGS, history_of, is_small};
 use dmap_tags::Text;
 use item_model::{Batch, Edit, Edits, Entry, Target};
-use share_history::{is_kept, is_live, is_stopped, takes_batch};
+use plain_share::{is_kept, is_live, is_stopped, takes_batch};
 use std::alloc::{AllocError, Global};
 use std::process::Abort;
 use std::test::Fail;

@@ -3,7 +3,7 @@
 use crate::histories::{DROP_1, SIX_SONGS, WITH_ALBUM, bytes_of, history_of, is_small, query_of};
 use dmap_tags::Tag;
 use item_model::{Entry, Look, Meta, Properties, Property, Query, Range, Row, Target};
-use share_history::{
+use plain_share::{
     delta_body, delta_listing, full_body, full_listing, library, listing_body, listing_for, rows,
     touched,
 };

@@ -1,9 +1,10 @@
 -- What a batch that is taken in or back leaves.
-use Rattle.std.proofs.Common.{◌≡◌, ◌≤◌, ◌<◌, ◌-◌, ◌⊎◌, inl, inr, ℕ, Bool, true, false, cond, ◌||◌, List, [], ◌∷◌, min, refl, sym, ap, ◌∙◌, ⊎_elim, arith}
+use Rattle.std.proofs.Common.{◌≡◌, ◌≤◌, ◌<◌, ◌-◌, ◌⊎◌, inl, inr, ℕ, false, cond, ◌||◌, List, [], ◌∷◌, min, refl, sym, ap, ◌∙◌, ⊎_elim, arith}
 use Rattle.std.specs.List.{list_any}
 use Rattle.std.proofs.lemmas.Bool.{cases_Bool}
 use Rattle.std.proofs.lemmas.List.Folds.{list_any-append}
 use Rattle.std.proofs.Math.Nat.{min-le_right}
+use Rattle.std.proofs.Math.Bool.{or-false}
 use Rattle.item_model.specs.declared.changes.Edit.{Edit}
 use Rattle.item_model.specs.declared.changes.Edit.TheVariants.{PutItem, DropItem, PutList, PutRule, DropList, PutMember, DropMember}
 use Rattle.share_history.specs.Named.{names_item}
@@ -11,13 +12,9 @@ use Rattle.item_store.specs.Stands.{items_in, named_items}
 use Rattle.key_versions.specs.Held.{Held, value_at, is_among}
 use Rattle.item_model.specs.declared.item.Row.{Row}
 
-or_none : (b : Bool) → (b || false) ≡ b
-or_none true = refl
-or_none false = refl
-
 among_one : (q : ℕ) (e : Edit) → is_among q (items_in e) ≡ names_item q e
-among_one q (PutItem row) = or_none _
-among_one q (DropItem id) = or_none _
+among_one q (PutItem row) = or-false _
+among_one q (DropItem id) = or-false _
 among_one q (PutList list name) = refl
 among_one q (PutRule list name rule) = refl
 among_one q (DropList list) = refl

@@ -1,13 +1,11 @@
 -- What one edit more makes of the items that edits leave, and of how many they are.
-use Rattle.std.proofs.Common.{◌≡◌, ◌≤◌, ◌<◌, ◌+◌, ◌^◌, ℕ, suc, Bool, true, false, cond, ◌&&◌, ◌||◌, ◌==◌, List, [], ◌∷◌, ◌++◌, length, Option, None, Some, is_some, unwrap_or, refl, sym, ap, ◌∙◌, ⊎_elim, true≢false, arith, Ok, Err, nat_cmp, is_eq, Less}
-use Rattle.std.specs.Prelude.{nat_le, nat_lt, Result, IfOk, OnOk}
+use Rattle.std.proofs.Common.{◌≡◌, ◌≤◌, ◌<◌, ◌+◌, ◌^◌, ℕ, Bool, true, false, cond, ◌&&◌, ◌==◌, List, [], ◌∷◌, ◌++◌, length, Option, None, Some, is_some, unwrap_or, refl, sym, ap, ◌∙◌, arith, Ok, Err, nat_cmp}
+use Rattle.std.specs.Prelude.{nat_le, Result, IfOk, OnOk}
 use Rattle.std.specs.Option.{option_map, option_and_then}
-use Rattle.std.specs.List.{sum_by, AllByRecursion}
-use Rattle.std.specs.List.Sorted.{IsStrictlySortedBy}
-use Rattle.std.specs.Map.{keys_of, values_of}
+use Rattle.std.specs.List.{sum_by}
+use Rattle.std.specs.Map.{values_of}
 use Rattle.std.specs.Cmp.{nat_cmp_total}
-use Rattle.std.proofs.lemmas.Bool.{cases_Bool, le-leb, ltb-true, leb-true, and_parts}
-use Rattle.std.proofs.lemmas.Cmp.{ranked}
+use Rattle.std.proofs.lemmas.Bool.{le-leb}
 use Rattle.std.proofs.lemmas.List.Sums.{sum_by-cons}
 use Rattle.std.proofs.lemmas.List.Elements.{All-push}
 use Rattle.std.proofs.lemmas.Map.Entries.{sum_by-insert_entry, sum_by-remove_entry}
@@ -15,14 +13,13 @@ use Rattle.std.specs.BTreeMap.{is_at}
 use Rattle.item_model.specs.declared.item.Row.{Row}
 use Rattle.item_model.specs.declared.changes.Edit.{Edit}
 use Rattle.item_model.specs.declared.changes.Edit.TheVariants.{PutItem, DropItem, PutList, PutRule, DropList, PutMember, DropMember}
-use Rattle.item_model.specs.Valid.{is_id, is_list_id, IsValid, AreValid}
-use Rattle.share_history.specs.Keyed.{at, put_in, taken_out, IsAscending, AreAscending}
+use Rattle.item_model.specs.Valid.{IsValid, AreValid}
+use Rattle.share_history.specs.Keyed.{at, put_in, taken_out, IsAscending}
 use Rattle.share_history.specs.LastSaid.{only_if, says_item, item_at}
-use Rattle.share_history.specs.Named.{keys_in, named_keys}
 use Rattle.share_history.specs.Rows.{library}
-use Rattle.share_history.proofs.KeyedFacts.{has, same_key, key_itself, has-keys_of}
-use Rattle.share_history.proofs.EditFacts.{both_false, has-append, item_more, item_unnamed}
+use Rattle.share_history.proofs.EditFacts.{item_more}
 use Rattle.share_history.proofs.RowFacts.{with_edit, library_more, at-library, ascending-library}
+use Rattle.share_history.proofs.ValidFacts.{few_items}
 use Rattle.key_versions.specs.declared.version.Version.{Version}
 use Rattle.key_versions.specs.Found.{value_in, newest_value}
 use Rattle.key_versions.specs.Held.{Held, versions_at, value_at}
@@ -62,78 +59,6 @@ length-drop_item es id =
     ap (λ rs. length rs + cond (is_some (item_at es id)) 1 0) (sym (library_more es (DropItem id)))
     ∙ ap (λ o. length (taken_out (library es) id) + cond (is_some o) 1 0) (sym (at-library es id))
     ∙ length-out id (library es) ∙ (let same : length (library es) ≡ length (library es) + 0 = omega arith in same)
-
--- ---- valid edits leave fewer than 2 ^ 32 items
-
-all_of : (P : ℕ → Type 0) (ks : List ℕ) → ((q : ℕ) → has q ks ≡ true → P q) → AllByRecursion P ks
-all_of P [] h = tt
-all_of P (k ∷ ks) h = (h k (ap (λ b. b || has k ks) (key_itself k)), all_of P ks (λ q e. h q (later_too (is_eq (nat_cmp q k)) (has q ks) e)))
-  where
-    later_too : (a b : Bool) → b ≡ true → (a || b) ≡ true
-    later_too true b e = refl
-    later_too false b e = e
-
-both : {P Q R : ℕ → Type 0} → ((k : ℕ) → P k → Q k → R k) → (ks : List ℕ) → AllByRecursion P ks → AllByRecursion Q ks → AllByRecursion R ks
-both h [] p q = tt
-both h (k ∷ ks) p q = (h k p.0 q.0, both h ks p.1 q.1)
-
-less : (a b : ℕ) → nat_cmp a b ≡ Less → a < b
-less a b h = ranked a b Less (sym h)
-
-few_between : (low high : ℕ) (ks : List ℕ) → low ≤ high → AreAscending ks → AllByRecursion (λ k. (low ≤ k) × (k < high)) ks → length ks + low ≤ high
-unfolding IsStrictlySortedBy
-few_between low high [] le s all = omega (arith, le)
-few_between low high (k ∷ ks) le s all =
-    let rest = few_between (k + 1) high ks (omega (arith, all.0.1)) s.1
-    (both {Q = λ y. (low ≤ y) × (y < high)} {R = λ y. (k + 1 ≤ y) × (y < high)} (λ y l w. (omega (arith, less k y l), w.1)) ks s.0 all.1) in
-    omega (arith, rest, all.0.0)
-
-apart : (q k : ℕ) → is_id k ≡ true → is_id q ≡ false → (is_eq (nat_cmp q k) || false) ≡ false
-apart q k good bad =
-    both_false (is_eq (nat_cmp q k)) false
-    (⊎_elim (λ b. absurd (true≢false (sym good ∙ ap is_id (sym (same_key q k b)) ∙ bad))) (λ b. b) (cases_Bool (is_eq (nat_cmp q k)))) refl
-
-member_id : (a b c : Bool) → (a && (b && c)) ≡ true → b ≡ true
-member_id true true c h = refl
-member_id true false c h = h
-member_id false b c h = absurd (true≢false (sym h))
-
-last_id : (a b : Bool) → (a && b) ≡ true → b ≡ true
-last_id a b h = (and_parts a b h).1
-
-id_unnamed : (q : ℕ) (e : Edit) → IsValid e → is_id q ≡ false → has q (keys_in e) ≡ false
-id_unnamed q (PutItem row) v bad = apart q row.id v bad
-id_unnamed q (DropItem id) v bad = apart q id v bad
-id_unnamed q (PutList list name) v bad = refl
-id_unnamed q (PutRule list name rule) v bad = refl
-id_unnamed q (DropList list) v bad = refl
-id_unnamed q (PutMember list member item) v bad = apart q member (member_id (is_list_id list) (is_id member) (is_id item) v) bad
-id_unnamed q (DropMember list member) v bad = apart q member (last_id (is_list_id list) (is_id member) v) bad
-
-all_unnamed : (q : ℕ) (es : List Edit) → AreValid es → is_id q ≡ false → has q (named_keys es) ≡ false
-all_unnamed q [] v bad = refl
-all_unnamed q (e ∷ es) v bad =
-    has-append q (keys_in e) (named_keys es)
-    ∙ both_false (has q (keys_in e)) (has q (named_keys es)) (id_unnamed q e (v 0 e (omega arith)) bad)
-    (all_unnamed q es (λ k d lt. v (suc k) d (omega (arith, lt))) bad)
-
-item_id : (es : List Edit) (q : ℕ) → AreValid es → is_some (item_at es q) ≡ true → is_id q ≡ true
-item_id es q v h =
-    ⊎_elim (λ b. b) (λ b. absurd (true≢false (sym h ∙ ap is_some (item_unnamed es q (all_unnamed q es v b))))) (cases_Bool (is_id q))
-
-pub few_items : (es : List Edit) → AreValid es → length (library es) < 2 ^ 32
-few_items es v =
-    let ids : AllByRecursion (λ k. (1 ≤ k) × (k < 2 ^ 32)) (keys_of (library es)) =
-    all_of (λ k. (1 ≤ k) × (k < 2 ^ 32)) (keys_of (library es)) (λ q h. bounds q (item_id es q v (sym (has-keys_of q (library es) ∙ ap is_some (at-library es q)) ∙ h))) in
-    let few = few_between 1 (2 ^ 32) (keys_of (library es)) (omega arith) (ascending-library es) ids in
-    omega (arith, few, length_keys (library es))
-  where
-    bounds : (q : ℕ) → is_id q ≡ true → (1 ≤ q) × (q < 2 ^ 32)
-    bounds q h = let p = and_parts (nat_le 1 q) (nat_lt q (2 ^ 32)) h in (leb-true 1 q p.0, ltb-true q (2 ^ 32) p.1)
-
-    length_keys : {A : Type 0} (es : List (ℕ × A)) → length (keys_of es) ≡ length es
-    length_keys [] = refl
-    length_keys (e ∷ es) = omega (arith, length_keys es)
 
 -- ---- one edit more
 

@@ -1,16 +1,16 @@
 -- What a store stands for before and after each of its calls.
-use Rattle.std.proofs.Common.{◌≡◌, ◌≤◌, ◌<◌, ◌+◌, ◌-◌, ◌⊎◌, ℕ, zero, suc, true, false, cond, ◌||◌, ◌==◌, List, [], ◌∷◌, ◌++◌, length, drop, map, flat_map, min, is_some, refl, sym, ap, subst, ◌∙◌, ⊎_elim, true≢false, arith, Ok, Err, get_or}
+use Rattle.std.proofs.Common.{◌≡◌, ◌≤◌, ◌<◌, ◌+◌, ◌-◌, ◌⊎◌, ℕ, true, false, cond, ◌||◌, ◌==◌, List, [], ◌∷◌, ◌++◌, length, drop, map, flat_map, min, is_some, refl, sym, ap, subst, ◌∙◌, ⊎_elim, true≢false, arith, Ok, Err}
 use Rattle.std.specs.Prelude.{Result, IfOk}
 use Rattle.std.specs.List.{list_any}
 use Rattle.std.specs.Map.{keys_of}
 use Rattle.std.proofs.lemmas.Bool.{cases_Bool, cases_lt}
-use Rattle.std.proofs.lemmas.List.{take_all, take-append-le, drop-append-le, drop-drop, drop-map, map-append}
+use Rattle.std.proofs.lemmas.List.{drop-append-le, drop-drop, drop-map, map-append}
 use Rattle.std.proofs.lemmas.List.Folds.{flat_map-map}
 use Rattle.std.proofs.lemmas.Grind.{flat_map-append}
 use Rattle.std.proofs.Math.Nat.{min-le_right, min-eq_left, le-min}
 use Rattle.item_model.specs.declared.changes.Edit.{Edit}
 use Rattle.item_model.specs.declared.request.Target.TheVariants.{Items}
-use Rattle.item_model.specs.Valid.{IsValid, AreValid}
+use Rattle.item_model.specs.Valid.{AreValid}
 use Rattle.share_history.specs.Numbers.{first_revision}
 use Rattle.share_history.specs.Keyed.{ascending}
 use Rattle.share_history.specs.Histories.{edits, revision, up_to, later}
@@ -19,9 +19,10 @@ use Rattle.share_history.specs.LastSaid.{item_at}
 use Rattle.share_history.specs.Rows.{library}
 use Rattle.share_history.specs.Kept.{touched}
 use Rattle.share_history.proofs.KeyedFacts.{has, is_eq-cmp, sorted-ascending, has-ascending}
-use Rattle.share_history.proofs.EditFacts.{edits_more, revision_more, up_to-revision, item_stays}
+use Rattle.share_history.proofs.EditFacts.{edits_more, revision_more, up_to-revision, item_stays, up_to-all, up_to-same}
 use Rattle.share_history.proofs.RowFacts.{ids_are}
 use Rattle.share_history.proofs.TouchFacts.{touched_are}
+use Rattle.share_history.proofs.ValidFacts.{valid_front}
 use Rattle.item_store.specs.Store.{Store}
 use Rattle.item_store.specs.Stands.{floor_of, items_in, named_items, StandsFor, IsUnchanged}
 use Rattle.key_versions.specs.Found.{newest_value}
@@ -31,14 +32,6 @@ use Rattle.item_store.specs.Changes.{AreItems}
 use Rattle.item_store.proofs.ItemFacts.{newest_item}
 use Rattle.item_store.proofs.BatchFacts.{among_named}
 
--- ---- batches up to a revision
-
-up_to_all : (bs : List (List Edit)) (v : ℕ) → revision bs ≤ v → up_to bs v ≡ bs
-up_to_all bs v h = take_all (v - first_revision) bs (omega (arith, h))
-
-up_to_same : (bs cs : List (List Edit)) (v : ℕ) → v ≤ revision bs → up_to (bs ++ cs) v ≡ up_to bs v
-up_to_same bs cs v h = take-append-le (v - first_revision) bs cs (omega (arith, h))
-
 module _ {bs : List (List Edit)} {s : Store} (h : StandsFor bs s) where
   low_reached : s.low ≤ s.revision
   low_reached = omega (arith, h.reach, h.revision)
@@ -46,7 +39,7 @@ module _ {bs : List (List Edit)} {s : Store} (h : StandsFor bs s) where
   -- from the last revision on the rows are the items
   row_last : (id base : ℕ) → s.revision ≤ base → value_at s.versions id base ≡ item_at (edits bs) id
   row_last id base le =
-      h.rows id base (omega (arith, le, low_reached)) ∙ ap (λ cs. item_at (edits cs) id) (up_to_all bs base (omega (arith, le, h.revision)))
+      h.rows id base (omega (arith, le, low_reached)) ∙ ap (λ cs. item_at (edits cs) id) (up_to-all bs base (omega (arith, le, h.revision)))
 
   pub items_now : (n : ℕ) → n ≡ s.revision + 1 → AreItems n (edits bs) s.versions s.count
   items_now n next = record {
@@ -75,7 +68,7 @@ item_then h id base from = h.rows id base (omega (arith, from, h.reach))
 
 -- ---- changed ids
 
-has-among : (q : ℕ) (ids : List ℕ) → has q ids ≡ is_among q ids
+pub has-among : (q : ℕ) (ids : List ℕ) → has q ids ≡ is_among q ids
 has-among q [] = refl
 has-among q (id ∷ ids) = ap (λ b. b || has q ids) (is_eq-cmp q id) ∙ ap (λ b. (id == q) || b) (has-among q ids)
 
@@ -131,9 +124,9 @@ applied bs batch s n low count named mid new h valid next floor lists items befo
           pruned q base le
           ∙ ⊎_elim
           (λ below. before q base below ∙ h.rows q base (omega (arith, le, floor, h.reach))
-          ∙ ap (λ cs. item_at (edits cs) q) (sym (up_to_same bs (batch ∷ []) base (omega (arith, below, next, h.revision)))))
+          ∙ ap (λ cs. item_at (edits cs) q) (sym (up_to-same bs (batch ∷ []) base (omega (arith, below, next, h.revision)))))
           (λ above. now.rows q base above ∙ ap (λ es. item_at es q) (sym (edits_more bs batch))
-          ∙ ap (λ cs. item_at (edits cs) q) (sym (up_to_all all base (omega (arith, above, made)))))
+          ∙ ap (λ cs. item_at (edits cs) q) (sym (up_to-all all base (omega (arith, above, made)))))
           (cases_lt base n);
       count = now.counted ∙ ap (λ es. length (library es)) (sym (edits_more bs batch));
       named =
@@ -158,7 +151,7 @@ up_to_least : (bs : List (List Edit)) (base v : ℕ) → v ≡ revision bs → u
 up_to_least bs base v is =
     ⊎_elim
     (λ below. ap (up_to bs) (min-eq_left (let le : base ≤ v = omega (arith, below) in le)))
-    (λ above. up_to_all bs (min base v) (omega (arith, is, le-min {k = v} {a = base} {b = v} above (omega arith))) ∙ sym (up_to_all bs base (omega (arith, is, above))))
+    (λ above. up_to-all bs (min base v) (omega (arith, is, le-min {k = v} {a = base} {b = v} above (omega arith))) ∙ sym (up_to-all bs base (omega (arith, is, above))))
     (cases_lt base v)
 
 left_same : (s : Store) (n : ℕ) (named : List (List ℕ)) (new : Held Row) → n ≡ s.revision + 1 → named ≡ s.named
@@ -196,21 +189,13 @@ not_applied {s} same n named new next lists rows =
 
 -- ---- undo
 
-all_first : (es ds : List Edit) → AreValid (es ++ ds) → AreValid es
-all_first [] ds h = λ k d lt. absurd (omega (arith, lt))
-all_first (e ∷ es) ds h = first (all_first es ds (λ k d lt. h (suc k) d (omega (arith, lt))))
-  where
-    first : AreValid es → (k : ℕ) (d : Edit) → k < length (e ∷ es) → IsValid (get_or (e ∷ es) k d)
-    first rest zero d lt = h 0 d (omega arith)
-    first rest (suc k) d lt = rest k d (omega (arith, lt))
-
 row_before : (bs : List (List Edit)) (batch : List Edit) (q base : ℕ) → list_any (names_item q) batch ≡ false → item_at (edits (up_to (bs ++ batch ∷ []) base)) q ≡ item_at (edits (up_to bs base)) q
 row_before bs batch q base unnamed =
     ⊎_elim
-    (λ below. ap (λ cs. item_at (edits cs) q) (up_to_same bs (batch ∷ []) base (omega (arith, below))))
-    (λ above. ap (λ cs. item_at (edits cs) q) (up_to_all (bs ++ batch ∷ []) base (omega (arith, above, revision_more bs batch)))
+    (λ below. ap (λ cs. item_at (edits cs) q) (up_to-same bs (batch ∷ []) base (omega (arith, below))))
+    (λ above. ap (λ cs. item_at (edits cs) q) (up_to-all (bs ++ batch ∷ []) base (omega (arith, above, revision_more bs batch)))
     ∙ ap (λ es. item_at es q) (edits_more bs batch) ∙ item_stays (edits bs) batch q unnamed
-    ∙ ap (λ cs. item_at (edits cs) q) (sym (up_to_all bs base (omega (arith, above)))))
+    ∙ ap (λ cs. item_at (edits cs) q) (sym (up_to-all bs base (omega (arith, above)))))
     (cases_lt base (revision bs + 1))
 
 pub undone : (bs : List (List Edit)) (batch : List Edit) (s : Store) (n : ℕ) (named : List (List ℕ)) (new : Held Row)
@@ -229,14 +214,14 @@ undone bs batch s n named new h can last lists rows =
     let back = rows (omega (arith, h.revision)) front (named_items batch) parts in
     record {
       revision = last ∙ was;
-      valid = all_first (edits bs) batch (subst AreValid (edits_more bs batch) h.valid);
+      valid = valid_front (edits bs) batch (subst AreValid (edits_more bs batch) h.valid);
       rows = λ q base le.
           back q base
           ∙ ⊎_elim
           (λ among. ap (λ b. value_at s.versions q (cond b (min base (s.revision - 1)) base)) among
           ∙ h.rows q (min base (s.revision - 1)) (le-min le (omega (arith, low, was)))
           ∙ ap (λ cs. item_at (edits cs) q)
-          (up_to_same bs (batch ∷ []) (min base (s.revision - 1)) (omega (arith, was, min-le_right base (s.revision - 1)))
+          (up_to-same bs (batch ∷ []) (min base (s.revision - 1)) (omega (arith, was, min-le_right base (s.revision - 1)))
           ∙ up_to_least bs base (s.revision - 1) was))
           (λ unnamed. ap (λ b. value_at s.versions q (cond b (min base (s.revision - 1)) base)) unnamed
           ∙ h.rows q base le ∙ row_before bs batch q base (sym (among_named q batch) ∙ unnamed))

@@ -10,6 +10,7 @@ use Rattle.command_core.specs.declared.fault.Fault.TheVariants as fault
 use Rattle.command_core.specs.Seen.{InputSeen}
 use Rattle.command_core.specs.Causes.{IsFaultOf, IsReadFault}
 use Rattle.command_core.proofs.Reading.{all_read_on, past_limit, failed_within, of_input}
+use Rattle.command_core.specs.Faults.{read_fault}
 use Rattle.tag_commands.specs.declared.tags_fault.TagsFault.{TagsFault}
 use Rattle.tag_commands.specs.declared.tags_fault.TagsFault.TheVariants as tags
 use Rattle.json_commands.specs.declared.json_back.LineFault.{LineFault}
@@ -39,14 +40,14 @@ refused words P before after bytes w said read end within faultless = record {
 
 pub json_unread : (before after : InputSeen) (e : ReadError) → (e ≡ reads.Failed → ConsumesUpTo json_limit before.left after.left)
     → ConsumesUpTo (json_limit + 32768) before.left after.left → (e ≡ reads.TooLong → IfSome before.left (λ input. json_limit < length input))
-    → CountsReadFaults {T = Vec ℕ Global} before.faults after.faults (Err e) → json.StopsJson before after (json.read_fault e)
+    → CountsReadFaults {T = Vec ℕ Global} before.faults after.faults (Err e) → json.StopsJson before after (read_fault tags.TooLong e)
 json_unread before after reads.Failed few some long count = failed before after (few refl) count
 json_unread before after reads.TooLong few some long count = passed before after some (long refl) count
 json_unread before after reads.Memory few some long count = tt
 
 pub lines_unread : (before after : InputSeen) (e : ReadError) → (e ≡ reads.Failed → ConsumesUpTo json_limit before.left after.left)
     → ConsumesUpTo (json_limit + 32768) before.left after.left → (e ≡ reads.TooLong → IfSome before.left (λ input. json_limit < length input))
-    → CountsReadFaults {T = Vec ℕ Global} before.faults after.faults (Err e) → lines.StopsBack before after (lines.read_fault e)
+    → CountsReadFaults {T = Vec ℕ Global} before.faults after.faults (Err e) → lines.StopsBack before after (read_fault TooLong e)
 lines_unread before after reads.Failed few some long count = failed before after (few refl) count
 lines_unread before after reads.TooLong few some long count = passed before after some (long refl) count
 lines_unread before after reads.Memory few some long count = tt

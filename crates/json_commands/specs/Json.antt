@@ -10,8 +10,6 @@ use Rattle.dmap_stream.specs.WholeTag.{is_accepted, AreAccepted}
 use Rattle.dmap_stream.specs.declared.refusal.StreamError.{StreamError}
 use Rattle.dmap_stream.specs.declared.refusal.StreamError.TheVariants as stream
 use Rattle.dmap_json.specs.TagObject.{json_of}
-use Rattle.daap_outside.specs.declared.reading.ReadError.{ReadError}
-use Rattle.daap_outside.specs.declared.reading.ReadError.TheVariants as reads
 use Rattle.command_core.specs.declared.fault.Fault.{Fault}
 use Rattle.command_core.specs.declared.fault.Fault.TheVariants as fault
 use Rattle.command_core.specs.Seen.{InputSeen}
@@ -87,8 +85,3 @@ IsTagsFault bytes (fault.Own (tags.Broken error)) = (error ≢ stream.Memory) ×
 IsTagsFault bytes (fault.Own tags.TooLong) = ⊥
 IsTagsFault bytes fault.Read = ⊥
 IsTagsFault bytes fault.Memory = Unit {0}
-
-abbrev pub read_fault : ReadError → Fault TagsFault
-read_fault reads.Failed = fault.Read
-read_fault reads.TooLong = fault.Own tags.TooLong
-read_fault reads.Memory = fault.Memory

@@ -9,8 +9,6 @@ use Rattle.dmap_json.specs.Reads.{Reads}
 use Rattle.dmap_json.specs.Faults.{Explains}
 use Rattle.dmap_json.specs.declared.error.JsonError.{JsonError}
 use Rattle.dmap_json.specs.declared.error.JsonError.TheVariants as json
-use Rattle.daap_outside.specs.declared.reading.ReadError.{ReadError}
-use Rattle.daap_outside.specs.declared.reading.ReadError.TheVariants as reads
 use Rattle.command_core.specs.declared.fault.Fault.{Fault}
 use Rattle.command_core.specs.declared.fault.Fault.TheVariants as fault
 use Rattle.command_core.specs.Seen.{InputSeen}
@@ -99,8 +97,3 @@ IsLinesFault text (fault.Own (Line line)) = StopsOn line text
 IsLinesFault text (fault.Own TooLong) = ⊥
 IsLinesFault text fault.Read = ⊥
 IsLinesFault text fault.Memory = Unit {0}
-
-abbrev pub read_fault : ReadError → Fault LineFault
-read_fault reads.Failed = fault.Read
-read_fault reads.TooLong = fault.Own TooLong
-read_fault reads.Memory = fault.Memory

@@ -8,13 +8,13 @@ ghost use Rattle.dmap_stream.specs.Reader.{ready, taken};
 ghost use Rattle.command_core.specs.Seen.{Around, input_seen, output_seen, told_beside, no_share};
 ghost use Rattle.command_core.specs.Endings.{IsAnswered};
 ghost use Rattle.json_commands.specs.Whole.{IsWithin, IsGiven};
-ghost use Rattle.json_commands.specs.Json.{GivesJson, HasTagsFault, IsTagsFault, StopsJson, TakesTag, json_meaning, read_fault};
+ghost use Rattle.json_commands.specs.Json.{GivesJson, HasTagsFault, IsTagsFault, StopsJson, TakesTag, json_meaning};
 ghost use Rattle.json_commands.specs.Fed.{Feeds, HasFed};
 
 use crate::whole::{INPUT_LIMIT, TAG_LIMITS};
 use code_table::CodeTable;
-use command_core::{Fault, Outcome, written};
-use daap_outside::{ReadError, Sink, Source, read_within};
+use command_core::{Fault, Outcome, read_fault, written};
+use daap_outside::{Sink, Source, read_within};
 use dmap_json::to_json;
 use dmap_stream::{DmapReader, StreamError, read_tag};
 use dmap_tags::Tag;
@@ -48,20 +48,9 @@ fn input_lines<I: Source>(alloc: Global, input: &mut I) -> Result<Vec<u8>, Fault
 {
     let bytes = match read_within(alloc, input, INPUT_LIMIT) {
         Ok(bytes) => bytes,
-        Err(error) => return Err(read_fault(error)),
+        Err(error) => return Err(read_fault(error, TagsFault::TooLong)),
     };
     bytes_lines(alloc, bytes.as_slice())
-}
-
-/// What a refusal of the input is to the command.
-fn read_fault(error: ReadError) -> Fault<TagsFault>
-    ensures { result ≡ read_fault error }
-{
-    match error {
-        ReadError::Failed => Fault::Read,
-        ReadError::TooLong => Fault::Own(TagsFault::TooLong),
-        ReadError::Memory => Fault::Memory,
-    }
 }
 
 /// The lines of the tags that bytes are.

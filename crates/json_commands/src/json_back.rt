@@ -6,13 +6,13 @@ ghost use Rattle.dmap_tags.specs.Spelling.{spelling};
 ghost use Rattle.command_core.specs.Seen.{Around, input_seen, output_seen, told_beside, no_share};
 ghost use Rattle.command_core.specs.Endings.{IsAnswered};
 ghost use Rattle.json_commands.specs.Whole.{IsWithin, IsGiven};
-ghost use Rattle.json_commands.specs.JsonBack.{line_text, line_status, GivesTags, IsLinesFault, StopsAfter, StopsBack, TakesLine, json_back_meaning, read_fault};
+ghost use Rattle.json_commands.specs.JsonBack.{line_text, line_status, GivesTags, IsLinesFault, StopsAfter, StopsBack, TakesLine, json_back_meaning};
 
 use crate::lines::{split_line, tag_of};
 use crate::whole::INPUT_LIMIT;
 use code_table::CodeTable;
-use command_core::{Fault, Outcome, Refusal, written};
-use daap_outside::{ReadError, Sink, Source, read_within};
+use command_core::{Fault, Outcome, Refusal, read_fault, written};
+use daap_outside::{Sink, Source, read_within};
 use dmap_tags::{Tag, encode_into};
 use fault_lines::push_number;
 use std::alloc::{AllocError, Global};
@@ -82,20 +82,9 @@ fn input_tags<I: Source>(alloc: Global, input: &mut I) -> Result<Vec<u8>, Fault<
 {
     let text = match read_within(alloc, input, INPUT_LIMIT) {
         Ok(text) => text,
-        Err(error) => return Err(read_fault(error)),
+        Err(error) => return Err(read_fault(error, LineFault::TooLong)),
     };
     text_tags(alloc, text.as_slice())
-}
-
-/// What a refusal of the input is to the command.
-fn read_fault(error: ReadError) -> Fault<LineFault>
-    ensures { result ≡ read_fault error }
-{
-    match error {
-        ReadError::Failed => Fault::Read,
-        ReadError::TooLong => Fault::Own(LineFault::TooLong),
-        ReadError::Memory => Fault::Memory,
-    }
 }
 
 /// The bytes of the tags that the lines of a text read as.

@@ -5,14 +5,14 @@ use Rattle.std.proofs.lemmas.List.{take_all}
 use Rattle.daap_outside.specs.Counts.{Rose, RisesWith}
 use Rattle.daap_outside.specs.Places.{returned}
 use Rattle.daap_outside.specs.Told.{AppendsPrefix, BeginsEmpty, Grows, GrowsByTold}
-use Rattle.command_core.specs.Seen.{NetSeen}
+use Rattle.command_core.specs.Seen.{NetSeen, net_seen}
 use Rattle.mirror_client.specs.declared.refusal.FollowError.{FollowError}
 use Rattle.mirror_client.specs.declared.refusal.FollowError.TheVariants.{LinkFault}
 use Rattle.mirror_client.specs.Exchanges.{Exchanged}
 use Rattle.mirror_client.specs.Points.{Point}
 use Rattle.http_client.specs.Replies.{Reply}
 use Rattle.mirror_client.specs.Stopping.{CountsFault, Stops}
-use Rattle.link_commands.specs.Linked.{HasLinked, LinkSeen, net_seen, start_of}
+use Rattle.link_commands.specs.Linked.{HasLinked, LinkSeen, start_of}
 
 -- the calls on the net, and the link between them
 pub linked : (host : List ℕ) (asked asked' asked'' : Option (List (List ℕ × ℕ))) (written written' written'' : Option (List (List ℕ × Bool)))

@@ -11,7 +11,7 @@ use Rattle.command_core.specs.declared.outcome.Outcome.{Outcome}
 use Rattle.command_core.specs.Answers.{TellsFault, TellsMemory}
 use Rattle.command_core.proofs.Appending.{none_written}
 use Rattle.command_core.specs.Endings.{Done, OutputCut, Refused as refused_ending, LineCut}
-use Rattle.command_core.specs.Faults.{fault_status}
+use Rattle.command_core.specs.Faults.{fault_status, read_fault}
 use Rattle.command_core.specs.Seen.{InputSeen, Seen, Told, IsUnread}
 use Rattle.mirror_client.specs.declared.pushing.Pushed.{Pushed}
 use Rattle.mirror_client.specs.declared.pushing.Pushed.TheVariants.{Revision as revision, Unchanged as unchanged, Stopped as stopped, Refused as refusal}
@@ -20,7 +20,7 @@ use Rattle.mirror_client.specs.declared.refusal.FollowError.TheVariants.{Refused
 use Rattle.mirror_client.specs.Pushes.{UnduePush, push_text}
 use Rattle.link_commands.specs.declared.edit.EditFault.{EditFault}
 use Rattle.link_commands.specs.declared.edit.EditFault.TheVariants.{TooLong, Unreached, Refused, Link}
-use Rattle.link_commands.specs.EditShare.{EditReadsOn, HasBody, HasPushed, HasSent, IsEditDone, IsToldFault, IsUnsent, StopsEdit, StopsPush, StopsSending, edit_meaning, edit_line, edit_status, push_fault, read_fault, records_limit, told_of}
+use Rattle.link_commands.specs.EditShare.{EditReadsOn, HasBody, HasPushed, HasSent, IsEditDone, IsToldFault, IsUnsent, StopsEdit, StopsPush, StopsSending, edit_meaning, edit_line, edit_status, push_fault, records_limit, told_of}
 use Rattle.link_commands.specs.Linked.{HasLinked, IsUnreached, LinkSeen, start_of}
 use Rattle.link_commands.specs.Links.{link_status}
 use Rattle.link_commands.specs.Meanings.{IsLinkAnswered, KeepsNet, LinkEnds}
@@ -166,7 +166,7 @@ pushing_fault host stop before after body link Memory x has =
 pub reading_fault : (host : List ℕ) (stop : Bool) (before after : InputSeen) (link : LinkSeen) (e : ReadError) → stop ≡ false → IsUnsent link
     → (e ≡ reads.Failed → ConsumesUpTo records_limit before.left after.left) → ConsumesUpTo (records_limit + 32768) before.left after.left
     → (e ≡ reads.TooLong → IfSome before.left (λ input. records_limit < length input)) → CountsReadFaults {T = Vec ℕ Global} before.faults after.faults (Err e)
-    → StopsSending host stop before after link (read_fault e)
+    → StopsSending host stop before after link (read_fault TooLong e)
 reading_fault host stop before after link reads.Failed is unsent failed some long count =
     (is, failed_within (EditReadsOn stop) before after records_limit (λ bytes within. subst (λ (b : Bool). EditReadsOn b bytes) (sym is) within) (failed refl) count, unsent)
 reading_fault host stop before after link reads.TooLong is unsent failed some long count = (

@@ -1,8 +1,6 @@
 -- The command `edit`: what the input has, or a stop, is sent to the share at a place, and what the share made of it is told.
 use Rattle.std.specs.Prelude.{◌≡◌, ◌≢◌, ◌<◌, ◌≤◌, ◌⊎◌, ◌++◌, ◌∷◌, [], ℕ, List, Bool, true, false, length, nat_le, Option, None, Some, Result, Ok, Err, codes, decimal, IfSome, if◌then◌else◌}
 use Rattle.std.specs.Io.KnownBytes.{Consumes, IsAtEnd}
-use Rattle.daap_outside.specs.declared.reading.ReadError.{ReadError}
-use Rattle.daap_outside.specs.declared.reading.ReadError.TheVariants as reads
 use Rattle.daap_outside.specs.Told.{AppendsPrefix}
 use Rattle.command_core.specs.declared.fault.Fault.{Fault}
 use Rattle.command_core.specs.declared.fault.Fault.TheVariants.{Own, Read, Memory as want}
@@ -172,11 +170,6 @@ abbrev pub IsToldFault : Pushed → Fault EditFault → Type 0
 IsToldFault made (Own own) = told_of made ≡ Err own
 IsToldFault made Read = ⊥
 IsToldFault made want = Unit {0}
-
-abbrev pub read_fault : ReadError → Fault EditFault
-read_fault reads.Failed = Read
-read_fault reads.TooLong = Own TooLong
-read_fault reads.Memory = want
 
 abbrev pub push_fault : FollowError → Fault EditFault
 push_fault (refused status) = Own (Link (refused status))

@@ -3,7 +3,7 @@ use Rattle.std.specs.Prelude.{◌≡◌, ℕ, Bool, List, [], ◌∷◌, Option,
 use Rattle.daap_outside.specs.Counts.{Rose, RisesWith}
 use Rattle.daap_outside.specs.Places.{returned}
 use Rattle.daap_outside.specs.Told.{BeginsEmpty, Grows, GrowsByTold}
-use Rattle.command_core.specs.Seen.{FilesSeen, InputSeen, IsUnread, NetSeen, OutputSeen, Seen, Told}
+use Rattle.command_core.specs.Seen.{IsUnread, NetSeen, Seen}
 use Rattle.mirror_client.specs.Points.{Point, nothing_read, place}
 
 -- a link: what it had taken and had left to read when it was made, and what it had taken and how many faults were counted on it
@@ -41,16 +41,3 @@ pub record IsUnreached (host : List ℕ) (before after : NetSeen) : Type 0 where
   pub written : after.written ≡ before.written
   pub doors : after.door_links ≡ before.door_links
   pub rose : Rose before.faults after.faults
-
-abbrev pub net_seen : Option (List (List ℕ × ℕ)) → Option (List (List ℕ × Bool)) → Option (List (List (List ℕ))) → Option (List ℕ) → ℕ → NetSeen
-net_seen asked written door_links next_input faults =
-    record { asked = asked; written = written; door_links = door_links; next_input = next_input; faults = faults }
-
--- a run that leaves the files alone
-abbrev pub told_over : FilesSeen → (input_before input_after : InputSeen) (net_before net_after : NetSeen) (output_before output_after : OutputSeen) → Told
-told_over files input_before input_after net_before net_after output_before output_after = record {
-  before = record { input = input_before; around = record { files = files; net = net_before } };
-  after = record { input = input_after; around = record { files = files; net = net_after } };
-  output_before = output_before;
-  output_after = output_after;
-}

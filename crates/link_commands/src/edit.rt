@@ -1,15 +1,15 @@
 //! The command `edit`: records or a stop for a share.
 
 ghost use Rattle.std.specs.Prelude.{◌≡◌, ◌++◌, Bool, Ok, IfOk, IfErr, MatchResult, option_copied};
-ghost use Rattle.command_core.specs.Seen.{FilesSeen, InputSeen, input_seen, output_seen};
+ghost use Rattle.command_core.specs.Seen.{FilesSeen, InputSeen, input_seen, net_seen, output_seen, told_over};
 ghost use Rattle.mirror_client.specs.declared.pushing.Pushed.{Pushed};
-ghost use Rattle.link_commands.specs.EditShare.{HasBody, HasPushed, HasSent, IsToldFault, StopsSending, edit_line, edit_meaning, edit_status, push_fault, read_fault, shown_text, told_of};
-ghost use Rattle.link_commands.specs.Linked.{link_seen, net_seen, told_over};
+ghost use Rattle.link_commands.specs.EditShare.{HasBody, HasPushed, HasSent, IsToldFault, StopsSending, edit_line, edit_meaning, edit_status, push_fault, shown_text, told_of};
+ghost use Rattle.link_commands.specs.Linked.{link_seen};
 ghost use Rattle.link_commands.specs.Meanings.{IsLinkAnswered};
 
 use crate::answer::{link_line, link_status, number_line};
-use command_core::{Fault, Outcome, Refusal, refused, written};
-use daap_outside::{Failed, Link, Net, ReadError, Sink, Source, read_within};
+use command_core::{Fault, Outcome, Refusal, read_fault, refused, written};
+use daap_outside::{Failed, Link, Net, Sink, Source, read_within};
 use dmap_tags::Bytes;
 use mirror_client::{FollowError, Pushed, push_link};
 use std::alloc::{AllocError, Global};
@@ -120,7 +120,7 @@ fn sent<I: Source, K: Link>(
     }
     match read_within(alloc, input, RECORDS_LIMIT) {
         Ok(records) => pushed(alloc, place, Some(records.as_slice()), link),
-        Err(error) => Err(read_fault(error)),
+        Err(error) => Err(read_fault(error, EditFault::TooLong)),
     }
 }
 
@@ -152,17 +152,6 @@ fn told(alloc: Global, made: Pushed) -> Result<Vec<u8>, Fault<EditFault>>
         Pushed::Unchanged => Ok(Vec::from_slice(alloc, b"unchanged\n")?),
         Pushed::Stopped => Ok(Vec::from_slice(alloc, b"stopped\n")?),
         Pushed::Refused { status, text } => Err(Fault::Own(EditFault::Refused { status, text })),
-    }
-}
-
-/// What a refusal of the input is to `edit`.
-fn read_fault(error: ReadError) -> Fault<EditFault>
-    ensures { result ≡ read_fault error }
-{
-    match error {
-        ReadError::Failed => Fault::Read,
-        ReadError::TooLong => Fault::Own(EditFault::TooLong),
-        ReadError::Memory => Fault::Memory,
     }
 }
 

@@ -1,9 +1,8 @@
 //! The command `follow`: a mirror of one listing of a share.
 
 ghost use Rattle.std.specs.Prelude.{◌≡◌, ◌≤◌, option_copied, MatchResult};
-ghost use Rattle.command_core.specs.Seen.{FilesSeen, InputSeen, output_seen};
+ghost use Rattle.command_core.specs.Seen.{FilesSeen, InputSeen, net_seen, output_seen, told_over};
 ghost use Rattle.link_commands.specs.FollowShare.{follow_line, follow_meaning, follow_status, link_fault};
-ghost use Rattle.link_commands.specs.Linked.{net_seen, told_over};
 ghost use Rattle.link_commands.specs.Meanings.{IsLinkAnswered};
 ghost use Rattle.link_commands.specs.Ended.{TellsRows, TellsStop};
 

@@ -6,7 +6,7 @@ ghost use Rattle.dmap_tags.specs.Codes.{code, code_bytes};
 ghost use Rattle.dmap_tags.specs.Spelling.{spelling, spellings, longest};
 ghost use Rattle.dmap_tags.specs.Tree.{leaf, trees_of, U8, U32};
 ghost use Rattle.item_model.specs.declared.request.Target.{Target};
-ghost use Rattle.share_history.specs.Bodies.{start_tags, body_code, key_code, gone_tags};
+ghost use Rattle.share_history.specs.Bodies.{start_tags, key_code, gone_tags};
 ghost use Rattle.listing_plan.specs.Held.{is_delta_of, total_of, gone_of};
 ghost use Rattle.listing_plan.specs.Limits.{rows_limit, row_limit, page_limit};
 ghost use Rattle.listing_plan.specs.Pages.{Pushes};
@@ -18,6 +18,7 @@ use crate::tags::push_head;
 use daap_outside::{Failed, Sink};
 use dmap_tags::Code;
 use item_model::Target;
+use share_history::key_code;
 
 /// How many bytes a body has before its rows, without its own head.
 const START_LEN: u64 = 65;
@@ -41,24 +42,6 @@ fn gone_len(scope: &Scope) -> u64
     match scope {
         Scope::Full { .. } => 0,
         Scope::Delta { gone } => HEAD_LEN + NUMBER_LEN * gone.len() as u64,
-    }
-}
-
-pub(crate) fn body_code(target: Target) -> Code
-    ensures { result ≡ body_code target }
-{
-    match target {
-        Target::Items => Code(*b"adbs"),
-        Target::Container(_) => Code(*b"apso"),
-    }
-}
-
-fn key_code(target: Target) -> Code
-    ensures { result ≡ key_code target }
-{
-    match target {
-        Target::Items => Code(*b"miid"),
-        Target::Container(_) => Code(*b"mcti"),
     }
 }
 

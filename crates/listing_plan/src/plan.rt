@@ -11,7 +11,7 @@ ghost use Rattle.listing_plan.specs.Held.{is_delta_of, total_of, rest_of};
 ghost use Rattle.listing_plan.specs.Pages.{Pushes};
 ghost use Rattle.listing_plan.specs.declared.plan.Plan.TheVariants.{Rows};
 
-use crate::body::{body_code, payload_len, push_gone, put_start};
+use crate::body::{payload_len, push_gone, put_start};
 use crate::lengths::{HEAD_LEN, rows_len};
 use crate::page::Page;
 use crate::row::PlanRow;
@@ -20,6 +20,7 @@ use crate::tags::{push_tag, tag_len};
 use daap_outside::{Failed, Sink, put_all};
 use dmap_tags::{Bytes, Code, Tag};
 use item_model::{Meta, ShownProperties, Target};
+use share_history::body_code;
 use std::marker::Model;
 
 /// The most rows, and the most deleted keys, that a listing has.

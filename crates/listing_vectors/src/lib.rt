@@ -12,4 +12,6 @@ mod plans;
 #[cfg(test)]
 mod rehearsals;
 #[cfg(test)]
+mod relays;
+#[cfg(test)]
 mod stores;

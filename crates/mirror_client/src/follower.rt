@@ -13,7 +13,7 @@ ghost use Rattle.mirror_client.specs.Exchanges.{Exchanged};
 ghost use Rattle.mirror_client.specs.Points.{Point, ReadAhead, nothing_read, place};
 ghost use Rattle.mirror_client.specs.Steps.{Opened, TellsListing, TellsTable, UndueEnd, UndueListing, UndueTable, applied_by, rows_want, with_listings, FailsToOpen, IsNotTaken, IsUntold};
 ghost use Rattle.mirror_client.specs.Stopping.{CountsFault, Stops};
-ghost use Rattle.mirror_client.specs.Tellings.{Tells, TellsNumber, UndueNumber};
+ghost use Rattle.mirror_client.specs.Tellings.{Tells, TellsNumber, UndueNumber, UndueTag};
 
 use crate::asking::{request_for, rows_request};
 use crate::exchanging::exchange;
@@ -23,6 +23,7 @@ use crate::refusal::FollowError;
 use code_table::{CodeError, CodeTable};
 use daap_outside::Link;
 use dmap_tags::{Code, Tag, Text};
+use item_model::{Look, Target};
 use mirror_core::{Applied, Mirror, MirrorError};
 use share_asks::Want;
 use std::alloc::Global;
@@ -107,6 +108,45 @@ impl Follower {
             &self.table,
             request.as_slice(),
             mirror,
+        )
+    }
+
+    /// Asks for the listing of `target` that `look` asks for, and answers the tag of its body, which is not read as a listing.
+    ///
+    /// # Errors
+    ///
+    /// Returns `Refused`, `BadReply` or `Ended` if the peer answers no tag, `LinkFault` if the link fails, and `Memory`.
+    #[tactic(auto, using(crate::proofs::ExchangeFacts::unwritten))]
+    pub fn body<K: Link>(
+        &mut self,
+        link: &mut K,
+        target: Target,
+        look: Look,
+    ) -> Result<Tag, FollowError>
+        requires few { self.old.calls < 65536 }
+        requires asks { MayAsk look.query }
+        ensures exchanged { IfOk result (λ tag. (answer : Reply)
+            × Exchanged (request_text (want.Rows self.old.known.session target look) self.old.host) (place (K.taken link.old) (K.left link.old) self.old.ahead) (place (K.taken link.new) (K.left link.new) self.new.ahead) answer
+            × Tells self.old.known.rows answer tag) }
+        ensures stops { IfErr result (λ e. Stops (request_text (want.Rows self.old.known.session target look) self.old.host) (UndueTag self.old.known.rows)
+            (place (K.taken link.old) (K.left link.old) self.old.ahead) (K.taken link.new) e) }
+        ensures stays { (self.new.host ≡ self.old.host) × (self.new.known ≡ self.old.known) }
+        ensures calls { self.new.calls ≡ self.old.calls + 1 }
+        ensures count { MatchResult result (λ _. K.faults link.new ≡ K.faults link.old) (λ e. CountsFault (K.faults link.old) (K.faults link.new) e) }
+    {
+        self.calls += 1;
+        let want = Want::Rows {
+            session: self.session,
+            target,
+            look,
+        };
+        let request = request_for(self.alloc, want, self.host.as_str())?;
+        fetch(
+            self.alloc,
+            link,
+            &mut self.incoming,
+            &self.table,
+            request.as_slice(),
         )
     }
 

@@ -1,6 +1,6 @@
 pub mod TagFacts
 pub mod MergeFacts
 pub mod ReadFacts
-pub mod ApplyFacts
 pub mod LawFacts
 pub mod AfterFacts
+pub mod ApplyFacts

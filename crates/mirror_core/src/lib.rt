@@ -12,3 +12,6 @@ mod tags;
 mod told;
 
 pub use mirror::{Applied, Mirror, MirrorError};
+pub use reading::told_by;
+pub use tags::key_of;
+pub use told::ToldRef;

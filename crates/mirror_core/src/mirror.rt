@@ -7,7 +7,7 @@ ghost use Rattle.mirror_core.specs.After.{after_body};
 ghost use Rattle.mirror_core.specs.Bodies.{IsListing, IsNoListing};
 
 use crate::merging::take_in;
-use crate::reading::read;
+use crate::reading::told_by;
 use dmap_tags::Tag;
 use item_model::{Look, Meta, Query, Range, Target};
 use std::alloc::{AllocError, Global};
@@ -141,16 +141,10 @@ impl Mirror {
         ensures backwards { (held told : ℕ) → (result ≡ Err (MirrorError.Backwards held told)) → (listing : Listing) × IsListing self.old.target self.old.held.revision listing body.now × (held ≡ self.old.held.revision) × (told ≡ listing.revision) × (told < held) }
         ensures unchanged { OnErr result (self.new ≡ self.old) }
     {
-        let told = match read(self.target, self.revision, body) {
+        let told = match told_by(self.target, self.revision, body) {
             Ok(told) => told,
-            Err(index) => return Err(MirrorError::NotListing { index }),
+            Err(error) => return Err(error),
         };
-        if told.revision < self.revision {
-            return Err(MirrorError::Backwards {
-                held: self.revision,
-                told: told.revision,
-            });
-        }
         match take_in(self.alloc, self.target, &mut self.rows, told) {
             Ok(()) => {}
             Err(_) => return Err(MirrorError::Memory),

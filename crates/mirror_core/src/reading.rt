@@ -1,10 +1,13 @@
 //! Reading a body.
 
-ghost use Rattle.std.specs.Prelude.{◌≡◌, MatchResult, Ok, Err, Option};
-ghost use Rattle.mirror_core.specs.Reading.{untold, read_from, read_tag};
+ghost use Rattle.std.specs.Prelude.{◌≡◌, ◌≢◌, ◌≤◌, ◌<◌, ℕ, IfOk, MatchResult, Ok, Err, Option};
+ghost use Rattle.share_history.specs.Listings.{Listing};
+ghost use Rattle.mirror_core.specs.Bodies.{IsListing, IsNoListing};
+ghost use Rattle.mirror_core.specs.Reading.{untold, read_from, read_tag, listing_of};
 ghost use Rattle.mirror_core.specs.ToldSeen.{told_of};
 ghost use Rattle.mirror_core.specs.declared.told.Due.TheVariants.{Status};
 
+use crate::mirror::MirrorError;
 use crate::steps::passed;
 use crate::tags::members_in;
 use crate::told::{Due, ToldRef};
@@ -12,8 +15,33 @@ use dmap_tags::Tag;
 use item_model::Target;
 use share_history::body_code;
 
+/// Reads a body as a listing of `target`, for a mirror that holds the revision `base`, 0 where it holds nothing. Takes no
+/// memory.
+///
+/// # Errors
+///
+/// Returns `NotListing` if the body is no listing of the target, and `Backwards` if it is an older one than `base`.
+pub fn told_by(target: Target, base: u32, body: &Tag) -> Result<ToldRef<'_>, MirrorError>
+    ensures told { IfOk result (λ told. IsListing target base (listing_of target (told_of told)) body.now × (base ≤ told.revision)) }
+    ensures no_listing { (index : Option ℕ) → (result ≡ Err (MirrorError.NotListing index)) → IsNoListing target base body.now index }
+    ensures backwards { (held told : ℕ) → (result ≡ Err (MirrorError.Backwards held told)) → (listing : Listing) × IsListing target base listing body.now × (held ≡ base) × (told ≡ listing.revision) × (told < held) }
+    ensures no_memory { result ≢ Err MirrorError.Memory }
+{
+    let told = match read(target, base, body) {
+        Ok(told) => told,
+        Err(index) => return Err(MirrorError::NotListing { index }),
+    };
+    if told.revision < base {
+        return Err(MirrorError::Backwards {
+            held: base,
+            told: told.revision,
+        });
+    }
+    Ok(told)
+}
+
 // What a body tells, or the place of the member at which it is no listing; `None` for another tag altogether.
-pub(crate) fn read(target: Target, base: u32, body: &Tag) -> Result<ToldRef<'_>, Option<u64>>
+fn read(target: Target, base: u32, body: &Tag) -> Result<ToldRef<'_>, Option<u64>>
     ensures { MatchResult result (λ told. read_tag target base body.now ≡ Ok (told_of told)) (λ index. read_tag target base body.now ≡ Err index) }
 {
     match members_in(body_code(target), body) {

@@ -128,8 +128,8 @@ pub(crate) fn key_of_row(target: Target, tag: &Tag) -> u32
     row_key(target, tag).unwrap_or(0)
 }
 
-// The key that a tag of a deleted one tells.
-pub(crate) fn key_of(target: Target, tag: &Tag) -> u32
+/// The key that a tag of a deleted row tells, 0 where it tells none.
+pub fn key_of(target: Target, tag: &Tag) -> u32
     ensures { result ≡ key_of target tag.now }
 {
     number_in(key_code(target), tag).unwrap_or(0)

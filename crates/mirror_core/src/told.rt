@@ -15,14 +15,17 @@ pub(crate) enum Due {
     Nothing,
 }
 
-// The rows and the deleted keys as the tags that tell them.
+/// What a listing tells.
 #[derive(Clone, Copy, Debug)]
-pub(crate) struct ToldRef<'a> {
-    pub(crate) is_delta: bool,
-    pub(crate) revision: u32,
-    pub(crate) total: u32,
-    pub(crate) rows: &'a [Tag],
-    pub(crate) gone: &'a [Tag],
+pub struct ToldRef<'a> {
+    pub is_delta: bool,
+    pub revision: u32,
+    /// How many rows there are before the range.
+    pub total: u32,
+    /// The tags of the listed rows.
+    pub rows: &'a [Tag],
+    /// The tags of the deleted keys.
+    pub gone: &'a [Tag],
 }
 
 impl<'a> ToldRef<'a> {

@@ -6,6 +6,7 @@ use Rattle.std.proofs.lemmas.Bool.{cases_Bool, cases_lt}
 use Rattle.std.proofs.lemmas.List.{take_more}
 use Rattle.std.proofs.lemmas.List.Folds.{list_any-append}
 use Rattle.std.proofs.Math.Nat.{min-le_right, min-eq_left}
+use Rattle.std.proofs.Math.Bool.{or-false}
 use Rattle.key_versions.specs.Held.{at, value_at, is_among, behind}
 use Rattle.playlist_store.specs.declared.kept.Kept.{Kept}
 use Rattle.playlist_store.specs.declared.kept.KeptList.{KeptList}
@@ -13,7 +14,6 @@ use Rattle.playlist_store.specs.Names.{Names}
 use Rattle.playlist_store.specs.Lists.{Lists, top, list_in, since_of, has_rule}
 use Rattle.playlist_store.specs.Changes.{InPlace, ChangesOne, Everywhere, ReturnsAt, Returns, ReturnsMembers, ReturnsItems, ReturnsNamed, Pops, PopsOne, TakesBack, found_of, now_of, is_member_among}
 use Rattle.playlist_store.proofs.KeptFacts.{in_place_refl, in_place_then, in_place_from, in_place_to}
-use Rattle.playlist_store.proofs.FrameFacts.{or_none}
 
 -- ---- lists by their ids in turn
 
@@ -65,7 +65,7 @@ everywhere_then R same join c old mid new p one q =
 pub any_next : {X : Type 0} (p : X → Bool) (xs : List X) (i : ℕ) (x : X) → i < length xs → x ≡ get_or xs i x → list_any p (take (i + 1) xs) ≡ (list_any p (take i xs) || p x)
 any_next p xs i x lt is =
     ap (list_any p) (take_more xs i x lt) ∙ list_any-append p (take i xs) (get_or xs i x ∷ [])
-    ∙ ap (λ y. list_any p (take i xs) || (p y || false)) (sym is) ∙ ap (λ b. list_any p (take i xs) || b) (or_none (p x))
+    ∙ ap (λ y. list_any p (take i xs) || (p y || false)) (sym is) ∙ ap (λ b. list_any p (take i xs) || b) (or-false (p x))
 
 -- ---- keys that are as they were
 

@@ -1,101 +1,27 @@
--- How many lists there are, and the lists after more edits.
-use Rattle.std.proofs.Common.{◌≡◌, ◌≤◌, ◌<◌, ◌+◌, ◌^◌, ◌==◌, ◌&&◌, ◌||◌, ℕ, suc, Bool, true, false, cond, List, [], ◌∷◌, ◌++◌, length, fold, Option, Some, None, is_some, unwrap_or, refl, sym, ap, ◌∙◌, ⊎_elim, true≢false, arith, nat_cmp, is_eq, Less, append-nil, append_assoc}
-use Rattle.std.specs.Prelude.{nat_le, nat_lt}
-use Rattle.std.specs.List.{list_any, AllByRecursion}
-use Rattle.std.specs.List.Sorted.{IsStrictlySortedBy}
+-- The ids of the lists, and the lists after more edits.
+use Rattle.std.proofs.Common.{◌≡◌, ◌+◌, ◌==◌, ℕ, Bool, true, false, cond, List, [], ◌∷◌, ◌++◌, length, fold, Option, Some, None, is_some, unwrap_or, refl, sym, ap, ◌∙◌, true≢false, nat_cmp, is_eq, append-nil, append_assoc}
+use Rattle.std.specs.List.{list_any}
 use Rattle.std.specs.Map.{keys_of}
 use Rattle.std.specs.Set.{remove_key}
 use Rattle.std.specs.BTreeMap.{is_at}
 use Rattle.std.specs.Cmp.{nat_cmp_total}
-use Rattle.std.proofs.lemmas.Bool.{cases_Bool, leb-true, ltb-true, and_parts}
-use Rattle.std.proofs.lemmas.Cmp.{ranked}
+use Rattle.std.proofs.lemmas.Map.Entries.{length-keys_of}
 use Rattle.item_model.specs.declared.changes.Edit.{Edit}
 use Rattle.item_model.specs.declared.changes.Edit.TheVariants.{PutItem, DropItem, PutList, PutRule, DropList, PutMember, DropMember}
-use Rattle.item_model.specs.Valid.{is_list_id, is_list_name, IsValid, AreValid}
-use Rattle.item_model.specs.Proper.{is_proper}
-use Rattle.item_model.specs.QuerySeen.{tree_of}
 use Rattle.share_history.specs.Keyed.{at, put_in, taken_out, IsAscending, AreAscending}
 use Rattle.share_history.specs.LastSaid.{Playlist, Plain, Ruled, only_if, says_list, list_at}
-use Rattle.share_history.specs.Named.{lists_in, named_lists}
 use Rattle.share_history.specs.Rows.{lists}
-use Rattle.share_history.proofs.KeyedFacts.{has, same_key, key_itself, is_eq-cmp, has-keys_of, same_keys_same, at-put, at-out, ascending-put, ascending-out, keys-insert_entry}
-use Rattle.share_history.proofs.EditFacts.{both_false, has-append, list_more, list_unnamed}
+use Rattle.share_history.proofs.KeyedFacts.{has, is_eq-cmp, has-keys_of, same_keys_same, at-put, at-out, ascending-put, ascending-out, keys-insert_entry}
+use Rattle.share_history.proofs.EditFacts.{list_more}
 use Rattle.share_history.proofs.RowFacts.{at-lists, ascending-lists, lists_are}
 use Rattle.playlist_store.specs.Reads.{with_list, is_of_list}
-
--- ---- valid edits leave fewer than 2 ^ 32 lists
-
-all_of : (P : ℕ → Type 0) (ks : List ℕ) → ((q : ℕ) → has q ks ≡ true → P q) → AllByRecursion P ks
-all_of P [] h = tt
-all_of P (k ∷ ks) h = (h k (ap (λ b. b || has k ks) (key_itself k)), all_of P ks (λ q e. h q (later_too (is_eq (nat_cmp q k)) (has q ks) e)))
-  where
-    later_too : (a b : Bool) → b ≡ true → (a || b) ≡ true
-    later_too true b e = refl
-    later_too false b e = e
-
-both : {P Q R : ℕ → Type 0} → ((k : ℕ) → P k → Q k → R k) → (ks : List ℕ) → AllByRecursion P ks → AllByRecursion Q ks → AllByRecursion R ks
-both h [] p q = tt
-both h (k ∷ ks) p q = (h k p.0 q.0, both h ks p.1 q.1)
-
-less : (a b : ℕ) → nat_cmp a b ≡ Less → a < b
-less a b h = ranked a b Less (sym h)
-
-few_between : (low high : ℕ) (ks : List ℕ) → low ≤ high → AreAscending ks → AllByRecursion (λ k. (low ≤ k) × (k < high)) ks → length ks + low ≤ high
-unfolding IsStrictlySortedBy
-few_between low high [] le s all = omega (arith, le)
-few_between low high (k ∷ ks) le s all =
-    let rest = few_between (k + 1) high ks (omega (arith, all.0.1)) s.1
-    (both {Q = λ y. (low ≤ y) × (y < high)} {R = λ y. (k + 1 ≤ y) × (y < high)} (λ y l w. (omega (arith, less k y l), w.1)) ks s.0 all.1) in
-    omega (arith, rest, all.0.0)
-
-apart : (q k : ℕ) → is_list_id k ≡ true → is_list_id q ≡ false → (is_eq (nat_cmp q k) || false) ≡ false
-apart q k good bad =
-    both_false (is_eq (nat_cmp q k)) false
-    (⊎_elim (λ b. absurd (true≢false (sym good ∙ ap is_list_id (sym (same_key q k b)) ∙ bad))) (λ b. b) (cases_Bool (is_eq (nat_cmp q k)))) refl
-
-list_id : (a b : Bool) → (a && b) ≡ true → a ≡ true
-list_id a b h = (and_parts a b h).0
-
-id_unnamed : (q : ℕ) (e : Edit) → IsValid e → is_list_id q ≡ false → has q (lists_in e) ≡ false
-id_unnamed q (PutItem row) v bad = refl
-id_unnamed q (DropItem id) v bad = refl
-id_unnamed q (PutList list name) v bad = apart q list (list_id (is_list_id list) (is_list_name name) v) bad
-id_unnamed q (PutRule list name rule) v bad = apart q list (list_id (is_list_id list) (is_list_name name && is_proper (tree_of rule)) v) bad
-id_unnamed q (DropList list) v bad = apart q list v bad
-id_unnamed q (PutMember list member item) v bad = refl
-id_unnamed q (DropMember list member) v bad = refl
-
-all_unnamed : (q : ℕ) (es : List Edit) → AreValid es → is_list_id q ≡ false → has q (named_lists es) ≡ false
-all_unnamed q [] v bad = refl
-all_unnamed q (e ∷ es) v bad =
-    has-append q (lists_in e) (named_lists es)
-    ∙ both_false (has q (lists_in e)) (has q (named_lists es)) (id_unnamed q e (v 0 e (omega arith)) bad)
-    (all_unnamed q es (λ k d lt. v (suc k) d (omega (arith, lt))) bad)
-
-id_of_list : (es : List Edit) (q : ℕ) → AreValid es → is_some (list_at es q) ≡ true → is_list_id q ≡ true
-id_of_list es q v h =
-    ⊎_elim (λ b. b) (λ b. absurd (true≢false (sym h ∙ ap is_some (list_unnamed es q (all_unnamed q es v b))))) (cases_Bool (is_list_id q))
-
-length_keys : {A : Type 0} (es : List (ℕ × A)) → length (keys_of es) ≡ length es
-length_keys [] = refl
-length_keys (e ∷ es) = omega (arith, length_keys es)
-
-pub few_lists : (es : List Edit) → AreValid es → length (lists es) < 2 ^ 32
-few_lists es v =
-    let ids : AllByRecursion (λ k. (2 ≤ k) × (k < 2 ^ 32)) (keys_of (lists es)) =
-    all_of (λ k. (2 ≤ k) × (k < 2 ^ 32)) (keys_of (lists es)) (λ q h. bounds q (id_of_list es q v (sym (has-keys_of q (lists es) ∙ ap is_some (at-lists es q)) ∙ h))) in
-    let few = few_between 2 (2 ^ 32) (keys_of (lists es)) (omega arith) (ascending-lists es) ids in
-    omega (arith, few, length_keys (lists es))
-  where
-    bounds : (q : ℕ) → is_list_id q ≡ true → (2 ≤ q) × (q < 2 ^ 32)
-    bounds q h = let p = and_parts (nat_le 2 q) (nat_lt q (2 ^ 32)) h in (leb-true 2 q p.0, ltb-true q (2 ^ 32) p.1)
 
 -- ascending ids that are those of lists are the ids of the lists
 pub list_ids_are : (es : List Edit) (ks : List ℕ) → AreAscending ks → ((c : ℕ) → has c ks ≡ is_some (list_at es c)) → ks ≡ keys_of (lists es)
 list_ids_are es ks s h = same_keys_same ks (keys_of (lists es)) s (ascending-lists es) (λ c. h c ∙ sym (has-keys_of c (lists es) ∙ ap is_some (at-lists es c)))
 
 pub counted_ids : (es : List Edit) (ks : List ℕ) → ks ≡ keys_of (lists es) → length ks ≡ length (lists es)
-counted_ids es ks is = ap length is ∙ length_keys (lists es)
+counted_ids es ks is = ap length is ∙ length-keys_of (lists es)
 
 -- ---- the lists after more edits
 

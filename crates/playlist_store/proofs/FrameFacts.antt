@@ -3,6 +3,7 @@ use Rattle.std.proofs.Common.{◌≡◌, ◌≤◌, ◌<◌, ◌-◌, ◌⊎◌,
 use Rattle.std.specs.Prelude.{Result, OnOk, OnErr, ⊤}
 use Rattle.std.specs.List.{list_any}
 use Rattle.std.proofs.lemmas.Bool.{cases_Bool}
+use Rattle.std.proofs.Math.Bool.{or-false}
 use Rattle.item_model.specs.declared.changes.Edit.{Edit}
 use Rattle.key_versions.specs.Held.{at, is_among}
 use Rattle.share_history.specs.Named.{names_item, names_list, names_member}
@@ -16,14 +17,6 @@ use Rattle.playlist_store.specs.Changes.{Keeps, Frames, Puts, Leaves, LeavesMemb
 use Rattle.playlist_store.proofs.KeptFacts.{on_top, on_found, found_older, one_of_all}
 
 -- ---- tests over edits
-
-pub or_none : (b : Bool) → (b || false) ≡ b
-or_none true = refl
-or_none false = refl
-
-pub and_none : (b : Bool) → (b && false) ≡ false
-and_none true = refl
-and_none false = refl
 
 -- an edit that a test finds is found among all
 pub found_any : (p : Edit → Bool) (es : List Edit) (i : ℕ) (e : Edit) → i < length es → e ≡ get_or es i e → p e ≡ true → list_any p es ≡ true
@@ -84,10 +77,10 @@ frames_among n batch i e old new lt is p = record {
     near = k.near;
     below = k.below;
     others = λ key base un.
-        k.others key base (or_none _ ∙ not_any (names_key (head_in (list_in old c (n - 1))) c key) batch i e lt is un);
+        k.others key base (or-false _ ∙ not_any (names_key (head_in (list_in old c (n - 1))) c key) batch i e lt is un);
   };
   older = p.older;
-  rises = λ c. ⊎_elim (λ same. inl same) (λ up. inr (up.0, found_any (names_list c) batch i e lt is (sym (or_none (names_list c e)) ∙ up.1))) (p.rises c);
+  rises = λ c. ⊎_elim (λ same. inl same) (λ up. inr (up.0, found_any (names_list c) batch i e lt is (sym (or-false (names_list c e)) ∙ up.1))) (p.rises c);
 }
 
 -- ---- a list that is put or dropped
@@ -104,7 +97,7 @@ put_frames n c e kept r old new some since names p = record {
         → (since_of (top new q) ≡ since_of (top old q)) ⊎ ((since_of (top new q) ≡ n) × (list_any (names_list q) (e ∷ []) ≡ true))
     up (Ok x) q put left =
         ⊎_elim
-        (λ is. inr (ap since_of (put q ∙ ap (λ b. cond b (Some kept) (top old q)) is) ∙ since, or_none (names_list q e) ∙ names q ∙ is))
+        (λ is. inr (ap since_of (put q ∙ ap (λ b. cond b (Some kept) (top old q)) is) ∙ since, or-false (names_list q e) ∙ names q ∙ is))
         (λ other. inl (ap since_of (put q ∙ ap (λ b. cond b (Some kept) (top old q)) other)))
         (cases_Bool (c == q))
     up (Err x) q put left = inl (ap since_of (left q))
@@ -131,7 +124,7 @@ itself c = sym (is_eq-cmp c c) ∙ key_itself c
 member_picked : (h : Option ListHead) (c key k : ℕ) (e : Edit) → ((q k : ℕ) → names_member q k e ≡ ((c == q) && (key == k))) → list_any (names_key h c k) (e ∷ []) ≡ false
     → (is_plain h && (key == k)) ≡ false
 member_picked None c key k e names un = refl
-member_picked (Some head) c key k e names un = plain (is_some head.rule) (sym (or_none _) ∙ un)
+member_picked (Some head) c key k e names un = plain (is_some head.rule) (sym (or-false _) ∙ un)
   where
     plain : (b : Bool) → cond b (names_item k e) (names_member c k e) ≡ false → (cond b false true && (key == k)) ≡ false
     plain true un = refl

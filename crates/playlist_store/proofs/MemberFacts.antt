@@ -21,7 +21,7 @@ use Rattle.share_history.specs.LastSaid.{Playlist, Plain, Ruled, only_if, item_a
 use Rattle.share_history.specs.Rows.{is_asked, if_asked, in_list, rows}
 use Rattle.share_history.proofs.KeyedFacts.{has, same_pairs, at-map, ascending-map, at-pairs_at, ascending-pairs_at}
 use Rattle.share_history.proofs.OwnFacts.{item_id}
-use Rattle.share_history.proofs.RowFacts.{at-rows, ascending-rows}
+use Rattle.share_history.proofs.RowFacts.{at-rows, ascending-rows, found_itself}
 use Rattle.playlist_store.specs.Words.{ruled, standing}
 use Rattle.playlist_store.specs.Reads.{there}
 
@@ -54,10 +54,6 @@ own_id es id (Some row) is = ap Some (item_id es id row is)
 ids_there : (es : List Edit) (found : Option ℕ) → option_map (λ row. row.id) (option_and_then (item_at es) found) ≡ option_and_then (there es) found
 ids_there es None = refl
 ids_there es (Some id) = own_id es id (item_at es id) refl
-
-found_itself : {A : Type 0} (o : Option A) → option_and_then (λ (x : A). Some x) o ≡ o
-found_itself None = refl
-found_itself (Some x) = refl
 
 -- what a list has under a key, as the id of an item that is there
 at-members : (es : List Edit) (c q : ℕ) → (c == base_list) ≡ false

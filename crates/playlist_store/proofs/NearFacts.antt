@@ -1,5 +1,5 @@
 -- The members that are noted beside an item, and the keys that batches touch, as a loop finds them one after the other.
-use Rattle.std.proofs.Common.{◌≡◌, ◌<◌, ◌-◌, ◌+◌, ◌^◌, ◌==◌, ◌&&◌, ◌||◌, not, ℕ, suc, Bool, true, false, cond, List, [], ◌∷◌, length, get_or, drop, flat_map, Some, is_some, refl, sym, ap, ◌∙◌, ⊎_elim, true≢false, arith, eqb-true, eq-eqb, nat_cmp, is_eq, Ordering, Less, Equal, Greater}
+use Rattle.std.proofs.Common.{◌≡◌, ◌<◌, ◌-◌, ◌+◌, ◌^◌, ◌==◌, ◌&&◌, ◌||◌, not, ℕ, Bool, true, false, cond, List, [], ◌∷◌, length, get_or, drop, flat_map, Some, is_some, refl, sym, ap, ◌∙◌, ⊎_elim, true≢false, arith, eqb-true, eq-eqb, nat_cmp, is_eq, Ordering, Less, Equal, Greater}
 use Rattle.std.specs.Prelude.{nat_le, nat_lt}
 use Rattle.std.specs.List.{list_any}
 use Rattle.std.specs.Ordering.{ordering_then, is_le, is_lt}
@@ -8,16 +8,16 @@ use Rattle.std.specs.BTreeMap.Range.{range_contains}
 use Rattle.std.specs.BTreeSet.{insert_key}
 use Rattle.std.specs.declared.ops.Bound.TheVariants.{Included}
 use Rattle.std.specs.Cmp.{nat_cmp_total}
-use Rattle.std.proofs.lemmas.Bool.{cases_Bool, and_parts, ltb-true}
+use Rattle.std.proofs.lemmas.Bool.{cases_Bool, and_parts, ltb-true, and_from, or_left, or_right}
 use Rattle.std.proofs.lemmas.Cmp.{ranked, tied_itself}
 use Rattle.std.proofs.lemmas.List.Folds.{list_any-append}
+use Rattle.std.proofs.Math.Bool.{or-false}
 use Rattle.item_model.specs.declared.changes.Edit.{Edit}
-use Rattle.item_model.specs.declared.changes.Edit.TheVariants.{PutItem, DropItem, PutList, PutRule, DropList, PutMember, DropMember}
-use Rattle.item_model.specs.Valid.{is_id, is_list_id, IsValid, AreValid}
+use Rattle.item_model.specs.Valid.{is_id, AreValid}
 use Rattle.share_history.specs.LastSaid.{member_at}
-use Rattle.share_history.specs.Named.{keys_in, named_keys}
-use Rattle.share_history.proofs.KeyedFacts.{has, same_key, is_eq-cmp, member-insert_key}
-use Rattle.share_history.proofs.EditFacts.{both_false, has-append, member_unnamed, drop_more}
+use Rattle.share_history.proofs.KeyedFacts.{same_key, is_eq-cmp, member-insert_key}
+use Rattle.share_history.proofs.EditFacts.{member_unnamed, drop_more}
+use Rattle.share_history.proofs.ValidFacts.{keys_are_ids}
 use Rattle.playlist_store.specs.declared.kept.Kept.{Kept}
 use Rattle.playlist_store.specs.Names.{Names}
 use Rattle.playlist_store.specs.Lists.{near_cmp}
@@ -25,38 +25,11 @@ use Rattle.playlist_store.specs.Reads.{is_key, is_member, pairs_of, is_near, is_
 
 -- ---- the keys of members are numbers of 32 bits
 
-apart : (q k : ℕ) → is_id k ≡ true → is_id q ≡ false → (is_eq (nat_cmp q k) || false) ≡ false
-apart q k good bad =
-    both_false (is_eq (nat_cmp q k)) false
-    (⊎_elim (λ b. absurd (true≢false (sym good ∙ ap is_id (sym (same_key q k b)) ∙ bad))) (λ b. b) (cases_Bool (is_eq (nat_cmp q k)))) refl
-
-last_id : (a b : Bool) → (a && b) ≡ true → b ≡ true
-last_id a b h = (and_parts a b h).1
-
-middle_id : (a b c : Bool) → (a && (b && c)) ≡ true → b ≡ true
-middle_id a b c h = (and_parts b c (last_id a (b && c) h)).0
-
-key_unnamed : (q : ℕ) (e : Edit) → IsValid e → is_id q ≡ false → has q (keys_in e) ≡ false
-key_unnamed q (PutItem row) v bad = apart q row.id v bad
-key_unnamed q (DropItem id) v bad = apart q id v bad
-key_unnamed q (PutList list name) v bad = refl
-key_unnamed q (PutRule list name rule) v bad = refl
-key_unnamed q (DropList list) v bad = refl
-key_unnamed q (PutMember list member item) v bad = apart q member (middle_id (is_list_id list) (is_id member) (is_id item) v) bad
-key_unnamed q (DropMember list member) v bad = apart q member (last_id (is_list_id list) (is_id member) v) bad
-
-keys_unnamed : (q : ℕ) (es : List Edit) → AreValid es → is_id q ≡ false → has q (named_keys es) ≡ false
-keys_unnamed q [] v bad = refl
-keys_unnamed q (e ∷ es) v bad =
-    has-append q (keys_in e) (named_keys es)
-    ∙ both_false (has q (keys_in e)) (has q (named_keys es)) (key_unnamed q e (v 0 e (omega arith)) bad)
-    (keys_unnamed q es (λ k d lt. v (suc k) d (omega (arith, lt))) bad)
-
 pub small_member : (es : List Edit) (c key item : ℕ) → AreValid es → member_at es c key ≡ Some item → key < 2 ^ 32
 small_member es c key item v is =
     ⊎_elim
     (λ good. ltb-true key (2 ^ 32) (and_parts (nat_le 1 key) (nat_lt key (2 ^ 32)) good).1)
-    (λ bad. absurd (true≢false (ap is_some (sym is ∙ member_unnamed es c key (keys_unnamed key es v bad)))))
+    (λ bad. absurd (true≢false (ap is_some (sym is ∙ member_unnamed es c key (keys_are_ids key es v bad)))))
     (cases_Bool (is_id key))
 
 -- ---- pairs of an item and a key
@@ -71,12 +44,9 @@ up_to_most key Less small is = absurd (omega (arith, small, ranked (2 ^ 32 - 1) 
 up_to_most key Equal small is = refl
 up_to_most key Greater small is = refl
 
-both_true : (a b : Bool) → a ≡ true → b ≡ true → (a && b) ≡ true
-both_true a b h k = ap (λ x. x && b) h ∙ k
-
 in_range : (item key : ℕ) → key < 2 ^ 32 → range_contains near_cmp (Included (item, 0)) (Included (item, 2 ^ 32 - 1)) (item, key) ≡ true
 in_range item key small =
-    both_true (is_le (near_cmp (item, 0) (item, key))) (not (is_lt (near_cmp (item, 2 ^ 32 - 1) (item, key))))
+    and_from (is_le (near_cmp (item, 0) (item, key))) (not (is_lt (near_cmp (item, 2 ^ 32 - 1) (item, key))))
     (ap (λ r. is_le (ordering_then r (nat_cmp 0 key))) (tied_itself nat_cmp_total item) ∙ from_zero key (nat_cmp 0 key) refl)
     (ap (λ r. not (is_lt (ordering_then r (nat_cmp (2 ^ 32 - 1) key)))) (tied_itself nat_cmp_total item) ∙ up_to_most key (nat_cmp (2 ^ 32 - 1) key) small refl)
 
@@ -88,13 +58,6 @@ same_pair item key pair h = by_first (nat_cmp item pair.0) refl h
     by_first Equal is e = λ i. (same_key item pair.0 (ap is_eq is) i, same_key key pair.1 e i)
     by_first Greater is e = absurd (true≢false (sym e))
 
-first_or : (a b : Bool) → a ≡ true → (a || b) ≡ true
-first_or a b h = ap (λ x. x || b) h
-
-then_or : (a b : Bool) → b ≡ true → (a || b) ≡ true
-then_or true b h = refl
-then_or false b h = h
-
 -- a member that is noted beside an item is found there
 pub near_found : (near : List (ℕ × ℕ)) (item key : ℕ) → key < 2 ^ 32 → list_any (is_at (near_cmp (item, key))) near ≡ true → is_near near item key ≡ true
 near_found [] item key small h = h
@@ -104,7 +67,7 @@ near_found (pair ∷ near) item key small h = by_head (is_eq (near_cmp (item, ke
     inside p = range_contains near_cmp (Included (item, 0)) (Included (item, 2 ^ 32 - 1)) p
 
     by_range : (b : Bool) → is_near near item key ≡ true → list_any (λ p. p.1 == key) (cond b (pair ∷ pairs_of item near) (pairs_of item near)) ≡ true
-    by_range true rest = then_or (pair.1 == key) (is_near near item key) rest
+    by_range true rest = or_right (pair.1 == key) (is_near near item key) rest
     by_range false rest = rest
 
     by_head : (b : Bool) → is_eq (near_cmp (item, key) pair) ≡ b → (b || list_any (is_at (near_cmp (item, key))) near) ≡ true
@@ -112,7 +75,7 @@ near_found (pair ∷ near) item key small h = by_head (is_eq (near_cmp (item, ke
     by_head true is e rest =
         ap (λ b. list_any (λ p. p.1 == key) (cond b (pair ∷ pairs_of item near) (pairs_of item near)))
         (ap (range_contains near_cmp (Included (item, 0)) (Included (item, 2 ^ 32 - 1))) (sym (same_pair item key pair is)) ∙ in_range item key small)
-        ∙ first_or (pair.1 == key) (is_near near item key) (eq-eqb pair.1 key (ap (λ p. p.1) (sym (same_pair item key pair is))))
+        ∙ or_left (pair.1 == key) (is_near near item key) (eq-eqb pair.1 key (ap (λ p. p.1) (sym (same_pair item key pair is))))
     by_head false is e rest = by_range (range_contains near_cmp (Included (item, 0)) (Included (item, 2 ^ 32 - 1)) pair) (rest e)
 
 -- ---- keys that a loop puts
@@ -162,11 +125,7 @@ pub near_put : (q : ℕ) (now old : Bool) (test : ℕ → Bool) (left all : List
     → (now || list_any (λ pair. test pair.1 && (pair.1 == q)) left) ≡ (old || list_any (λ pair. test pair.1 && (pair.1 == q)) all)
     → now ≡ (old || (list_any (λ pair. pair.1 == q) all && test q))
 near_put q now old test left all none found =
-    sym (ap (λ pairs. now || list_any (λ pair. test pair.1 && (pair.1 == q)) pairs) none ∙ or_none now) ∙ found ∙ ap (λ b. old || b) (near_tested test q all)
-  where
-    or_none : (b : Bool) → (b || false) ≡ b
-    or_none true = refl
-    or_none false = refl
+    sym (ap (λ pairs. now || list_any (λ pair. test pair.1 && (pair.1 == q)) pairs) none ∙ or-false now) ∙ found ∙ ap (λ b. old || b) (near_tested test q all)
 
 -- ---- what batches name together
 

@@ -7,9 +7,10 @@ use Rattle.std.specs.Map.{keys_of}
 use Rattle.std.specs.Cmp.{nat_cmp_total}
 use Rattle.std.proofs.lemmas.Bool.{and_parts, le-leb, le-ltb, ltb-false, leb-true, lt-leb, lt-ltb, cases_lt}
 use Rattle.std.proofs.lemmas.Cmp.{eq_by_cmp_equiv}
-use Rattle.std.proofs.lemmas.List.{take_all, drop_all}
+use Rattle.std.proofs.lemmas.List.{drop_all}
 use Rattle.std.proofs.lemmas.Map.Keys.{IsDistinct-from_sorted}
 use Rattle.std.proofs.lemmas.Map.Entries.{option_filter, lookup-filter-values}
+use Rattle.std.proofs.Math.Bool.{and-false}
 use Rattle.item_model.specs.declared.query.Query.{Query}
 use Rattle.item_model.specs.declared.changes.Edit.{Edit}
 use Rattle.item_model.specs.declared.request.Target.TheVariants.{Items, Container}
@@ -29,6 +30,8 @@ use Rattle.share_history.specs.Rows.{rows, lists}
 use Rattle.share_history.specs.Kept.{is_kept, touched}
 use Rattle.share_history.proofs.KeyedFacts.{has-keys_of, ascending-filter, same_keys_same, sorted-ascending, has-ascending}
 use Rattle.share_history.proofs.RowFacts.{ascending-lists}
+use Rattle.share_history.proofs.EditFacts.{up_to-all}
+use Rattle.share_history.proofs.ValidFacts.{few_lists}
 use Rattle.playlist_store.specs.declared.head.ListHead.{ListHead}
 use Rattle.playlist_store.specs.declared.kept.Kept.{Kept}
 use Rattle.playlist_store.specs.declared.kept.KeptList.{KeptList}
@@ -39,21 +42,14 @@ use Rattle.playlist_store.specs.Store.{Store}
 use Rattle.playlist_store.specs.Stands.{StandsFor}
 use Rattle.playlist_store.specs.Reads.{is_key, is_member, is_near, is_item_of, is_touched_by, with_list, is_of_list}
 use Rattle.playlist_store.proofs.MemberFacts.{by_id}
-use Rattle.playlist_store.proofs.CountFacts.{few_lists, list_ids_are, counted_ids, list_ids_after, same_ids}
+use Rattle.playlist_store.proofs.CountFacts.{list_ids_are, counted_ids, list_ids_after, same_ids}
 use Rattle.playlist_store.proofs.SinceFacts.{named_later, touched_ruled, touched_none, touched_plain}
 use Rattle.playlist_store.proofs.NearFacts.{small_member, near_found, touched_together}
 
 -- ---- at the present revision
 
-up_to_all : (bs : List (List Edit)) (v : ℕ) → revision bs ≤ v → up_to bs v ≡ bs
-up_to_all bs v h = take_all (v - first_revision) bs (omega (arith, h))
-
 nothing_later : (bs : List (List Edit)) (v : ℕ) → revision bs ≤ v → later bs v ≡ []
 nothing_later bs v h = ap edits (drop_all (v - first_revision) bs (omega (arith, h)))
-
-and_never : (b : Bool) → (b && false) ≡ false
-and_never true = refl
-and_never false = refl
 
 module _ {bs : List (List Edit)} {s : Store} (h : StandsFor bs s) where
   low_reached : s.low ≤ s.revision
@@ -68,14 +64,14 @@ module _ {bs : List (List Edit)} {s : Store} (h : StandsFor bs s) where
   -- what stands under a key now
   pub stands_now : (c key base : ℕ) → s.revision ≤ base → member_in (top s.lists c) key base ≡ standing (list_at (edits bs) c) (edits bs) c key
   stands_now c key base le =
-      h.now.members c key base (omega (arith, le, low_reached)) (omega (arith, le, since_past c)) (and_never (nat_lt (revision bs) base))
-      ∙ ap (λ cs. standing (list_at (edits bs) c) (edits cs) c key) (up_to_all bs base (omega (arith, le, h.revision)))
+      h.now.members c key base (omega (arith, le, low_reached)) (omega (arith, le, since_past c)) (and-false (nat_lt (revision bs) base))
+      ∙ ap (λ cs. standing (list_at (edits bs) c) (edits cs) c key) (up_to-all bs base (omega (arith, le, h.revision)))
 
   -- and what stood there at a base since which the list was not put
   pub stood_then : (c key base : ℕ) → s.low ≤ base → since_of (top s.lists c) ≤ base → base ≤ s.revision
       → member_in (top s.lists c) key base ≡ standing (list_at (edits bs) c) (edits (up_to bs base)) c key
   stood_then c key base from since to =
-      h.now.members c key base from since (and_never (nat_lt (revision bs) base))
+      h.now.members c key base from since (and-false (nat_lt (revision bs) base))
 
 -- the newest value is the one that stands at some revision, and at each above it
 newest_seen : {T : Type 0} (vs : List (Version T)) → (from : ℕ) × ((base : ℕ) → from ≤ base → value_in vs base ≡ newest_value vs)

@@ -4,28 +4,22 @@ use Rattle.std.specs.Prelude.{nat_lt}
 use Rattle.std.specs.Option.{option_map}
 use Rattle.std.specs.List.{list_any}
 use Rattle.std.proofs.lemmas.Bool.{cases_Bool, cases_lt, le-ltb, ltb-false}
-use Rattle.std.proofs.lemmas.List.{take_all, drop_all, take-append-le, drop-append-le}
+use Rattle.std.proofs.lemmas.List.{drop_all, drop-append-le}
 use Rattle.std.proofs.Math.Nat.{min-eq_left, le-min}
+use Rattle.std.proofs.Math.Bool.{and-false}
 use Rattle.item_model.specs.declared.changes.Edit.{Edit}
 use Rattle.share_history.specs.Numbers.{first_revision}
 use Rattle.share_history.specs.Histories.{edits, revision, up_to, later}
 use Rattle.share_history.specs.LastSaid.{Playlist, Plain, Ruled, list_at, member_at}
 use Rattle.share_history.specs.Named.{names_list}
-use Rattle.share_history.proofs.EditFacts.{edits_more}
+use Rattle.share_history.proofs.EditFacts.{edits_more, up_to-all}
 use Rattle.playlist_store.specs.declared.kept.Kept.{Kept}
 use Rattle.playlist_store.specs.Words.{head_of, standing}
 use Rattle.playlist_store.specs.Lists.{head_in, since_of, member_in, near_in, names_key}
 use Rattle.playlist_store.specs.Stands.{Shows}
 use Rattle.playlist_store.specs.Changes.{is_plain, Prunes}
-use Rattle.playlist_store.proofs.FrameFacts.{and_none}
 
 -- ---- batches up to a revision
-
-pub up_to_all : (bs : List (List Edit)) (v : ℕ) → revision bs ≤ v → up_to bs v ≡ bs
-up_to_all bs v h = take_all (v - first_revision) bs (omega (arith, h))
-
-pub up_to_same : (bs cs : List (List Edit)) (v : ℕ) → v ≤ revision bs → up_to (bs ++ cs) v ≡ up_to bs v
-up_to_same bs cs v h = take-append-le (v - first_revision) bs cs (omega (arith, h))
 
 pub later_none : (bs : List (List Edit)) (v : ℕ) → revision bs ≤ v → later bs v ≡ []
 later_none bs v h = ap edits (drop_all (v - first_revision) bs (omega (arith, h)))
@@ -37,7 +31,7 @@ pub up_to_least : (bs : List (List Edit)) (base v : ℕ) → revision bs ≤ v �
 up_to_least bs base v le =
     ⊎_elim
     (λ below. ap (up_to bs) (min-eq_left (let le : base ≤ v = omega (arith, below) in le)))
-    (λ above. up_to_all bs (min base v) (omega (arith, le, le-min {k = v} {a = base} {b = v} above (omega arith))) ∙ sym (up_to_all bs base (omega (arith, le, above))))
+    (λ above. up_to-all bs (min base v) (omega (arith, le, le-min {k = v} {a = base} {b = v} above (omega arith))) ∙ sym (up_to-all bs base (omega (arith, le, above))))
     (cases_lt base v)
 
 -- ---- what stands in a list of a kind
@@ -95,7 +89,7 @@ pub left_at_once : (v base : ℕ) (b : Bool) → base ≤ v → (nat_lt v base &
 left_at_once v base b le = ap (λ x. x && b) (le-ltb v base le)
 
 pub left_unnamed : (v base : ℕ) (b : Bool) → b ≡ false → (nat_lt v base && b) ≡ false
-left_unnamed v base b un = ap (λ x. nat_lt v base && x) un ∙ and_none (nat_lt v base)
+left_unnamed v base b un = ap (λ x. nat_lt v base && x) un ∙ and-false (nat_lt v base)
 
 -- what is left at a base is left at a lower one
 pub left_below : (v base lower : ℕ) (b : Bool) → lower ≤ base → (nat_lt v base && b) ≡ false → (nat_lt v lower && b) ≡ false
@@ -129,7 +123,7 @@ shows_pruned bs more low low' read read' le few h p = record {
       h.members c key (revision bs) (omega (arith, le, few)) (since_shown bs more low read h (omega (arith, le, few)) c)
       (left_at_once (revision bs) (revision bs) (list_any (names_key (head_in (read c)) c key) more) (omega arith))
       ∙ ap (λ o. standing o (edits (up_to bs (revision bs))) c key) is
-      ∙ ap (λ cs. member_at (edits cs) c key) (up_to_all bs (revision bs) (omega arith))
+      ∙ ap (λ cs. member_at (edits cs) c key) (up_to-all bs (revision bs) (omega arith))
       ∙ member in
       (p c).near item key (revision bs) few plain now (h.near c key item name is member);
 }

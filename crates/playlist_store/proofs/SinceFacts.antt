@@ -4,6 +4,7 @@ use Rattle.std.specs.List.{list_any}
 use Rattle.std.proofs.lemmas.List.{drop-drop, drop-map}
 use Rattle.std.proofs.lemmas.List.Folds.{list_any-append, flat_map-map}
 use Rattle.std.proofs.lemmas.Grind.{flat_map-append}
+use Rattle.std.proofs.Math.Bool.{or-false}
 use Rattle.item_model.specs.declared.query.Query.{Query}
 use Rattle.item_model.specs.declared.changes.Edit.{Edit}
 use Rattle.item_model.specs.declared.changes.Edit.TheVariants.{PutItem, DropItem, PutList, PutRule, DropList, PutMember, DropMember}
@@ -46,18 +47,14 @@ named_later names_of part said each bs named low base is least le =
 
 -- ---- members
 
-or_none : (b : Bool) → (b || false) ≡ b
-or_none true = refl
-or_none false = refl
-
 one_member : (c k : ℕ) (e : Edit) → list_any (is_member c k) (members_in e) ≡ names_member c k e
 one_member c k (PutItem row) = refl
 one_member c k (DropItem id) = refl
 one_member c k (PutList list name) = refl
 one_member c k (PutRule list name rule) = refl
 one_member c k (DropList list) = refl
-one_member c k (PutMember list member item) = or_none ((list == c) && (member == k))
-one_member c k (DropMember list member) = or_none ((list == c) && (member == k))
+one_member c k (PutMember list member item) = or-false ((list == c) && (member == k))
+one_member c k (DropMember list member) = or-false ((list == c) && (member == k))
 
 pub members_named : (c k : ℕ) (es : List Edit) → list_any (is_member c k) (flat_map members_in es) ≡ list_any (names_member c k) es
 members_named c k [] = refl

@@ -6,6 +6,7 @@ use Rattle.std.specs.List.{list_any}
 use Rattle.std.specs.Map.{keys_of}
 use Rattle.std.proofs.lemmas.Bool.{cases_Bool, cases_lt, le-leb, le-ltb, lt-ltb}
 use Rattle.std.proofs.lemmas.List.Folds.{list_any-append}
+use Rattle.std.proofs.Math.Bool.{or-false}
 use Rattle.item_model.specs.declared.changes.Edit.{Edit}
 use Rattle.item_model.specs.declared.item.Row.{Row}
 use Rattle.key_versions.specs.Held.{at, value_at, is_among}
@@ -13,11 +14,12 @@ use Rattle.share_history.specs.Histories.{edits, revision, up_to, later}
 use Rattle.share_history.specs.LastSaid.{Playlist, Plain, Ruled, item_at, list_at, member_at}
 use Rattle.share_history.specs.Named.{names_list}
 use Rattle.share_history.specs.Rows.{library}
-use Rattle.share_history.proofs.KeyedFacts.{has, is_eq-cmp, key_itself, has-keys_of}
-use Rattle.share_history.proofs.EditFacts.{edits_more, revision_more, item_stays, list_stays}
+use Rattle.share_history.proofs.KeyedFacts.{is_eq-cmp, key_itself, has-keys_of}
+use Rattle.share_history.proofs.EditFacts.{edits_more, revision_more, item_stays, list_stays, up_to-all, up_to-same}
 use Rattle.share_history.proofs.RowFacts.{at-library}
 use Rattle.item_store.specs.Stands.{named_items}
 use Rattle.item_store.proofs.BatchFacts.{among_named}
+use Rattle.item_store.proofs.StandFacts.{has-among}
 use Rattle.playlist_store.specs.declared.kept.Kept.{Kept}
 use Rattle.playlist_store.specs.Words.{head_of, ruled, standing}
 use Rattle.playlist_store.specs.Lists.{Lists, top, list_in, head_in, since_of, member_in, near_in, has_rule, names_key}
@@ -25,8 +27,7 @@ use Rattle.playlist_store.specs.Store.{Store}
 use Rattle.playlist_store.specs.Stands.{Shows, StandsFor}
 use Rattle.playlist_store.specs.Changes.{TellsOne, Tells, Taken, TestsRule, Frames, is_plain, tested_ids, ruled_in, puts_rule}
 use Rattle.playlist_store.proofs.KeptFacts.{on_top, top_found}
-use Rattle.playlist_store.proofs.FrameFacts.{or_none}
-use Rattle.playlist_store.proofs.ShowFacts.{up_to_all, up_to_same, later_none, later_more, plain_is, standing_plain, shows_moved, since_shown, left_unnamed}
+use Rattle.playlist_store.proofs.ShowFacts.{later_none, later_more, plain_is, standing_plain, shows_moved, since_shown, left_unnamed}
 
 -- ---- before a batch
 
@@ -42,7 +43,7 @@ module _ {bs : List (List Edit)} {s : Store} (h : StandsFor bs s) where
   member_now c key base le =
       h.now.members c key base (omega (arith, le, low_reached)) (omega (arith, le, since_shown bs [] s.low (top s.lists) h.now low_reached c))
       (left_unnamed (revision bs) base false refl)
-      ∙ ap (λ cs. standing (list_at (edits bs) c) (edits cs) c key) (up_to_all bs base le)
+      ∙ ap (λ cs. standing (list_at (edits bs) c) (edits cs) c key) (up_to-all bs base le)
 
   -- no edit of the next revision is told yet
   pub tells_start : (n : ℕ) → n ≡ s.revision + 1 → Tells n (edits bs) [] s.lists s.lists
@@ -61,10 +62,6 @@ module _ {bs : List (List Edit)} {s : Store} (h : StandsFor bs s) where
   }
 
 -- ---- after a batch
-
-has-among : (q : ℕ) (ids : List ℕ) → has q ids ≡ is_among q ids
-has-among q [] = refl
-has-among q (id ∷ ids) = ap (λ b. b || has q ids) (is_eq-cmp q id) ∙ ap (λ b. (id == q) || b) (has-among q ids)
 
 not_in_library : (es : List Edit) (id : ℕ) → is_among id (keys_of (library es)) ≡ false → item_at es id ≡ None
 not_in_library es id h = none (item_at es id) (sym (has-keys_of id (library es) ∙ ap is_some (at-library es id)) ∙ has-among id (keys_of (library es)) ∙ h)
@@ -180,7 +177,7 @@ module _ (bs : List (List Edit)) (batch : List Edit) (s : Store) (n : ℕ) (new 
           or_all : (b : Bool) → (b || true) ≡ true
           or_all true = refl
           or_all false = refl
-      joined false is lt = or_none (nat_lt base (since_of (top s.lists c))) ∙ sym (ap (nat_lt base) (since_new c ∙ ap (λ b. cond b n (since_of (top s.lists c))) is))
+      joined false is lt = or-false (nat_lt base (since_of (top s.lists c))) ∙ sym (ap (nat_lt base) (since_new c ∙ ap (λ b. cond b n (since_of (top s.lists c))) is))
 
   -- members from the batch on, by the kind of the list
   member_plain : (c key base : ℕ) → n ≤ base → is_plain (option_map head_of (list_at es c)) ≡ true → member_in (top new c) key base ≡ standing (list_at es c) es c key
@@ -249,7 +246,7 @@ module _ (bs : List (List Edit)) (batch : List Edit) (s : Store) (n : ℕ) (new 
       ∙ ap (λ o. member_in o key base) there
       ∙ h.now.members c key base low (omega (arith, put, same)) (left_unnamed (revision bs) base false refl)
       ∙ ap (λ o. standing o (edits (up_to bs base)) c key) (sym (list_left c un))
-      ∙ ap (λ cs. standing (list_at es c) (edits cs) c key) (sym (up_to_same bs (batch ∷ []) base (omega (arith, lt, next, h.revision))))
+      ∙ ap (λ cs. standing (list_at es c) (edits cs) c key) (sym (up_to-same bs (batch ∷ []) base (omega (arith, lt, next, h.revision))))
     where
       unnamed : (b : Bool) → list_any (names_list c) batch ≡ b → b ≡ false
       unnamed true is = let e : since_of (top new c) ≡ n = since_new c ∙ ap (λ b. cond b n (since_of (top s.lists c))) is in absurd (let no : ⊥ = omega (arith, e, put, lt) in no)
@@ -264,7 +261,7 @@ module _ (bs : List (List Edit)) (batch : List Edit) (s : Store) (n : ℕ) (new 
         (λ below. member_old c key base low below put)
         (λ above.
         ⊎_elim (λ p. member_plain c key base above p) (λ p. member_ruled c key base above p) (cases_Bool (is_plain (option_map head_of (list_at es c))))
-        ∙ ap (λ cs. standing (list_at es c) (edits cs) c key) (sym (up_to_all all base (omega (arith, above, made)))))
+        ∙ ap (λ cs. standing (list_at es c) (edits cs) c key) (sym (up_to-all all base (omega (arith, above, made)))))
         (cases_lt base n);
     near = λ c key item name is member.
         (looks c).near item key

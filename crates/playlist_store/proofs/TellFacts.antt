@@ -3,9 +3,10 @@ use Rattle.std.proofs.Common.{◌≡◌, ◌≤◌, ◌<◌, ◌+◌, ℕ, Bool,
 use Rattle.std.specs.Prelude.{Result, OnOk, nat_le, ⊤}
 use Rattle.std.specs.Option.{option_map}
 use Rattle.std.specs.List.{list_any}
-use Rattle.std.proofs.lemmas.Bool.{cases_Bool, le-leb}
+use Rattle.std.proofs.lemmas.Bool.{cases_Bool, le-leb, or_left, or_right}
 use Rattle.std.proofs.lemmas.List.{take_more, take_all}
 use Rattle.std.proofs.lemmas.List.Folds.{list_any-append}
+use Rattle.std.proofs.Math.Bool.{or-false}
 use Rattle.item_model.specs.declared.changes.Edit.{Edit}
 use Rattle.item_model.specs.declared.changes.Edit.TheVariants.{PutItem, DropItem, PutList, PutRule, DropList, PutMember, DropMember}
 use Rattle.item_model.specs.declared.query.Query.{Query}
@@ -19,7 +20,6 @@ use Rattle.playlist_store.specs.Words.{head_of}
 use Rattle.playlist_store.specs.Lists.{Lists, top, since_of, near_in, has_rule}
 use Rattle.playlist_store.specs.Changes.{TellsOne, Tells, Puts, SetsMember, ChangesOne, InPlace, now_of, is_plain, puts_rule}
 use Rattle.playlist_store.proofs.KeptFacts.{on_top}
-use Rattle.playlist_store.proofs.FrameFacts.{or_none}
 
 -- ---- one list
 
@@ -117,19 +117,12 @@ said : {A : Type 0} (b : Bool) (x y : A) → unwrap_or (only_if b x) y ≡ cond 
 said true x y = refl
 said false x y = refl
 
-or_true : (a b : Bool) → a ≡ true → (a || b) ≡ true
-or_true a b h = ap (λ x. x || b) h
-
 or_false : (a b : Bool) → b ≡ false → (a || b) ≡ a
 or_false true b h = refl
 or_false false b h = h
 
-true_or : (a b : Bool) → b ≡ true → (a || b) ≡ true
-true_or true b h = refl
-true_or false b h = h
-
 any_more : (p : Edit → Bool) (es : List Edit) (e : Edit) → list_any p (es ++ e ∷ []) ≡ (list_any p es || p e)
-any_more p es e = list_any-append p es (e ∷ []) ∙ ap (λ b. list_any p es || b) (or_none (p e))
+any_more p es e = list_any-append p es (e ∷ []) ∙ ap (λ b. list_any p es || b) (or-false (p e))
 
 module _ (n : ℕ) (all batch : List Edit) (e : Edit) (old mid new : Lists) (h : Tells n all batch old mid) where
   -- what an edit leaves of a list that it does not speak of
@@ -142,7 +135,7 @@ module _ (n : ℕ) (all batch : List Edit) (e : Edit) (old mid new : Lists) (h :
       (list_more all e q ∙ ap (λ o. unwrap_or o (list_at all q)) list)
       (λ k. member_more all e q k ∙ ap (λ o. unwrap_or o (member_at all q k)) (member k))
       (any_more (names_list q) batch e ∙ or_false (list_any (names_list q) batch) (names_list q e) names)
-      (λ is. any_more puts_rule batch e ∙ or_true (list_any puts_rule batch) (puts_rule e) is)
+      (λ is. any_more puts_rule batch e ∙ or_left (list_any puts_rule batch) (puts_rule e) is)
       same (h q)
 
   pub tells_none : ((q : ℕ) → says_list q e ≡ None) → ((q k : ℕ) → says_member q k e ≡ None) → ((q : ℕ) → names_list q e ≡ false) → new ≡ mid
@@ -159,13 +152,13 @@ module _ (n : ℕ) (all batch : List Edit) (e : Edit) (old mid new : Lists) (h :
       ⊎_elim
       (λ is.
       let lists : list_at (all ++ e ∷ []) q ≡ l = list_more all e q ∙ ap (λ o. unwrap_or o (list_at all q)) (list q) ∙ said (c == q) l (list_at all q) ∙ ap (λ b. cond b l (list_at all q)) is in
-      let named : list_any (names_list q) (batch ++ e ∷ []) ≡ true = any_more (names_list q) batch e ∙ true_or (list_any (names_list q) batch) (names_list q e) (names q ∙ is) in
+      let named : list_any (names_list q) (batch ++ e ∷ []) ≡ true = any_more (names_list q) batch e ∙ or_right (list_any (names_list q) batch) (names_list q e) (names q ∙ is) in
       tells_same n l (list_at (all ++ e ∷ []) q) (member_at (all ++ e ∷ []) q) (member_at (all ++ e ∷ []) q) true (list_any (names_list q) (batch ++ e ∷ []))
       (list_any puts_rule (batch ++ e ∷ [])) (list_any puts_rule (batch ++ e ∷ [])) (top old q) (Some kept) (top new q)
       lists (λ k. refl) named (λ is. is) (put q ∙ ap (λ b. cond b (Some kept) (top mid q)) is)
       (tells_put n l (member_at (all ++ e ∷ []) q) (list_any puts_rule (batch ++ e ∷ [])) (top old q) kept since head members
       (λ k. member_more all e q k ∙ ap (λ o. unwrap_or o (member_at all q k)) (member q k) ∙ said (c == q) None (member_at all q k) ∙ ap (λ b. cond b None (member_at all q k)) is)
-      (λ is. any_more puts_rule batch e ∙ true_or (list_any puts_rule batch) (puts_rule e) (rules is))))
+      (λ is. any_more puts_rule batch e ∙ or_right (list_any puts_rule batch) (puts_rule e) (rules is))))
       (λ other.
       untold q (list q ∙ ap (λ b. only_if b l) other) (λ k. member q k ∙ ap (λ b. only_if {A = Option ℕ} b None) other) (names q ∙ other)
       (put q ∙ ap (λ b. cond b (Some kept) (top mid q)) other))
@@ -193,7 +186,7 @@ module _ (n : ℕ) (all batch : List Edit) (e : Edit) (old mid new : Lists) (h :
           (λ k. member_more all e q k ∙ ap (λ o. unwrap_or o (member_at all q k)) (member q k ∙ ap (λ b. only_if (b && (key == k)) item) is)
           ∙ said (key == k) item (member_at all q k))
           (any_more (names_list q) batch e ∙ or_false (list_any (names_list q) batch) (names_list q e) (names q))
-          (λ is. any_more puts_rule batch e ∙ or_true (list_any puts_rule batch) (puts_rule e) is)
+          (λ is. any_more puts_rule batch e ∙ or_left (list_any puts_rule batch) (puts_rule e) is)
           refl
           (on_top {R = SetsMember n key item}
           (λ a b. TellsOne n (list_at all q) (member_at all q) (list_any (names_list q) batch) (list_any puts_rule batch) (top old q) a

@@ -3,9 +3,9 @@ use Rattle.std.proofs.Common.{◌≡◌, ◌≤◌, ◌<◌, ◌+◌, ◌⊎◌,
 use Rattle.std.specs.Prelude.{nat_lt}
 use Rattle.std.specs.Option.{option_map, option_map_or}
 use Rattle.std.specs.List.{list_any, sum_by}
-use Rattle.std.specs.Map.{keys_of}
 use Rattle.std.proofs.lemmas.Bool.{cases_Bool, cases_lt, lt-ltb, le-ltb}
 use Rattle.std.proofs.lemmas.List.Sums.{sum_by-cons}
+use Rattle.std.proofs.lemmas.Map.Entries.{length-keys_of}
 use Rattle.item_model.specs.declared.changes.Edit.{Edit}
 use Rattle.share_history.specs.Keyed.{at}
 use Rattle.share_history.specs.Histories.{edits}
@@ -84,10 +84,6 @@ sum_map : (f : ℕ × Playlist → ℕ) (ps : List (ℕ × Playlist)) → sum_by
 sum_map f [] = refl
 sum_map f (p ∷ ps) = sum_by-cons (λ (e : ℕ × ℕ). e.1) (p.0, f p) (map (λ p. (p.0, f p)) ps) ∙ ap (λ n. f p + n) (sum_map f ps) ∙ sym (sum_by-cons f p ps)
 
-length_keys : {A : Type 0} (es : List (ℕ × A)) → length (keys_of es) ≡ length es
-length_keys [] = refl
-length_keys (e ∷ es) = omega (arith, length_keys es)
-
 rule_of : (l : Option Playlist) → has_rule (option_map head_of l) ≡ true → (p : Playlist) × (l ≡ Some p) × ((es batch : List Edit) (c : ℕ) → tests_for es batch c p ≡ cond (list_any (names_list c) batch) (length (library es)) (length (named_items batch)))
 rule_of None h = absurd (true≢false (sym h))
 rule_of (Some (Plain name)) h = absurd (true≢false (sym h))
@@ -116,7 +112,7 @@ ticks_few n c es batch named m rule old is lt (Some k) t =
         → length (tested_ids (k.since == n) es (named_items batch)) ≡ cond (list_any (names_list c) batch) (length (library es)) (length (named_items batch))
     looked true is since =
         ap (λ x. length (tested_ids x es (named_items batch))) (ap (λ s. s == n) since ∙ sym (is_eq-cmp n n) ∙ key_itself n)
-        ∙ length_keys (library es) ∙ sym (ap (λ b. cond b (length (library es)) (length (named_items batch))) is)
+        ∙ length-keys_of (library es) ∙ sym (ap (λ b. cond b (length (library es)) (length (named_items batch))) is)
     looked false is since =
         ap (λ x. length (tested_ids x es (named_items batch)))
         (⊎_elim (λ same. absurd (let e : k.since ≡ n = eqb-true k.since n same in let no : ⊥ = omega (arith, e, since, lt) in no)) (λ other. other) (cases_Bool (k.since == n)))

@@ -1,5 +1,5 @@
 -- A batch that is taken in, one of which a part is taken in and back, and the last that is taken back.
-use Rattle.std.proofs.Common.{◌≡◌, ◌≤◌, ◌<◌, ◌+◌, ◌-◌, ◌⊎◌, inl, inr, ℕ, zero, suc, Bool, true, false, cond, ◌||◌, ◌&&◌, ◌==◌, List, [], ◌∷◌, ◌++◌, length, drop, map, Option, Some, None, is_some, min, get_or, refl, sym, ap, subst, ◌∙◌, ⊎_elim, true≢false, arith}
+use Rattle.std.proofs.Common.{◌≡◌, ◌≤◌, ◌<◌, ◌+◌, ◌-◌, ◌⊎◌, inl, inr, ℕ, Bool, true, false, cond, ◌||◌, ◌&&◌, ◌==◌, List, [], ◌∷◌, ◌++◌, length, drop, map, Option, Some, None, is_some, min, refl, sym, ap, subst, ◌∙◌, ⊎_elim, true≢false, arith}
 use Rattle.std.specs.Prelude.{nat_lt}
 use Rattle.std.specs.List.{list_any}
 use Rattle.std.proofs.lemmas.Bool.{cases_Bool, cases_lt}
@@ -7,6 +7,7 @@ use Rattle.std.proofs.lemmas.List.{drop-append-le, drop-drop, drop-map, map-appe
 use Rattle.std.proofs.lemmas.List.Folds.{list_any-append}
 use Rattle.std.proofs.lemmas.List.Elements.{All-append}
 use Rattle.std.proofs.Math.Nat.{min-le_right, min-le_left, le-min}
+use Rattle.std.proofs.Math.Bool.{or-false}
 use Rattle.item_model.specs.declared.changes.Edit.{Edit}
 use Rattle.item_model.specs.declared.changes.Edit.TheVariants.{PutItem, DropItem, PutList, PutRule, DropList, PutMember, DropMember}
 use Rattle.item_model.specs.Valid.{IsValid, AreValid}
@@ -14,7 +15,8 @@ use Rattle.key_versions.specs.Held.{at, is_among}
 use Rattle.share_history.specs.Numbers.{first_revision}
 use Rattle.share_history.specs.Histories.{edits, revision, up_to, later}
 use Rattle.share_history.specs.Named.{names_item, names_list, names_member, lists_in, named_lists}
-use Rattle.share_history.proofs.EditFacts.{edits_more, revision_more, up_to-revision}
+use Rattle.share_history.proofs.EditFacts.{edits_more, revision_more, up_to-revision, first_false, second_false}
+use Rattle.share_history.proofs.ValidFacts.{valid_front}
 use Rattle.item_store.specs.Stands.{floor_of, named_items}
 use Rattle.item_store.proofs.BatchFacts.{among_named}
 use Rattle.playlist_store.specs.declared.head.ListHead.{ListHead}
@@ -26,7 +28,6 @@ use Rattle.playlist_store.specs.Store.{Store}
 use Rattle.playlist_store.specs.Stands.{Shows, StandsFor, IsUnchanged}
 use Rattle.playlist_store.specs.Changes.{InPlace, Keeps, Frames, Taken, TakesBack, StepsBack, ReturnsNamed, PrunesAll, now_of, is_member_among}
 use Rattle.playlist_store.proofs.KeptFacts.{found_older, top_found, list_since}
-use Rattle.playlist_store.proofs.FrameFacts.{or_none}
 use Rattle.playlist_store.proofs.ShowFacts.{up_to_least, later_more, later_none, Source, shows_moved, since_by, left_at_once, left_unnamed, left_below, shows_pruned}
 use Rattle.playlist_store.proofs.StandFacts.{low_reached, since_now, shows_now, shows_before}
 
@@ -35,9 +36,9 @@ use Rattle.playlist_store.proofs.StandFacts.{low_reached, since_now, shows_now, 
 among_lists_one : (c : ℕ) (e : Edit) → is_among c (lists_in e) ≡ names_list c e
 among_lists_one c (PutItem row) = refl
 among_lists_one c (DropItem id) = refl
-among_lists_one c (PutList list name) = or_none (list == c)
-among_lists_one c (PutRule list name rule) = or_none (list == c)
-among_lists_one c (DropList list) = or_none (list == c)
+among_lists_one c (PutList list name) = or-false (list == c)
+among_lists_one c (PutRule list name rule) = or-false (list == c)
+among_lists_one c (DropList list) = or-false (list == c)
 among_lists_one c (PutMember list member item) = refl
 among_lists_one c (DropMember list member) = refl
 
@@ -52,22 +53,14 @@ among_members_one c key (DropItem id) = refl
 among_members_one c key (PutList list name) = refl
 among_members_one c key (PutRule list name rule) = refl
 among_members_one c key (DropList list) = refl
-among_members_one c key (PutMember list member item) = or_none ((list == c) && (member == key))
-among_members_one c key (DropMember list member) = or_none ((list == c) && (member == key))
+among_members_one c key (PutMember list member item) = or-false ((list == c) && (member == key))
+among_members_one c key (DropMember list member) = or-false ((list == c) && (member == key))
 
 among_members : (c key : ℕ) (es : List Edit) → is_member_among c key (named_members es) ≡ list_any (names_member c key) es
 among_members c key [] = refl
 among_members c key (e ∷ es) =
     list_any-append (λ m. (m.0 == c) && (m.1 == key)) (members_in e) (named_members es)
     ∙ ap (λ b. b || is_member_among c key (named_members es)) (among_members_one c key e) ∙ ap (λ b. names_member c key e || b) (among_members c key es)
-
-first_out : (a b : Bool) → (a || b) ≡ false → a ≡ false
-first_out true b h = absurd (true≢false h)
-first_out false b h = refl
-
-second_out : (a b : Bool) → (a || b) ≡ false → b ≡ false
-second_out true b h = absurd (true≢false h)
-second_out false b h = h
 
 none_any : (es : List Edit) → list_any (λ _. false) es ≡ false
 none_any [] = refl
@@ -87,11 +80,11 @@ unpicked c batch (Some head) key h = kind (is_some head.rule) refl
         ap (λ b. list_any (λ e. cond b (names_item key e) (names_member c key e)) batch) is
         ∙ sym (among_named key batch)
         ∙ sym (ap (λ b. b && is_among key (named_items batch)) is)
-        ∙ second_out (is_member_among c key (named_members batch)) (is_some head.rule && is_among key (named_items batch)) h
+        ∙ second_false (is_member_among c key (named_members batch)) (is_some head.rule && is_among key (named_items batch)) h
     kind false is =
         ap (λ b. list_any (λ e. cond b (names_item key e) (names_member c key e)) batch) is
         ∙ sym (among_members c key batch)
-        ∙ first_out (is_member_among c key (named_members batch)) (is_some head.rule && is_among key (named_items batch)) h
+        ∙ first_false (is_member_among c key (named_members batch)) (is_some head.rule && is_among key (named_items batch)) h
 
 -- ---- what is taken back of one list
 
@@ -124,14 +117,6 @@ module _ (n : ℕ) (batch : List Edit) (old new : Lists) (back : TakesBack n (na
 
 -- ---- the last batch that is taken back
 
-all_first : (es ds : List Edit) → AreValid (es ++ ds) → AreValid es
-all_first [] ds h = λ k d lt. absurd (omega (arith, lt))
-all_first (e ∷ es) ds h = first (all_first es ds (λ k d lt. h (suc k) d (omega (arith, lt))))
-  where
-    first : AreValid es → (k : ℕ) (d : Edit) → k < length (e ∷ es) → IsValid (get_or (e ∷ es) k d)
-    first rest zero d lt = h 0 d (omega arith)
-    first rest (suc k) d lt = rest k d (omega (arith, lt))
-
 later_one : (bs : List (List Edit)) (batch : List Edit) (v : ℕ) → v ≡ revision bs → later (bs ++ batch ∷ []) v ≡ batch
 later_one bs batch v is = later_more bs batch v (omega (arith, is)) ∙ ap (λ es. es ++ batch) (later_none bs v (omega (arith, is)))
 
@@ -162,7 +147,7 @@ undone bs batch s n named new h can last lists taken =
     restored_top s.revision batch s.lists new back some c (early c) in
     record {
       revision = last ∙ was;
-      valid = all_first (edits bs) batch (subst AreValid (edits_more bs batch) h.valid);
+      valid = valid_front (edits bs) batch (subst AreValid (edits_more bs batch) h.valid);
       now =
           shows_moved bs batch [] s.low (λ c. list_in s.lists c (s.revision - 1)) (top new) before (λ c. (top_back c).head) (λ c. (top_back c).since)
           (λ c item key is. (top_back c).near item key ∙ is)

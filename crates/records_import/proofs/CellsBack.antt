@@ -3,7 +3,6 @@ use Rattle.std.proofs.Common.{◌≡◌, ◌≤◌, ◌<◌, ◌^◌, ◌∷◌,
 use Rattle.std.proofs.lemmas.Bool.{and_from, and_parts, le-leb, ltb-true}
 use Rattle.std.proofs.lemmas.Fmt.{decimal_is_IsNumeral, decimal_nonempty, length-decimal-le}
 use Rattle.std.proofs.lemmas.Str.{is_utf8-from_IsUtf8}
-use Rattle.std.proofs.lemmas.Str.Parse.{digit_from_value}
 use Rattle.std.specs.Char.{digit_value, is_ascii_digit}
 use Rattle.std.specs.List.{list_all}
 use Rattle.std.specs.Str.Parse.{AllDigits, digits_value}
@@ -21,20 +20,14 @@ use Rattle.records_import.specs.Records.{Properties, with_cell, with_property}
 use Rattle.records_import.specs.Values.{by_kind, id_in, is_empty, needed_id, number_from, property_flaw, property_in, text_in}
 use Rattle.records_import.specs.Written.{value_cell}
 use Rattle.records_import.specs.declared.header.Column.TheVariants as holds
-
-digit_test : (b : ℕ) → digit_value b < 10 → is_ascii_digit b ≡ true
-digit_test b h = let range = digit_from_value b h in and_from _ _ (le-leb 48 b range.0) (le-leb b 57 range.1)
-
-digits_test : (bytes : List ℕ) → AllDigits 10 bytes → list_all is_ascii_digit bytes ≡ true
-digits_test [] h = refl
-digits_test (b ∷ bs) h = and_from _ _ (digit_test b h.0) (digits_test bs h.1)
+use Rattle.records_import.proofs.Digits.{are_decimal}
 
 -- a number in plain decimal is one to twenty digits
 is_number_written : (n : ℕ) → n < 2 ^ 64 → is_number cell_digits (decimal n) ≡ true
 is_number_written n h =
     let some : 1 ≤ length (decimal n) = omega (arith, decimal_nonempty n h) in
     let few : length (decimal n) ≤ 20 = length-decimal-le 20 n (omega arith) (omega arith) h in
-    and_from _ _ (and_from _ _ (le-leb 1 (length (decimal n)) some) (le-leb (length (decimal n)) 20 few)) (digits_test (decimal n) (decimal_is_IsNumeral n h).0.1)
+    and_from _ _ (and_from _ _ (le-leb 1 (length (decimal n)) some) (le-leb (length (decimal n)) 20 few)) (are_decimal.from (decimal n) (decimal_is_IsNumeral n h).0.1)
 
 pub number_back : (n : ℕ) → n < 2 ^ 64 → cell_number (decimal n) ≡ Some n
 number_back n h = rw (is_number_written n h) (ap Some (decimal_is_IsNumeral n h).1)

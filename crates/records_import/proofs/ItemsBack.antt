@@ -3,12 +3,11 @@ use Rattle.std.proofs.Common.{◌≡◌, ◌≤◌, ◌<◌, ◌+◌, ◌∷◌,
 use Rattle.std.proofs.lemmas.Bool.{and_from, and_parts, cases_Bool, eq-eqb, eqb-false, leb-true, lt-ltb, le-leb, ne_eqb}
 use Rattle.csv.specs.Records.{AllText}
 use Rattle.item_model.proofs.Places.{value_fits}
-use Rattle.item_model.proofs.Ranks.{same_property}
+use Rattle.item_model.proofs.Ranks.{rank_below, same_property}
 use Rattle.item_model.specs.Items.{is_item, is_value_of, rises_from, value_of, with_value}
-use Rattle.item_model.specs.Properties.{all_properties, is_same, rank_of}
+use Rattle.item_model.specs.Properties.{all_properties, is_same, property_count, rank_of}
 use Rattle.item_model.specs.declared.item.PropValue.{PropValue}
 use Rattle.item_model.specs.declared.property.Property.{Property}
-use Rattle.item_model.specs.declared.property.Property.TheVariants.{Minm, Mikd, Mper, Asar, Asal, Asaa, Asgn, Ascp, Ascm, Agrp, Asfm, Asyr, Astn, Astc, Asdn, Asdc, Asbr, Asbt, Astm, Assr, Assz, Asur, Asco, Aemk, Asda, Asdm}
 use Rattle.records_import.specs.Records.{Properties, properties_of, with_cell, with_cells}
 use Rattle.records_import.specs.Values.{property_flaw}
 use Rattle.records_import.specs.Written.{property_cell, value_cell, written_columns}
@@ -18,7 +17,7 @@ use Rattle.records_import.proofs.CellsBack.{value_sound, value_taken}
 
 -- properties from a rank on, with none left out
 abbrev AreFrom : ℕ → List Property → Type 0
-AreFrom n [] = 26 ≤ n
+AreFrom n [] = property_count ≤ n
 AreFrom n (p ∷ ps) = (rank_of p ≡ n) × AreFrom (suc n) ps
 
 from_first : AreFrom 0 all_properties
@@ -99,37 +98,8 @@ value_there item n set left p s r = ap (value_of p) s.whole ∙ value_behind p s
 found : (p q : Property) (v : PropValue) (entries : Properties) → q ≡ p → value_of p ((q, v) ∷ entries) ≡ Some v
 found p q v entries e = rw (eq-eqb (rank_of q) (rank_of p) (ap rank_of e)) refl
 
--- there are 26 ranks
-rank_below : (p : Property) → rank_of p < 26
-rank_below Minm = omega arith
-rank_below Mikd = omega arith
-rank_below Mper = omega arith
-rank_below Asar = omega arith
-rank_below Asal = omega arith
-rank_below Asaa = omega arith
-rank_below Asgn = omega arith
-rank_below Ascp = omega arith
-rank_below Ascm = omega arith
-rank_below Agrp = omega arith
-rank_below Asfm = omega arith
-rank_below Asyr = omega arith
-rank_below Astn = omega arith
-rank_below Astc = omega arith
-rank_below Asdn = omega arith
-rank_below Asdc = omega arith
-rank_below Asbr = omega arith
-rank_below Asbt = omega arith
-rank_below Astm = omega arith
-rank_below Assr = omega arith
-rank_below Assz = omega arith
-rank_below Asur = omega arith
-rank_below Asco = omega arith
-rank_below Aemk = omega arith
-rank_below Asda = omega arith
-rank_below Asdm = omega arith
-
--- so no entry has a rank past the last
-none_left : (left : Properties) (n : ℕ) → 26 ≤ n → rises_from n left ≡ true → left ≡ []
+-- no entry has a rank past the last
+none_left : (left : Properties) (n : ℕ) → property_count ≤ n → rises_from n left ≡ true → left ≡ []
 none_left [] n past h = refl
 none_left (e ∷ left) n past h = absurd (omega (arith, (rises n e left h).from, rank_below e.0))
 

@@ -1,11 +1,8 @@
 -- The body of a listing of such rows is a tag that a reader by the standard codes takes.
-use Rattle.std.proofs.Common.{◌≡◌, ◌<◌, ◌≤◌, ◌^◌, ℕ, ◌+◌, ◌*◌, ◌%◌, ◌==◌, List, [], ◌∷◌, ◌++◌, Bool, true, false, cond, ◌&&◌, nat_le, not, Some, None, map, filter, fold, length, refl, sym, ap, subst, ◌∙◌, arith, le-leb}
+use Rattle.std.proofs.Common.{◌≡◌, ◌<◌, ◌≤◌, ◌^◌, ℕ, ◌+◌, ◌*◌, ◌%◌, ◌==◌, List, [], ◌∷◌, ◌++◌, Bool, true, false, cond, ◌&&◌, nat_le, not, Some, None, map, filter, length, refl, sym, ap, subst, ◌∙◌, arith, le-leb}
 use Rattle.std.specs.List.{AllByRecursion}
 use Rattle.std.proofs.lemmas.List.{length-map}
-use Rattle.std.specs.Ordering.{nat_cmp, match_ordering}
-use Rattle.std.specs.declared.cmp.Ordering.{Ordering}
-use Rattle.std.specs.declared.cmp.Ordering.TheVariants.{Less, Equal, Greater}
-use Rattle.std.specs.BTreeSet.{insert_key}
+use Rattle.std.proofs.lemmas.Bool.{and_from}
 use Rattle.dmap_tags.specs.Codes.{code}
 use Rattle.dmap_tags.specs.Tree.{Tree, Trees, leaf, list, none, more, trees_of, U32, levels, levels_in}
 use Rattle.dmap_tags.specs.Spelling.{spellings}
@@ -32,6 +29,7 @@ use Rattle.share_history.proofs.DeltaFacts.{map-filter, gone_all, few_gone}
 use Rattle.share_history.proofs.EditFacts.{edits-split}
 use Rattle.share_history.proofs.RangeFacts.{length-delta}
 use Rattle.share_history.proofs.RowFacts.{length-rows}
+use Rattle.share_history.proofs.KeyedFacts.{all-ascending}
 use Rattle.listing_plan.proofs.Spelled.{more_length}
 use Rattle.listing_plan.proofs.Bodies.{parts_length, gone_length}
 use Rattle.rehearsal.specs.Edits.{row_by}
@@ -43,14 +41,10 @@ use Rattle.rehearsal.proofs.RowFacts.{rows_made, made_filter, AreGood, rows_good
 tags_in : List (ℕ × Tree) → List Tree
 tags_in rows = map (λ row. row.1) rows
 
-both : (a b : Bool) → a ≡ true → b ≡ true → (a && b) ≡ true
-both true b h k = k
-both false b h k = h
-
 rows_fit : (rows : List (ℕ × Tree)) → AreGood rows → all_fit standard_rows (code "mlcl") (trees_of (tags_in rows)) ≡ true
 unfolding tags_in
 rows_fit [] good = refl
-rows_fit (row ∷ rows) good = both (fits standard_rows (Some (code "mlcl")) row.1) (all_fit standard_rows (code "mlcl") (trees_of (tags_in rows))) good.0.fit (rows_fit rows good.1)
+rows_fit (row ∷ rows) good = and_from (fits standard_rows (Some (code "mlcl")) row.1) (all_fit standard_rows (code "mlcl") (trees_of (tags_in rows))) good.0.fit (rows_fit rows good.1)
 
 rows_deep : (rows : List (ℕ × Tree)) → AreGood rows → levels_in (trees_of (tags_in rows)) ≤ 2
 unfolding tags_in
@@ -102,7 +96,7 @@ pub record IsReadable (l : Listing) : Type 0 where
 gone_fit : (is_delta : Bool) (keys : List ℕ) → all_fit standard_rows (code "adbs") (trees_of (gone_tags Items is_delta keys)) ≡ true
 unfolding key_tags
 gone_fit false keys = refl
-gone_fit true keys = both (all_fit standard_rows (code "mudl") (trees_of (key_tags keys))) true (keys_fit keys) refl
+gone_fit true keys = and_from (all_fit standard_rows (code "mudl") (trees_of (key_tags keys))) true (keys_fit keys) refl
 
 gone_deep : (is_delta : Bool) (keys : List ℕ) → levels_in (trees_of (gone_tags Items is_delta keys)) ≤ 2
 unfolding key_tags
@@ -130,7 +124,7 @@ members l = trees_of (start_tags l.is_delta l.revision l.total (length l.rows) +
 
 body_fits : (l : Listing) → IsReadable l → fits standard_rows None (list (code "adbs") (members l)) ≡ true
 unfolding members
-body_fits l h = both (all_fit standard_rows (code "mlcl") (trees_of (tags_in l.rows))) (all_fit standard_rows (code "adbs") (trees_of (gone_tags Items l.is_delta l.gone))) (rows_fit l.rows h.rows) (gone_fit l.is_delta l.gone)
+body_fits l h = and_from (all_fit standard_rows (code "mlcl") (trees_of (tags_in l.rows))) (all_fit standard_rows (code "adbs") (trees_of (gone_tags Items l.is_delta l.gone))) (rows_fit l.rows h.rows) (gone_fit l.is_delta l.gone)
 
 body_deep : (l : Listing) → IsReadable l → levels (list (code "adbs") (members l)) ≤ 32
 unfolding members
@@ -159,8 +153,8 @@ body_proper l h =
 pub body_accepted : (l : Listing) → IsReadable l → is_accepted standard_rows 1073741824 (body_tree Items l) ≡ true
 unfolding members tags_in
 body_accepted l h =
-    both (fits standard_rows None (list (code "adbs") (members l))) (nat_le (levels (list (code "adbs") (members l))) 32 && nat_le (length (spellings (members l))) 1073741824) (body_fits l h)
-    (both (nat_le (levels (list (code "adbs") (members l))) 32) (nat_le (length (spellings (members l))) 1073741824) (le-leb (levels (list (code "adbs") (members l))) 32 (body_deep l h)) (le-leb (length (spellings (members l))) 1073741824 (body_short l h)))
+    and_from (fits standard_rows None (list (code "adbs") (members l))) (nat_le (levels (list (code "adbs") (members l))) 32 && nat_le (length (spellings (members l))) 1073741824) (body_fits l h)
+    (and_from (nat_le (levels (list (code "adbs") (members l))) 32) (nat_le (length (spellings (members l))) 1073741824) (le-leb (levels (list (code "adbs") (members l))) 32 (body_deep l h)) (le-leb (length (spellings (members l))) 1073741824 (body_short l h)))
 
 pub body_is_proper : (l : Listing) → IsReadable l → IsProperTag (body_tree Items l)
 unfolding members tags_in
@@ -182,19 +176,6 @@ small_append (x ∷ xs) ys h k = (h.0, small_append xs ys h.1 k)
 small_keys : (es : List Edit) → AreMade es → AreSmall (named_keys es)
 small_keys [] made = tt
 small_keys (e ∷ es) made = small_append (keys_in e) (named_keys es) (small_in e made.0) (small_keys es made.1)
-
-small_insert : (ks : List ℕ) (k : ℕ) → AreSmall ks → k < 2 ^ 32 → AreSmall (insert_key nat_cmp ks k)
-small_insert [] k h lt = (lt, tt)
-small_insert (x ∷ xs) k h lt = by_order (nat_cmp k x) (small_insert xs k h.1 lt)
-  where
-    by_order : (r : Ordering) → AreSmall (insert_key nat_cmp xs k) → AreSmall (match_ordering r (k ∷ x ∷ xs) (x ∷ xs) (x ∷ insert_key nat_cmp xs k))
-    by_order Less rest = (lt, h)
-    by_order Equal rest = h
-    by_order Greater rest = (h.0, rest)
-
-small_folded : (acc ks : List ℕ) → AreSmall acc → AreSmall ks → AreSmall (fold (insert_key nat_cmp) acc ks)
-small_folded acc [] h k = h
-small_folded acc (x ∷ ks) h k = small_folded (insert_key nat_cmp acc x) ks (small_insert acc x h k.0) k.1
 
 full_readable : (bs : List (List Edit)) (look : Look) → look.meta ≡ Default → look.range ≡ whole_range → AreMade (edits bs) → length (edits bs) ≤ 262144 → revision bs < 2 ^ 32
     → IsReadable (full_listing bs Items look)
@@ -222,7 +203,7 @@ delta_readable bs look base meta made few v =
     let made_then : AreMade (edits (up_to bs base)) = made_front (edits (up_to bs base)) (later bs base) (subst AreMade (edits-split bs base) made) in
     record {
       rows = subst AreGood (map-filter (shown Items look.meta) new all) good;
-      gone = gone_all (λ key. key < 2 ^ 32) bs Items look base (small_folded [] (named_keys (edits (up_to bs base))) tt (small_keys (edits (up_to bs base)) made_then));
+      gone = gone_all (λ key. key < 2 ^ 32) bs Items look base (all-ascending (λ key. key < 2 ^ 32) (named_keys (edits (up_to bs base))) (small_keys (edits (up_to bs base)) made_then));
       few = omega (arith, length-delta bs Items look base, few);
       few_gone = omega (arith, few_gone bs Items look base, few);
       revision = v;

@@ -1,5 +1,5 @@
 -- Bytes of one tag, read by a table that is the standard one.
-use Rattle.std.proofs.Common.{◌≡◌, ◌++◌, ℕ, List, [], true, sym, subst, ◌∙◌, append-nil, Result, Ok, Err, IfOk}
+use Rattle.std.proofs.Common.{◌≡◌, ◌++◌, ℕ, List, [], true, sym, subst, ◌∙◌, append-nil}
 use Rattle.dmap_tags.specs.Tree.{Tree}
 use Rattle.dmap_tags.specs.Spelling.{spelling}
 use Rattle.code_table.specs.declared.row.CodeRow.{CodeRow}
@@ -13,8 +13,3 @@ by_table rows t bytes same is = subst (λ table. is_accepted table listing_limit
 
 pub alone : (t : Tree) (bytes : List ℕ) → IsCarried t bytes → bytes ≡ spelling t ++ []
 alone t bytes is = is.spelled ∙ sym (append-nil (spelling t))
-
--- what holds of a value that is answered may be read on
-pub on_ok : {T E : Type 0} {P Q : T → Type 0} (r : Result T E) → ((x : T) → P x → Q x) → IfOk r P → IfOk r Q
-on_ok (Ok x) f h = f x h
-on_ok (Err e) f h = h

@@ -24,17 +24,17 @@ use Rattle.command_core.specs.ReadRecords.{records_limit, IsRefused, LeavesMany}
 use Rattle.serve_command.specs.declared.fault.ServeFault.{ServeFault}
 use Rattle.serve_command.specs.declared.fault.ServeFault.TheVariants.{Network, TooLong, Records, TooManyLists}
 use Rattle.serve_command.specs.declared.terms.Serving.{Serving}
-use Rattle.serve_command.specs.declared.verdict.Verdict.{Verdict}
-use Rattle.serve_command.specs.declared.verdict.Verdict.TheVariants.{Done, NetworkFailed, OutOfMemory, Exhausted}
+use Rattle.share_crew.specs.declared.verdict.Verdict.{Verdict}
+use Rattle.share_crew.specs.declared.verdict.Verdict.TheVariants.{Done, NetworkFailed, OutOfMemory, Exhausted}
 use Rattle.serve_command.specs.Faults.{IsLibrary, StopsServing}
-use Rattle.serve_command.specs.Lines.{ended_line}
+use Rattle.share_crew.specs.Lines.{ended_line}
 use Rattle.serve_command.specs.Laws.{IsSpent, RunsAreDecided}
-use Rattle.serve_command.specs.Places.{CountsShut}
+use Rattle.share_crew.specs.Doors.{CountsShut}
 use Rattle.serve_command.specs.Runs.{first_line, TellsStop, TellsEnd, NotBegun, stopped, cut, wanting, unopened, unbegun, served}
-use Rattle.serve_command.specs.Stints.{Stint}
+use Rattle.share_crew.specs.Stints.{Stint}
 use Rattle.serve_command.specs.Terms.{settings_of}
-use Rattle.serve_command.specs.Verdicts.{end_number, has_end, verdict_of, verdict_status, with_memory}
-use Rattle.serve_command.proofs.Numbers.{contains_head, contains_tail}
+use Rattle.share_crew.specs.Verdicts.{end_number, has_end, verdict_of, verdict_status, with_memory}
+use Rattle.share_crew.proofs.Numbers.{contains_head, contains_tail}
 
 -- what was told whole has its status
 told_as : (wanted : ℕ) (bytes : List ℕ) (before after : OutputSeen) (status : ℕ) → ¬ (Rose before.faults after.faults) → Tells wanted bytes before after status → status ≡ wanted

@@ -1,21 +1,15 @@
 -- What success says of the workers.
-use Rattle.std.proofs.Common.{◌≡◌, ◌||◌, ℕ, Bool, true, false, cond, List, [], ◌∷◌, ◌++◌, length, map, Option, None, Some, refl, sym, ap, ◌∙◌, inl, inr, arith, append-nil, length-append}
-use Rattle.std.proofs.lemmas.List.Folds.{list_any-append}
-use Rattle.std.specs.List.{AllByRecursion, list_any}
-use Rattle.std.specs.Prelude.{nat_eq}
+use Rattle.std.proofs.Common.{◌≡◌, ℕ, List, map, refl, sym, ◌∙◌, inl, inr, arith}
+use Rattle.std.specs.List.{AllByRecursion}
 use Rattle.item_model.specs.declared.changes.Entry.{Entry}
-use Rattle.share_history.specs.Sessions.{is_stop, is_stopped}
 use Rattle.share_replies.specs.Settings.{Settings}
-use Rattle.share_workers.specs.declared.worker.WorkerEnd.{WorkerEnd}
-use Rattle.share_workers.specs.declared.worker.WorkerEnd.TheVariants as worker
-use Rattle.share_workers.specs.Works.{Came, IsOver}
-use Rattle.share_workers.specs.Ends.{EndsWorker}
 use Rattle.command_core.specs.Seen.{OutputSeen}
-use Rattle.serve_command.specs.declared.verdict.Verdict.{Verdict}
-use Rattle.serve_command.specs.declared.verdict.Verdict.TheVariants.{Done, NetworkFailed, OutOfMemory, Exhausted}
+use Rattle.share_crew.specs.declared.verdict.Verdict.{Verdict}
+use Rattle.share_crew.specs.declared.verdict.Verdict.TheVariants.{Done, NetworkFailed, OutOfMemory, Exhausted}
+use Rattle.share_crew.specs.Stints.{Stint, IsPart, IsWhole}
+use Rattle.share_crew.specs.Verdicts.{verdict_of, verdict_status, with_memory}
+use Rattle.share_crew.proofs.Ending.{wholes_by}
 use Rattle.serve_command.specs.Runs.{TellsEnd}
-use Rattle.serve_command.specs.Stints.{Stint, IsPart, IsWhole, AreAll}
-use Rattle.serve_command.specs.Verdicts.{end_number, has_end, verdict_of, verdict_status, with_memory}
 
 -- only a verdict that all was done has the status of success
 done_by : (verdict : Verdict) → 0 ≡ verdict_status verdict → verdict ≡ Done
@@ -36,77 +30,9 @@ done_from front ended verdict before after status is (inl (inr h)) = absurd (ome
 done_from front ended verdict before after status is (inr (inl h)) = absurd (not_done verdict (sym is ∙ h.0))
 done_from front ended verdict before after status is (inr (inr h)) = absurd (omega (arith, is, h.0))
 
--- then no worker ended for want of the net, of memory or of numbers
-pub record NoneFailed (ends : List WorkerEnd) : Type 0 where
-  pub network : has_end worker.AcceptFault ends ≡ false
-  pub memory : has_end worker.Memory ends ≡ false
-  pub spent : has_end worker.Spent ends ≡ false
-
-none_failed : (ends : List WorkerEnd) (network memory spent : Bool) → has_end worker.AcceptFault ends ≡ network → has_end worker.Memory ends ≡ memory → has_end worker.Spent ends ≡ spent
-    → cond network NetworkFailed (cond memory OutOfMemory (cond spent Exhausted Done)) ≡ Done → NoneFailed ends
-none_failed ends true memory spent n m s is = absurd (cc)
-none_failed ends false true spent n m s is = absurd (cc)
-none_failed ends false false true n m s is = absurd (cc)
-none_failed ends false false false n m s is = record { network = n; memory = m; spent = s }
-
-or_left : (a b : Bool) → (a || b) ≡ false → a ≡ false
-or_left true b is = absurd (cc)
-or_left false b is = refl
-
-or_right : (a b : Bool) → (a || b) ≡ false → b ≡ false
-or_right true b is = absurd (cc)
-or_right false b is = is
-
-stopped_longer : (seen later history : List Entry) → history ≡ seen ++ later → is_stopped seen ≡ true → is_stopped history ≡ true
-stopped_longer seen later history is stopped = ap is_stopped is ∙ (list_any-append is_stop seen later ∙ ap (λ (b : Bool). b || list_any is_stop later) stopped)
-
-all_came : (to_come left : Option (List (List ℕ))) (inputs : List (List ℕ)) → IsOver to_come left → Came to_come left inputs → AreAll to_come inputs
-all_came None left inputs over came = tt
-all_came (Some to_come) None inputs over came = absurd came
-all_came (Some to_come) (Some rest) inputs over came = came ∙ (ap (λ l. inputs ++ l) (some_is rest [] over) ∙ append-nil inputs)
-  where
-    some_is : (xs ys : List (List ℕ)) → Some xs ≡ Some ys → xs ≡ ys
-    some_is xs ys h = ap (λ (o : Option (List (List ℕ))). of o) h
-      where
-        of : Option (List (List ℕ)) → List (List ℕ)
-        of None = []
-        of (Some zs) = zs
-
-module _ {settings : Settings} {opening : List Entry} where
-  whole_as : (history : List Entry) (stint : Stint settings opening) (end : WorkerEnd) → IsPart history stint
-      → EndsWorker (record { settings = settings; number = stint.pass.number; taken_in = []; seen = opening; looks = []; is_over = false }) stint.pass stint.to_come stint.left stint.reports end
-      → NoneFailed (end ∷ []) → IsWhole history stint
-  whole_as history stint worker.Running part ends none = absurd ends
-  whole_as history stint worker.Stopped part ends none =
-      inr (
-        (λ is. let count : length stint.reports ≡ 0 = ap length is in let more = ap length ends.0.are ∙ length-append ends.0.earlier (ends.0.last ∷ []) in omega (arith, count, more)),
-        stopped_longer stint.pass.seen part.later history part.begins ends.1,
-      )
-  whole_as history stint worker.NoMoreLinks part ends none = inl (all_came stint.to_come stint.left stint.served.works.inputs ends.1 stint.served.works.came)
-  whole_as history stint worker.Spent part ends none = absurd (let h = none.spent in cc)
-  whole_as history stint worker.AcceptFault part ends none = absurd (let h = none.network in cc)
-  whole_as history stint worker.Memory part ends none = absurd (let h = none.memory in cc)
-
-  wholes : (history : List Entry) (stints : List (Stint settings opening)) → AllByRecursion (IsPart history) stints → NoneFailed (map (λ (s : Stint settings opening). s.end) stints)
-      → AllByRecursion (IsWhole history) stints
-  wholes history [] parts none = tt
-  wholes history (stint ∷ stints) parts none =
-      let ends = map (λ (s : Stint settings opening). s.end) stints in
-      let first : (end : WorkerEnd) → has_end end (stint.end ∷ ends) ≡ false → has_end end (stint.end ∷ []) ≡ false =
-      λ end is. ap (λ (b : Bool). b || false) (or_left (nat_eq (end_number stint.end) (end_number end)) (has_end end ends) is) in
-      let rest : (end : WorkerEnd) → has_end end (stint.end ∷ ends) ≡ false → has_end end ends ≡ false =
-      λ end is. or_right (nat_eq (end_number stint.end) (end_number end)) (has_end end ends) is in (
-        whole_as history stint stint.end parts.0 stint.served.ends
-            (record { network = first worker.AcceptFault none.network; memory = first worker.Memory none.memory; spent = first worker.Spent none.spent }),
-        wholes history stints parts.1
-            (record { network = rest worker.AcceptFault none.network; memory = rest worker.Memory none.memory; spent = rest worker.Spent none.spent }),
-      )
-
-  -- success says that each worker served what came, or until the stop
-  pub whole_by : (history : List Entry) (stints : List (Stint settings opening)) (front ended : List ℕ) (verdict : Verdict) (before after : OutputSeen) (status : ℕ)
-      → AllByRecursion (IsPart history) stints → verdict ≡ verdict_of (map (λ (s : Stint settings opening). s.end) stints) → TellsEnd front ended verdict before after status
-      → status ≡ 0 → AllByRecursion (IsWhole history) stints
-  whole_by history stints front ended verdict before after status parts is told success =
-      let ends = map (λ (s : Stint settings opening). s.end) stints in
-      wholes history stints parts (none_failed ends (has_end worker.AcceptFault ends) (has_end worker.Memory ends) (has_end worker.Spent ends) refl refl refl
-      (sym is ∙ done_from front ended verdict before after status success told))
+-- then each worker served what came, or until the stop
+pub whole_by : {settings : Settings} {opening : List Entry} (history : List Entry) (stints : List (Stint settings opening)) (front ended : List ℕ) (verdict : Verdict) (before after : OutputSeen) (status : ℕ)
+    → AllByRecursion (IsPart history) stints → verdict ≡ verdict_of (map (λ (s : Stint settings opening). s.end) stints) → TellsEnd front ended verdict before after status
+    → status ≡ 0 → AllByRecursion (IsWhole history) stints
+whole_by history stints front ended verdict before after status parts is told success =
+    wholes_by history stints parts (sym is ∙ done_from front ended verdict before after status success told)

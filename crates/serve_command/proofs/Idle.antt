@@ -7,7 +7,7 @@ use Rattle.command_core.specs.Seen.{Seen, NetSeen, Told}
 use Rattle.serve_command.specs.declared.terms.Serving.{Serving}
 use Rattle.serve_command.specs.Places.{FailsToOpen}
 use Rattle.serve_command.specs.Runs.{Left, HasNoShare, ServeEnds, unopened}
-use Rattle.serve_command.proofs.Nets.{grows_none}
+use Rattle.share_crew.proofs.Nets.{grows_none}
 
 -- no place was asked for
 no_place : (serving : Serving) (net : NetSeen) → FailsToOpen serving net net fault.Memory

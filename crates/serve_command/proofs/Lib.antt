@@ -1,14 +1,8 @@
 pub mod Inputs
 pub mod Nets
-pub mod Numbers
-pub mod Joining
-pub mod Staffing
-pub mod OneHistory
 pub mod Telling
 pub mod Beginning
 pub mod Ending
-pub mod Working
-pub mod Counting
 pub mod Whole
 pub mod Idle
 pub mod Deciding

@@ -6,26 +6,11 @@ use Rattle.std.specs.Io.KnownBytes.{Appends}
 use Rattle.command_core.specs.Seen.{OutputSeen}
 use Rattle.command_core.specs.Endings.{IsWritten, IsCut}
 use Rattle.command_core.specs.Answers.{Tells}
-use Rattle.command_core.proofs.Appending.{written_more, cut_more}
-use Rattle.serve_command.specs.declared.verdict.Verdict.{Verdict}
+use Rattle.command_core.proofs.Appending.{cut_more}
+use Rattle.share_crew.proofs.Telling.{told_behind, cut_wider}
+use Rattle.share_crew.specs.declared.verdict.Verdict.{Verdict}
 use Rattle.serve_command.specs.Runs.{TellsEnd}
-use Rattle.serve_command.specs.Verdicts.{verdict_line, verdict_status, with_memory}
-
--- behind a front
-pub told_behind : (start mid after : OutputSeen) (front bytes : List ℕ) (wanted status : ℕ) → IsWritten start mid front → Tells wanted bytes mid after status → Tells wanted (front ++ bytes) start after status
-told_behind start mid after front bytes wanted status w (inl h) = inl (h.0, written_more start mid after front bytes w h.1)
-told_behind start mid after front bytes wanted status w (inr h) = inr (h.0, cut_more start mid after front bytes w h.1)
-
--- an output that failed in some bytes failed in more
-pub cut_wider : (before after : OutputSeen) (bytes more : List ℕ) → IsCut before after bytes → IsCut before after (bytes ++ more)
-cut_wider before after bytes more h = record {
-  taken = (
-    h.taken.0,
-    (let few = h.taken.1 in omega (arith, length-append bytes more)),
-    subst (Appends before.taken after.taken) (sym (take-append-le h.taken.0 bytes more h.taken.1)) h.taken.2,
-  );
-  rose = h.rose;
-}
+use Rattle.share_crew.specs.Verdicts.{verdict_line, verdict_status, with_memory}
 
 -- the line was written, and that of the verdict behind it
 pub told_line : (start old mid after : OutputSeen) (front line : List ℕ) (verdict : Verdict) (status : ℕ) → IsWritten start old front → IsWritten old mid line

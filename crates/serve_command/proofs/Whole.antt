@@ -1,5 +1,6 @@
 -- A run of `serve`, put together.
-use Rattle.std.proofs.Common.{◌≡◌, ℕ, List, ◌++◌, length, map, Option, Some, sym, subst, ◌∙◌}
+use Rattle.std.proofs.Common.{◌≡◌, ◌+◌, ℕ, List, [], ◌++◌, length, map, Option, Some, sym, subst, ap, ◌∙◌, append-nil}
+use Rattle.std.proofs.lemmas.List.{length-map}
 use Rattle.std.proofs.lemmas.Simd.{splat_is_map}
 use Rattle.daap_outside.specs.Told.{Grows}
 use Rattle.item_model.specs.declared.changes.Edit.{Edit}
@@ -8,16 +9,18 @@ use Rattle.share_asks.specs.declared.ask.Role.{Role}
 use Rattle.share_asks.specs.declared.ask.Role.TheVariants as role
 use Rattle.share_history.specs.Histories.{batches, opening, revision}
 use Rattle.share_server.specs.declared.report.LinkReport.{LinkReport}
+use Rattle.share_server.specs.Passes.{Pass}
 use Rattle.command_core.specs.Seen.{NetSeen, OutputSeen}
 use Rattle.serve_command.specs.declared.terms.Serving.{Serving}
-use Rattle.serve_command.specs.declared.verdict.Verdict.{Verdict}
+use Rattle.share_crew.specs.declared.verdict.Verdict.{Verdict}
 use Rattle.serve_command.specs.Terms.{settings_of, places_of, workers_of, roles_of}
-use Rattle.serve_command.specs.Lines.{ended_line}
-use Rattle.serve_command.specs.Verdicts.{verdict_of}
-use Rattle.serve_command.specs.Places.{CountsShut, HaveLinks, HasOpened}
-use Rattle.serve_command.specs.Stints.{IsHistoryOf}
+use Rattle.share_crew.specs.Lines.{ended_line}
+use Rattle.share_crew.specs.Verdicts.{verdict_of}
+use Rattle.share_crew.specs.Doors.{CountsShut, HaveLinks}
+use Rattle.share_crew.specs.Gathered.{HasGathered}
+use Rattle.serve_command.specs.Places.{HasOpened}
+use Rattle.share_crew.specs.Stints.{IsHistoryOf, passes_in}
 use Rattle.serve_command.specs.Runs.{Left, TellsEnd, HasServed}
-use Rattle.serve_command.specs.Worked.{HasWorked}
 use Rattle.serve_command.proofs.Ending.{whole_by}
 
 roles_are : {D : Type 0} (serving : Serving) (listen edit : List D) → length listen ≡ serving.workers → length edit ≡ serving.editors
@@ -25,24 +28,28 @@ roles_are : {D : Type 0} (serving : Serving) (listen edit : List D) → length l
 roles_are {D} serving listen edit w e = λ i. sym (splat_is_map listen serving.workers role.Listen w) i ++ sym (splat_is_map edit serving.editors role.Edit e) i
 
 pub has_served : {D : Type 0} (serving : Serving) (edits : List Edit) (front : List ℕ) (start mid now : NetSeen) (before after : OutputSeen) (left : Left) (coming : D → Option (List (List ℕ))) (listen edit : List D)
-    (count : ℕ) (roles : List Role) (come : List (Option (List (List ℕ)))) (history : List Entry) (links : List (List LinkReport)) (verdict : Verdict)
+    (count : ℕ) (roles : List Role) (come : List (Option (List (List ℕ)))) (k : Pass) (history : List Entry) (links : List (List LinkReport)) (verdict : Verdict)
     → HasOpened serving start mid (length listen) (length edit) (map coming (listen ++ edit))
-    → HasWorked (settings_of serving) (opening edits) count roles come start.written mid.written now.written mid.faults now.faults history links verdict
-    → count ≡ workers_of serving → roles ≡ map (λ (d : D). role.Listen) listen ++ map (λ (d : D). role.Edit) edit → come ≡ map coming (listen ++ edit) → now.asked ≡ mid.asked
+    → (g : HasGathered (settings_of serving) (opening edits) (count + 1) roles come start.written mid.written now.written mid.faults now.faults k links verdict)
+    → (count + 1 ≡ length (passes_in g.crew ++ []) + 1 → IsHistoryOf (length (passes_in g.crew ++ [])) history g.crew [])
+    → count ≡ workers_of serving → count ≡ length roles → roles ≡ map (λ (d : D). role.Listen) listen ++ map (λ (d : D). role.Edit) edit → come ≡ map coming (listen ++ edit) → now.asked ≡ mid.asked
     → left.history ≡ Some history → left.links ≡ links → TellsEnd front (ended_line (revision (batches history)) links) verdict before after left.status
     → HasServed serving edits front start now before after left
-has_served serving edits front start mid now before after left coming listen edit count roles come history links verdict opened worked count_is roles_is come_is asked history_is links_is told = record {
-  history = history;
-  history_is = history_is;
-  crew = worked.crew;
-  roles = worked.roles_are ∙ (roles_is ∙ roles_are serving listen edit opened.listening opened.editing);
-  links = links_is ∙ worked.links_are;
-  one = subst (λ n. IsHistoryOf n history worked.crew) count_is worked.one;
-  to_come = subst (HaveLinks start.door_links) (sym (worked.coming_are ∙ come_is)) opened.links;
-  asked = subst (λ a. Grows start.asked a (places_of serving)) (sym asked) opened.asked.asked;
-  written = worked.written_grows opened.asked.written;
-  counts = subst (λ n. CountsShut n now.faults (map (λ stint. stint.end) worked.crew)) opened.faultless worked.counts;
-  told = subst (λ l. TellsEnd front (ended_line (revision (batches history)) l) (verdict_of (map (λ stint. stint.end) worked.crew)) before after left.status) (sym links_is)
-      (subst (λ v. TellsEnd front (ended_line (revision (batches history)) links) v before after left.status) worked.verdict_is told);
-  whole = whole_by history worked.crew front (ended_line (revision (batches history)) links) verdict before after left.status worked.one.parts worked.verdict_is told;
-}
+has_served serving edits front start mid now before after left coming listen edit count roles come k history links verdict opened g one count_is as_many roles_is come_is asked history_is links_is told =
+    let members : length (passes_in g.crew ++ []) ≡ count =
+    ap length (append-nil (passes_in g.crew)) ∙ (length-map g.crew (λ s. s.pass) ∙ (sym (length-map g.crew (λ s. s.role)) ∙ (ap length g.roles_are ∙ sym as_many))) in
+    let whole_history = subst (λ n. IsHistoryOf n history g.crew []) (members ∙ count_is) (one (ap (λ n. n + 1) (sym members))) in record {
+      history = history;
+      history_is = history_is;
+      crew = g.crew;
+      roles = g.roles_are ∙ (roles_is ∙ roles_are serving listen edit opened.listening opened.editing);
+      links = links_is ∙ g.links_are;
+      one = whole_history;
+      to_come = subst (HaveLinks start.door_links) (sym (g.coming_are ∙ come_is)) opened.links;
+      asked = subst (λ a. Grows start.asked a (places_of serving)) (sym asked) opened.asked.asked;
+      written = g.written_grows opened.asked.written;
+      counts = subst (λ n. CountsShut n now.faults (map (λ stint. stint.end) g.crew)) opened.faultless g.counts;
+      told = subst (λ l. TellsEnd front (ended_line (revision (batches history)) l) (verdict_of (map (λ stint. stint.end) g.crew)) before after left.status) (sym links_is)
+          (subst (λ v. TellsEnd front (ended_line (revision (batches history)) links) v before after left.status) g.verdict_is told);
+      whole = whole_by history g.crew front (ended_line (revision (batches history)) links) verdict before after left.status whole_history.parts g.verdict_is told;
+    }

@@ -1,11 +1,7 @@
 pub mod Terms
 pub mod Lines
 pub mod Faults
-pub mod Verdicts
 pub mod Places
-pub mod Stints
-pub mod Crews
-pub mod Worked
 pub mod Runs
 pub mod Begun
 pub mod Outcomes

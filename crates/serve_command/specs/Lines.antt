@@ -1,21 +1,6 @@
--- The two lines of a share that is served.
-use Rattle.std.specs.Prelude.{ℕ, List, [], ◌∷◌, ◌++◌, length, codes, decimal}
-use Rattle.std.specs.List.{flat_map}
-use Rattle.share_server.specs.declared.report.LinkReport.{LinkReport}
-use Rattle.share_workers.specs.Works.{all_served}
+-- The first line of a share that is served.
+use Rattle.std.specs.Prelude.{ℕ, List, [], ◌∷◌, ◌++◌, codes, decimal}
 
 -- where both places are open
 abbrev pub serving_line : (name : List ℕ) → (revision : ℕ) → List ℕ
 serving_line name revision = ((codes "serving " ++ name) ++ (codes " at revision " ++ decimal revision)) ++ 10 ∷ []
-
--- the links of all workers, and the requests that were served on them
-abbrev pub links_in : List (List LinkReport) → ℕ
-links_in workers = length (flat_map (λ links. links) workers)
-
-abbrev pub requests_in : List (List LinkReport) → ℕ
-requests_in workers = length (all_served (flat_map (λ links. links) workers))
-
--- where all workers have ended
-abbrev pub ended_line : (revision : ℕ) → List (List LinkReport) → List ℕ
-ended_line revision workers =
-    (((codes "ended at revision " ++ decimal revision) ++ (codes ", links " ++ decimal (links_in workers))) ++ (codes ", requests " ++ decimal (requests_in workers))) ++ 10 ∷ []

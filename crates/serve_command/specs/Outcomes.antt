@@ -1,5 +1,5 @@
 -- What an outcome of `serve` tells.
-use Rattle.serve_command.specs.declared.outcome.Outcome.{Outcome}
+use Rattle.share_crew.specs.declared.outcome.Outcome.{Outcome}
 use Rattle.serve_command.specs.Runs.{Left}
 
 abbrev pub left_of : Outcome → Left

@@ -8,18 +8,20 @@ use Rattle.share_history.specs.Histories.{batches, opening, revision}
 use Rattle.share_server.specs.declared.report.LinkReport.{LinkReport}
 use Rattle.command_core.specs.declared.fault.Fault.{Fault}
 use Rattle.command_core.specs.Faults.{memory_line, fault_line, fault_status}
-use Rattle.command_core.specs.Seen.{InputSeen, OutputSeen, FilesSeen, NetSeen, IsUnread, Told}
+use Rattle.command_core.specs.Seen.{InputSeen, OutputSeen, NetSeen, IsUnread, Told}
 use Rattle.command_core.specs.Endings.{IsCut}
 use Rattle.command_core.specs.Answers.{Tells}
 use Rattle.serve_command.specs.declared.fault.ServeFault.{ServeFault}
 use Rattle.serve_command.specs.declared.terms.Serving.{Serving}
-use Rattle.serve_command.specs.declared.verdict.Verdict.{Verdict}
+use Rattle.share_crew.specs.declared.verdict.Verdict.{Verdict}
 use Rattle.serve_command.specs.Terms.{settings_of, places_of, workers_of, roles_of}
-use Rattle.serve_command.specs.Lines.{serving_line, ended_line}
+use Rattle.share_crew.specs.Lines.{ended_line}
+use Rattle.serve_command.specs.Lines.{serving_line}
 use Rattle.serve_command.specs.Faults.{HasRead, serve_line, serve_status, StopsServing}
-use Rattle.serve_command.specs.Verdicts.{verdict_of, verdict_line, verdict_status, with_memory}
-use Rattle.serve_command.specs.Places.{CountsShut, HasAsked, HaveLinks, FailsToOpen}
-use Rattle.serve_command.specs.Stints.{Stint, IsHistoryOf, IsWhole, returns_of}
+use Rattle.share_crew.specs.Verdicts.{verdict_of, verdict_line, verdict_status, with_memory}
+use Rattle.share_crew.specs.Doors.{CountsShut, HaveLinks}
+use Rattle.serve_command.specs.Places.{HasAsked, FailsToOpen}
+use Rattle.share_crew.specs.Stints.{Stint, IsHistoryOf, IsWhole, returns_of}
 
 -- what a run leaves: its status, the history of the share, where it came under its lock, and what is told of the links of each
 -- worker
@@ -62,7 +64,7 @@ pub record HasServed (serving : Serving) (edits : List Edit) (front : List ℕ) 
   pub roles : map (λ stint. stint.role) crew ≡ roles_of serving
   pub links : left.links ≡ map (λ stint. stint.reports) crew
   -- each saw a front of the history, and added its entries of the worker's number
-  pub one : IsHistoryOf (workers_of serving) history crew
+  pub one : IsHistoryOf (workers_of serving) history crew []
   -- each worker had a door, which was given back
   pub to_come : HaveLinks net.door_links (map (λ stint. stint.to_come) crew)
   pub asked : Grows net.asked net'.asked (places_of serving)
@@ -86,12 +88,3 @@ pub data ServeEnds (serving : Serving) (told : Told) (left : Left) : Type 0 wher
       → NotBegun serving told.before.input told.after.input told.output_before told.output_after left.status → HasNoShare left → ServeEnds serving told left
   served : (edits : List Edit) → HasRead edits told.before.input told.after.input
       → HasServed serving edits (first_line serving edits) told.before.around.net told.after.around.net told.output_before told.output_after left → ServeEnds serving told left
-
--- a run that leaves files alone
-abbrev pub told_over : FilesSeen → (input input' : InputSeen) (net net' : NetSeen) (output output' : OutputSeen) → Told
-told_over files input input' net net' output output' = record {
-  before = record { input = input; around = record { files = files; net = net } };
-  after = record { input = input'; around = record { files = files; net = net' } };
-  output_before = output;
-  output_after = output';
-}

@@ -1,39 +1,28 @@
 //! The command, whole.
 
-ghost use Rattle.std.specs.Prelude.{◌≡◌, ◌<◌, ◌≤◌, ◌+◌, ◌^◌, ◌++◌, [], ℕ, List, Option, map, length, vec_len, vec_capacity, All};
-ghost use Rattle.daap_outside.specs.Places.{Returned};
+ghost use Rattle.std.specs.Prelude.{◌≡◌, ◌≤◌, ◌+◌, ◌++◌, [], ℕ, List, map, length, vec_capacity};
 ghost use Rattle.item_model.specs.declared.changes.Edit.{Edit};
-ghost use Rattle.item_model.specs.declared.changes.Entry.{Entry};
-ghost use Rattle.command_core.specs.Seen.{FilesSeen, NetSeen, OutputSeen, input_seen, output_seen};
+ghost use Rattle.command_core.specs.Seen.{FilesSeen, NetSeen, OutputSeen, input_seen, net_seen, output_seen, told_over};
 ghost use Rattle.command_core.specs.Endings.{IsWritten};
-ghost use Rattle.share_lock.specs.Known.{fresh};
-ghost use Rattle.share_lock.specs.Passes.{lock_id, passes_of, known, IsReady};
-ghost use Rattle.share_replies.specs.Settings.{Settings};
-ghost use Rattle.share_replies.specs.Laws.{maker};
-ghost use Rattle.serve_command.specs.Begun.{IsBegun};
-ghost use Rattle.serve_command.specs.Crews.{IsHired, IsStaff};
-ghost use Rattle.serve_command.specs.Lines.{links_in, requests_in};
+ghost use Rattle.share_lock.specs.Passes.{lock_id, known, passes_of, IsReady};
+ghost use Rattle.share_crew.specs.Crews.{IsStaff};
+ghost use Rattle.share_crew.specs.Doors.{AreNew};
+ghost use Rattle.serve_command.specs.Begun.{IsBegunWith};
 ghost use Rattle.serve_command.specs.Outcomes.{left_of};
-ghost use Rattle.serve_command.specs.Places.{net_seen, AreNew, HasOpened};
-ghost use Rattle.serve_command.specs.Runs.{HasNoShare, HasServed, ServeEnds, told_over};
+ghost use Rattle.serve_command.specs.Places.{HasOpened};
+ghost use Rattle.serve_command.specs.Runs.{HasNoShare, HasServed, ServeEnds};
 ghost use Rattle.serve_command.specs.Terms.{MayServe};
-ghost use Rattle.serve_command.specs.declared.terms.Serving.{Serving};
-ghost use Rattle.serve_command.specs.Worked.{HasWorked};
 
 use crate::closing::closed;
-use crate::crew::hire;
-use crate::gathering::gather;
-use crate::opening::{Begun, Room, begin};
-use crate::outcome::{LinkReports, Outcome};
-use crate::places::{Doors, opened, shut_all};
+use crate::opening::begin;
+use crate::places::{Doors, opened};
 use crate::terms::Serving;
-use crate::verdict::{Verdict, verdict_of};
 use command_core::refused;
 use daap_outside::{Net, Sink, Source};
 use share_asks::Role;
-use share_core::Share;
-use share_lock::Bell;
-use share_workers::serve_all;
+use share_crew::{
+    Alone, Begun, Gathered, LinkReports, Outcome, Room, hire, share_of, shut_all, worked,
+};
 use std::alloc::Global;
 use std::sync::Wait;
 use std::thread::Threads;
@@ -128,7 +117,7 @@ fn serve_begun<W: Sink, N: Net, R: Threads + Wait + Clock + Sync>(
     requires links { length doors.listen.items + length doors.edit.items ≤ vec_capacity begun.room.links }
     requires few { length doors.listen.items + length doors.edit.items ≤ 72 }
     ensures { (serving : Serving) (edits : List Edit) (start : NetSeen) (before : OutputSeen) (front : List ℕ)
-        → IsBegun serving edits begun
+        → IsBegunWith serving edits begun
         → HasOpened serving start (net_seen (N.asked net.old) (N.written net.old) (N.door_links net.old) (N.next_input net.old) (N.faults net.old))
         (length doors.listen.items) (length doors.edit.items) (map N.D.coming (doors.listen.items ++ doors.edit.items))
         → AreNew N.D.written N.D.faults start.written doors.listen.items → AreNew N.D.written N.D.faults start.written doors.edit.items
@@ -138,7 +127,13 @@ fn serve_begun<W: Sink, N: Net, R: Threads + Wait + Clock + Sync>(
         before (output_seen (W.taken output.new) (W.faults output.new)) (left_of result) }
 {
     let begun = staffed(rt, alloc, begun, doors);
-    let (share, links, verdict) = worked(rt, alloc, net, begun);
+    let Gathered {
+        lock,
+        mut first,
+        links,
+        verdict,
+    } = worked(rt, alloc, net, begun, &mut Alone);
+    let share = share_of(rt, &lock, &mut first);
     closed(alloc, output, share, links, verdict)
 }
 
@@ -177,41 +172,4 @@ fn staffed<D: Drop, R: Wait>(rt: &R, alloc: Global, begun: Begun<D>, doors: Door
         first,
         room: Room { crew, links },
     }
-}
-
-// Lets all workers serve to their ends, and takes the share out of its lock.
-fn worked<N: Net, R: Threads + Wait + Clock + Sync>(
-    rt: &R,
-    alloc: Global,
-    net: &mut N,
-    begun: Begun<N::D>,
-) -> (Share, LinkReports, Verdict)
-    requires ready { IsReady (lock_id begun.lock) begun.first }
-    requires hired { All (IsHired (lock_id begun.lock) (known begun.first)) begun.room.crew.items }
-    requires empty { begun.room.links.items ≡ [] }
-    requires room { vec_len begun.room.crew ≤ vec_capacity begun.room.links }
-    requires few { length begun.room.crew.items ≤ 72 }
-    ensures worked { (settings : Settings) (opening : List Entry) (kept : Option (List Returned))
-        → known begun.first ≡ fresh 0 settings opening → All (λ e. maker e ≡ 0) opening
-        → passes_of begun.lock ≡ length begun.room.crew.items + 1
-        → AreNew N.D.written N.D.faults kept (map (λ w. w.door) begun.room.crew.items)
-        → HasWorked settings opening (length begun.room.crew.items) (map (λ w. w.role) begun.room.crew.items) (map (λ w. N.D.coming w.door) begun.room.crew.items)
-        kept (N.written net.old) (N.written net.new) (N.faults net.old) (N.faults net.new) result.0.history result.1 result.2 }
-    ensures asked { N.asked net.new ≡ N.asked net.old }
-    ensures links { links_in result.1 < 2 ^ 64 }
-    ensures requests { requests_in result.1 < 2 ^ 64 }
-{
-    let Begun {
-        lock,
-        mut first,
-        room: Room {
-            mut crew,
-            mut links,
-        },
-    } = begun;
-    serve_all(rt, alloc, &lock, &Bell::new(), &mut crew);
-    let verdict = verdict_of(crew.as_slice());
-    gather(&lock, net, &mut first, crew, &mut links);
-    let turn = lock.take(rt, &mut first);
-    (lock.end(turn), LinkReports::of(links), verdict)
 }

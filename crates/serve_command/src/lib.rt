@@ -4,19 +4,14 @@
 
 mod closing;
 mod command;
-mod crew;
 mod fault;
-mod gathering;
 pub mod laws;
 mod library;
 mod opening;
-mod outcome;
 mod places;
 mod terms;
-mod verdict;
 
 pub use command::serve;
 pub use fault::ServeFault;
-pub use outcome::{LinkReports, Outcome};
+pub use share_crew::{LinkReports, Outcome, Verdict};
 pub use terms::Serving;
-pub use verdict::Verdict;

@@ -1,11 +1,10 @@
 //! What stands before the first link is served: the share under its lock, and the line that tells it.
 
-ghost use Rattle.std.specs.Prelude.{◌≡◌, ℕ, List, All, IfOk, MatchResult};
-ghost use Rattle.command_core.specs.Seen.{OutputSeen, input_seen, output_seen};
-ghost use Rattle.command_core.specs.Endings.{IsWritten};
+ghost use Rattle.std.specs.Prelude.{◌≡◌, IfOk, MatchResult};
+ghost use Rattle.command_core.specs.Seen.{input_seen, output_seen};
 ghost use Rattle.share_history.specs.Histories.{batches, revision};
-ghost use Rattle.share_replies.specs.Laws.{maker};
-ghost use Rattle.serve_command.specs.Begun.{Announces, HasBegun, HasRoom, Locks};
+ghost use Rattle.share_crew.specs.Begun.{HasRoom};
+ghost use Rattle.serve_command.specs.Begun.{HasBegun};
 ghost use Rattle.serve_command.specs.Lines.{serving_line};
 ghost use Rattle.serve_command.specs.Runs.{NotBegun};
 ghost use Rattle.serve_command.specs.Terms.{MayServe, workers_of};
@@ -13,27 +12,11 @@ ghost use Rattle.serve_command.specs.Terms.{MayServe, workers_of};
 use crate::library::library;
 use crate::terms::Serving;
 use command_core::{out_of_memory, refused};
-use daap_outside::{Sink, Source, put_all};
+use daap_outside::{Sink, Source};
 use fault_lines::push_number;
 use share_core::Share;
-use share_lock::{Pass, ShareLock};
-use share_server::LinkReport;
-use share_workers::Worker;
+use share_crew::{Begun, Room, announced};
 use std::alloc::{AllocError, Global};
-
-/// A share under its lock, and the room for its workers and for what is told of their links.
-pub(crate) struct Begun<D> {
-    pub(crate) lock: ShareLock<Share>,
-    pub(crate) first: Pass<Share>,
-    pub(crate) room: Room<D>,
-}
-
-/// The room for so many workers, and for what is told of their links.
-#[derive(Drop)]
-pub(crate) struct Room<D> {
-    pub(crate) crew: Vec<Worker<D>>,
-    pub(crate) links: Vec<Vec<LinkReport>>,
-}
 
 /// Opens the share of the input, and puts it under a lock once its line was written. Where that fails, the line of the fault
 /// was written, and the status is answered that the program ends with.
@@ -60,52 +43,9 @@ pub(crate) fn begin<I: Source, W: Sink, D: Drop>(
         Ok(share) => share,
         Err(stop) => return Err(refused(alloc, output, &stop).status),
     };
+    let passes = serving.workers + serving.editors + 1;
     match prepared(alloc, serving, &share) {
-        Ok((line, room)) => announced(alloc, serving, output, share, &line, room),
-        Err(AllocError) => Err(out_of_memory(output, None).status),
-    }
-}
-
-// Writes the line, and puts the share under its lock.
-fn announced<W: Sink, D: Drop>(
-    alloc: Global,
-    serving: &Serving,
-    output: &mut W,
-    share: Share,
-    line: &Vec<u8>,
-    room: Room<D>,
-) -> Result<Begun<D>, u8>
-    requires may { MayServe serving.now }
-    requires opening { All (λ e. maker e ≡ 0) share.history }
-    requires room { HasRoom (workers_of serving.now) room }
-    ensures { Announces serving.now share line.now.items
-        (output_seen (W.taken output.old) (W.faults output.old))
-        (output_seen (W.taken output.new) (W.faults output.new))
-        result }
-{
-    match put_all(output, line.as_slice()) {
-        Ok(()) => locked(alloc, serving, output, share, room),
-        Err(_) => Err(5),
-    }
-}
-
-// Puts the share under a lock with a pass for each worker, and one more.
-fn locked<W: Sink, D: Drop>(
-    alloc: Global,
-    serving: &Serving,
-    output: &mut W,
-    share: Share,
-    room: Room<D>,
-) -> Result<Begun<D>, u8>
-    requires may { MayServe serving.now }
-    requires opening { All (λ e. maker e ≡ 0) share.history }
-    requires room { HasRoom (workers_of serving.now) room }
-    ensures { (start : OutputSeen) (front : List ℕ)
-        → IsWritten start (output_seen (W.taken output.old) (W.faults output.old)) front
-        → Locks serving.now share front start (output_seen (W.taken output.new) (W.faults output.new)) result }
-{
-    match ShareLock::open(alloc, share, serving.workers + serving.editors + 1) {
-        Ok((lock, first)) => Ok(Begun { lock, first, room }),
+        Ok((line, room)) => announced(alloc, output, line.as_slice(), share, passes, room),
         Err(AllocError) => Err(out_of_memory(output, None).status),
     }
 }
@@ -121,10 +61,8 @@ fn prepared<D: Drop>(
     ensures room { IfOk result (λ r. HasRoom (workers_of serving.now) r.1) }
 {
     let line = first_line_of(alloc, serving, share.revision())?;
-    let count = (serving.workers + serving.editors) as usize;
-    let crew = Vec::with_capacity(alloc, count)?;
-    let links = Vec::with_capacity(alloc, count)?;
-    Ok((line, Room { crew, links }))
+    let room = Room::of(alloc, (serving.workers + serving.editors) as usize)?;
+    Ok((line, room))
 }
 
 // The line that tells that the share is served.

@@ -1,14 +1,15 @@
 //! The doors of the two places.
 
-ghost use Rattle.std.specs.Prelude.{◌≡◌, ◌++◌, [], List, Option, map, length, IfOk, IfErr};
-ghost use Rattle.daap_outside.specs.Places.{Returned};
-ghost use Rattle.daap_outside.specs.Told.{Grows};
-ghost use Rattle.serve_command.specs.Places.{net_seen, AreNew, HasOpened, FailsToOpen};
+ghost use Rattle.std.specs.Prelude.{◌++◌, map, length, IfOk, IfErr};
+ghost use Rattle.command_core.specs.Seen.{net_seen};
+ghost use Rattle.share_crew.specs.Doors.{AreNew};
+ghost use Rattle.serve_command.specs.Places.{HasOpened, FailsToOpen};
 
 use crate::fault::{ServeFault, net_fault};
 use crate::terms::Serving;
 use command_core::Fault;
 use daap_outside::Net;
+use share_crew::shut_all;
 
 /// The doors of both places, before anybody waits at them.
 #[derive(Drop)]
@@ -44,18 +45,5 @@ pub(crate) fn opened<N: Net>(
             shut_all(net, listen);
             Err(net_fault(error))
         }
-    }
-}
-
-/// Gives doors back at which nobody waited.
-pub(crate) fn shut_all<N: Net>(net: &mut N, doors: Vec<N::D>)
-    ensures asked { N.asked net.new ≡ N.asked net.old }
-    ensures written { (kept : Option (List Returned)) → AreNew N.D.written N.D.faults kept doors.items
-        → Grows kept (N.written net.old) [] → Grows kept (N.written net.new) [] }
-    ensures count { (kept : Option (List Returned)) → AreNew N.D.written N.D.faults kept doors.items
-        → N.faults net.new ≡ N.faults net.old }
-{
-    for door in doors {
-        net.shut(door);
     }
 }

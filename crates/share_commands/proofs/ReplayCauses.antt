@@ -8,14 +8,15 @@ use Rattle.command_core.specs.Causes.{StopsBy}
 use Rattle.command_core.specs.declared.fault.Fault.TheVariants.{Own}
 use Rattle.command_core.specs.Seen.{InputSeen}
 use Rattle.command_core.proofs.Reading.{all_read_on, failed_within, of_input, past_limit}
+use Rattle.command_core.specs.Faults.{read_fault}
 use Rattle.share_replay.specs.Scripts.{script_of}
-use Rattle.share_commands.specs.ReplayShare.{IsBad, ReplayReadsOn, read_fault, replay_cause, script_limit}
-use Rattle.share_commands.specs.declared.replay.ReplayFault.TheVariants.{Line}
+use Rattle.share_commands.specs.ReplayShare.{IsBad, ReplayReadsOn, replay_cause, script_limit}
+use Rattle.share_commands.specs.declared.replay.ReplayFault.TheVariants.{Line, TooLong}
 
 pub unread : (before after : InputSeen) (e : ReadError) → (e ≡ reads.Failed → ConsumesUpTo script_limit before.left after.left)
     → ConsumesUpTo (script_limit + 32768) before.left after.left → (e ≡ reads.TooLong → IfSome before.left (λ input. script_limit < length input))
     → CountsReadFaults {T = Vec ℕ Global} before.faults after.faults (Err e)
-    → StopsBy replay_cause ReplayReadsOn (Unit {0}) before after (read_fault e)
+    → StopsBy replay_cause ReplayReadsOn (Unit {0}) before after (read_fault TooLong e)
 unread before after reads.Failed failed some long count =
     failed_within ReplayReadsOn before after script_limit (λ bytes within. within) (failed refl) count
 unread before after reads.TooLong failed some long count = record {

@@ -2,8 +2,6 @@
 -- input: its length, or its first bad line.
 use Rattle.std.specs.Prelude.{◌≡◌, ◌<◌, ◌≤◌, ◌⊎◌, ◌++◌, ◌∷◌, [], ℕ, List, length, take, Ok, Err, true, codes, decimal}
 use Rattle.std.specs.Io.KnownBytes.{Consumes, IsAtEnd}
-use Rattle.daap_outside.specs.declared.reading.ReadError.{ReadError}
-use Rattle.daap_outside.specs.declared.reading.ReadError.TheVariants as reads
 use Rattle.share_replies.specs.Settings.{Settings}
 use Rattle.share_replay.specs.Machine.{script_bytes, script_history}
 use Rattle.share_replay.specs.Played.{broken_at}
@@ -117,9 +115,3 @@ replay_meaning keep name = record {
   leaves_files = true;
   leaves_net = true;
 }
-
--- the faults that refusals of the input are
-abbrev pub read_fault : ReadError → Fault ReplayFault
-read_fault reads.Failed = fault.Read
-read_fault reads.TooLong = fault.Own TooLong
-read_fault reads.Memory = fault.Memory

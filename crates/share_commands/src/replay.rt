@@ -10,10 +10,10 @@ ghost use Rattle.command_core.specs.Endings.{IsAnswered};
 ghost use Rattle.command_core.specs.Seen.{Around, input_seen, output_seen, told_beside};
 ghost use Rattle.share_commands.specs.declared.replay.ReplayFault.{ReplayFault};
 ghost use Rattle.share_commands.specs.Moments.{EndsPlay, IsOfOneMoment};
-ghost use Rattle.share_commands.specs.ReplayShare.{IsRead, ReplayReadsOn, read_fault, replay_cause, replay_line, replay_meaning, replay_status, settings_of};
+ghost use Rattle.share_commands.specs.ReplayShare.{IsRead, ReplayReadsOn, replay_cause, replay_line, replay_meaning, replay_status, settings_of};
 
-use command_core::{Fault, Outcome, Refusal, out_of_memory, refused};
-use daap_outside::{ReadError, Sink, Source, read_within};
+use command_core::{Fault, Outcome, Refusal, out_of_memory, read_fault, refused};
+use daap_outside::{Sink, Source, read_within};
 use item_model::{Batch, Edits, Entries};
 use itoa::Buffer;
 use share_core::{OpenError, Share};
@@ -115,23 +115,12 @@ fn script_of<I: Source>(alloc: Global, input: &mut I) -> Result<Script, Fault<Re
 {
     let bytes = match read_within(alloc, input, SCRIPT_LIMIT) {
         Ok(bytes) => bytes,
-        Err(error) => return Err(read_fault(error)),
+        Err(error) => return Err(read_fault(error, ReplayFault::TooLong)),
     };
     match Script::read(alloc, bytes.as_slice()) {
         Ok(script) => Ok(script),
         Err(ScriptError::Line { line }) => Err(Fault::Own(ReplayFault::Line { line })),
         Err(ScriptError::Memory) => Err(Fault::Memory),
-    }
-}
-
-/// What a refusal of the input is to `replay`.
-fn read_fault(error: ReadError) -> Fault<ReplayFault>
-    ensures { result ≡ read_fault error }
-{
-    match error {
-        ReadError::Failed => Fault::Read,
-        ReadError::TooLong => Fault::Own(ReplayFault::TooLong),
-        ReadError::Memory => Fault::Memory,
     }
 }
 
@@ -147,7 +136,7 @@ fn opened(alloc: Global, keep: u32, name: &str) -> Result<Share, AllocError>
     };
     match Share::open(alloc, name, keep, first) {
         Ok(share) => Ok(share),
-        Err(OpenError::Lists | OpenError::Memory) => Err(AllocError),
+        Err(OpenError::Edits | OpenError::Lists | OpenError::Memory) => Err(AllocError),
     }
 }
 

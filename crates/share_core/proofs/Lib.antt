@@ -7,6 +7,7 @@ pub mod ListNames
 pub mod ValuesAt
 pub mod Standing
 pub mod Sound
+pub mod Opening
 pub mod Results
 pub mod Looked
 pub mod Growing

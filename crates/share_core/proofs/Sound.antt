@@ -1,13 +1,13 @@
 -- What a share keeps fits the history that a call leaves.
 use Rattle.std.proofs.Common.{◌≡◌, ◌≤◌, ◌<◌, ◌+◌, ◌&&◌, ℕ, true, false, List, [], ◌∷◌, ◌++◌, length, nat_le, refl, sym, ap, ◌∙◌, subst, append-nil, length-append, arith}
-use Rattle.std.proofs.lemmas.Bool.{and_parts, leb-true, ltb-true}
+use Rattle.std.proofs.lemmas.Bool.{and_from, and_parts, le-leb, leb-true, ltb-true}
 use Rattle.item_model.specs.declared.changes.Edit.{Edit}
 use Rattle.item_model.specs.declared.changes.Entry.{Entry}
 use Rattle.item_model.specs.declared.changes.Entry.TheVariants.{Edits, Login, Logout, Stop}
-use Rattle.share_history.specs.Histories.{batches, edits, all_edits, opening, revision}
+use Rattle.share_history.specs.Histories.{batches, edits, all_edits, revision}
 use Rattle.share_history.specs.Limits.{has_place, has_room_for, has_few_lists, takes_batch}
 use Rattle.share_history.specs.Rows as rows
-use Rattle.share_history.proofs.EditFacts.{batches-append, edits_more, edits-opening}
+use Rattle.share_history.proofs.EditFacts.{batches-append, edits_more}
 use Rattle.share_history.proofs.SessionFacts.{few_batches}
 use Rattle.share_replies.specs.Settings.{Settings}
 use Rattle.share_core.specs.declared.stores.Stores.{Stores}
@@ -70,24 +70,27 @@ sound_left s h stores stores' left items lists sound = record {
 
 -- ---- the beginning
 
-pub batches_opening : (first : List Edit) → 0 < length first → batches (opening first) ≡ first ∷ []
-batches_opening [] some = absurd (omega (arith, some))
-batches_opening (e ∷ es) some = refl
-
-pub sound_opening : (s : Settings) (first : List Edit) (stores : Stores) → StandFor (batches (opening first)) stores → length first ≤ 262144 → has_few_lists [] first ≡ true
-    → stores.items.keep ≡ s.keep → stores.lists.keep ≡ s.keep → length s.name ≤ 255 → IsSound s (opening first) stores
-sound_opening s first stores stand few lists items_keep lists_keep short = record {
-  held = record {
-    stand = stand;
-    few_edits = subst (λ (es : List Edit). length es ≤ 262144) (sym (edits-opening first)) few;
-    few_lists = subst (λ (es : List Edit). length (rows.lists es) ≤ 1024) (sym (edits-opening first)) (leb-true (length (rows.lists first)) 1024 lists);
-  };
+pub sound_empty : (s : Settings) (h : List Entry) (stores : Stores) → h ≡ [] → StandFor [] stores → stores.items.keep ≡ s.keep → stores.lists.keep ≡ s.keep → length s.name ≤ 255 → IsSound s h stores
+sound_empty s h stores none stand items_keep lists_keep short = sound_on s [] h stores none (record {
+  held = record { stand = stand; few_edits = omega arith; few_lists = omega arith };
   items_keep = items_keep;
   lists_keep = lists_keep;
   short_name = short;
-}
+})
 
--- a history that takes a batch has few revisions
+-- a batch is taken where no limit is met
+pub taken : (h : List Entry) (batch : List Edit) → has_place h ≡ true → has_room_for h (length batch) ≡ true → has_few_lists h batch ≡ true → takes_batch h batch ≡ true
+taken h batch place room few = and_from (has_place h) (has_room_for h (length batch) && has_few_lists h batch) place (and_from (has_room_for h (length batch)) (has_few_lists h batch) room few)
+
+-- the lists that are counted behind the edits of a batch are those that it leaves
+pub few_lists_by : (h : List Entry) (batch es : List Edit) (count : ℕ) → es ≡ batch → count ≡ length (rows.lists (edits (batches h) ++ es)) → count ≤ 1024 → has_few_lists h batch ≡ true
+few_lists_by h batch es count same counted few =
+    le-leb _ _ (let now = counted ∙ ap (λ l. length (rows.lists (all_edits h ++ l))) same in omega (arith, now, few))
+
+-- a history that has a place left has few revisions
+pub few_next_at : (h : List Entry) → has_place h ≡ true → revision (batches h) + 1 < 4294967296
+few_next_at h place = omega (arith, few_batches h, ltb-true _ _ place)
+
+-- so has one that takes a batch
 pub few_next : (h : List Entry) (batch : List Edit) → takes_batch h batch ≡ true → revision (batches h) + 1 < 4294967296
-few_next h batch takes =
-    omega (arith, few_batches h, ltb-true _ _ (and_parts (has_place h) (has_room_for h (length batch) && has_few_lists h batch) takes).0)
+few_next h batch takes = few_next_at h (and_parts (has_place h) (has_room_for h (length batch) && has_few_lists h batch) takes).0

@@ -3,6 +3,7 @@ pub mod Told
 pub mod Short
 pub mod Turned
 pub mod Held
+pub mod Opened
 pub mod Followed
 pub mod Entries
 pub mod Listed

@@ -1,26 +1,26 @@
 //! The share.
 
-ghost use Rattle.std.specs.Prelude.{◌≡◌, ◌≤◌, ◌<◌, ◌+◌, ◌++◌, [], ◌∷◌, ℕ, List, true, false, Ok, Err, length, is_some, unwrap_or, option_copied, slice_get, IfOk, IfSome, OnOk, OnErr, IsOk};
+ghost use Rattle.std.specs.Prelude.{◌≡◌, ◌≢◌, ◌↔◌, ◌≤◌, ◌<◌, ◌+◌, ◌++◌, [], ◌∷◌, ℕ, nat_le, All, List, true, false, Ok, Err, length, is_some, unwrap_or, option_copied, slice_get, IfOk, IfSome, OnOk, OnErr, IsOk};
 ghost use Rattle.item_model.specs.declared.changes.Entry.TheVariants as entry;
 ghost use Rattle.item_model.specs.Limits.{text_limit};
 ghost use Rattle.item_model.specs.Valid.{AreValid};
 ghost use Rattle.share_asks.specs.Valid.{IsValidWant};
 ghost use Rattle.share_asks.specs.declared.ask.Want.TheVariants as want;
-ghost use Rattle.share_history.specs.Histories.{batches, opening, revision};
+ghost use Rattle.share_history.specs.Histories.{batches, edits, opening, revision};
 ghost use Rattle.share_history.specs.Keyed.{at};
-ghost use Rattle.share_history.specs.Limits.{has_few_lists, has_place, takes_batch};
+ghost use Rattle.share_history.specs.Limits.{has_few_lists, has_place, has_room_for, takes_batch};
 ghost use Rattle.share_history.specs.Marks.{until_login};
 ghost use Rattle.share_history.specs.Numbers.{most_edits};
 ghost use Rattle.share_history.specs.Sessions.{is_live, is_stopped};
 ghost use Rattle.playlist_store.specs.Tests.{tests_of};
 ghost use Rattle.share_history.specs.Histories.{all_edits};
 ghost use Rattle.share_replies.specs.Replies.{Body, Nothing, lacks_session, needed, refusal, success};
+ghost use Rattle.share_core.specs.Opened.{LeaveFewLists, LeaveManyLists, if_filled, opened_with};
 ghost use Rattle.share_core.specs.Said.{IsSaid};
 ghost use Rattle.share_core.specs.Told.{IsAnswer};
 ghost use Rattle.share_core.specs.Steps.{IsRead, HasGrown, IsBetween, IsMarked};
 ghost use Rattle.share_core.specs.Wants.{is_free, is_read};
 ghost use Rattle.share_core.specs.Ticks.{want_ticks};
-ghost use Rattle.share_core.specs.Held.{StandFor};
 
 use crate::answer::{Answer, Reply, Said};
 use crate::browse::browse;
@@ -33,10 +33,10 @@ use crate::settings::Settings;
 use crate::small::{codes, logged_in, revised, server_info};
 use crate::stores::Stores;
 use dmap_tags::Text;
-use item_model::{Batch, Edit, Entry};
+use item_model::{Batch, Edits, Entry};
 use records_import::RecordError;
 use share_asks::{Ask, Want};
-use share_history::{FIRST_REVISION, MAX_EDITS, MAX_LISTS};
+use share_history::{MAX_EDITS, MAX_LISTS};
 use share_lock::Recorded;
 use share_register::Register;
 use song_query::Steps;
@@ -48,7 +48,10 @@ use thiserror::Error;
 /// Why a share is not opened.
 #[derive(Debug, Drop, PartialEq, Eq, Error)]
 pub enum OpenError {
-    /// The batch leaves more than 1,024 lists beside container 1.
+    /// The batches have more than 262,144 edits.
+    #[error("too many edits")]
+    Edits,
+    /// One of the batches leaves more than 1,024 lists beside container 1.
     #[error("too many lists")]
     Lists,
     #[error("memory")]
@@ -90,8 +93,12 @@ impl Model for Share {
 }
 
 impl Share {
-    /// A share whose history begins with a batch, where it has edits. `keep` is for how many revisions back it answers
-    /// with changes.
+    /// Opens a share whose history begins with the batch `first`, if it has edits. The share answers with changes for
+    /// `keep` revisions back.
+    ///
+    /// # Errors
+    ///
+    /// Returns `Lists` if the batch leaves more than 1,024 lists, and `Memory` if an allocation fails.
     pub fn open(alloc: Global, name: &str, keep: u32, first: Batch) -> Result<Share, OpenError>
         requires name { length name.now ≤ text_limit }
         requires some { 1 ≤ keep }
@@ -101,14 +108,58 @@ impl Share {
         ensures opened { IfOk result (λ s. s ≡ record { settings = record { name = name.now; keep = keep }; history = opening first; marks = [] }) }
         ensures fits { OnOk result (has_few_lists [] first ≡ true) }
         ensures lists { result ≡ Err OpenError.Lists → has_few_lists [] first ≡ false }
+        ensures edits { result ≢ Err OpenError.Edits }
     {
-        let stores = Stores::open(alloc, keep);
-        if stores.lists.count_after(first.edits.as_slice())? > MAX_LISTS {
-            return Err(OpenError::Lists);
+        let batches = if_filled(alloc, first)?;
+        Share::open_batches(alloc, name, keep, batches)
+    }
+
+    /// Opens a share whose history begins with an entry for each of the batches, in order. Each of them has edits.
+    ///
+    /// # Errors
+    ///
+    /// Returns `Edits` if the batches have more than 262,144 edits, which is found before anything else; `Lists` if one of
+    /// them leaves more than 1,024 lists; `Memory` if an allocation fails.
+    pub fn open_batches(
+        alloc: Global,
+        name: &str,
+        keep: u32,
+        batches: Vec<Batch>,
+    ) -> Result<Share, OpenError>
+        requires name { length name.now ≤ text_limit }
+        requires some { 1 ≤ keep }
+        requires window { keep ≤ 65536 }
+        requires filled { All (λ batch. batch ≢ []) batches.items }
+        requires valid { All AreValid batches.items }
+        ensures opened { IfOk result (λ s. s ≡ record { settings = record { name = name.now; keep = keep }; history = opened_with batches.items; marks = [] }) }
+        ensures edits { result ≡ Err OpenError.Edits ↔ (most_edits < length (edits batches.items)) }
+        ensures fits { OnOk result (LeaveFewLists batches.items) }
+        ensures lists { result ≡ Err OpenError.Lists → LeaveManyLists batches.items }
+    {
+        if !have_few_edits(batches.as_slice()) {
+            return Err(OpenError::Edits);
         }
+        let share = Share::empty(alloc, name, keep)?;
+        begun::<Brand>(Blank::new(1), share, batches)
+    }
+
+    // A share that no batch has changed yet.
+    fn empty(alloc: Global, name: &str, keep: u32) -> Result<Share, AllocError>
+        requires name { length name.now ≤ text_limit }
+        requires some { 1 ≤ keep }
+        requires window { keep ≤ 65536 }
+        ensures { IfOk result (λ s. s ≡ record { settings = record { name = name.now; keep = keep }; history = []; marks = [] }) }
+    {
         let name = Text::of(alloc, name)?;
-        let share = begun::<Brand>(Blank::new(1), alloc, name, keep, stores, first)?;
-        Ok(share)
+        let none = Batch {
+            edits: Edits::new(alloc),
+        };
+        Ok(Share {
+            alloc,
+            settings: Settings::new(name, keep),
+            register: Register::open(alloc, none)?,
+            stores: Stores::open(alloc, keep),
+        })
     }
 
     /// Answers an ask of the pass of a number, and adds at most one entry. Everything that wants memory comes before the
@@ -332,6 +383,28 @@ impl Share {
         Ok(self.stores.lists.count_after(edits)? <= MAX_LISTS)
     }
 
+    // Adds a batch that the share is opened with.
+    fn begin<L: Ledger>(&mut self, batch: Batch, steps: &mut Steps<L>) -> Result<(), OpenError>
+        requires going { is_stopped self.old.history ≡ false }
+        requires valid { AreValid batch }
+        requires place { has_place self.old.history ≡ true }
+        requires room { has_room_for self.old.history (length batch) ≡ true }
+        ensures grown { OnOk result (self.new ≡ record { settings = self.old.settings; history = self.old.history ++ entry.Edits 0 batch ∷ []; marks = self.old.marks }) }
+        ensures fits { OnOk result (has_few_lists self.old.history batch ≡ true) }
+        ensures lists { result ≡ Err OpenError.Lists → has_few_lists self.old.history batch ≡ false }
+        ensures edits { result ≢ Err OpenError.Edits }
+    {
+        let edits = batch.edits.as_slice();
+        if self.stores.lists.count_after(edits)? > MAX_LISTS {
+            return Err(OpenError::Lists);
+        }
+        let next = self.register.revision() + 1;
+        self.register.reserve()?;
+        self.stores.apply(self.alloc, edits, next, steps)?;
+        self.register.edit(0, batch);
+        Ok(())
+    }
+
     // Adds a batch that no limit stands against. All room is made first; a refusal leaves the share as it was.
     fn add<L: Ledger>(
         &mut self,
@@ -424,60 +497,53 @@ fn session_in(want: &Want) -> Option<u32>
     }
 }
 
-// The share that begins with a batch, where it has edits.
-fn begun<L: Ledger>(
-    blank: Blank,
-    alloc: Global,
-    name: Text,
-    keep: u32,
-    stores: Stores,
-    first: Batch,
-) -> Result<Share, AllocError>
-    requires name { blank.name ≡ L.name }
-    requires parts { blank.parts ≡ L.parts }
-    requires any { 0 < blank.parts }
-    requires short { length name ≤ text_limit }
-    requires few { length first ≤ most_edits }
-    requires valid { AreValid first }
-    requires lists { has_few_lists [] first ≡ true }
-    requires items_keep { stores.items.keep ≡ keep }
-    requires lists_keep { stores.lists.keep ≡ keep }
-    requires stand { StandFor [] stores }
-    ensures { IfOk result (λ s. s ≡ record { settings = record { name = name; keep = keep }; history = opening first; marks = [] }) }
+// The batch, if it has edits.
+fn if_filled(alloc: Global, batch: Batch) -> Result<Vec<Batch>, AllocError>
+    ensures { IfOk result (λ batches. batches.items ≡ if_filled batch) }
 {
-    let stores = filled::<L>(blank, alloc, stores, first.edits.as_slice())?;
-    let register = Register::open(alloc, first)?;
-    Ok(Share {
-        alloc,
-        settings: Settings::new(name, keep),
-        register,
-        stores,
-    })
+    let mut batches = Vec::new(alloc);
+    if count_of(&batch) > 0 {
+        batches.push(batch)?;
+    }
+    Ok(batches)
 }
 
-// The stores with the batch that a share begins with.
-fn filled<L: Ledger>(
-    blank: Blank,
-    alloc: Global,
-    mut stores: Stores,
-    first: &[Edit],
-) -> Result<Stores, AllocError>
+// Whether the batches have no more edits than a share takes.
+#[tactic(auto, using(crate::proofs::Opening::edits_left))]
+fn have_few_edits(batches: &[Batch]) -> bool
+    ensures { result ≡ nat_le (length (edits batches.now)) most_edits }
+{
+    let mut left = MAX_EDITS;
+    for batch in batches {
+        let count = count_of(batch);
+        if count > left {
+            return false;
+        }
+        left -= count;
+    }
+    true
+}
+
+// The share with the batches that it is opened with.
+fn begun<L: Ledger>(blank: Blank, empty: Share, batches: Vec<Batch>) -> Result<Share, OpenError>
     requires name { blank.name ≡ L.name }
     requires parts { blank.parts ≡ L.parts }
     requires any { 0 < blank.parts }
-    requires valid { AreValid first.now }
-    requires stand { StandFor [] stores }
-    ensures stand { IfOk result (StandFor (batches (opening first.now))) }
-    ensures items_keep { IfOk result (λ s. s.items.keep ≡ stores.items.keep) }
-    ensures lists_keep { IfOk result (λ s. s.lists.keep ≡ stores.lists.keep) }
+    requires empty { empty.history ≡ [] }
+    requires filled { All (λ batch. batch ≢ []) batches.items }
+    requires valid { All AreValid batches.items }
+    requires few { length (edits batches.items) ≤ most_edits }
+    ensures opened { IfOk result (λ s. s ≡ record { settings = empty.settings; history = opened_with batches.items; marks = empty.marks }) }
+    ensures fits { OnOk result (LeaveFewLists batches.items) }
+    ensures lists { result ≡ Err OpenError.Lists → LeaveManyLists batches.items }
+    ensures edits { result ≢ Err OpenError.Edits }
 {
-    let count = first.len();
-    if count == 0 {
-        return Ok(stores);
-    }
+    let mut share = empty;
     let mut steps = Steps::<L>::open(blank);
-    stores.apply(alloc, first, FIRST_REVISION + 1, &mut steps)?;
-    Ok(stores)
+    for batch in batches {
+        share.begin(batch, &mut steps)?;
+    }
+    Ok(share)
 }
 
 impl Recorded for Share {

@@ -1,12 +1,11 @@
--- What a delta lists and deletes under each key, how much that is, and the delta that the program finds.
-use Rattle.std.proofs.Common.{◌≡◌, ℕ, ◌+◌, ◌≤◌, nat_le, Bool, true, false, cond, not, ◌&&◌, List, [], ◌∷◌, map, filter, length, length-append, refl, sym, ap, subst, ◌∙◌, Option, Some, None, is_none, is_some, Bor, arith}
-use Rattle.std.specs.Option.{option_map, option_map_or}
+-- What a delta lists and deletes under each key, and how much that is.
+use Rattle.std.proofs.Common.{◌≡◌, ℕ, ◌+◌, ◌≤◌, nat_le, Bool, true, false, cond, ◌&&◌, List, [], ◌∷◌, map, filter, length, length-append, refl, sym, ap, subst, ◌∙◌, Option, Some, None, is_none, is_some, arith}
+use Rattle.std.specs.Option.{option_map}
 use Rattle.std.specs.List.{AllByRecursion}
 use Rattle.std.specs.Map.{keys_of}
-use Rattle.std.proofs.lemmas.Bool.{and_parts}
+use Rattle.std.proofs.lemmas.Bool.{and_parts, cond_both}
+use Rattle.std.proofs.Math.Bool.{and_comm}
 use Rattle.std.proofs.lemmas.List.{length-map}
-use Rattle.dmap_tags.specs.Tree.{Tree}
-use Rattle.dmap_tags.specs.SameTags.{is_same_tag}
 use Rattle.item_model.specs.declared.item.Row.{Row}
 use Rattle.item_model.specs.declared.query.Query.{Query}
 use Rattle.item_model.specs.declared.changes.Edit.{Edit}
@@ -19,10 +18,8 @@ use Rattle.share_history.specs.Histories.{edits, later, revision, up_to}
 use Rattle.share_history.specs.Named.{named_keys}
 use Rattle.share_history.specs.Rows.{row_at, rows}
 use Rattle.share_history.specs.Kept.{is_left, is_kept, touches}
-use Rattle.share_history.specs.Differences.{has_tag, new_tags, gone_keys}
-use Rattle.share_history.specs.Listings.{shown, shown_rows, shown_after, delta_with, delta_listing}
+use Rattle.share_history.specs.Listings.{shown, shown_rows, shown_after, full_listing, delta_listing, listing}
 use Rattle.share_history.specs.Laws.{DeltasListNews, DeltasDeleteWhatIsGone, UntouchedStayShown}
-use Rattle.share_history.specs.RowSeen.{row_of}
 use Rattle.share_history.proofs.KeyedFacts.{keys-map, all-kept, all-pairs_at}
 use Rattle.share_history.proofs.EditFacts.{edits-split}
 use Rattle.share_history.proofs.RowFacts.{at-rows, length-rows}
@@ -31,7 +28,19 @@ use Rattle.share_history.proofs.RangeFacts.{length-filter}
 use Rattle.share_history.proofs.DifferenceFacts.{same_not_new, other_is_new, has-gone}
 use Rattle.share_history.proofs.MirrorFacts.{shown_at, at-shown, ascending-after}
 
+-- ---- every listing
+
+-- tells the revision
+pub listing_revision : (keep : ℕ) (bs : List (List Edit)) (t : Target) (look : Look) → (listing keep bs t look).revision ≡ revision bs
+listing_revision keep bs t look =
+    cond_both (is_kept keep bs t look.base) (delta_listing bs t look look.base) (full_listing bs t look) (λ l. l.revision ≡ revision bs) (λ _. refl) (λ _. refl)
+
 -- ---- under one key
+
+-- nothing is shown where nothing is
+pub none_shown : {A B : Type 0} (show : A → B) (found : Option A) → is_none (option_map show found) ≡ is_none found
+none_shown show None = refl
+none_shown show (Some x) = refl
 
 -- what is shown under a key is what is shown of the row there
 pub at-shown_rows : (es : List Edit) (t : Target) (q : Option Query) (meta : Meta) (k : ℕ) → at k (shown_rows t meta (rows es t q)) ≡ option_map (shown_at t meta k) (row_at es t q k)
@@ -60,16 +69,10 @@ deltas_list_news bs t look base key = (
   other_is_new key (shown_after (up_to bs base) t look) (shown_after bs t look) (ascending-after bs t look),
 )
 
-and_swapped : (a b : Bool) → (a && b) ≡ (b && a)
-and_swapped true true = refl
-and_swapped true false = refl
-and_swapped false true = refl
-and_swapped false false = refl
-
 pub deltas_delete_what_is_gone : DeltasDeleteWhatIsGone
 deltas_delete_what_is_gone bs t look base key =
     has-gone key (shown_after (up_to bs base) t look) (shown_after bs t look)
-    ∙ and_swapped (is_none (at key (shown_after bs t look))) (is_some (at key (shown_after (up_to bs base) t look)))
+    ∙ and_comm (is_none (at key (shown_after bs t look))) (is_some (at key (shown_after (up_to bs base) t look)))
 
 pub untouched_stay_shown : UntouchedStayShown
 untouched_stay_shown keep bs t look base key kept h =
@@ -89,7 +92,8 @@ map-filter f p (x ∷ xs) = first_or_not (p (f x)) (map-filter f p xs)
     first_or_not true rest = ap (λ ys. f x ∷ ys) rest
     first_or_not false rest = rest
 
-keys-shown : (t : Target) (meta : Meta) (rs : List (ℕ × Row)) → keys_of (shown_rows t meta rs) ≡ keys_of rs
+-- with the keys of the rows
+pub keys-shown : (t : Target) (meta : Meta) (rs : List (ℕ × Row)) → keys_of (shown_rows t meta rs) ≡ keys_of rs
 keys-shown t meta rs = keys-map (shown t meta) (λ _. refl) rs
 
 -- a delta deletes only keys that edits up to the base name
@@ -112,49 +116,3 @@ few_gone bs t look base =
       ap length (edits-split bs base),
       length-append (edits (up_to bs base)) (later bs base),
     )
-
--- ---- what the program finds
-
-map_then : {A B : Type 0} (f : A → B) (p : B → Bool) (found : Option A) → option_map_or p (option_map f found) false ≡ option_map_or (λ x. p (f x)) found false
-map_then f p None = refl
-map_then f p (Some x) = refl
-
--- whether the tag of a row is shown after some edits is decided by the row that is there
-pub shown_then : (es : List Edit) (t : Target) (q : Option Query) (meta : Meta) (row : ℕ × Row) (found : Option Row) → found ≡ row_at es t q row.0
-    → has_tag (shown_rows t meta (rows es t q)) (shown t meta row) ≡ option_map_or (λ old. is_same_tag (shown_at t meta row.0 old) (shown_at t meta row.0 row.1)) found false
-shown_then es t q meta row found is =
-    ap (λ o. option_map_or (λ old. is_same_tag old (shown_at t meta row.0 row.1)) o false) (at-shown_rows es t q meta row.0 ∙ ap (option_map (shown_at t meta row.0)) (sym is))
-    ∙ map_then (shown_at t meta row.0) (λ old. is_same_tag old (shown_at t meta row.0 row.1)) found
-
-none_shown : (show : Row → Tree) (found : Option Row) → is_none (option_map show found) ≡ is_none found
-none_shown show None = refl
-none_shown show (Some row) = refl
-
--- the keys of rows of then that have no row now are gone
-gone_found : (bs : List (List Edit)) (t : Target) (look : Look) (base : ℕ)
-    → filter (λ key. is_none (row_at (edits bs) t look.query key)) (keys_of (rows (edits (up_to bs base)) t look.query)) ≡ (delta_listing bs t look base).gone
-gone_found bs t look base =
-    ap (filter (λ key. is_none (row_at (edits bs) t look.query key))) (sym (keys-shown t look.meta (rows (edits (up_to bs base)) t look.query)))
-    ∙ (λ i. filter (λ key. unshown key i) (keys_of (shown_after (up_to bs base) t look)))
-  where
-    unshown : (key : ℕ) → is_none (row_at (edits bs) t look.query key) ≡ is_none (at key (shown_after bs t look))
-    unshown key = sym (ap is_none (at-shown_rows (edits bs) t look.query look.meta key) ∙ none_shown (shown_at t look.meta key) (row_at (edits bs) t look.query key))
-
-abbrev news : List Edit → Target → Option Query → Meta → List (ℕ × Row) → List (ℕ × Row)
-news earlier t q meta rs = filter (λ row. not (has_tag (shown_rows t meta (rows earlier t q)) (shown t meta row))) rs
-
--- a delta of rows and keys that the program found
-pub delta_found : (bs : List (List Edit)) (earlier : List Edit) (t : Target) (look : Look) (q : Option Query) (base revised : ℕ) (all all_read listed listed_read old old_read : List (ℕ × Bor Row)) (gone : List ℕ)
-    → revised ≡ revision bs → q ≡ look.query → earlier ≡ edits (up_to bs base) → map row_of all ≡ rows (edits bs) t q → all_read ≡ all
-    → map row_of listed ≡ news earlier t q look.meta (map row_of all_read) → listed_read ≡ listed → map row_of old ≡ rows earlier t q → old_read ≡ old
-    → gone ≡ filter (λ key. is_none (row_at (edits bs) t q key)) (keys_of (map row_of old_read))
-    → delta_with revised (shown_rows t look.meta (map row_of listed_read)) gone ≡ delta_listing bs t look base
-delta_found bs earlier t look q base revised all all_read listed listed_read old old_read gone v asked e a ar l lr o or g =
-    let all_is : map row_of all_read ≡ rows (edits bs) t look.query = ap (map row_of) ar ∙ a ∙ ap (rows (edits bs) t) asked in
-    let old_is : map row_of old_read ≡ rows (edits (up_to bs base)) t look.query = ap (map row_of) or ∙ o ∙ (λ i. rows (e i) t (asked i)) in
-    let listed_is : shown_rows t look.meta (map row_of listed_read) ≡ new_tags (shown_after (up_to bs base) t look) (shown_after bs t look) =
-    ap (shown_rows t look.meta) (ap (map row_of) lr ∙ l ∙ (λ i. news (e i) t (asked i) look.meta (all_is i)))
-    ∙ map-filter (shown t look.meta) (λ tag. not (has_tag (shown_after (up_to bs base) t look) tag)) (rows (edits bs) t look.query) in
-    let gone_is : gone ≡ gone_keys (shown_after (up_to bs base) t look) (shown_after bs t look) =
-    g ∙ (λ i. filter (λ key. is_none (row_at (edits bs) t (asked i) key)) (keys_of (old_is i))) ∙ gone_found bs t look base in
-    λ i. delta_with (v i) (listed_is i) (gone_is i)

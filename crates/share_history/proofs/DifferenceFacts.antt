@@ -43,7 +43,7 @@ module _ {X : Type 0} (p : ℕ × X → Bool) where
 -- ---- one key
 
 -- what is new under a key that had this tag
-abbrev new_at : Option Tree → Tree → Option Tree
+abbrev pub new_at : Option Tree → Tree → Option Tree
 new_at was tag = only_if (not (option_map_or (λ old. is_same_tag old tag) was false)) tag
 
 pub at-new : (q : ℕ) (before now : List (ℕ × Tree)) → IsAscending now → at q (new_tags before now) ≡ option_and_then (new_at (at q before)) (at q now)
@@ -107,11 +107,11 @@ other_is_new q before now s h = at-new q before now s ∙ other_now (at q before
 pub nothing_new : (tags : List (ℕ × Tree)) → IsAscending tags → new_tags tags tags ≡ []
 nothing_new tags s = same_pairs (new_tags tags tags) [] (ascending-new tags tags s) (sorted-ascending []) (λ k. same_not_new k tags tags s refl)
 
+pub none_and_some : {A : Type 0} (o : Option A) → (is_none o && is_some o) ≡ false
+none_and_some None = refl
+none_and_some (Some x) = refl
+
 pub nothing_gone : (tags : List (ℕ × Tree)) → IsAscending tags → gone_keys tags tags ≡ []
 nothing_gone tags s =
     same_keys_same (gone_keys tags tags) [] (sorted-filter (λ key. is_none (at key tags)) (keys_of tags) s) (sorted-ascending [])
     (λ k. has-gone k tags tags ∙ none_and_some (at k tags))
-  where
-    none_and_some : (o : Option Tree) → (is_none o && is_some o) ≡ false
-    none_and_some None = refl
-    none_and_some (Some tag) = refl

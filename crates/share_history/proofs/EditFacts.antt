@@ -1,11 +1,13 @@
 -- The last edit that speaks: what edits that do not name a key leave as it was.
-use Rattle.std.proofs.Common.{◌≡◌, ℕ, zero, suc, ◌-◌, arith, take-append-drop, add-one, drop-cons, length-append, ◌+◌, ◌<◌, drop, take, length, get_or, Bool, true, false, ◌||◌, ◌&&◌, ◌==◌, List, [], ◌∷◌, ◌++◌, flat_map, refl, sym, ap, ◌∙◌, Option, Some, None, unwrap_or, nat_cmp, append-nil}
+use Rattle.std.proofs.Common.{◌≡◌, ℕ, zero, suc, ◌-◌, arith, take-append-drop, add-one, drop-cons, length-append, ◌+◌, ◌<◌, ◌≤◌, drop, take, length, get_or, Bool, true, false, ◌||◌, ◌&&◌, ◌==◌, List, [], ◌∷◌, ◌++◌, flat_map, refl, sym, ap, ◌∙◌, Option, Some, None, unwrap_or, nat_cmp, append-nil}
 use Rattle.std.specs.BTreeMap.{is_at}
 use Rattle.std.specs.Option.{option_or}
 use Rattle.std.specs.List.{list_any}
+use Rattle.std.proofs.lemmas.Bool.{or_from, or_parts}
+use Rattle.std.proofs.lemmas.List.{take_all}
 use Rattle.std.proofs.lemmas.List.Folds.{list_any-append}
 use Rattle.std.proofs.lemmas.Grind.{flat_map-append}
-use Rattle.std.proofs.Math.Seq.{take-append_seam}
+use Rattle.std.proofs.Math.Seq.{take-append_seam, take-append-le}
 use Rattle.share_history.specs.Numbers.{first_revision}
 use Rattle.item_model.specs.declared.item.Row.{Row}
 use Rattle.item_model.specs.declared.changes.Edit.{Edit}
@@ -20,17 +22,15 @@ use Rattle.share_history.proofs.KeyedFacts.{has, is_eq-cmp}
 -- ---- tests
 
 pub first_false : (a b : Bool) → (a || b) ≡ false → a ≡ false
-first_false true b h = h
-first_false false b h = refl
+first_false a b h = (or_parts a b h).0
 
 pub second_false : (a b : Bool) → (a || b) ≡ false → b ≡ false
-second_false true b h = absurd (cc)
-second_false false b h = h
+second_false a b h = (or_parts a b h).1
 
 pub both_false : (a b : Bool) → a ≡ false → b ≡ false → (a || b) ≡ false
-both_false a b p q = ap (λ x. x || b) p ∙ q
+both_false a b p q = or_from a b p q
 
-and_second_false : (a b : Bool) → b ≡ false → (a && b) ≡ false
+pub and_second_false : (a b : Bool) → b ≡ false → (a && b) ≡ false
 and_second_false true b h = h
 and_second_false false b h = refl
 
@@ -56,13 +56,18 @@ last_said-append says (e ∷ es) ds = ap (λ o. option_or o (says e)) (last_said
     or_or None b c = refl
     or_or (Some x) b c = refl
 
+-- what is said before and after one edit, and before and after more
+pub told_on : {A : Type 0} (later now : Option A) (before : A) → unwrap_or (option_or later now) before ≡ unwrap_or later (unwrap_or now before)
+told_on None now before = refl
+told_on (Some x) now before = refl
+
+pub said_on : {A : Type 0} (says : Edit → Option A) (es ds : List Edit) (before : A)
+    → unwrap_or (last_said says (es ++ ds)) before ≡ unwrap_or (last_said says ds) (unwrap_or (last_said says es) before)
+said_on says es ds before = ap (λ o. unwrap_or o before) (last_said-append says es ds) ∙ told_on (last_said says ds) (last_said says es) before
+
 -- the last of more edits is the one more, if it speaks
-pub said_more : {A : Type 0} (says : Edit → Option (Option A)) (es : List Edit) (e : Edit) → unwrap_or (last_said says (es ++ e ∷ [])) None ≡ unwrap_or (says e) (unwrap_or (last_said says es) None)
-said_more says es e = ap (λ o. unwrap_or o None) (last_said-append says es (e ∷ [])) ∙ told (says e) (last_said says es)
-  where
-    told : {A : Type 0} (said last : Option (Option A)) → unwrap_or (option_or said last) None ≡ unwrap_or said (unwrap_or last None)
-    told None last = refl
-    told (Some x) last = refl
+said_more : {A : Type 0} (says : Edit → Option (Option A)) (es : List Edit) (e : Edit) → unwrap_or (last_said says (es ++ e ∷ [])) None ≡ unwrap_or (says e) (unwrap_or (last_said says es) None)
+said_more says es e = said_on says es (e ∷ []) None
 
 pub item_more : (es : List Edit) (e : Edit) (id : ℕ) → item_at (es ++ e ∷ []) id ≡ unwrap_or (says_item id e) (item_at es id)
 item_more es e id = said_more (says_item id) es e
@@ -215,47 +220,6 @@ all_edits-append h later = ap edits (batches-append h later) ∙ flat_map-append
 pub all_edits_more : (h : List Entry) (e : Entry) → all_edits (h ++ e ∷ []) ≡ all_edits h ++ edits_in e
 all_edits_more h e = all_edits-append h (e ∷ []) ∙ ap (λ es. all_edits h ++ es) (edits-entry e)
 
--- what is said before and after one edit, and before and after more
-told_on : {A : Type 0} (later now : Option A) (before : A) → unwrap_or (option_or later now) before ≡ unwrap_or later (unwrap_or now before)
-told_on None now before = refl
-told_on (Some x) now before = refl
-
-pub said_first : {A : Type 0} (says : Edit → Option A) (e : Edit) (es : List Edit) (before : A)
-    → unwrap_or (last_said says (e ∷ es)) before ≡ unwrap_or (last_said says es) (unwrap_or (says e) before)
-said_first says e es before = told_on (last_said says es) (says e) before
-
-pub said_on : {A : Type 0} (says : Edit → Option A) (es ds : List Edit) (before : A)
-    → unwrap_or (last_said says (es ++ ds)) before ≡ unwrap_or (last_said says ds) (unwrap_or (last_said says es) before)
-said_on says es ds before = ap (λ o. unwrap_or o before) (last_said-append says es ds) ∙ told_on (last_said says ds) (last_said says es) before
-
--- how many revisions the entries make that are left
-pub revisions_left : (h : List Entry) (i : ℕ) (e : Entry) → i < length h → e ≡ get_or h i e
-    → length (batches (drop i h)) ≡ length (batches (e ∷ [])) + length (batches (drop (i + 1) h))
-revisions_left h i e lt is =
-    ap (λ xs. length (batches xs)) (drop_more h i e lt is) ∙ ap length (batches-append (e ∷ []) (drop (i + 1) h))
-    ∙ length-append (batches (e ∷ [])) (batches (drop (i + 1) h))
-
--- the edits of a history that begins with an entry
-pub all_edits-cons : (e : Entry) (h : List Entry) → all_edits (e ∷ h) ≡ edits_in e ++ all_edits h
-all_edits-cons (Edits by batch) h = refl
-all_edits-cons (Login by id) h = refl
-all_edits-cons (Logout by id) h = refl
-all_edits-cons (Stop by) h = refl
-
--- the loop over edits: what the first of those that are left says comes before what the others say
-pub said_left : {A : Type 0} (says : Edit → Option A) (es : List Edit) (i : ℕ) (e : Edit) (before : A) → i < length es → e ≡ get_or es i e
-    → unwrap_or (last_said says (drop (i + 1) es)) (unwrap_or (says e) before) ≡ unwrap_or (last_said says (drop i es)) before
-said_left says es i e before lt is =
-    sym (ap (λ xs. unwrap_or (last_said says xs) before) (drop_more es i e lt is) ∙ said_first says e (drop (i + 1) es) before)
-
--- the loop over entries
-pub said_entries_left : {A : Type 0} (says : Edit → Option A) (h : List Entry) (i : ℕ) (e : Entry) (before : A) → i < length h → e ≡ get_or h i e
-    → unwrap_or (last_said says (all_edits (drop (i + 1) h))) (unwrap_or (last_said says (edits_in e)) before) ≡ unwrap_or (last_said says (all_edits (drop i h))) before
-said_entries_left says h i e before lt is =
-    sym
-    (ap (λ xs. unwrap_or (last_said says (all_edits xs)) before) (drop_more h i e lt is) ∙ ap (λ es. unwrap_or (last_said says es) before) (all_edits-cons e (drop (i + 1) h))
-    ∙ said_on says (edits_in e) (all_edits (drop (i + 1) h)) before)
-
 -- ---- revisions
 
 -- the edits up to a revision and those after it are all edits
@@ -266,6 +230,17 @@ edits-split bs v = ap edits (sym (take-append-drop (v - first_revision) bs)) ∙
 pub up_to-revision : (bs cs : List (List Edit)) → up_to (bs ++ cs) (revision bs) ≡ bs
 up_to-revision bs cs =
     let e : length bs + first_revision - first_revision ≡ length bs = omega arith in ap (λ n. take n (bs ++ cs)) e ∙ take-append_seam bs cs
+
+-- the batches up to a revision that they do not pass are all of them
+pub up_to-all : (bs : List (List Edit)) (v : ℕ) → revision bs ≤ v → up_to bs v ≡ bs
+up_to-all bs v h = take_all (v - first_revision) bs (omega (arith, h))
+
+pub up_to-now : (bs : List (List Edit)) → up_to bs (revision bs) ≡ bs
+up_to-now bs = up_to-all bs (revision bs) (omega arith)
+
+-- and batches behind it leave those up to a revision as they are
+pub up_to-same : (bs cs : List (List Edit)) (v : ℕ) → v ≤ revision bs → up_to (bs ++ cs) v ≡ up_to bs v
+up_to-same bs cs v h = take-append-le (v - first_revision) bs cs (omega (arith, h))
 
 -- one more batch makes one more revision
 pub revision_more : (bs : List (List Edit)) (b : List Edit) → revision (bs ++ b ∷ []) ≡ revision bs + 1
@@ -285,11 +260,3 @@ batches-until (suc n) (Stop by ∷ h) = batches-until (suc n) h
 
 pub batches-at_revision : (h : List Entry) (v : ℕ) → batches (at_revision h v) ≡ up_to (batches h) v
 batches-at_revision h v = batches-until (v - first_revision) h
-
--- what some edits more say, after what the others left
-pub said_more_edits : {A : Type 0} (says : Edit → Option (Option A)) (es ds : List Edit) → unwrap_or (last_said says (es ++ ds)) None ≡ unwrap_or (last_said says ds) (unwrap_or (last_said says es) None)
-said_more_edits says es ds = ap (λ o. unwrap_or o None) (last_said-append says es ds) ∙ either (last_said says ds) (last_said says es)
-  where
-    either : {A : Type 0} (a b : Option (Option A)) → unwrap_or (option_or a b) None ≡ unwrap_or a (unwrap_or b None)
-    either None b = refl
-    either (Some x) b = refl

@@ -1,6 +1,6 @@
 -- Pairs in ascending order of the key: what is under a key after a put or a removal, and that two ascending lists with the
 -- same under each key are one.
-use Rattle.std.proofs.Common.{◌≡◌, ℕ, Bool, true, false, cond, ◌||◌, ◌&&◌, ◌==◌, filter, eq-eqb, eqb-true, List, [], ◌∷◌, map, refl, sym, ap, ◌∙◌, true≢false, ⊎_elim, Option, Some, None, unwrap_or, Ordering, Less, Equal, Greater, nat_cmp, is_eq, fold, ◌≢◌, is_some, subst}
+use Rattle.std.proofs.Common.{◌≡◌, ◌≤◌, ◌<◌, ◌+◌, ℕ, arith, length, Bool, true, false, cond, ◌||◌, ◌&&◌, ◌==◌, filter, eq-eqb, eqb-true, List, [], ◌∷◌, map, refl, sym, ap, ◌∙◌, true≢false, ⊎_elim, Option, Some, None, unwrap_or, Ordering, Less, Equal, Greater, nat_cmp, is_eq, fold, ◌≢◌, is_some, subst}
 use Rattle.std.specs.Option.{option_or, option_map}
 use Rattle.std.specs.List.{list_any, AllByRecursion, cons_option}
 use Rattle.std.specs.List.Sorted.{IsStrictlySortedBy}
@@ -9,12 +9,12 @@ use Rattle.std.specs.Cmp.{IsTotalOrder, nat_cmp_total}
 use Rattle.std.specs.Map.{keys_of, lookup}
 use Rattle.std.specs.BTreeMap.{is_at, insert_entry}
 use Rattle.std.specs.BTreeSet.{insert_key}
-use Rattle.std.proofs.lemmas.Bool.{cases_Bool, false_from_ne_true}
+use Rattle.std.proofs.lemmas.Bool.{cases_Bool, false_from_ne_true, or_left, or_right}
 use Rattle.std.proofs.lemmas.Map.Views.{any-filter_same}
-use Rattle.std.proofs.lemmas.Cmp.{tied_itself, alike_right, eq_by_cmp_equiv}
+use Rattle.std.proofs.lemmas.Cmp.{tied_itself, ranked, alike_right, eq_by_cmp_equiv}
 use Rattle.std.proofs.lemmas.Map.{lookup-none, lookup-remove_entry}
 use Rattle.std.proofs.lemmas.Map.Keys.{sorted_tail, IsDistinct-from_sorted}
-use Rattle.std.proofs.lemmas.Map.Entries.{lookup-filter-keys, lookup_head, lookup_tail, none_past_head, none_below_head}
+use Rattle.std.proofs.lemmas.Map.Entries.{length-keys_of, lookup-filter-keys, lookup_head, lookup_tail, none_past_head, none_below_head}
 use Rattle.std.proofs.lemmas.Map.Lookups.{exact_unsigned}
 use Rattle.share_history.specs.Keyed.{at, put_in, taken_out, IsAscending, AreAscending, ascending, pairs_at}
 
@@ -188,6 +188,14 @@ has-folded q acc (k ∷ keys) =
     has-folded q (insert_key nat_cmp acc k) keys ∙ ap (λ b. b || has q keys) (member-insert_key nat_cmp nat_cmp_total q k acc)
     ∙ or_moved (is_eq (nat_cmp q k)) (has q acc) (has q keys)
 
+-- what holds of each key holds of each in order
+all-folded : (P : ℕ → Type 0) (acc keys : List ℕ) → AllByRecursion P acc → AllByRecursion P keys → AllByRecursion P (fold (insert_key nat_cmp) acc keys)
+all-folded P acc [] all more = all
+all-folded P acc (k ∷ keys) all more = all-folded P (insert_key nat_cmp acc k) keys (all-insert_key nat_cmp nat_cmp_total P k acc more.0 all) more.1
+
+pub all-ascending : (P : ℕ → Type 0) (keys : List ℕ) → AllByRecursion P keys → AllByRecursion P (ascending keys)
+all-ascending P keys all = all-folded P [] keys tt all
+
 pub sorted-ascending : (keys : List ℕ) → AreAscending (ascending keys)
 unfolding IsStrictlySortedBy
 sorted-ascending keys = sorted-folded [] keys tt
@@ -357,6 +365,40 @@ has-keys_of q (e ∷ es) = ap (λ b. is_eq (nat_cmp q e.0) || b) (has-keys_of q 
     some_or : {X : Type 0} (b : Bool) (x : X) (found : Option X) → is_some (cond b (Some x) found) ≡ (b || is_some found)
     some_or true x found = refl
     some_or false x found = refl
+
+-- ---- how many pairs there are
+
+pub few_pairs : {A : Type 0} (value : ℕ → Option A) (ks : List ℕ) → length (pairs_at value ks) ≤ length ks
+few_pairs value [] = omega arith
+few_pairs value (k ∷ ks) = elim (value k) as (λ v. length (cons_option (option_map (λ x. (k, x)) v) (pairs_at value ks)) ≤ length (k ∷ ks)) [
+  | None ↦ omega (arith, few_pairs value ks)
+  | Some x ↦ omega (arith, few_pairs value ks)
+]
+
+-- what holds of each number that is among some keys
+all_among : (P : ℕ → Type 0) (ks : List ℕ) → ((q : ℕ) → has q ks ≡ true → P q) → AllByRecursion P ks
+all_among P [] h = tt
+all_among P (k ∷ ks) h = (h k (or_left (is_eq (nat_cmp k k)) (has k ks) (key_itself k)), all_among P ks (λ q e. h q (or_right (is_eq (nat_cmp q k)) (has q ks) e)))
+
+all_both : {P Q R : ℕ → Type 0} → ((k : ℕ) → P k → Q k → R k) → (ks : List ℕ) → AllByRecursion P ks → AllByRecursion Q ks → AllByRecursion R ks
+all_both h [] p q = tt
+all_both h (k ∷ ks) p q = (h k p.0 q.0, all_both h ks p.1 q.1)
+
+-- ascending keys between two numbers are no more than there are numbers
+few_keys_between : (low high : ℕ) (ks : List ℕ) → low ≤ high → AreAscending ks → AllByRecursion (λ k. (low ≤ k) × (k < high)) ks → length ks + low ≤ high
+unfolding IsStrictlySortedBy
+few_keys_between low high [] le s all = omega (arith, le)
+few_keys_between low high (k ∷ ks) le s all =
+    let rest = few_keys_between (k + 1) high ks (omega (arith, all.0.1)) s.1
+    (all_both {Q = λ y. (low ≤ y) × (y < high)} {R = λ y. (k + 1 ≤ y) × (y < high)} (λ y l w. (omega (arith, ranked k y Less (sym l)), w.1)) ks s.0 all.1) in
+    omega (arith, rest, all.0.0)
+
+pub few_between : {A : Type 0} (low high : ℕ) (es : List (ℕ × A)) → low ≤ high → IsAscending es → ((q : ℕ) → is_some (at q es) ≡ true → (low ≤ q) × (q < high)) → length es + low ≤ high
+few_between low high es le s h =
+    let few = few_keys_between low high (keys_of es) le s (all_among (λ k. (low ≤ k) × (k < high)) (keys_of es) (λ q e. h q (sym (has-keys_of q es) ∙ e))) in
+    omega (arith, few, length-keys_of es)
+
+-- ---- ascending lists of the same keys
 
 abbrev marked : List ℕ → List (ℕ × Unit {0})
 marked ks = map (λ k. (k, tt)) ks

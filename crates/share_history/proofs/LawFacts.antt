@@ -10,7 +10,7 @@ use Rattle.item_model.specs.declared.changes.Edit.{Edit}
 use Rattle.item_model.specs.declared.changes.Edit.TheVariants.{PutItem, DropItem, PutList, PutRule, DropList, PutMember, DropMember}
 use Rattle.item_model.specs.declared.request.Target.TheVariants.{Items, Container}
 use Rattle.share_history.specs.Numbers.{first_revision, base_list}
-use Rattle.share_history.specs.Histories.{edits, later, revision, up_to}
+use Rattle.share_history.specs.Histories.{edits, later, revision}
 use Rattle.share_history.specs.LastSaid.{Playlist, Plain, Ruled, only_if, says_list, says_member, item_at, list_at, member_at}
 use Rattle.share_history.specs.Named.{names_list}
 use Rattle.share_history.specs.Rows.{if_asked, in_list, row_at, rows}
@@ -19,7 +19,7 @@ use Rattle.share_history.specs.Differences.{new_tags, gone_keys}
 use Rattle.share_history.specs.Listings.{shown_after}
 use Rattle.share_history.specs.Laws.{is_plain, puts_member, LibraryAscends, OpensWithTheBatch, ListsBeginWithoutMembers, ListsBeginEmpty, MembersNeedAList, MembersFollowTheirItems, BasesArePast, NewTargetsAreNotKept, NothingChangedSinceNow, BodiesTellTheirRows}
 use Rattle.share_history.proofs.KeyedFacts.{sorted-ascending}
-use Rattle.share_history.proofs.EditFacts.{both_false, first_false, second_false, edits-split, up_to-revision, list_more, member_more, list_stays, member_stays, edits-opening}
+use Rattle.share_history.proofs.EditFacts.{both_false, first_false, second_false, edits-split, up_to-now, up_to-revision, list_more, member_more, list_stays, member_stays, edits-opening, and_second_false}
 use Rattle.share_history.proofs.RowFacts.{rows_are, ascending-library}
 use Rattle.share_history.proofs.DifferenceFacts.{nothing_new, nothing_gone}
 use Rattle.share_history.proofs.MirrorFacts.{ascending-after}
@@ -120,21 +120,17 @@ members_follow_their_items es ds c m item name q h list member unlisted unnamed 
 not_le : (a b : ℕ) → b < a → nat_le a b ≡ false
 not_le a b h = false_from_ne_true (nat_le a b) (λ t. absurd (omega (arith, leb-true a b t)))
 
-and_false : (a b : Bool) → b ≡ false → (a && b) ≡ false
-and_false true b h = h
-and_false false b h = refl
-
 pub bases_are_past : BasesArePast
 bases_are_past keep bs t base (inl h) = ap (λ b. b && (nat_le base (revision bs) && (nat_le (revision bs) (base + keep) && is_left t (later bs base)))) (not_le first_revision base h)
 bases_are_past keep bs t base (inr h) =
-    and_false (nat_le first_revision base) (nat_le base (revision bs) && (nat_le (revision bs) (base + keep) && is_left t (later bs base)))
+    and_second_false (nat_le first_revision base) (nat_le base (revision bs) && (nat_le (revision bs) (base + keep) && is_left t (later bs base)))
     (ap (λ b. b && (nat_le (revision bs) (base + keep) && is_left t (later bs base))) (not_le base (revision bs) h))
 
 -- a list that is named after the base is not kept, and one that is not stands as it did
 new_list : (keep : ℕ) (bs cs : List (List Edit)) (c : ℕ) (named : Bool) → (c == base_list) ≡ false → list_any (names_list c) (later (bs ++ cs) (revision bs)) ≡ named
     → is_some (list_at (edits bs) c) ≡ false → is_some (list_at (edits (bs ++ cs)) c) ≡ true → is_kept keep (bs ++ cs) (Container c) (revision bs) ≡ false
 new_list keep bs cs c true other named gone there =
-    and_false _ _ (and_false _ _ (and_false (nat_le (revision (bs ++ cs)) (revision bs + keep)) _ (both_false _ _ other (ap not named))))
+    and_second_false _ _ (and_second_false _ _ (and_second_false (nat_le (revision (bs ++ cs)) (revision bs + keep)) _ (both_false _ _ other (ap not named))))
 new_list keep bs cs c false other unnamed gone there =
     let parts : edits (bs ++ cs) ≡ edits bs ++ later (bs ++ cs) (revision bs) =
     edits-split (bs ++ cs) (revision bs) ∙ ap (λ front. edits front ++ later (bs ++ cs) (revision bs)) (up_to-revision bs cs) in
@@ -152,10 +148,6 @@ pub new_targets_are_not_kept : NewTargetsAreNotKept
 new_targets_are_not_kept keep bs cs Items gone there = absurd (false≢true (sym gone))
 new_targets_are_not_kept keep bs cs (Container c) gone there = new_container keep bs cs c (c == base_list) refl gone there
 
--- all batches are up to the present revision
-up_to-now : (bs : List (List Edit)) → up_to bs (revision bs) ≡ bs
-up_to-now bs = ap (λ all. up_to all (revision bs)) (sym (append-nil bs)) ∙ up_to-revision bs []
-
 pub nothing_changed_since_now : NothingChangedSinceNow
 nothing_changed_since_now bs t look = (
   ap (λ old. new_tags (shown_after old t look) (shown_after bs t look)) (up_to-now bs) ∙ nothing_new (shown_after bs t look) (ascending-after bs t look),
@@ -164,7 +156,7 @@ nothing_changed_since_now bs t look = (
 
 -- ---- bodies
 
-listed_again : (ts : List Tree) → tree_list (trees_of ts) ≡ ts
+pub listed_again : (ts : List Tree) → tree_list (trees_of ts) ≡ ts
 listed_again [] = refl
 listed_again (t ∷ ts) = ap (λ rest. t ∷ rest) (listed_again ts)
 

@@ -2,6 +2,7 @@ pub mod KeyedFacts
 pub mod EditFacts
 pub mod RowFacts
 pub mod OwnFacts
+pub mod ValidFacts
 pub mod TouchFacts
 pub mod DifferenceFacts
 pub mod MirrorFacts
@@ -11,4 +12,3 @@ pub mod FoldFacts
 pub mod SessionFacts
 pub mod RangeFacts
 pub mod TextFacts
-pub mod ContainerFacts

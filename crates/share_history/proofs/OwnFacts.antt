@@ -56,7 +56,7 @@ found_id id (Some found) h = h
 pub item_id : (es : List Edit) (id : ℕ) (row : Row) → item_at es id ≡ Some row → row.id ≡ id
 item_id es id row is = subst (HasId id) is (found_id id (last_said (says_item id) es) (last_id id es))
 
-asked_some : (q : Option Query) (found : Option Row) (row : Row) → option_and_then (if_asked q) found ≡ Some row → found ≡ Some row
+pub asked_some : (q : Option Query) (found : Option Row) (row : Row) → option_and_then (if_asked q) found ≡ Some row → found ≡ Some row
 asked_some q None row is = absurd (cc)
 asked_some q (Some other) row is = kept (is_asked q other) is
   where

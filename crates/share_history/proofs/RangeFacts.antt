@@ -1,23 +1,18 @@
 -- A range of rows, whatever is then made of each row.
-use Rattle.std.proofs.Common.{◌≡◌, ℕ, ◌+◌, ◌-◌, Bor, true, false, cond, ◌≤◌, length-drop, length-take, arith, subst, Bool, not, [], ◌∷◌, filter, List, map, take, drop, length, refl, sym, ap, ◌∙◌}
+use Rattle.std.proofs.Common.{◌≡◌, ℕ, ◌+◌, ◌-◌, true, false, cond, ◌≤◌, length-drop, length-take, arith, Bool, not, [], ◌∷◌, filter, List, map, take, drop, length, refl, ap, ◌∙◌}
 use Rattle.std.proofs.lemmas.List.{take-map, length-map}
 use Rattle.std.specs.List.{drop-map}
 use Rattle.item_model.specs.declared.request.Range.{Range}
 use Rattle.item_model.specs.declared.request.Range.TheVariants.{All, One, From, Span, Last}
-use Rattle.dmap_tags.specs.Tree.{Tree}
-use Rattle.item_model.specs.declared.item.Row.{Row}
 use Rattle.item_model.specs.declared.request.Look.{Look}
 use Rattle.item_model.specs.declared.request.Target.{Target}
 use Rattle.item_model.specs.declared.changes.Edit.{Edit}
 use Rattle.share_history.specs.Histories.{edits, up_to}
 use Rattle.share_history.specs.Rows.{rows}
-use Rattle.share_history.specs.Kept.{is_kept}
 use Rattle.share_history.specs.Differences.{has_tag}
 use Rattle.share_history.specs.Ranges.{in_range}
-use Rattle.share_history.specs.Listings.{Listing, shown, shown_rows, shown_after, full_of, full_listing, delta_listing, listing}
+use Rattle.share_history.specs.Listings.{shown, shown_after, full_listing, delta_listing}
 use Rattle.share_history.proofs.RowFacts.{length-rows}
-use Rattle.std.proofs.lemmas.Bool.{cond_both}
-use Rattle.share_history.specs.RowSeen.{row_of}
 
 pub in_range-map : {A B : Type 0} (f : A → B) (r : Range) (xs : List A) → in_range r (map f xs) ≡ map f (in_range r xs)
 in_range-map f All xs = refl
@@ -25,14 +20,6 @@ in_range-map f (One place) xs = ap (take 1) (drop-map f place xs) ∙ take-map f
 in_range-map f (From place) xs = drop-map f place xs
 in_range-map f (Span from to) xs = ap (drop from) (take-map f (to + 1) xs) ∙ drop-map f from (take (to + 1) xs)
 in_range-map f (Last count) xs = ap (λ n. drop (n - count) (map f xs)) (length-map xs f) ∙ drop-map f (length xs - count) xs
-
--- a full listing of rows that the program found
-pub full_made : (revision : ℕ) (t : Target) (look : Look) (all listed : List (ℕ × Bor Row)) (tags : List (ℕ × Tree)) (gone : List ℕ) → listed ≡ in_range look.range all
-    → tags ≡ shown_rows t look.meta (map row_of listed) → gone ≡ []
-    → record { is_delta = false; revision = revision; total = length all; rows = tags; gone = gone } ≡ full_of revision t look (map row_of all)
-full_made revision t look all listed tags gone h k g =
-    let rows : tags ≡ shown_rows t look.meta (in_range look.range (map row_of all)) = k ∙ ap (λ xs. shown_rows t look.meta (map row_of xs)) h ∙ ap (shown_rows t look.meta) (sym (in_range-map row_of look.range all)) in
-    λ i. record { is_delta = false; revision = revision; total = sym (length-map all row_of) i; rows = rows i; gone = g i }
 
 -- ---- how many rows are listed
 
@@ -42,7 +29,7 @@ no_longer_back n xs = omega (arith, length-drop n xs)
 no_longer_front : {A : Type 0} (n : ℕ) (xs : List A) → length (take n xs) ≤ length xs
 no_longer_front n xs = omega (arith, length-take n xs)
 
-length-in_range : {A : Type 0} (r : Range) (xs : List A) → length (in_range r xs) ≤ length xs
+pub length-in_range : {A : Type 0} (r : Range) (xs : List A) → length (in_range r xs) ≤ length xs
 length-in_range All xs = omega arith
 length-in_range (One place) xs = omega (arith, no_longer_front 1 (drop place xs), no_longer_back place xs)
 length-in_range (From place) xs = no_longer_back place xs
@@ -56,7 +43,7 @@ length-filter p (x ∷ xs) = elim (p x) as (λ b. length (cond b (x ∷ filter p
   | false ↦ omega (arith, length-filter p xs)
 ]
 
-length-full : (bs : List (List Edit)) (t : Target) (look : Look) → length (full_listing bs t look).rows ≤ length (edits bs)
+pub length-full : (bs : List (List Edit)) (t : Target) (look : Look) → length (full_listing bs t look).rows ≤ length (edits bs)
 length-full bs t look =
     omega (arith, length-map (in_range look.range (rows (edits bs) t look.query)) (shown t look.meta), length-in_range look.range (rows (edits bs) t look.query), length-rows (edits bs) t look.query)
 
@@ -68,12 +55,3 @@ length-delta bs t look base =
       length-map (rows (edits bs) t look.query) (shown t look.meta),
       length-rows (edits bs) t look.query,
     )
-
--- no listing lists more rows than there are edits
-pub few_full : (bs : List (List Edit)) (t : Target) (look : Look) (l : Listing) → l ≡ full_listing bs t look → length l.rows ≤ length (edits bs)
-few_full bs t look l h = subst (λ n. n ≤ length (edits bs)) (ap (λ x. length x.rows) (sym h)) (length-full bs t look)
-
-pub few_listed : (keep : ℕ) (bs : List (List Edit)) (t : Target) (look : Look) (l : Listing) → l ≡ listing keep bs t look → length l.rows ≤ length (edits bs)
-few_listed keep bs t look l h =
-    subst (λ n. n ≤ length (edits bs)) (ap (λ x. length x.rows) (sym h))
-    (cond_both (is_kept keep bs t look.base) (delta_listing bs t look look.base) (full_listing bs t look) (λ x. length x.rows ≤ length (edits bs)) (λ _. length-delta bs t look look.base) (λ _. length-full bs t look))

@@ -1,12 +1,11 @@
 -- The rows of a listing are the one ascending list that is right at each key.
-use Rattle.std.proofs.Common.{◌≡◌, ℕ, map, ◌+◌, ◌≤◌, length, length-append, fold, nat_cmp, Ordering, Less, Equal, Greater, arith, Bool, true, false, cond, ◌==◌, List, [], ◌∷◌, ◌++◌, unwrap_or, refl, sym, ap, ◌∙◌, Option, Some, None, is_some, filter}
+use Rattle.std.proofs.Common.{◌≡◌, ℕ, ◌+◌, ◌≤◌, length, length-append, fold, nat_cmp, Ordering, Less, Equal, Greater, arith, Bool, true, false, cond, ◌==◌, List, [], ◌∷◌, ◌++◌, unwrap_or, refl, sym, ap, ◌∙◌, Option, Some, None, is_some, filter}
 use Rattle.std.specs.Option.{option_and_then, option_map}
 use Rattle.std.specs.List.{cons_option}
 use Rattle.std.specs.Ordering.{match_ordering}
 use Rattle.std.specs.BTreeSet.{insert_key}
 use Rattle.std.specs.Map.{keys_of}
 use Rattle.std.proofs.lemmas.Bool.{cond_both}
-use Rattle.std.proofs.lemmas.List.{length-map}
 use Rattle.item_model.specs.declared.item.Row.{Row}
 use Rattle.item_model.specs.declared.query.Query.{Query}
 use Rattle.item_model.specs.declared.changes.Edit.{Edit}
@@ -18,7 +17,7 @@ use Rattle.share_history.specs.Keyed.{at, put_in, taken_out, IsAscending, AreAsc
 use Rattle.share_history.specs.LastSaid.{Playlist, Plain, Ruled, only_if, says_item, item_at, list_at}
 use Rattle.share_history.specs.Named.{keys_in, named_keys, lists_in, named_lists}
 use Rattle.share_history.specs.Rows.{is_asked, if_asked, in_list, in_target, row_at, rows, library, lists}
-use Rattle.share_history.proofs.KeyedFacts.{has, is_eq-cmp, at-put, ascending-put, at-out, ascending-out, same_pairs, same_keys_same, sorted-ascending, has-ascending, ascending-pairs_at, at-pairs_at, has-keys_of}
+use Rattle.share_history.proofs.KeyedFacts.{has, is_eq-cmp, at-put, ascending-put, at-out, ascending-out, same_pairs, same_keys_same, sorted-ascending, has-ascending, ascending-pairs_at, at-pairs_at, has-keys_of, few_pairs}
 use Rattle.share_history.proofs.EditFacts.{item_more, item_unnamed, member_unnamed, list_unnamed}
 
 -- a value that is there only under the keys of some list is under each key what the list's pairs have there
@@ -51,7 +50,7 @@ ascending-rows es t q = ascending-pairs_at (row_at es t q) (ascending (named_key
 pub rows_are : (es : List Edit) (t : Target) (q : Option Query) (rs : List (ℕ × Row)) → IsAscending rs → ((k : ℕ) → at k rs ≡ row_at es t q k) → rs ≡ rows es t q
 rows_are es t q rs s h = same_pairs rs (rows es t q) s (ascending-rows es t q) (λ k. h k ∙ sym (at-rows es t q k))
 
-found_itself : {A : Type 0} (o : Option A) → option_and_then (λ (x : A). Some x) o ≡ o
+pub found_itself : {A : Type 0} (o : Option A) → option_and_then (λ (x : A). Some x) o ≡ o
 found_itself None = refl
 found_itself (Some x) = refl
 
@@ -173,27 +172,14 @@ one_key (DropList list) = omega arith
 one_key (PutMember list member item) = omega arith
 one_key (DropMember list member) = omega arith
 
-few_keys : (es : List Edit) → length (named_keys es) ≤ length es
+-- no more keys than edits
+pub few_keys : (es : List Edit) → length (named_keys es) ≤ length es
 few_keys [] = omega arith
 few_keys (e ∷ es) = omega (arith, length-append (keys_in e) (named_keys es), one_key e, few_keys es)
-
-few_pairs : {A : Type 0} (value : ℕ → Option A) (ks : List ℕ) → length (pairs_at value ks) ≤ length ks
-few_pairs value [] = omega arith
-few_pairs value (k ∷ ks) = elim (value k) as (λ v. length (cons_option (option_map (λ x. (k, x)) v) (pairs_at value ks)) ≤ length (k ∷ ks)) [
-  | None ↦ omega (arith, few_pairs value ks)
-  | Some x ↦ omega (arith, few_pairs value ks)
-]
 
 -- no more rows than edits
 pub length-rows : (es : List Edit) (t : Target) (q : Option Query) → length (rows es t q) ≤ length es
 length-rows es t q = omega (arith, few_pairs (row_at es t q) (ascending (named_keys es)), folded-longer nat_cmp [] (named_keys es), few_keys es)
-
--- the same of what a loop found, before its keys and items are read
-pub few_rows : {A : Type 0} (f : A → ℕ × Row) (found : List A) (es : List Edit) (t : Target) (q : Option Query) → map f found ≡ rows es t q → length found ≤ length es
-few_rows f found es t q h = omega (arith, length-map found f, ap length h, length-rows es t q)
-
-pub counted_rows : {A : Type 0} (f : A → ℕ × Row) (found : List A) (es : List Edit) (t : Target) (q : Option Query) → map f found ≡ rows es t q → length found ≡ length (rows es t q)
-counted_rows f found es t q h = sym (length-map found f) ∙ ap length h
 
 -- no more lists than edits
 one_list : (e : Edit) → length (lists_in e) ≤ 1
@@ -211,9 +197,3 @@ few_lists_named (e ∷ es) = omega (arith, length-append (lists_in e) (named_lis
 
 pub length-lists : (es : List Edit) → length (lists es) ≤ length es
 length-lists es = omega (arith, few_pairs (list_at es) (ascending (named_lists es)), folded-longer nat_cmp [] (named_lists es), few_lists_named es)
-
-pub counted_lists : {A : Type 0} (f : A → ℕ × Playlist) (found : List A) (es : List Edit) → map f found ≡ lists es → length found ≡ length (lists es)
-counted_lists f found es h = sym (length-map found f) ∙ ap length h
-
-pub few_lists : {A : Type 0} (f : A → ℕ × Playlist) (found : List A) (es : List Edit) → map f found ≡ lists es → length found ≤ length es
-few_lists f found es h = omega (arith, counted_lists f found es h, length-lists es)

@@ -1,39 +1,16 @@
--- The login of a session among the entries that are left.
-use Rattle.std.proofs.Common.{◌≡◌, ◌≤◌, true, nat_lt, nat_le, ltb-true, leb-true, arith, ℕ, suc, Bool, false, inl, inr, None, ◌+◌, ◌<◌, ◌++◌, ◌==◌, append_assoc, eq-eqb, eqb-true, refl, take, [], ◌∷◌, sym, ◌∙◌, length, get_or, drop, cond, count_by, List, ap, Some}
+-- The places that batches and logins take, the order of logins, and marks.
+use Rattle.std.proofs.Common.{◌≡◌, ◌≤◌, true, nat_lt, arith, ℕ, suc, Bool, false, inl, inr, None, ◌+◌, ◌++◌, ◌==◌, eq-eqb, eqb-true, refl, [], ◌∷◌, sym, ◌∙◌, length, cond, count_by, List, ap, Some}
 use Rattle.std.proofs.lemmas.Bool.{and_from, and_parts, cases_Bool}
 use Rattle.std.proofs.lemmas.List.Sums.{sum_by-cons}
 use Rattle.item_model.specs.declared.changes.Entry.{Entry}
 use Rattle.item_model.specs.declared.changes.Entry.TheVariants.{Edits, Login, Logout, Stop}
-use Rattle.share_history.specs.Histories.{batches, all_edits, revision}
-use Rattle.share_history.specs.Limits.{takes_place, has_place, has_room_for}
-use Rattle.share_history.specs.Numbers.{most_entries, most_edits}
+use Rattle.share_history.specs.Histories.{batches}
+use Rattle.share_history.specs.Limits.{takes_place}
 use Rattle.share_history.specs.Keyed.{at, put_in}
 use Rattle.share_history.specs.Laws.{LoginsStayOrderly, MarksFollowAnswers}
-use Rattle.share_history.specs.Marks.{Marks, is_orderly, until_login}
-use Rattle.share_history.specs.Sessions.{is_login, is_login_of, is_live, after_login}
-use Rattle.std.proofs.lemmas.List.{take_more}
-use Rattle.share_history.proofs.EditFacts.{drop_more}
-use Rattle.share_history.proofs.FoldFacts.{fold-append}
+use Rattle.share_history.specs.Marks.{Marks, is_orderly}
+use Rattle.share_history.specs.Sessions.{is_login, is_live}
 use Rattle.share_history.proofs.KeyedFacts.{at-filter, at-put, is_eq-cmp}
-
-pub login_left : (id : ℕ) (h : List Entry) (i : ℕ) (e : Entry) → i < length h → e ≡ get_or h i e
-    → after_login id (drop i h) ≡ cond (is_login_of id e) (Some (drop (i + 1) h)) (after_login id (drop (i + 1) h))
-login_left id h i e lt is = ap (after_login id) (drop_more h i e lt is)
-
--- what was passed, and of what is left the part up to the login
-pub until_login_left : (id : ℕ) (h : List Entry) (i : ℕ) (e : Entry) → i < length h → e ≡ get_or h i e
-    → take i h ++ until_login id (drop i h) ≡ take (i + 1) h ++ cond (is_login_of id e) [] (until_login id (drop (i + 1) h))
-until_login_left id h i e lt is =
-    ap (λ rest. take i h ++ until_login id rest) (drop_more h i e lt is)
-    ∙ sym (append_assoc (take i h) (e ∷ []) (cond (is_login_of id e) [] (until_login id (drop (i + 1) h))))
-    ∙ ap (λ front. front ++ cond (is_login_of id e) [] (until_login id (drop (i + 1) h))) (sym (take_more h i e lt ∙ ap (λ x. take i h ++ x ∷ []) (sym is)))
-
--- how many of the entries up to one more pass a test
-pub count_more : (p : Entry → Bool) (h : List Entry) (i : ℕ) (e : Entry) → i < length h → e ≡ get_or h i e
-    → count_by p (take (i + 1) h) ≡ count_by p (take i h) + cond (p e) 1 0
-count_more p h i e lt is =
-    ap (count_by p) (take_more h i e lt) ∙ fold-append (λ n x. n + cond (p x) 1 0) 0 (take i h) (get_or h i e ∷ [])
-    ∙ ap (λ x. count_by p (take i h) + cond (p x) 1 0) (sym is)
 
 -- each batch takes a place
 pub few_batches : (h : List Entry) → length (batches h) ≤ count_by takes_place h
@@ -43,13 +20,13 @@ few_batches (Login by id ∷ h) = omega (arith, few_batches h, sum_by-cons (λ x
 few_batches (Logout by id ∷ h) = omega (arith, few_batches h, sum_by-cons (λ x. cond (takes_place x) 1 0) (Logout by id) h)
 few_batches (Stop by ∷ h) = omega (arith, few_batches h, sum_by-cons (λ x. cond (takes_place x) 1 0) (Stop by) h)
 
--- a history that has a place left has few revisions
-pub few_revisions : (h : List Entry) (b : Bool) → b ≡ has_place h → b ≡ true → revision (batches h) < 4294967296
-few_revisions h b is t = let place : nat_lt (count_by takes_place h) most_entries ≡ true = sym is ∙ t in omega (arith, few_batches h, ltb-true _ _ place)
-
--- a history that has room left has few edits
-pub few_edits : (h : List Entry) (b : Bool) → b ≡ has_room_for h 0 → b ≡ true → length (all_edits h) + 1 < 4294967296
-few_edits h b is t = let room : nat_le (length (all_edits h) + 0) most_edits ≡ true = sym is ∙ t in omega (arith, leb-true _ _ room)
+-- and so does each login
+pub few_logins : (h : List Entry) → count_by is_login h ≤ count_by takes_place h
+few_logins [] = omega arith
+few_logins (Edits by batch ∷ h) = omega (arith, few_logins h, sum_by-cons (λ e. cond (takes_place e) 1 0) (Edits by batch) h, sum_by-cons (λ e. cond (is_login e) 1 0) (Edits by batch) h)
+few_logins (Login by id ∷ h) = omega (arith, few_logins h, sum_by-cons (λ e. cond (takes_place e) 1 0) (Login by id) h, sum_by-cons (λ e. cond (is_login e) 1 0) (Login by id) h)
+few_logins (Logout by id ∷ h) = omega (arith, few_logins h, sum_by-cons (λ e. cond (takes_place e) 1 0) (Logout by id) h, sum_by-cons (λ e. cond (is_login e) 1 0) (Logout by id) h)
+few_logins (Stop by ∷ h) = omega (arith, few_logins h, sum_by-cons (λ e. cond (takes_place e) 1 0) (Stop by) h, sum_by-cons (λ e. cond (is_login e) 1 0) (Stop by) h)
 
 -- a login with the id behind those of the history keeps their order
 orderly_login : (next by id : ℕ) (h : List Entry) → id ≡ count_by is_login h + next → is_orderly next h ≡ true → is_orderly next (h ++ Login by id ∷ []) ≡ true

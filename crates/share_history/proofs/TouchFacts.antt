@@ -2,7 +2,7 @@
 use Rattle.std.proofs.Common.{◌≡◌, ℕ, Bool, true, false, cond, ◌||◌, ◌&&◌, ◌==◌, not, List, [], ◌∷◌, ◌++◌, refl, sym, ap, ◌∙◌, true≢false, Option, Some, None}
 use Rattle.std.specs.Option.{option_and_then}
 use Rattle.std.specs.List.{list_any}
-use Rattle.std.proofs.lemmas.Bool.{cond_both}
+use Rattle.std.proofs.lemmas.Bool.{cond_both, not-true}
 use Rattle.std.proofs.lemmas.Grind.{flat_map-append}
 use Rattle.item_model.specs.declared.query.Query.{Query}
 use Rattle.item_model.specs.declared.changes.Edit.{Edit}
@@ -17,7 +17,7 @@ use Rattle.share_history.specs.Named.{names_item, names_list, names_member, keys
 use Rattle.share_history.specs.Rows.{if_asked, in_list, in_target, row_at}
 use Rattle.share_history.specs.Kept.{is_left, names_its_item, touches_in, touches, touched}
 use Rattle.share_history.proofs.KeyedFacts.{has, same_keys_same, sorted-ascending, has-ascending, has-filter, sorted-filter}
-use Rattle.share_history.proofs.EditFacts.{edits-split, first_false, second_false, both_false, has-append, other_key, item_stays, list_stays, member_stays, member_unnamed}
+use Rattle.share_history.proofs.EditFacts.{edits-split, first_false, second_false, both_false, has-append, other_key, item_stays, list_stays, member_stays, member_unnamed, and_second_false}
 
 -- ---- rows that stay
 
@@ -34,16 +34,12 @@ list_row_stays (Some (Plain name)) es ds c k h t =
     member_row_stays (member_at (es ++ ds) c k) es ds (second_false named item t) ∙ ap (option_and_then (item_at es)) (member_stays es ds c k h (first_false named item t))
 list_row_stays (Some (Ruled name rule)) es ds c k h t = ap (option_and_then (if_asked (Some rule))) (item_stays es ds k t)
 
-not_true : (b : Bool) → not b ≡ true → b ≡ false
-not_true true h = absurd (true≢false (sym h))
-not_true false h = refl
-
 container_row_stays : (b : Bool) (es ds : List Edit) (c k : ℕ) → (b || not (list_any (names_list c) ds)) ≡ true
     → cond b (list_any (names_item k) ds) (touches_in (list_at (es ++ ds) c) (es ++ ds) c ds k) ≡ false
     → cond b (item_at (es ++ ds) k) (in_list (list_at (es ++ ds) c) (es ++ ds) c k) ≡ cond b (item_at es k) (in_list (list_at es c) es c k)
 container_row_stays true es ds c k l t = item_stays es ds k t
 container_row_stays false es ds c k l t =
-    let unnamed = not_true (list_any (names_list c) ds) l in
+    let unnamed = not-true (list_any (names_list c) ds) l in
     list_row_stays (list_at (es ++ ds) c) es ds c k unnamed t ∙ ap (λ x. in_list x es c k) (list_stays es ds c unnamed)
 
 target_stays : (es ds : List Edit) (t : Target) (k : ℕ) → is_left t ds ≡ true → touches (es ++ ds) t ds k ≡ false → in_target (es ++ ds) t k ≡ in_target es t k
@@ -66,18 +62,14 @@ names_no_item k (DropList list) h = refl
 names_no_item k (PutMember list member item) h = refl
 names_no_item k (DropMember list member) h = refl
 
-and_other : (a b : Bool) → b ≡ false → (a && b) ≡ false
-and_other true b h = h
-and_other false b h = refl
-
 names_no_member : (c k : ℕ) (e : Edit) → has k (keys_in e) ≡ false → names_member c k e ≡ false
 names_no_member c k (PutItem row) h = refl
 names_no_member c k (DropItem id) h = refl
 names_no_member c k (PutList list name) h = refl
 names_no_member c k (PutRule list name rule) h = refl
 names_no_member c k (DropList list) h = refl
-names_no_member c k (PutMember list member item) h = and_other (list == c) (member == k) (other_key k member h)
-names_no_member c k (DropMember list member) h = and_other (list == c) (member == k) (other_key k member h)
+names_no_member c k (PutMember list member item) h = and_second_false (list == c) (member == k) (other_key k member h)
+names_no_member c k (DropMember list member) h = and_second_false (list == c) (member == k) (other_key k member h)
 
 none_names : (names : Edit → Bool) (k : ℕ) → ((e : Edit) → has k (keys_in e) ≡ false → names e ≡ false) → (es : List Edit) → has k (named_keys es) ≡ false → list_any names es ≡ false
 none_names names k quiet [] h = refl

@@ -16,7 +16,4 @@ pub mod Mirror
 pub mod Databases
 pub mod BrowseListings
 pub mod Laws
-pub mod PlaylistSeen
-pub mod NamedBy
 pub mod RowSeen
-pub mod ListingSeen

@@ -2,6 +2,19 @@
 //! definitions.
 
 ghost use Rattle.share_history.specs.Laws.{LibraryAscends, OpensWithTheBatch, BatchesMakeRevisions, ListsBeginWithoutMembers, ListsBeginEmpty, MembersNeedAList, MembersFollowTheirItems, BasesArePast, NewTargetsAreNotKept, NothingChangedSinceNow, DeltasListNews, DeltasDeleteWhatIsGone, UntouchedStayShown, BodiesTellTheirRows, MirrorsFollow, MirrorsCatchUp, FullListingsSuffice, LoginsStayOrderly, MarksFollowAnswers};
+ghost use Rattle.std.specs.Prelude.{◌≡◌};
+ghost use Rattle.share_history.specs.Numbers.{first_revision, base_list, live_sessions, most_entries, most_edits, most_lists};
+ghost use Rattle.share_history.specs.declared.numbers.TheConstants.{FIRST_REVISION, BASE_LIST, LIVE_SESSIONS, MAX_ENTRIES, MAX_EDITS, MAX_LISTS};
+
+/// The constants are the numbers that the definitions speak of.
+pub fn constants_are_the_numbers()
+    ensures first { FIRST_REVISION ≡ first_revision }
+    ensures base { BASE_LIST ≡ base_list }
+    ensures live { LIVE_SESSIONS ≡ live_sessions }
+    ensures entries { MAX_ENTRIES ≡ most_entries }
+    ensures edits { MAX_EDITS ≡ most_edits }
+    ensures lists { MAX_LISTS ≡ most_lists }
+{}
 
 /// The library has each id once, in ascending order.
 #[tactic(auto, using(crate::proofs::LawFacts::library_ascends))]

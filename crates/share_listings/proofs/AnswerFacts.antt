@@ -1,5 +1,5 @@
 -- The rows that are asked for, taken one key after another.
-use Rattle.std.proofs.Common.{◌≡◌, ◌<◌, ◌≤◌, ◌+◌, ◌++◌, ◌∷◌, [], ◌==◌, ℕ, suc, List, Bool, true, false, cond, Option, Some, None, is_some, filter, map, take, All, length, get_or, unwrap_or, if◌then◌else◌, refl, sym, subst, ap, ◌∙◌, arith, length-append, append-nil}
+use Rattle.std.proofs.Common.{◌≡◌, ◌<◌, ◌≤◌, ◌+◌, ◌++◌, ◌∷◌, [], ◌==◌, ℕ, suc, List, Bool, true, false, cond, Option, Some, None, is_some, filter, map, take, All, length, get_or, unwrap_or, if◌then◌else◌, refl, sym, subst, ap, ◌∙◌, arith, append-nil}
 use Rattle.std.specs.Option.{option_map, option_and_then}
 use Rattle.std.specs.List.{cons_option}
 use Rattle.std.specs.Map.{keys_of}
@@ -7,7 +7,6 @@ use Rattle.std.specs.Ordering.{nat_cmp}
 use Rattle.std.proofs.lemmas.List.{length-map, take_more}
 use Rattle.std.proofs.lemmas.List.Elements.{filter-append, filter_map-append, All-cons}
 use Rattle.item_model.specs.declared.changes.Edit.{Edit}
-use Rattle.item_model.specs.declared.changes.Edit.TheVariants.{PutItem, DropItem, PutList, PutRule, DropList, PutMember, DropMember}
 use Rattle.item_model.specs.declared.item.Row.{Row}
 use Rattle.item_model.specs.declared.query.Query.{Query}
 use Rattle.item_model.specs.declared.request.Look.{Look}
@@ -18,12 +17,13 @@ use Rattle.share_history.specs.Keyed.{AreAscending, ascending, pairs_at}
 use Rattle.share_history.specs.Kept.{touches, touched}
 use Rattle.share_history.specs.LastSaid.{Playlist, Plain, Ruled, only_if, item_at, list_at, member_at}
 use Rattle.share_history.specs.Listings.{member_of, full_of, full_listing}
-use Rattle.share_history.specs.Named.{named_keys, keys_in}
+use Rattle.share_history.specs.Named.{named_keys}
 use Rattle.share_history.specs.Numbers.{base_list}
 use Rattle.share_history.specs.Rows.{rows, row_at, library, is_asked, if_asked, in_list, in_target}
-use Rattle.share_history.proofs.KeyedFacts.{has, has-keys_of, at-pairs_at, ascending-pairs_at, sorted-filter, sorted-ascending}
-use Rattle.share_history.proofs.OwnFacts.{item_id}
-use Rattle.share_history.proofs.RowFacts.{at-rows, ascending-rows, rows_are, length-rows, folded-longer}
+use Rattle.share_history.proofs.KeyedFacts.{has, has-keys_of, at-pairs_at, ascending-pairs_at, sorted-filter, sorted-ascending, few_pairs}
+use Rattle.share_history.proofs.OwnFacts.{item_id, asked_some}
+use Rattle.share_history.proofs.RowFacts.{at-rows, ascending-rows, rows_are, length-rows, folded-longer, few_keys}
+use Rattle.share_history.proofs.RangeFacts.{length-filter}
 use Rattle.listing_plan.specs.declared.row.PlanRow.{PlanRow}
 use Rattle.listing_plan.specs.Plans.{key_of, keyed, AreRowsOf, AreGone}
 use Rattle.playlist_store.specs.Words.{pair_of}
@@ -137,15 +137,6 @@ pub members_start : (es : List Edit) (t : Target) (q : Option Query) (members : 
     → map pair_of members ≡ map (λ row. (row.0, row.1.id)) (rows es t None) → Starts es t q (map (λ member. member.key) members)
 members_start es t q members h = subst (Starts es t q) (sym (member_keys members (rows es t None) h)) (rows_start es t q)
 
--- a row is found under its own id
-pub asked_some : (q : Option Query) (found : Option Row) (row : Row) → option_and_then (if_asked q) found ≡ Some row → found ≡ Some row
-asked_some q None row is = absurd (cc)
-asked_some q (Some other) row is = kept (is_asked q other) is
-  where
-    kept : (b : Bool) → only_if b other ≡ Some row → Some other ≡ Some row
-    kept true is = is
-    kept false is = absurd (cc)
-
 own_item : (es : List Edit) (id : ℕ) (row : Row) → item_at es id ≡ Some row → item_at es row.id ≡ Some row
 own_item es id row is = ap (item_at es) (item_id es id row is) ∙ is
 
@@ -227,36 +218,9 @@ gone_more p keys i key lt is =
 
 -- ---- how many there are
 
-one_key : (e : Edit) → length (keys_in e) ≤ 1
-one_key (PutItem row) = omega arith
-one_key (DropItem id) = omega arith
-one_key (PutList list name) = omega arith
-one_key (PutRule list name rule) = omega arith
-one_key (DropList list) = omega arith
-one_key (PutMember list member item) = omega arith
-one_key (DropMember list member) = omega arith
-
-few_keys : (es : List Edit) → length (named_keys es) ≤ length es
-few_keys [] = omega arith
-few_keys (e ∷ es) = omega (arith, length-append (keys_in e) (named_keys es), one_key e, few_keys es)
-
-few_pairs : {A : Type 0} (value : ℕ → Option A) (ks : List ℕ) → length (pairs_at value ks) ≤ length ks
-few_pairs value [] = omega arith
-few_pairs value (k ∷ ks) = elim (value k) as (λ v. length (cons_option (option_map (λ x. (k, x)) v) (pairs_at value ks)) ≤ length (k ∷ ks)) [
-  | None ↦ omega (arith, few_pairs value ks)
-  | Some x ↦ omega (arith, few_pairs value ks)
-]
-
-pub few_filtered : (p : ℕ → Bool) (ks : List ℕ) → length (filter p ks) ≤ length ks
-few_filtered p [] = omega arith
-few_filtered p (k ∷ ks) = elim (p k) as (λ b. length (cond b (k ∷ filter p ks) (filter p ks)) ≤ length (k ∷ ks)) [
-  | true ↦ omega (arith, few_filtered p ks)
-  | false ↦ omega (arith, few_filtered p ks)
-]
-
 pub few_touched : (bs : List (List Edit)) (t : Target) (base : ℕ) → length (touched bs t base) ≤ length (edits bs)
 few_touched bs t base =
-    omega (arith, few_filtered (touches (edits bs) t (later bs base)) (ascending (named_keys (edits bs))), folded-longer nat_cmp [] (named_keys (edits bs)), few_keys (edits bs))
+    omega (arith, length-filter (touches (edits bs) t (later bs base)) (ascending (named_keys (edits bs))), folded-longer nat_cmp [] (named_keys (edits bs)), few_keys (edits bs))
 
 pub sorted-touched : (bs : List (List Edit)) (t : Target) (base : ℕ) → AreAscending (touched bs t base)
 sorted-touched bs t base = sorted-filter (touches (edits bs) t (later bs base)) (ascending (named_keys (edits bs))) (sorted-ascending (named_keys (edits bs)))
@@ -288,7 +252,7 @@ pub gone_fit : (bs : List (List Edit)) (t : Target) (p : ℕ → Bool) (base : �
     → length (edits bs) ≤ 262144 → AreGone gone
 gone_fit bs t p base keys gone all is few = record {
   ascending = subst AreAscending (sym (is ∙ ap (filter p) all)) (sorted-filter p (touched bs t base) (sorted-touched bs t base));
-  few = omega (arith, ap length is, few_filtered p keys, ap length all, few_touched bs t base, few);
+  few = omega (arith, ap length is, length-filter p keys, ap length all, few_touched bs t base, few);
 }
 
 -- ---- the listings

@@ -1,9 +1,10 @@
 -- The changes of the touched keys are the delta.
 use Rattle.std.proofs.Common.{◌≡◌, ◌++◌, ℕ, List, [], ◌∷◌, Bool, true, false, cond, not, ◌&&◌, Option, Some, None, is_some, is_none, filter, length, unwrap_or, refl, sym, ap, ◌∙◌, append-nil}
-use Rattle.std.specs.Option.{option_map, option_map_or, option_and_then}
+use Rattle.std.specs.Option.{option_map, option_and_then}
 use Rattle.std.specs.List.{cons_option}
 use Rattle.std.specs.Map.{keys_of}
 use Rattle.std.proofs.lemmas.List.{length-map}
+use Rattle.std.proofs.Math.Bool.{and-true, and-false}
 use Rattle.dmap_tags.specs.Tree.{Tree}
 use Rattle.dmap_tags.specs.SameTags.{is_same_tag}
 use Rattle.item_model.specs.declared.changes.Edit.{Edit}
@@ -21,20 +22,17 @@ use Rattle.share_history.specs.Listings.{member_of, shown, shown_rows, shown_aft
 use Rattle.share_history.specs.Rows.{in_target}
 use Rattle.share_history.proofs.KeyedFacts.{has, same_pairs, same_keys_same, at-pairs_at, ascending-pairs_at, sorted-filter, has-filter}
 use Rattle.share_history.proofs.TouchFacts.{has-touched}
-use Rattle.share_history.proofs.DifferenceFacts.{at-new, has-gone, ascending-new, same_not_new}
+use Rattle.share_history.proofs.DifferenceFacts.{at-new, has-gone, ascending-new, same_not_new, new_at, none_and_some}
 use Rattle.share_history.proofs.MirrorFacts.{shown_at, at-shown, ascending-shown, ascending-after}
-use Rattle.share_history.proofs.DeltaFacts.{at-shown_rows, kept_left, row_as_then}
+use Rattle.share_history.proofs.DeltaFacts.{at-shown_rows, kept_left, row_as_then, none_shown}
+use Rattle.share_history.proofs.OwnFacts.{asked_some}
 use Rattle.listing_plan.specs.declared.row.PlanRow.{PlanRow}
 use Rattle.listing_plan.specs.Plans.{key_of, keyed, delta_plan}
 use Rattle.share_listings.specs.Changes.{unless_shown, row_then, row_now, listed_at, is_deleted}
-use Rattle.share_listings.proofs.AnswerFacts.{asked_some, key_shown, sorted-touched}
+use Rattle.share_listings.proofs.AnswerFacts.{key_shown, sorted-touched}
 use Rattle.share_listings.proofs.PlanFacts.{counted}
 
 -- ---- one key
-
--- what is new under a key that had this tag
-abbrev new_at : Option Tree → Tree → Option Tree
-new_at was tag = only_if (not (option_map_or (λ old. is_same_tag old tag) was false)) tag
 
 -- what is listed under a key is what is new there
 listed_new : (t : Target) (meta : Meta) (k : ℕ) (was is : Option Row)
@@ -47,17 +45,9 @@ listed_new t meta k (Some old) (Some row) = shown_or_not (is_same_tag (shown_at 
     shown_or_not true = refl
     shown_or_not false = refl
 
-none_shown : (show : Row → Tree) (found : Option Row) → is_none (option_map show found) ≡ is_none found
-none_shown show None = refl
-none_shown show (Some row) = refl
-
 some_shown : (show : Row → Tree) (found : Option Row) → is_some (option_map show found) ≡ is_some found
 some_shown show None = refl
 some_shown show (Some row) = refl
-
-none_and_some : {A : Type 0} (o : Option A) → (is_none o && is_some o) ≡ false
-none_and_some None = refl
-none_and_some (Some x) = refl
 
 -- ---- all keys
 
@@ -107,16 +97,8 @@ module _ (keep : ℕ) (bs : List (List Edit)) (t : Target) (look : Look) (kept :
       ∙ (λ i. none_shown (show k) (row_now bs t look k) i && some_shown (show k) (row_then bs t look k) i)
 
   deleted_or_not : (k : ℕ) (b : Bool) → has k keys_touched ≡ b → (is_deleted bs t look k && b) ≡ is_deleted bs t look k
-  deleted_or_not k true h = and_true (is_deleted bs t look k)
-    where
-      and_true : (b : Bool) → (b && true) ≡ b
-      and_true true = refl
-      and_true false = refl
-  deleted_or_not k false h = and_false (is_deleted bs t look k) ∙ sym (ap (λ o. is_none o && is_some (row_then bs t look k)) (untouched_same k h) ∙ none_and_some (row_then bs t look k))
-    where
-      and_false : (b : Bool) → (b && false) ≡ false
-      and_false true = refl
-      and_false false = refl
+  deleted_or_not k true h = and-true (is_deleted bs t look k)
+  deleted_or_not k false h = and-false (is_deleted bs t look k) ∙ sym (ap (λ o. is_none o && is_some (row_then bs t look k)) (untouched_same k h) ∙ none_and_some (row_then bs t look k))
 
   -- the touched keys that are deleted are the gone keys
   deleted_all : filter (is_deleted bs t look) keys_touched ≡ gone_keys was_shown is_shown

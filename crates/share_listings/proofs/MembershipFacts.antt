@@ -5,7 +5,7 @@ use Rattle.std.specs.Map.{keys_of}
 use Rattle.std.specs.List.{list_any}
 use Rattle.std.proofs.lemmas.Bool.{eqb-true, and_parts, and_from, leb-true, le-leb}
 use Rattle.std.proofs.Math.ListN.{drop_of_length-le}
-use Rattle.std.proofs.lemmas.List.{take_all, length-map}
+use Rattle.std.proofs.lemmas.List.{length-map}
 use Rattle.item_model.specs.declared.changes.Edit.{Edit}
 use Rattle.item_model.specs.declared.item.Row.{Row}
 use Rattle.item_model.specs.declared.query.Query.{Query}
@@ -17,7 +17,7 @@ use Rattle.share_history.specs.LastSaid.{Playlist, Plain, Ruled, only_if, item_a
 use Rattle.share_history.specs.Named.{names_list}
 use Rattle.share_history.specs.Numbers.{first_revision, base_list}
 use Rattle.share_history.specs.Rows.{is_asked, if_asked, in_list, in_target, row_at, rows, library}
-use Rattle.share_history.proofs.EditFacts.{edits-split, list_stays}
+use Rattle.share_history.proofs.EditFacts.{edits-split, list_stays, up_to-now}
 use Rattle.share_history.proofs.DeltaFacts.{kept_left}
 use Rattle.item_store.specs.Stands.{floor_of}
 use Rattle.item_store.specs.Store.{Store}
@@ -109,9 +109,6 @@ kept_now keep bs t =
     (and_from _ _ (le-leb (revision bs) (revision bs) (omega arith))
     (and_from _ _ (le-leb (revision bs) (revision bs + keep) (omega arith)) (ap (is_left t) (later_now bs) ∙ left_now t)))
 
-pub up_to_now : (bs : List (List Edit)) → up_to bs (revision bs) ≡ bs
-up_to_now bs = take_all (revision bs - first_revision) bs (omega arith)
-
 -- a kept base is no further back than the stores keep
 pub kept_within : (keep : ℕ) (bs : List (List Edit)) (t : Target) (base v : ℕ) → v ≡ revision bs → is_kept keep bs t base ≡ true → (floor_of keep v ≤ base) × (base ≤ v)
 kept_within keep bs t base v now kept =
@@ -127,7 +124,7 @@ pub now_standing : (keep : ℕ) (bs : List (List Edit)) (list key v : ℕ) (told
 now_standing keep bs list key v told now h =
     h (subst (λ n. is_kept keep bs (Container list) n ≡ true) (sym now) (kept_now keep bs (Container list)))
     ∙ ap (λ n. standing (list_at (edits bs) list) (edits (up_to bs n)) list key) now
-    ∙ ap (λ front. standing (list_at (edits bs) list) (edits front) list key) (up_to_now bs)
+    ∙ ap (λ front. standing (list_at (edits bs) list) (edits front) list key) (up_to-now bs)
 
 -- there are as many ids of items as rows of a target that has all items
 pub library_count : (es : List Edit) (t : Target) (ids : List ℕ) → is_library t ≡ true → ids ≡ keys_of (library es) → length ids ≡ length (rows es t None)

@@ -1,9 +1,5 @@
 -- What is said of a success may be read on.
-use Rattle.std.proofs.Common.{Result, Ok, Err, OnOk, IfOk}
-
-pub on_ok : {T E : Type 0} {P Q : Type 0} (r : Result T E) → (P → Q) → OnOk r P → OnOk r Q
-on_ok (Ok x) f h = f h
-on_ok (Err e) f h = h
+use Rattle.std.proofs.Common.{Result, Ok, Err, IfOk}
 
 pub if_ok : {T E : Type 0} {P Q : T → Type 0} (r : Result T E) → ((x : T) → P x → Q x) → IfOk r P → IfOk r Q
 if_ok (Ok x) f h = f x h

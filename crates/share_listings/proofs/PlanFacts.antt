@@ -1,9 +1,9 @@
 -- Rows that can be planned, and the listings that they make.
-use Rattle.std.proofs.Common.{◌≡◌, ◌≤◌, ◌+◌, ◌-◌, ◌∷◌, [], ℕ, zero, suc, List, false, take, drop, All, length, refl, sym, subst, ap, ◌∙◌, arith}
+use Rattle.std.proofs.Common.{◌≡◌, ◌+◌, ◌-◌, ◌∷◌, [], ℕ, zero, suc, List, false, take, drop, All, length, refl, sym, subst, ap, ◌∙◌, arith}
 use Rattle.std.specs.List.{AllByRecursion}
 use Rattle.std.specs.List.Sorted.{IsStrictlySortedBy}
 use Rattle.std.specs.Map.{keys_of}
-use Rattle.std.proofs.lemmas.List.{length-map, length-take, length-drop}
+use Rattle.std.proofs.lemmas.List.{length-map}
 use Rattle.std.proofs.lemmas.List.Elements.{All-take, All-drop}
 use Rattle.item_model.specs.declared.request.Look.{Look}
 use Rattle.item_model.specs.declared.request.Range.{Range}
@@ -12,7 +12,7 @@ use Rattle.item_model.specs.declared.request.Target.{Target}
 use Rattle.share_history.specs.Keyed.{AreAscending}
 use Rattle.share_history.specs.Listings.{member_of, shown_rows, full_of}
 use Rattle.share_history.specs.Ranges.{in_range}
-use Rattle.share_history.proofs.RangeFacts.{in_range-map}
+use Rattle.share_history.proofs.RangeFacts.{in_range-map, length-in_range}
 use Rattle.listing_plan.specs.declared.row.PlanRow.{PlanRow}
 use Rattle.listing_plan.specs.Plans.{key_of, keys_of_rows, keyed, full_plan, AreRowsOf}
 
@@ -56,13 +56,6 @@ all-in_range P (From place) xs h = All-drop P place xs h
 all-in_range P (Span from to) xs h = All-drop P from (take (to + 1) xs) (All-take P (to + 1) xs h)
 all-in_range P (Last count) xs h = All-drop P (length xs - count) xs h
 
-few-in_range : {A : Type 0} (r : Range) (xs : List A) → length (in_range r xs) ≤ length xs
-few-in_range whole_range xs = omega arith
-few-in_range (One place) xs = omega (arith, length-take 1 (drop place xs), length-drop place xs)
-few-in_range (From place) xs = omega (arith, length-drop place xs)
-few-in_range (Span from to) xs = omega (arith, length-drop from (take (to + 1) xs), length-take (to + 1) xs)
-few-in_range (Last count) xs = omega (arith, length-drop (length xs - count) xs)
-
 -- the rows of a range can be planned where all can
 pub part_of_rows : (t : Target) (r : Range) (found listed : List PlanRow) → AreRowsOf t found → listed ≡ in_range r found → AreRowsOf t listed
 part_of_rows t r found listed h cut =
@@ -70,7 +63,7 @@ part_of_rows t r found listed h cut =
     (record {
       members = all-in_range (λ (row : PlanRow). row.member ≡ member_of t (key_of row)) r found h.members;
       ascending = subst AreAscending (in_range-map key_of r found) (sorted-in_range r (keys_of_rows found) h.ascending);
-      few = omega (arith, few-in_range r found, h.few);
+      few = omega (arith, length-in_range r found, h.few);
     })
 
 -- ---- the listings

@@ -4,6 +4,10 @@
 #[cfg(test)]
 mod followers;
 #[cfg(test)]
+mod kept_libraries;
+#[cfg(test)]
+mod openings;
+#[cfg(test)]
 mod plays;
 #[cfg(test)]
 mod pushes;

@@ -10,8 +10,6 @@ use Rattle.dmap_show.specs.Readable.{Shows}
 use Rattle.dmap_show.specs.TextLines.{Explains}
 use Rattle.dmap_show.specs.declared.reading.ShowError.{ShowError}
 use Rattle.dmap_show.specs.declared.reading.ShowError.TheVariants as show
-use Rattle.daap_outside.specs.declared.reading.ReadError.{ReadError}
-use Rattle.daap_outside.specs.declared.reading.ReadError.TheVariants as reads
 use Rattle.command_core.specs.declared.fault.Fault.{Fault}
 use Rattle.command_core.specs.declared.fault.Fault.TheVariants as fault
 use Rattle.command_core.specs.Seen.{InputSeen, ShareSeen, no_share}
@@ -100,12 +98,7 @@ IsTextFault input (fault.Own TooLong) = ⊥
 IsTextFault input fault.Read = ⊥
 IsTextFault input fault.Memory = Unit {0}
 
--- the faults that refusals of the input and of its text are
-abbrev pub read_fault : ReadError → Fault TextFault
-read_fault reads.Failed = fault.Read
-read_fault reads.TooLong = fault.Own TooLong
-read_fault reads.Memory = fault.Memory
-
+-- the faults that refusals of the text are
 abbrev pub show_fault : ShowError → Fault TextFault
 show_fault (show.Line line) = fault.Own (Line line)
 show_fault show.Memory = fault.Memory

@@ -8,11 +8,11 @@ ghost use Rattle.code_table.specs.Standard.{standard_rows};
 ghost use Rattle.dmap_show.specs.Readable.{Shows};
 ghost use Rattle.command_core.specs.Seen.{Around, input_seen, output_seen, told_beside, no_share};
 ghost use Rattle.command_core.specs.Endings.{IsAnswered};
-ghost use Rattle.tag_commands.specs.ShowBack.{text_limit, text_line, text_status, line_at, IsShownBack, IsTextFault, StopsReading, read_fault, show_fault, show_back_meaning};
+ghost use Rattle.tag_commands.specs.ShowBack.{text_limit, text_line, text_status, line_at, IsShownBack, IsTextFault, StopsReading, show_fault, show_back_meaning};
 
 use code_table::CodeTable;
-use command_core::{Fault, Outcome, Refusal, written};
-use daap_outside::{ReadError, Sink, Source, read_within};
+use command_core::{Fault, Outcome, Refusal, read_fault, written};
+use daap_outside::{Sink, Source, read_within};
 use dmap_show::{ShowError, read_show};
 use dmap_tags::{Tag, TagError, Tags, encode_into};
 use fault_lines::push_number;
@@ -60,17 +60,6 @@ fn numbered_line(alloc: Global, number: u64) -> Result<Vec<u8>, AllocError>
     Ok(line)
 }
 
-/// What a refusal of the input is to `show --back`.
-fn read_fault(error: ReadError) -> Fault<TextFault>
-    ensures { result ≡ read_fault error }
-{
-    match error {
-        ReadError::Failed => Fault::Read,
-        ReadError::TooLong => Fault::Own(TextFault::TooLong),
-        ReadError::Memory => Fault::Memory,
-    }
-}
-
 /// What a refusal of its text is.
 fn show_fault(error: ShowError) -> Fault<TextFault>
     ensures { result ≡ show_fault error }
@@ -108,7 +97,7 @@ fn unshown<I: Source>(alloc: Global, input: &mut I) -> Result<Vec<u8>, Fault<Tex
 {
     let text = match read_within(alloc, input, TEXT_LIMIT) {
         Ok(text) => text,
-        Err(error) => return Err(read_fault(error)),
+        Err(error) => return Err(read_fault(error, TextFault::TooLong)),
     };
     let tags = match tags_shown(alloc, text.as_slice()) {
         Ok(tags) => tags,

@@ -1,47 +1,32 @@
-//! The forms over sockets, on this machine's loopback.
+//! The forms over sockets, on this machine's loopback: what no public call shows. The other tests are in
+//! `outside_vectors`.
 use super::*;
 use crate::link::Link;
 use crate::sink::{Sink, put_all};
 use crate::source::Source;
 use crate::tcp::accepting::{Remedy, remedy_of};
 use std::string::String;
+use std::sync::Wait;
 use std::test::Fail;
 use std::thread;
+use std::thread::Threads;
+
+// A net, a door and the others of its place, and both ends of a link that came to that door.
+#[derive(Drop)]
+struct Meeting<R> {
+    net: TcpNet<R>,
+    door: TcpDoor<R>,
+    others: Vec<TcpDoor<R>>,
+    far: TcpLink<R>,
+    near: TcpLink<R>,
+}
 
 // The address at which the door listens.
 fn place_of<R>(alloc: Global, door: &TcpDoor<R>) -> Result<String, AllocError> {
     match door.places.last() {
-        Some(place) => format!(in alloc; "{place}"),
+        Some(place) => format!(in alloc; "127.0.0.1:{}", place.port()),
         None => Ok(String::new(alloc)),
     }
-}
-
-// Reads the link to its end, and answers how many bytes came, if each was this one.
-fn read_same<R>(link: &mut TcpLink<R>, byte: u8) -> Option<u64> {
-    let mut room = [0; 4096];
-    let mut count = 0u64;
-    for _ in 0..u64::MAX {
-        match link.read(&mut room) {
-            Ok(0) => break,
-            Ok(n) if room[..n].iter().all(|b| *b == byte) => count = count.saturating_add(n as u64),
-            _ => return None,
-        }
-    }
-    Some(count)
-}
-
-#[test]
-fn a_place_is_listened_at_once(rt: HostRuntime) -> Result<(), Fail> {
-    let alloc = rt.alloc();
-    let mut net = TcpNet::new(&rt, alloc);
-    let doors = net.listen("127.0.0.1:0", 2)?;
-    assert_eq!(rt; doors.len(), 2);
-    let place = place_of(alloc, &doors[0])?;
-    assert!(rt; matches!(net.listen(place.as_str(), 1), Err(NetError::Failed)));
-    assert!(rt; matches!(net.listen("no place", 1), Err(NetError::Failed)));
-    assert!(rt; net.connect("no place").is_err());
-    assert_eq!(rt; net.faults, 3);
-    Ok(())
 }
 
 // The next link that comes to the door.
@@ -52,31 +37,86 @@ fn next_link<D: Door>(door: &mut D) -> Result<D::L, Failed> {
     }
 }
 
+fn met<R>(
+    rt: R,
+    alloc: Global,
+    number: u32,
+    held_limit: Option<Duration>,
+) -> Result<Meeting<R>, Fail>
+where
+    R: net::Net<Listener = TcpListener, Stream = TcpStream> + Clock + Copy + Send,
+{
+    let mut net = TcpNet::new(rt, alloc);
+    if let Some(limit) = held_limit {
+        net.held_limit = limit;
+    }
+    let mut others = net.listen("127.0.0.1:0", number)?;
+    let Some(mut door) = others.pop() else {
+        return Err(Fail::new("no door was asked for"));
+    };
+    let place = place_of(alloc, &door)?;
+    let far = net.connect(place.as_str())?;
+    let near = next_link(&mut door)?;
+    Ok(Meeting {
+        net,
+        door,
+        others,
+        far,
+        near,
+    })
+}
+
+// Whether a place in use, and texts that are no place, are refused.
+fn refuses<N: Net>(net: &mut N, in_use: &str) -> bool {
+    matches!(net.listen(in_use, 1), Err(NetError::Failed))
+        && matches!(net.listen("no place", 1), Err(NetError::Failed))
+        && net.connect("no place").is_err()
+}
+
+#[test]
+fn a_place_is_listened_at_once(rt: HostRuntime) -> Result<(), Fail> {
+    let mut met = met(&rt, rt.alloc(), 2, None)?;
+    assert_eq!(rt; met.others.len(), 1);
+    let place = place_of(rt.alloc(), &met.door)?;
+    assert!(rt; refuses(&mut met.net, place.as_str()));
+    assert_eq!(rt; met.net.faults, 3);
+    Ok(())
+}
+
+// Whether a link gives what was written at its other end.
+fn hears<R>(met: &mut Meeting<R>) -> Result<bool, Failed> {
+    put_all(&mut met.far, b"hello")?;
+    let mut room = [0; 3];
+    let first = met.near.read(&mut room)? == 3 && room == *b"hel";
+    Ok(first && met.near.read(&mut room)? == 2 && room == *b"lol")
+}
+
+// Whether a link sends at once, and how long it waits to read and to write.
+fn options_of<R>(link: &TcpLink<R>) -> io::Result<(bool, Option<Duration>, Option<Duration>)> {
+    let stream = &link.stream;
+    Ok((
+        stream.nodelay()?,
+        stream.read_timeout()?,
+        stream.write_timeout()?,
+    ))
+}
+
+// Whether a read that waits too long is a fault.
+fn waits_no_longer<R>(link: &mut TcpLink<R>) -> io::Result<bool> {
+    let limit = Some(Duration::from_millis(10));
+    link.stream.set_read_timeout(limit)?;
+    Ok(link.read(&mut [0; 3]).is_err() && link.faults == 1)
+}
+
 #[test]
 fn a_link_gives_what_was_written_and_waits_no_longer_than_it_may(
     rt: HostRuntime,
 ) -> Result<(), Fail> {
-    let alloc = rt.alloc();
-    let mut net = TcpNet::new(&rt, alloc);
-    let mut doors = net.listen("127.0.0.1:0", 1)?;
-    let mut far = net.connect(place_of(alloc, &doors[0])?.as_str())?;
-    let mut near = next_link(&mut doors[0])?;
-    put_all(&mut far, b"hello")?;
-    let mut room = [0; 3];
-    assert_eq!(rt; near.read(&mut room)?, 3);
-    assert_eq!(rt; room, *b"hel");
-    assert_eq!(rt; near.read(&mut room)?, 2);
-    assert_eq!(rt; room, *b"lol");
-    assert!(rt; near.stream.nodelay()?);
-    assert_eq!(rt;
-        near.stream.read_timeout()?,
-        Some(Duration::from_secs(1_800))
-    );
-    assert_eq!(rt; near.stream.write_timeout()?, Some(Duration::from_secs(60)));
-    near.stream
-        .set_read_timeout(Some(Duration::from_millis(10)))?;
-    assert!(rt; near.read(&mut room).is_err());
-    assert_eq!(rt; near.faults, 1);
+    let mut met = met(&rt, rt.alloc(), 1, None)?;
+    assert!(rt; hears(&mut met)?);
+    let seconds = |n| Some(Duration::from_secs(n));
+    assert_eq!(rt; options_of(&met.near)?, (true, seconds(1_800), seconds(60)));
+    assert!(rt; waits_no_longer(&mut met.near)?);
     Ok(())
 }
 
@@ -84,8 +124,8 @@ fn a_link_gives_what_was_written_and_waits_no_longer_than_it_may(
 const LONG: usize = 16_777_216;
 
 // Reads the link to its end after a pause, and answers how many bytes came, if they change as they should.
-fn read_changing<R>(rt: &HostRuntime, link: &mut TcpLink<R>) -> Option<usize> {
-    thread::sleep(rt, Duration::from_millis(300));
+fn read_changing<C: Clock, I: Source>(clock: &C, link: &mut I) -> Option<usize> {
+    thread::sleep(clock, Duration::from_millis(300));
     let mut room = [0; 32_768];
     let mut count = 0usize;
     for _ in 0..u64::MAX {
@@ -117,68 +157,52 @@ fn write_cut<R>(link: &mut TcpLink<R>, bytes: &[u8]) -> Option<usize> {
     Some(n)
 }
 
-#[test]
-fn a_write_that_is_cut_short_goes_on(rt: HostRuntime) -> Result<(), Fail> {
-    let alloc = rt.alloc();
-    let mut net = TcpNet::new(&rt, alloc);
-    let mut doors = net.listen("127.0.0.1:0", 1)?;
-    let mut far = net.connect(place_of(alloc, &doors[0])?.as_str())?;
-    let mut near = next_link(&mut doors[0])?;
+// So many bytes that change.
+fn changing(alloc: Global) -> Result<Vec<u8>, AllocError> {
     let mut bytes = Vec::with_capacity(alloc, LONG)?;
     for i in 0..LONG {
         bytes.push((i % 251) as u8)?;
     }
-    let (first, read) = thread::join(
-        &rt,
+    Ok(bytes)
+}
+
+// What a write that was cut took at first, and what was read at the other end.
+fn cut<R, T>(
+    rt: &R,
+    alloc: Global,
+    met: Meeting<T>,
+) -> Result<(Option<usize>, Option<usize>), AllocError>
+where
+    R: Threads + Wait + Clock + Sync,
+    T: Copy + Send,
+{
+    let Meeting {
+        mut far,
+        mut near,
+        ..
+    } = met;
+    let bytes = changing(alloc)?;
+    Ok(thread::join(
+        rt,
         || write_cut(&mut near, bytes.as_slice()),
-        || read_changing(&rt, &mut far),
-    );
+        || read_changing(rt, &mut far),
+    ))
+}
+
+#[test]
+fn a_write_that_is_cut_short_goes_on(rt: HostRuntime) -> Result<(), Fail> {
+    let met = met(&rt, rt.alloc(), 1, None)?;
+    let (first, read) = cut(&rt, rt.alloc(), met)?;
     assert!(rt; matches!(first, Some(n) if n < LONG));
     assert_eq!(rt; read, Some(LONG));
     Ok(())
 }
 
-// Answers a link's first bytes with a refusal, and gives it back.
-fn refuse<D: Door>(door: &mut D) -> Result<(), Failed> {
-    let mut link = next_link(door)?;
-    let mut room = [0; 64];
-    link.read(&mut room)?;
-    put_all(&mut link, b"413")?;
-    door.done(link);
-    Ok(())
-}
-
-#[test]
-fn a_client_that_is_still_sending_reads_its_refusal(rt: HostRuntime) -> Result<(), Fail> {
-    let alloc = rt.alloc();
-    let mut net = TcpNet::new(&rt, alloc);
-    let mut doors = net.listen("127.0.0.1:0", 1)?;
-    let mut far = net.connect(place_of(alloc, &doors[0])?.as_str())?;
-    let bytes = vec![in alloc; 7u8; 5_000_000]?;
-    let (refused, sent) = thread::join(
-        &rt,
-        || refuse(&mut doors[0]).is_ok(),
-        || put_all(&mut far, bytes.as_slice()).is_ok(),
-    );
-    assert!(rt; refused && sent);
-    let mut room = [0; 8];
-    assert_eq!(rt; far.read(&mut room)?, 3);
-    assert_eq!(rt; &room[..3], b"413".as_slice());
-    assert_eq!(rt; far.read(&mut room)?, 0);
-    Ok(())
-}
-
 // Probes a link that is held for longer than its limit while another door waits, and answers
 // whether it was still there. Then it lets a link come to that door.
-fn probe_held<R: Clock, N: Net>(
-    rt: &HostRuntime,
-    link: &mut TcpLink<R>,
-    net: &mut N,
-    place: &str,
-) -> bool {
-    let pause = Duration::from_millis(60);
+fn probe_held<R: Clock, L: Link, N: Net>(rt: &R, link: &mut L, net: &mut N, place: &str) -> bool {
     let began = link.probe().is_ok();
-    thread::sleep(rt, pause);
+    thread::sleep(rt, Duration::from_millis(60));
     let stayed = link.probe().is_ok();
     let called = net.connect(place);
     let is_called = called.is_ok();
@@ -189,78 +213,122 @@ fn probe_held<R: Clock, N: Net>(
 }
 
 // Waits until a door of the link's place waits.
-fn waits<R>(rt: &HostRuntime, link: &TcpLink<R>) -> bool {
+fn waits<C: Clock, R>(clock: &C, link: &TcpLink<R>) -> bool {
+    let Some(holding) = &link.holding else {
+        return false;
+    };
     for _ in 0..500 {
-        match &link.holding {
-            Some(holding) if holding.waiting.load(Ordering::SeqCst) == 0 => {
-                thread::sleep(rt, Duration::from_millis(10));
-            }
-            Some(_) => return true,
-            None => return false,
+        if holding.waiting.load(Ordering::SeqCst) != 0 {
+            return true;
         }
+        thread::sleep(clock, Duration::from_millis(10));
     }
     false
+}
+
+// Whether a link comes to the door.
+fn comes<D: Door>(door: &mut D) -> bool {
+    next_link(door).is_ok()
+}
+
+// Whether a link is there, once a door of its place waits, after it was held for too long.
+fn stays_held<R: Clock, T: Clock, N: Net>(
+    clock: &R,
+    near: &mut TcpLink<T>,
+    net: &mut N,
+    place: &str,
+) -> bool {
+    waits(clock, near) && probe_held(clock, near, net, place)
+}
+
+// Whether a link is there as long as a door of its place waits, however long it is held.
+fn stays<R, D, T, N>(rt: &R, door: &mut D, near: &mut TcpLink<T>, net: &mut N, place: &str) -> bool
+where
+    R: Threads + Wait + Clock + Sync,
+    D: Door + Send,
+    T: Clock + Send,
+    N: Net + Send,
+{
+    let (came, stayed) = thread::join(rt, || comes(door), || stays_held(rt, near, net, place));
+    came && stayed
 }
 
 #[test]
 fn a_link_that_is_held_too_long_frees_its_worker_where_no_door_waits(
     rt: HostRuntime,
 ) -> Result<(), Fail> {
-    let alloc = rt.alloc();
-    let mut net = TcpNet::new(&rt, alloc);
-    net.held_limit = Duration::from_millis(50);
-    let mut doors = net.listen("127.0.0.1:0", 2)?;
-    let place = place_of(alloc, &doors[0])?;
-    let far = net.connect(place.as_str())?;
-    let mut near = next_link(&mut doors[0])?;
-    let (came, stayed) = thread::join(
-        &rt,
-        || next_link(&mut doors[1]).is_ok(),
-        || waits(&rt, &near) && probe_held(&rt, &mut near, &mut net, place.as_str()),
-    );
-    assert!(rt; came && stayed);
-    assert!(rt; near.probe().is_err());
-    assert_eq!(rt; near.faults, 1);
+    let met = met(&rt, rt.alloc(), 2, Some(Duration::from_millis(50)))?;
+    let place = place_of(rt.alloc(), &met.door)?;
+    let Meeting {
+        mut net,
+        mut others,
+        far,
+        mut near,
+        ..
+    } = met;
+    let Some(mut other) = others.pop() else {
+        return Err(Fail::new("one door was opened"));
+    };
+    assert!(rt; stays(&rt, &mut other, &mut near, &mut net, place.as_str()));
+    assert!(rt; near.probe().is_err() && near.faults == 1);
     net.hang_up(far);
     Ok(())
+}
+
+// Whether probes hide no byte that has come.
+fn probes_leave_bytes<R: Clock>(met: &mut Meeting<R>) -> Result<bool, Failed> {
+    let mut room = [0; 8];
+    met.near.probe()?;
+    put_all(&mut met.far, b"x")?;
+    let has_come = met.near.stream.peek(&mut room).ok() == Some(1);
+    met.near.probe()?;
+    let is_read = met.near.read(&mut room)? == 1;
+    met.near.probe()?;
+    Ok(has_come && is_read)
+}
+
+// Whether a probe is a fault once the peer's end has come, and the counts of the net.
+fn probed_at_an_end<R>(met: Meeting<R>) -> (bool, u64, u64)
+where
+    R: net::Net<Listener = TcpListener, Stream = TcpStream> + Clock + Copy + Send,
+{
+    let Meeting {
+        mut net,
+        far,
+        mut near,
+        ..
+    } = met;
+    net.hang_up(far);
+    let has_come = near.stream.peek(&mut [0; 8]).ok() == Some(0);
+    let is_fault = near.probe().is_err() && near.faults == 1;
+    (has_come && is_fault, net.faults, net.open_count)
 }
 
 #[test]
 fn a_probe_tells_a_peer_that_has_gone(rt: HostRuntime) -> Result<(), Fail> {
-    let alloc = rt.alloc();
-    let mut net = TcpNet::new(&rt, alloc);
-    let mut doors = net.listen("127.0.0.1:0", 1)?;
-    let mut far = net.connect(place_of(alloc, &doors[0])?.as_str())?;
-    assert_eq!(rt; far.stream.read_timeout()?, None);
-    let mut near = next_link(&mut doors[0])?;
-    let mut room = [0; 8];
-    near.probe()?;
-    put_all(&mut far, b"x")?;
-    assert_eq!(rt; near.stream.peek(&mut room).ok(), Some(1));
-    near.probe()?;
-    assert_eq!(rt; near.read(&mut room)?, 1);
-    near.probe()?;
-    net.hang_up(far);
-    assert_eq!(rt; near.stream.peek(&mut room).ok(), Some(0));
-    assert!(rt; near.probe().is_err());
-    assert_eq!(rt; (near.faults, net.faults, net.open_count), (1, 0, 1));
+    let mut met = met(&rt, rt.alloc(), 1, None)?;
+    assert_eq!(rt; met.far.stream.read_timeout()?, None);
+    assert!(rt; probes_leave_bytes(&mut met)?);
+    assert_eq!(rt; probed_at_an_end(met), (true, 0, 1));
     Ok(())
 }
 
+const REMEDIES: [(i32, Remedy); 9] = [
+    (4, Remedy::TryAgain),
+    (103, Remedy::TryAgain),
+    (104, Remedy::TryAgain),
+    (23, Remedy::PauseFirst),
+    (24, Remedy::PauseFirst),
+    (105, Remedy::PauseFirst),
+    (12, Remedy::PauseFirst),
+    (9, Remedy::GiveUp),
+    (22, Remedy::GiveUp),
+];
+
 #[test]
 fn an_error_of_one_link_ends_no_door(rt: HostRuntime) {
-    for (number, remedy) in [
-        (4, Remedy::TryAgain),
-        (103, Remedy::TryAgain),
-        (104, Remedy::TryAgain),
-        (23, Remedy::PauseFirst),
-        (24, Remedy::PauseFirst),
-        (105, Remedy::PauseFirst),
-        (12, Remedy::PauseFirst),
-        (9, Remedy::GiveUp),
-        (22, Remedy::GiveUp),
-    ] {
-        assert_eq!(rt; remedy_of(&io::Error::from_raw_os_error(number)), remedy);
+    for (number, remedy) in &REMEDIES {
+        assert_eq!(rt; remedy_of(&io::Error::from_raw_os_error(*number)), *remedy);
     }
 }
 
@@ -274,26 +342,27 @@ fn fails_to_write<W: Sink>(sink: &mut W) -> bool {
     false
 }
 
-#[test]
-fn a_link_that_the_peer_closed_fails(rt: HostRuntime) -> Result<(), Fail> {
-    let alloc = rt.alloc();
-    let mut net = TcpNet::new(&rt, alloc);
-    let mut doors = net.listen("127.0.0.1:0", 1)?;
-    let mut far = net.connect(place_of(alloc, &doors[0])?.as_str())?;
-    let near = next_link(&mut doors[0])?;
-    doors[0].done(near);
-    assert!(rt; fails_to_write(&mut far));
+// Whether a write at one end fails once the other is closed, and the faults of the net.
+fn closed<R>(met: Meeting<R>) -> (bool, u64)
+where
+    R: net::Net<Listener = TcpListener, Stream = TcpStream> + Clock + Copy + Send,
+{
+    let Meeting {
+        mut net,
+        mut door,
+        mut far,
+        near,
+        ..
+    } = met;
+    door.done(near);
+    let is_failed = fails_to_write(&mut far);
     net.hang_up(far);
-    assert_eq!(rt; net.faults, 1);
-    Ok(())
+    (is_failed, net.faults)
 }
 
 #[test]
-fn a_nudge_wakes_a_door_of_the_place(rt: HostRuntime) -> Result<(), Fail> {
-    let mut net = TcpNet::new(&rt, rt.alloc());
-    let mut doors = net.listen("127.0.0.1:0", 2)?;
-    doors[1].nudge();
-    let mut woken = next_link(&mut doors[0])?;
-    assert_eq!(rt; read_same(&mut woken, 0), Some(0));
+fn a_link_that_the_peer_closed_fails(rt: HostRuntime) -> Result<(), Fail> {
+    let met = met(&rt, rt.alloc(), 1, None)?;
+    assert_eq!(rt; closed(met), (true, 1));
     Ok(())
 }

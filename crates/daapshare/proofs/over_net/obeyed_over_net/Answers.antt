@@ -1,7 +1,7 @@
 use Rattle.std.proofs.Common.{ℕ, List, Option, option_copied, sym, subst}
 use Rattle.item_model.specs.declared.request.Target.{Target}
 use Rattle.command_core.specs.declared.outcome.Outcome.{Outcome as CoreOutcome}
-use Rattle.command_core.specs.Seen.{NetSeen, Told, input_seen, output_seen}
+use Rattle.command_core.specs.Seen.{NetSeen, Told, input_seen, net_seen, output_seen}
 use Rattle.link_commands.specs.EditShare.{edit_meaning}
 use Rattle.link_commands.specs.FollowShare.{follow_meaning}
 use Rattle.link_commands.specs.Meanings.{IsLinkAnswered}
@@ -10,7 +10,7 @@ use Rattle.serve_command.specs.Outcomes.{left_of}
 use Rattle.serve_command.specs.Runs.{Left, ServeEnds}
 use Rattle.daapshare_words.specs.declared.command.NetCommand.{NetCommand}
 use Rattle.daapshare.specs.Table.{serving_of, target_of, IsRunOverNet}
-use Rattle.daapshare.specs.Told.{net_seen, seen, told_in}
+use Rattle.daapshare.specs.Told.{seen, told_in}
 use Rattle.daapshare.proofs.over_net.obeyed_over_net.Goals as goal
 
 pub returns-in-Serve : goal.returns-in-Serve

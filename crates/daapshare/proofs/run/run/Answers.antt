@@ -3,13 +3,13 @@ use Rattle.command_core.proofs.Ended.{by_refusal}
 use Rattle.command_core.specs.declared.fault.Fault.TheVariants.{Own}
 use Rattle.command_core.specs.declared.outcome.Outcome.{Outcome as CoreOutcome}
 use Rattle.command_core.specs.Endings.{IsAnswered}
-use Rattle.command_core.specs.Seen.{FilesSeen, NetSeen, Told, input_seen, output_seen}
+use Rattle.command_core.specs.Seen.{FilesSeen, NetSeen, Told, files_seen, input_seen, net_seen, output_seen}
 use Rattle.daapshare_words.specs.Grammar.{texts_of}
 use Rattle.daapshare_words.specs.Words.{command_of}
 use Rattle.daapshare_words.specs.declared.command.Command.{Command}
 use Rattle.daapshare.specs.declared.usage.UsageFault.TheVariants.{NoCommand}
 use Rattle.daapshare.specs.Table.{meaning_of, IsRun}
-use Rattle.daapshare.specs.Told.{files_seen, net_seen, seen, told_in}
+use Rattle.daapshare.specs.Told.{seen, told_in}
 use Rattle.daapshare.specs.Usage.{usage_meaning}
 use Rattle.daapshare.proofs.Idle.{idle_run}
 use Rattle.daapshare.proofs.Senses.{usage_sense}

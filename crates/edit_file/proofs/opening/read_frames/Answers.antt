@@ -1,17 +1,26 @@
 -- One frame more was read, or the closing byte, or neither is there.
-use Rattle.std.proofs.Common.{rules, ℕ, ◌+◌, [], ◌∷◌, ◌++◌, drop, refl, ◌∙◌, subst, arith}
+use Rattle.std.proofs.Common.{rules, ◌≢◌, ℕ, List, ◌+◌, [], ◌∷◌, ◌++◌, drop, refl, ◌∙◌, subst, arith}
 use Rattle.std.proofs.lemmas.Grind.{common_steps}
+use Rattle.std.proofs.lemmas.List.Elements.{All-nil, All-push}
+use Rattle.std.specs.Prelude.{All}
+use Rattle.item_model.specs.declared.changes.Edit.{Edit}
+use Rattle.item_model.specs.Valid.{AreValid}
 use Rattle.edit_file.specs.Opening.{HasRead}
-use Rattle.edit_file.specs.Reading.{IsFound}
+use Rattle.edit_file.specs.Reading.{IsFound, IsUsable}
 use Rattle.edit_file.specs.Standing.{IsNoFrame}
 use Rattle.edit_file.proofs.Quiet.{told_of, quiet_self, quiet_then}
 use Rattle.edit_file.proofs.Settled.{none_read, more_read, closed_read, broken_read}
 use Rattle.edit_file.proofs.opening.read_frames.Goals as goal
 
+abbrev Filled : List Edit → Type 0
+Filled batch = batch ≢ []
+
 pub frames-init : goal.frames-init
 frames-init g c = record {
   read = λ b rest size told e. let start : HasRead b 9 [] = none_read b rest e in search rules;
   near = grind (arith, common_steps);
+  filled = let none : All Filled [] = All-nil Filled in search rules;
+  valid = let none : All AreValid [] = All-nil AreValid in search rules;
   bytes = refl;
   quiet = quiet_self g.D.Disk _;
   told = refl;
@@ -29,6 +38,14 @@ frames-preserved g c = record {
       more_read b c.frames.at c.in-Frame.size c.frames.batches.items c.in-Frame.batch before found.0 found.1 in
       search rules;
   near = grind (arith, common_steps);
+  filled =
+      let more : All Filled (c.frames.batches.items ++ c.in-Frame.batch ∷ []) =
+      All-push Filled c.frames.batches.items c.in-Frame.batch c.frames.invariant.filled (subst IsUsable c.in-Frame.is c.in_ok-batch.ensures.usable).0 in
+      search rules;
+  valid =
+      let more : All AreValid (c.frames.batches.items ++ c.in-Frame.batch ∷ []) =
+      All-push AreValid c.frames.batches.items c.in-Frame.batch c.frames.invariant.valid (subst IsUsable c.in-Frame.is c.in_ok-batch.ensures.usable).1 in
+      search rules;
   bytes = c.in_ok-batch.ensures.bytes_stay ∙ c.frames.invariant.bytes;
   quiet = quiet_then g.D.Disk _ _ _ c.frames.invariant.quiet c.read_frame.ensures.quiet;
   told = c.read_frame.ensures.told_stays ∙ c.frames.invariant.told;

@@ -10,8 +10,8 @@ no_items : (l : List Edit) → length l ≡ 0 → l ≡ []
 no_items [] e = refl
 no_items (x ∷ l) e = absurd (omega (arith, e))
 
-pub returns-in-Ok : goal.returns-in-Ok
-returns-in-Ok c batch reads =
+pub returns-in-Ok-clause-read : goal.returns-in-Ok-clause-read
+returns-in-Ok-clause-read c batch reads =
     let whole : BatchReads (table_of c.args.payload.now) (Ok c.in-Ok.batch.edits) = search rules in
     let none : c.in-Ok.batch.edits ≡ [] = no_items _ (search rules) in
     batch_same _ batch _ reads whole ∙ none

@@ -1,5 +1,5 @@
 -- Each batch takes a place, and there are few places.
-use Rattle.share_history.proofs.SessionFacts.{few_revisions, few_edits}
+use Rattle.plain_share.proofs.LoginFacts.{few_revisions, few_edits}
 use Rattle.history_vectors.proofs.histories.is_small.Goals as goal
 
 pub returns : goal.returns

@@ -1,7 +1,7 @@
 use Rattle.std.proofs.Common.{refl}
-use Rattle.command_core.specs.Seen.{InputSeen, NetSeen, Told, input_seen, output_seen}
+use Rattle.command_core.specs.Seen.{InputSeen, NetSeen, Told, input_seen, net_seen, output_seen, told_over}
 use Rattle.link_commands.specs.EditShare.{edit_meaning}
-use Rattle.link_commands.specs.Linked.{HasLinked, LinkSeen, link_seen, net_seen, told_over}
+use Rattle.link_commands.specs.Linked.{HasLinked, LinkSeen, link_seen}
 use Rattle.link_commands.proofs.EndedFacts.{by_answer}
 use Rattle.link_commands.proofs.LinkedFacts.{linked}
 use Rattle.link_commands.proofs.PushFacts.{edit_done, edit_promised, edit_stops, edit_unlinked}

@@ -1,6 +1,6 @@
 use Rattle.std.proofs.Common.{option_copied, refl}
-use Rattle.command_core.specs.Seen.{NetSeen, OutputSeen, Told, output_seen}
-use Rattle.link_commands.specs.Linked.{HasLinked, LinkSeen, link_seen, net_seen, told_over}
+use Rattle.command_core.specs.Seen.{NetSeen, OutputSeen, Told, net_seen, output_seen, told_over}
+use Rattle.link_commands.specs.Linked.{HasLinked, LinkSeen, link_seen}
 use Rattle.link_commands.proofs.FollowFacts.{finished, look_ends, unlinked_ends}
 use Rattle.link_commands.proofs.LinkedFacts.{linked}
 use Rattle.link_commands.proofs.follow.follow_share.Goals as goal

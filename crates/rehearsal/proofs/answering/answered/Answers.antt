@@ -2,7 +2,7 @@ use Rattle.std.proofs.Common.{◌∙◌}
 use Rattle.item_model.specs.declared.request.Target.TheVariants.{Items}
 use Rattle.share_history.specs.Listings.{listing}
 use Rattle.share_history.specs.Mirror.{mirror_look}
-use Rattle.rehearsal.proofs.CarriedFacts.{on_ok}
+use Rattle.share_listings.proofs.OnSuccess.{if_ok}
 use Rattle.rehearsal.proofs.ListingFacts.{asked_is, not_older, listing_marks}
 use Rattle.rehearsal.proofs.answering.answered.Goals as goal
 
@@ -20,7 +20,7 @@ pub returns-clause-delta : goal.returns-clause-delta
 returns-clause-delta c =
     let m = c.args.mirror.now in
     let s = c.args.store.now in
-    on_ok c.take.result
+    if_ok c.take.result
     (λ is_delta told bs share asks.
     told (listing s.keep bs Items (mirror_look m.query m.meta m.held.revision))
     (asked_is bs s m c.in_ok-look.look c.in_ok-body.body share asks c.in_ok-look.ensures (c.in_ok-body.ensures bs share))
@@ -31,7 +31,7 @@ pub returns-clause-held : goal.returns-clause-held
 returns-clause-held c =
     let m = c.args.mirror.now in
     let s = c.args.store.now in
-    on_ok c.take.result
+    if_ok c.take.result
     (λ is_delta told bs share asks.
     told (listing s.keep bs Items (mirror_look m.query m.meta m.held.revision))
     (asked_is bs s m c.in_ok-look.look c.in_ok-body.body share asks c.in_ok-look.ensures (c.in_ok-body.ensures bs share)))

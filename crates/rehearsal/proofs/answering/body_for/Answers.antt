@@ -1,7 +1,7 @@
 use Rattle.item_model.specs.declared.request.Target.TheVariants.{Items}
 use Rattle.share_history.specs.Bodies.{body_tree}
 use Rattle.share_history.specs.Listings.{listing}
-use Rattle.rehearsal.proofs.CarriedFacts.{on_ok}
+use Rattle.share_listings.proofs.OnSuccess.{if_ok}
 use Rattle.rehearsal.proofs.ListingFacts.{carried_body, share_readable}
 use Rattle.rehearsal.proofs.answering.body_for.Goals as goal
 
@@ -16,7 +16,7 @@ carried-requires-clause-tag c =
 
 pub returns : goal.returns
 returns c =
-    on_ok c.carried.result
+    if_ok c.carried.result
     (λ body told bs share.
     told (body_tree Items (listing c.args.store.now.keep bs Items c.args.look))
     (carried_body (listing c.args.store.now.keep bs Items c.args.look) c.in_ok-plan.plan (c.in_ok-plan.ensures bs share.stands)

@@ -2,7 +2,7 @@ use Rattle.std.proofs.Common.{◌≡◌, ℕ, List, IfOk, subst}
 use Rattle.share_history.specs.Histories.{batches, revision}
 use Rattle.share_server.specs.declared.report.LinkReport.{LinkReport}
 use Rattle.command_core.specs.Seen.{OutputSeen, output_seen}
-use Rattle.serve_command.specs.Lines.{ended_line}
+use Rattle.share_crew.specs.Lines.{ended_line}
 use Rattle.serve_command.proofs.Telling.{told_end}
 use Rattle.serve_command.proofs.closing.closed.Goals as goal
 

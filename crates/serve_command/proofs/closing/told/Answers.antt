@@ -3,8 +3,9 @@ use Rattle.std.specs.Io.KnownBytes.{Appends}
 use Rattle.daap_outside.specs.Told.{AppendsPrefix}
 use Rattle.command_core.specs.Seen.{OutputSeen, output_seen}
 use Rattle.command_core.specs.Answers.{Tells}
-use Rattle.serve_command.specs.Verdicts.{verdict_line, verdict_status, with_memory}
-use Rattle.serve_command.proofs.Telling.{TellsLine, told_behind, told_line, told_cut}
+use Rattle.share_crew.specs.Verdicts.{verdict_line, verdict_status, with_memory}
+use Rattle.share_crew.proofs.Telling.{told_behind}
+use Rattle.serve_command.proofs.Telling.{TellsLine, told_line, told_cut}
 use Rattle.serve_command.proofs.closing.told.Goals as goal
 
 pub returns-in-Ok-put_all : goal.returns-in-Ok-put_all

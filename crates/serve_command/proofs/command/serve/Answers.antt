@@ -1,6 +1,5 @@
 use Rattle.std.proofs.Common.{refl, sym, subst}
-use Rattle.command_core.specs.Seen.{NetSeen, OutputSeen, output_seen}
-use Rattle.serve_command.specs.Places.{net_seen}
+use Rattle.command_core.specs.Seen.{NetSeen, OutputSeen, net_seen, output_seen}
 use Rattle.serve_command.specs.Runs.{TellsStop, unopened}
 use Rattle.serve_command.proofs.command.serve.Goals as goal
 

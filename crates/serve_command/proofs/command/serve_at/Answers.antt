@@ -6,19 +6,19 @@ use Rattle.serve_command.specs.Terms.{places_of}
 use Rattle.serve_command.proofs.command.serve_at.Goals as goal
 
 pub serve_begun-requires-clause-ready : goal.serve_begun-requires-clause-ready
-serve_begun-requires-clause-ready g c = λ κs bounds. c.in-Ok.ensures.begun_is.ready
+serve_begun-requires-clause-ready g c = λ κs bounds. c.in-Ok.ensures.ready
 
 pub serve_begun-requires-clause-no_crew : goal.serve_begun-requires-clause-no_crew
-serve_begun-requires-clause-no_crew g c = λ κs bounds. c.in-Ok.ensures.begun_is.room.no_crew
+serve_begun-requires-clause-no_crew g c = λ κs bounds. c.in-Ok.ensures.room.no_crew
 
 pub serve_begun-requires-clause-no_links : goal.serve_begun-requires-clause-no_links
-serve_begun-requires-clause-no_links g c = λ κs bounds. c.in-Ok.ensures.begun_is.room.no_links
+serve_begun-requires-clause-no_links g c = λ κs bounds. c.in-Ok.ensures.room.no_links
 
 pub serve_begun-requires-clause-crew : goal.serve_begun-requires-clause-crew
-serve_begun-requires-clause-crew g c = let room = c.in-Ok.ensures.begun_is.room.crew in omega (arith, room, c.requires.listening, c.requires.editing)
+serve_begun-requires-clause-crew g c = let room = c.in-Ok.ensures.room.crew in omega (arith, room, c.requires.listening, c.requires.editing)
 
 pub serve_begun-requires-clause-links : goal.serve_begun-requires-clause-links
-serve_begun-requires-clause-links g c = let room = c.in-Ok.ensures.begun_is.room.links in omega (arith, room, c.requires.listening, c.requires.editing)
+serve_begun-requires-clause-links g c = let room = c.in-Ok.ensures.room.links in omega (arith, room, c.requires.listening, c.requires.editing)
 
 pub serve_begun-requires-clause-few : goal.serve_begun-requires-clause-few
 serve_begun-requires-clause-few g c = let w = c.requires.may.few_workers in let e = c.requires.may.few_editors in omega (arith, w, e, c.requires.listening, c.requires.editing)
@@ -28,7 +28,7 @@ returns-in-Ok g c = λ files start opened new_listen new_edit.
     let begun = c.in-Ok.ensures in
     let old : OutputSeen = output_seen (g.W.Sink.taken c.args.output.now) (g.W.Faulted.faults c.args.output.now) in
     served begun.edits begun.read
-    (c.serve_begun.ensures c.args.serving.now begun.edits start old (first_line c.args.serving.now begun.edits) begun.begun_is opened new_listen new_edit begun.written)
+    (c.serve_begun.ensures c.args.serving.now begun.edits start old (first_line c.args.serving.now begun.edits) begun.begun_with opened new_listen new_edit begun.written)
 
 -- the doors were given back
 pub returns-in-Err : goal.returns-in-Err

@@ -1,8 +1,8 @@
 use Rattle.std.proofs.Common.{◌++◌, map, sym, subst, ◌∙◌}
 use Rattle.share_asks.specs.declared.ask.Role.TheVariants as role
 use Rattle.share_lock.specs.Passes.{lock_id, known}
-use Rattle.serve_command.specs.Crews.{HasHired, IsStaff}
-use Rattle.serve_command.proofs.Staffing.{staff}
+use Rattle.share_crew.specs.Crews.{HasHired, IsStaff}
+use Rattle.share_crew.proofs.Staffing.{staff}
 use Rattle.serve_command.proofs.command.staffed.Goals as goal
 
 pub returns-clause-staff : goal.returns-clause-staff

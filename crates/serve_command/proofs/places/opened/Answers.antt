@@ -1,9 +1,11 @@
 use Rattle.std.proofs.Common.{[], ◌∷◌, List, ℕ, Option, sym, subst, ◌∙◌, arith}
 use Rattle.daap_outside.specs.Told.{Grows}
 use Rattle.serve_command.specs.Faults.{net_fault}
-use Rattle.serve_command.specs.Places.{AreNew, StopsOpening}
+use Rattle.share_crew.specs.Doors.{AreNew}
+use Rattle.serve_command.specs.Places.{StopsOpening}
 use Rattle.serve_command.specs.Terms.{places_of}
-use Rattle.serve_command.proofs.Nets.{grows_then, grows_by_none, have_links, stops_behind}
+use Rattle.share_crew.proofs.Nets.{grows_then, grows_by_none}
+use Rattle.serve_command.proofs.Nets.{have_links, stops_behind}
 use Rattle.serve_command.proofs.places.opened.Goals as goal
 
 pub returns-in-Ok-listen-clause-opened : goal.returns-in-Ok-listen-clause-opened

@@ -1,16 +1,45 @@
-use Rattle.std.proofs.Common.{List, sym, subst, ◌∙◌}
-use Rattle.item_model.specs.declared.changes.Edit.{Edit}
-use Rattle.item_model.specs.declared.changes.Entry.{Entry}
-use Rattle.share_history.specs.Histories.{batches, opening}
-use Rattle.share_replies.specs.Settings.{Settings}
-use Rattle.share_core.specs.Held.{StandFor, IsSound}
-use Rattle.share_core.proofs.Sound.{sound_opening}
+use Rattle.std.proofs.Common.{rules, ◌≡◌, [], ◌∷◌, ◌++◌, length, Err, refl, ap, sym, ◌∙◌, subst, append_assoc, append-nil}
+use Rattle.std.proofs.lemmas.List.{nil_from_length}
+use Rattle.std.specs.Vec.Iter.{into_iter_items}
+use Rattle.item_model.specs.declared.changes.Entry.TheVariants.{Edits}
+use Rattle.share_history.specs.Limits.{has_place, has_room_for, has_few_lists}
+use Rattle.share_history.specs.Sessions.{is_stopped}
+use Rattle.share_replies.specs.Answers.{Shared}
+use Rattle.share_core.specs.declared.share.OpenError.TheVariants.{Lists}
+use Rattle.share_core.proofs.Opening.{opened-more, opened_goes_on, opens_place, opens_room, few_more, many_until}
 use Rattle.share_core.proofs.share.begun.Goals as goal
 
-pub invariant_of-result : goal.invariant_of-result
-invariant_of-result g c =
-    let settings : Settings = record { name = c.args.name; keep = c.args.keep } in
-    let stores = c.in_ok-stores.stores in
-    subst (λ (t : Settings × List Entry). IsSound t.0 t.1 stores) (λ i. (sym c.new.ensures i, sym c.in_ok-register.ensures.history i))
-    (sound_opening settings c.args.first stores (subst (λ (es : List Edit). StandFor (batches (opening es)) stores) (c.as_slice.ensures ∙ c.first.view_is) c.in_ok-stores.ensures.stand)
-    c.requires.few c.requires.lists (c.in_ok-stores.ensures.items_keep ∙ c.requires.items_keep) (c.in_ok-stores.ensures.lists_keep ∙ c.requires.lists_keep) c.requires.short)
+pub begin-requires-clause-going : goal.begin-requires-clause-going
+begin-requires-clause-going g c = ap (λ (s : Shared). is_stopped s.history) c.loop-batch.invariant.is ∙ opened_goes_on c.loop-batch.yielded
+
+pub begin-requires-clause-place : goal.begin-requires-clause-place
+begin-requires-clause-place g c =
+    ap (λ (s : Shared). has_place s.history) c.loop-batch.invariant.is
+    ∙ opens_place c.loop-batch.yielded c.in-Some.batch _ c.args.batches.items
+    (ap (λ l. c.loop-batch.yielded ++ l) (sym c.in-Some.ensures.steps.0) ∙ c.loop-batch.invariant.items) c.requires.few c.requires.filled
+
+pub begin-requires-clause-room : goal.begin-requires-clause-room
+begin-requires-clause-room g c =
+    ap (λ (s : Shared). has_room_for s.history (length c.in-Some.batch)) c.loop-batch.invariant.is
+    ∙ opens_room c.loop-batch.yielded c.in-Some.batch _ c.args.batches.items
+    (ap (λ l. c.loop-batch.yielded ++ l) (sym c.in-Some.ensures.steps.0) ∙ c.loop-batch.invariant.items) c.requires.few
+
+pub loop-batch-preserved : goal.loop-batch-preserved
+loop-batch-preserved g c =
+    let inv = c.loop-batch.invariant in
+    let done = c.loop-batch.yielded in
+    let b = c.in-Some.batch in record {
+      is = c.in_ok-begin.ensures.grown ∙ ap (λ (s : Shared). record { settings = s.settings; history = s.history ++ Edits 0 b ∷ []; marks = s.marks }) inv.is
+          ∙ ap (λ h. record { settings = c.args.empty.settings; history = h; marks = c.args.empty.marks }) (sym (opened-more done b));
+      fits = few_more done b inv.fits (sym (ap (λ (s : Shared). has_few_lists s.history b) inv.is) ∙ c.in_ok-begin.ensures.fits);
+      items = append_assoc done (b ∷ []) _ ∙ (ap (λ l. done ++ l) (sym c.in-Some.ensures.steps.0) ∙ inv.items);
+    }
+
+pub returns-in_err-begin-clause-lists : goal.returns-in_err-begin-clause-lists
+returns-in_err-begin-clause-lists g c is =
+    let inv = c.loop-batch.invariant in
+    let done = c.loop-batch.yielded in
+    let b = c.in-Some.batch in
+    let refused : c.begin.result ≡ Err Lists = search rules in
+    many_until done b _ c.args.batches.items (ap (λ l. done ++ l) (sym c.in-Some.ensures.steps.0) ∙ inv.items)
+    (sym (ap (λ (s : Shared). has_few_lists s.history b) inv.is) ∙ c.begin.ensures.lists refused)

@@ -1,4 +1,4 @@
-use Rattle.std.proofs.Common.{◌∙◌, arith}
+use Rattle.std.proofs.Common.{◌+◌, ◌∙◌, arith}
 use Rattle.rehearsal.proofs.RunFacts.{has_first, on_err_anyway}
 use Rattle.rehearsal.proofs.run.Run.step.Goals as goal
 

@@ -1,13 +1,13 @@
 use Rattle.std.proofs.Common.{take}
 use Rattle.rehearsal.specs.Plan.{batches_of}
-use Rattle.rehearsal.proofs.CarriedFacts.{on_ok}
+use Rattle.share_listings.proofs.OnSuccess.{if_ok}
 use Rattle.rehearsal.proofs.RunFacts.{summed_up}
 use Rattle.rehearsal.proofs.run.Run.summary.Goals as goal
 
 pub returns : goal.returns
 returns c =
     let plan = c.args.plan.now in
-    on_ok c.summary.result
+    if_ok c.summary.result
     (λ text is.
     summed_up plan c.args.self.now c.revision.result c.count.result c.standing.result c.standing-2.result c.standing-3.result text.items c.requires.range c.requires.mirrors c.requires.stands
     c.revision.ensures (c.count.ensures (take plan.batches (batches_of plan)) c.requires.stands.at.share.stands)

@@ -1,0 +1,139 @@
+//! Opening a share together with the file that keeps its edits.
+
+ghost use Rattle.std.specs.Prelude.{◌≡◌, ◌≢◌, ◌≤◌, ◌++◌, ◌∷◌, [], All, ℕ, false, length, IfOk, IfErr, OnOk};
+ghost use Rattle.item_model.specs.Limits.{text_limit};
+ghost use Rattle.item_model.specs.Valid.{AreValid};
+ghost use Rattle.outside_disks.specs.Told.{Grows};
+ghost use Rattle.records_import.specs.Written.{IsReadable};
+ghost use Rattle.edit_file.specs.Files.{HasBatches, disk_of, is_broken, place_of};
+ghost use Rattle.share_core.specs.Opened.{if_filled};
+ghost use Rattle.kept_library.specs.Opening.{CountsFault, CountsStop, HasOpened, StopsShare, StopsOpening, share_of};
+
+use crate::fault::{FileFault, file_fault, open_fault};
+use command_core::Fault;
+use daap_outside::{Disk, Files};
+use edit_file::{EditFile, Frame};
+use item_model::Batch;
+use share_core::Share;
+use std::alloc::{AllocError, Global};
+
+/// A share, and the file that keeps its edits.
+#[derive(Drop)]
+pub struct KeptLibrary<D: Disk + Drop> {
+    pub share: Share,
+    pub file: EditFile<D>,
+}
+
+/// Opens the edit file with the name `path`, and a share with the file's batches and then the batch `first`, if that has
+/// edits. The file has that batch, too, when this returns. The share has the name `name`, and answers with changes for
+/// `keep` revisions back.
+///
+/// # Errors
+///
+/// Returns `NotEditFile` if the file is no edit file, `TooManyEdits` or `TooManyLists` if a share doesn't take the batches,
+/// `Failed` if a call on the file or on `files` failed, and `Memory` if an allocation fails. The disk was given back to
+/// `files` then.
+pub fn open_library<F: Files>(
+    alloc: Global,
+    files: &mut F,
+    path: &str,
+    name: &str,
+    keep: u32,
+    first: Batch,
+) -> Result<KeptLibrary<F::D>, Fault<FileFault>>
+    requires name { length name.now ≤ text_limit }
+    requires some { 1 ≤ keep }
+    requires window { keep ≤ 65536 }
+    requires valid { AreValid first }
+    requires readable { IsReadable first }
+    ensures opened { IfOk result (λ kept. HasOpened F.D.Disk.own (F.contents files.old) path.now (record { name = name.now; keep = keep }) first kept) }
+    ensures stops { IfErr result (λ stop. StopsOpening (F.contents files.old) path.now first stop) }
+    ensures asks { Grows (F.asked files.old) (F.asked files.new) (path.now ∷ []) }
+    ensures contents { OnOk result (F.contents files.new ≡ F.contents files.old) }
+    ensures count { CountsStop (F.faults files.old) (F.faults files.new) result }
+{
+    let Ok(disk) = files.open(path) else {
+        return Err(Fault::Own(FileFault::Failed));
+    };
+    let (mut file, batches) = match EditFile::open(alloc, disk) {
+        Ok(opened) => opened,
+        Err((error, disk)) => {
+            files.close(disk);
+            return Err(file_fault(error));
+        }
+    };
+    match begun(alloc, &mut file, name, keep, batches, first) {
+        Ok(share) => Ok(KeptLibrary { share, file }),
+        Err(stop) => {
+            files.close(file.into_disk());
+            Err(stop)
+        }
+    }
+}
+
+// The share of the batches and of the first one, which the file keeps now, too.
+fn begun<D: Disk + Drop>(
+    alloc: Global,
+    file: &mut EditFile<D>,
+    name: &str,
+    keep: u32,
+    batches: Vec<Batch>,
+    first: Batch,
+) -> Result<Share, Fault<FileFault>>
+    requires name { length name.now ≤ text_limit }
+    requires some { 1 ≤ keep }
+    requires window { keep ≤ 65536 }
+    requires filled { All (λ batch. batch ≢ []) batches.items }
+    requires are_valid { All AreValid batches.items }
+    requires valid { AreValid first }
+    requires readable { IsReadable first }
+    requires sound { is_broken D.Disk.own file.old ≡ false }
+    ensures opened { IfOk result (λ share. share ≡ share_of (record { name = name.now; keep = keep }) (batches.items ++ if_filled first)) }
+    ensures stops { IfErr result (StopsShare (batches.items ++ if_filled first)) }
+    ensures keeps { HasBatches D.Disk.own file.old batches.items → OnOk result (HasBatches D.Disk.own file.new (batches.items ++ if_filled first)) }
+    ensures sound { OnOk result (is_broken D.Disk.own file.new ≡ false) }
+    ensures place_stays { place_of D.Disk.own file.new ≡ place_of D.Disk.own file.old }
+    ensures count { CountsStop (D.faults (disk_of D.Disk.own file.old)) (D.faults (disk_of D.Disk.own file.new)) result }
+{
+    if first.edits.as_slice().is_empty() {
+        return share_with(alloc, name, keep, batches);
+    }
+    let frame = Frame::of(alloc, &first)?;
+    let batches = joined(batches, first)?;
+    let share = share_with(alloc, name, keep, batches)?;
+    match file.append(frame) {
+        Ok(()) => Ok(share),
+        Err(_lost) => Err(Fault::Own(FileFault::Failed)),
+    }
+}
+
+// The batches, and one more behind them.
+fn joined(batches: Vec<Batch>, last: Batch) -> Result<Vec<Batch>, AllocError>
+    ensures { IfOk result (λ all. all.items ≡ batches.items ++ last ∷ []) }
+{
+    let mut batches = batches;
+    batches.push(last)?;
+    Ok(batches)
+}
+
+// The share that begins with the batches.
+fn share_with(
+    alloc: Global,
+    name: &str,
+    keep: u32,
+    batches: Vec<Batch>,
+) -> Result<Share, Fault<FileFault>>
+    requires name { length name.now ≤ text_limit }
+    requires some { 1 ≤ keep }
+    requires window { keep ≤ 65536 }
+    requires filled { All (λ batch. batch ≢ []) batches.items }
+    requires valid { All AreValid batches.items }
+    ensures opened { IfOk result (λ share. share ≡ share_of (record { name = name.now; keep = keep }) batches.items) }
+    ensures stops { IfErr result (StopsShare batches.items) }
+    ensures count { (n : ℕ) → IfErr result (CountsFault n n) }
+{
+    match Share::open_batches(alloc, name, keep, batches) {
+        Ok(share) => Ok(share),
+        Err(error) => Err(open_fault(error)),
+    }
+}

@@ -1,0 +1,71 @@
+//! Callers that know the traits alone, and what they prove of any form.
+
+ghost use Rattle.std.specs.Prelude.{◌≡◌, ◌<◌, ◌++◌, ◌∷◌, [], IfOk, IfSome, OnOk, OnErr, length, drop, false, true, Some};
+ghost use Rattle.std.specs.Io.KnownBytes.{Appends};
+ghost use Rattle.daap_outside.specs.Counts.{Rose};
+ghost use Rattle.daap_outside.specs.Told.{Grows};
+
+use daap_outside::{Door, Failed, Link, Net, ReadError, Sink, Source, put_all, read_within};
+use std::alloc::Global;
+
+/// Copies an input of at most five bytes, and answers how it went as a program does.
+pub(crate) fn copied_whole<I: Source, W: Sink>(alloc: Global, input: &mut I, output: &mut W) -> u8
+    ensures copied { result ≡ 0 → IfSome (I.left input.old) (Appends (W.taken output.old) (W.taken output.new)) }
+    ensures read { result ≡ 4 → Rose (I.faults input.old) (I.faults input.new) }
+    ensures written { result ≡ 5 → Rose (W.faults output.old) (W.faults output.new) }
+    ensures long { result ≡ 8 → IfSome (I.left input.old) (λ left. 5 < length left) }
+    ensures calm { result ≡ 0 → I.faults input.new ≡ I.faults input.old }
+{
+    match read_within(alloc, input, 5) {
+        Ok(all) => match put_all(output, all.as_slice()) {
+            Ok(()) => 0,
+            Err(Failed) => 5,
+        },
+        Err(ReadError::Failed) => 4,
+        Err(ReadError::TooLong) => 8,
+        Err(ReadError::Memory) => 9,
+    }
+}
+
+/// Reads from a link, which leaves what it has taken.
+pub(crate) fn heard<L: Link>(link: &mut L, room: &mut [u8]) -> Result<usize, Failed>
+    requires { 0 < length room.old }
+    ensures { L.taken link.new ≡ L.taken link.old }
+{
+    link.read(room)
+}
+
+/// Sends bytes to a place, and gives the link back.
+pub(crate) fn sent<N: Net>(net: &mut N, place: &str, bytes: &[u8]) -> Result<(), Failed>
+    ensures asks { Grows (N.asked net.old) (N.asked net.new) ((place.now, 0) ∷ []) }
+    ensures count { OnErr result (Rose (N.faults net.old) (N.faults net.new)) }
+    ensures told { OnOk result (IfSome (N.written net.new) (λ now.
+        IfSome (N.written net.old) (λ before. now ≡ before ++ (bytes.now, false) ∷ []))) }
+{
+    let mut link = net.connect(place)?;
+    match put_all(&mut link, bytes) {
+        Ok(()) => {
+            net.hang_up(link);
+            Ok(())
+        }
+        Err(fault) => {
+            net.hang_up(link);
+            Err(fault)
+        }
+    }
+}
+
+/// Sends bytes on the next link that comes, if one does, and gives the link back.
+pub(crate) fn greeted<D: Door>(door: &mut D, bytes: &[u8]) -> Result<bool, Failed>
+    ensures count { OnErr result (Rose (D.faults door.old) (D.faults door.new)) }
+    ensures none { IfOk result (λ some. IfSome (D.coming door.old) (λ coming. some ≡ false → coming ≡ [])) }
+    ensures next { IfOk result (λ some. IfSome (D.coming door.old) (λ coming.
+        some ≡ true → D.coming door.new ≡ Some (drop 1 coming))) }
+{
+    let Some(mut link) = door.accept()? else {
+        return Ok(false);
+    };
+    let _sent = put_all(&mut link, bytes);
+    door.done(link);
+    Ok(true)
+}

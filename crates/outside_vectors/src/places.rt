@@ -1,0 +1,209 @@
+//! What links, doors and nets in memory do when they run.
+
+ghost use Rattle.std.specs.Prelude.{IfOk};
+ghost use Rattle.daap_outside.specs.MemLink.{IsNew};
+ghost use Rattle.daap_outside.specs.MemDoor.{IsNew as is_new_door};
+
+use crate::callers::{greeted, heard, sent};
+use daap_outside::{
+    Asked, Door, Failed, Files, Link, MemDoor, MemFiles, MemLink, MemNet, MemSink, MemSource, Net,
+    NetError, Returned, Sink,
+};
+use std::alloc::{AllocError, Global};
+use std::test::Fail;
+
+/// Reads and writes once, and answers whether each failed.
+fn exchanged<L: Link>(link: &mut L) -> (bool, bool) {
+    let mut room = [0; 4];
+    (heard(link, &mut room).is_err(), link.write(b"xyz").is_err())
+}
+
+fn is_back(link: &Returned, bytes: &[u8], faulted: bool) -> bool {
+    link.bytes.as_slice() == bytes && link.faulted == faulted
+}
+
+/// Whether a door tells of a link that is given back there so many bytes, and if it was at fault.
+fn comes_back(
+    alloc: Global,
+    link: MemLink,
+    bytes: &[u8],
+    faulted: bool,
+) -> Result<bool, AllocError> {
+    let mut door = MemDoor::new(alloc, &[], 1)?;
+    door.done(link);
+    Ok(matches!(door.written(), Some([back]) if is_back(back, bytes, faulted)))
+}
+
+/// A link of five bytes whose read and write of that number fail.
+fn failing_link(alloc: Global, failing: u64) -> Result<MemLink, AllocError> {
+    let input = MemSource::new(alloc, b"abcde", 2, &[failing])?;
+    let output = MemSink::new(alloc, 9, 2, &[failing])?;
+    Ok(MemLink::new(input, output))
+}
+
+#[test]
+fn a_link_fails_at_each_read_and_each_write_in_turn(rt: HostRuntime) -> Result<(), Fail> {
+    for failing in 1..4 {
+        let mut link = failing_link(rt.alloc(), failing)?;
+        for call in 1..4 {
+            let fails = call == failing;
+            assert_eq!(rt; exchanged(&mut link), (fails, fails));
+        }
+        assert!(rt; comes_back(rt.alloc(), link, b"xyxy", true)?);
+    }
+    Ok(())
+}
+
+/// A link of three bytes whose second probe fails.
+fn probed_link(alloc: Global) -> Result<MemLink, AllocError> {
+    let input = MemSource::new(alloc, b"abc", 2, &[])?;
+    let output = MemSink::new(alloc, 9, 2, &[])?;
+    MemLink::with_failing_probes(alloc, input, output, &[2])
+}
+
+/// Whether a link answers probes, between the first two of which it is read and written.
+fn answers<L: Link>(link: &mut L) -> (bool, (bool, bool), bool, bool) {
+    (
+        link.probe().is_ok(),
+        exchanged(link),
+        link.probe().is_ok(),
+        link.probe().is_ok(),
+    )
+}
+
+#[test]
+fn a_link_fails_at_the_probes_that_are_set_to(rt: HostRuntime) -> Result<(), Fail> {
+    let mut link = probed_link(rt.alloc())?;
+    assert_eq!(rt; answers(&mut link), (true, (false, false), false, true));
+    assert!(rt; comes_back(rt.alloc(), link, b"xy", true)?);
+    Ok(())
+}
+
+/// A link with an input, and room for 9 bytes.
+fn linked(alloc: Global, input: &[u8]) -> Result<MemLink, AllocError>
+    ensures { IfOk result IsNew }
+{
+    let source = MemSource::new(alloc, input, 4, &[])?;
+    Ok(MemLink::new(source, MemSink::new(alloc, 9, 4, &[])?))
+}
+
+/// A door at which two links come, whose second wait fails, with room for so many that come back.
+fn opened(alloc: Global, room: usize) -> Result<MemDoor, AllocError>
+    ensures { IfOk result is_new_door }
+{
+    let mut door = MemDoor::new(alloc, &[2], room)?;
+    door.add(linked(alloc, b"one")?)?;
+    door.add(linked(alloc, b"two")?)?;
+    Ok(door)
+}
+
+/// The same door, of which nothing is known.
+fn some_door(alloc: Global, room: usize) -> Result<MemDoor, AllocError> {
+    opened(alloc, room)
+}
+
+/// What is sent at a door, and how that goes: whether a link was there, or none where it failed.
+const GREETINGS: [(&[u8], Option<bool>); 4] = [
+    (b"first", Some(true)),
+    (b"not sent", None),
+    (b"second, too long", Some(true)),
+    (b"not sent", Some(false)),
+];
+
+fn greets<D: Door>(door: &mut D, rows: &[(&'static [u8], Option<bool>)]) -> bool {
+    for (bytes, answer) in rows {
+        if greeted(door, bytes).ok() != *answer {
+            return false;
+        }
+    }
+    true
+}
+
+#[test]
+fn a_door_gives_its_links_in_order(rt: HostRuntime) -> Result<(), Fail> {
+    let mut door = some_door(rt.alloc(), 2)?;
+    assert!(rt; greets(&mut door, &GREETINGS));
+    assert!(rt;
+        matches!(door.written(), Some([first, second])
+        if is_back(first, b"first", false) && is_back(second, b"second, t", true))
+    );
+    Ok(())
+}
+
+fn is_asked(asked: &Asked, place: &[u8], doors: u32) -> bool {
+    asked.place() == place && asked.doors() == doors
+}
+
+/// A net with two doors, at the first of which two links come, and a link, whose second call fails.
+fn filled(alloc: Global) -> Result<MemNet, AllocError> {
+    let mut net = MemNet::with_room(alloc, &[2], 4, 4)?;
+    net.add_door(opened(alloc, 2)?)?;
+    net.add_door(MemDoor::new(alloc, &[], 0)?)?;
+    net.add_link(linked(alloc, b"three")?)?;
+    Ok(net)
+}
+
+/// Whether a net of two doors opens no three of them, and fails next.
+fn refuses<N: Net>(net: &mut N) -> bool {
+    matches!(net.listen("here", 3), Err(NetError::Failed))
+        && matches!(net.connect("set to fail"), Err(Failed))
+}
+
+/// Whether a net opens a door at which a link comes, and takes it back.
+fn greets_once<N: Net>(net: &mut N) -> Result<bool, NetError> {
+    let mut doors = net.listen("here", 1)?;
+    let Some(mut door) = doors.pop() else {
+        return Ok(false);
+    };
+    let is_greeted = matches!(greeted(&mut door, b"hello"), Ok(true));
+    net.shut(door);
+    Ok(is_greeted)
+}
+
+/// Whether it told what it was asked for.
+fn is_told_asked(net: &MemNet) -> bool {
+    matches!(net.asked(), Some([too_many, fails, here, there])
+        if is_asked(too_many, b"here", 3) && is_asked(fails, b"set to fail", 0)
+            && is_asked(here, b"here", 1) && is_asked(there, b"there", 0))
+}
+
+/// Whether it told what was written.
+fn is_told_written(net: &MemNet) -> bool {
+    matches!(net.written(), Some([hello, bye])
+        if is_back(hello, b"hello", false) && is_back(bye, b"bye", false))
+}
+
+#[test]
+fn a_net_gives_what_was_put_there(rt: HostRuntime) -> Result<(), Fail> {
+    let mut net = filled(rt.alloc())?;
+    assert!(rt; refuses(&mut net));
+    assert!(rt; greets_once(&mut net)?);
+    sent(&mut net, "there", b"bye")?;
+    assert!(rt; is_told_asked(&net) && is_told_written(&net));
+    assert!(rt; net.connect("there").is_err());
+    Ok(())
+}
+
+#[test]
+fn a_list_without_room_is_told_no_more(rt: HostRuntime) -> Result<(), Fail> {
+    let mut door = some_door(rt.alloc(), 0)?;
+    assert!(rt; door.written().is_some());
+    assert!(rt; matches!(greeted(&mut door, b"lost"), Ok(true)));
+    assert!(rt; door.written().is_none());
+    let mut net = MemNet::with_room(rt.alloc(), &[], 1, 1)?;
+    assert!(rt; net.connect("first").is_err());
+    assert!(rt; net.asked().is_some());
+    assert!(rt; net.connect("second").is_err());
+    assert!(rt; net.asked().is_none());
+    net.shut(door);
+    assert!(rt; net.written().is_none());
+    Ok(())
+}
+
+#[test]
+fn nothing_is_reached_where_nothing_is_held(rt: HostRuntime) {
+    let mut net = MemNet::new(rt.alloc());
+    assert!(rt; matches!(net.listen("127.0.0.1:3689", 2), Err(NetError::Failed)));
+    assert!(rt; matches!(sent(&mut net, "127.0.0.1:3689", b"hello"), Err(Failed)));
+    assert!(rt; matches!(MemFiles::new().open("edits"), Err(Failed)));
+}

@@ -1,0 +1,4 @@
+pub mod PlaylistSeen
+pub mod NamedBy
+pub mod RowSeen
+pub mod ListingSeen

@@ -1,0 +1,32 @@
+//! A share the slow way: each function looks through the whole history for each question, and is proved to be the
+//! definition of its name in `share_history`. No program runs it; its tests compare the definitions with bytes of the
+//! standard.
+#![tactic(auto)]
+
+mod bodies;
+mod browse;
+mod databases;
+mod items;
+mod kept;
+mod keys;
+mod limits;
+mod listings;
+mod lists;
+mod names;
+mod ranges;
+mod revisions;
+mod selection;
+mod sessions;
+
+pub use bodies::{body, delta_body, full_body, listing_body};
+pub use browse::{browse_body, browse_values};
+pub use databases::{containers_body, databases_body, playlists};
+pub use items::item;
+pub use kept::{is_kept, is_touched, touched};
+pub use limits::{has_place, has_room_for, takes_batch};
+pub use listings::{Listing, delta_listing, full_listing, listing_for};
+pub use lists::{PlaylistRef, list, member};
+pub use names::{Named, is_named};
+pub use revisions::{after, at_revision, revision};
+pub use selection::{is_asked, is_there, library, row, rows};
+pub use sessions::{is_live, is_stopped, next_session, until_login};

@@ -1,0 +1,79 @@
+//! How much a share takes.
+
+ghost use Rattle.std.specs.Prelude.{◌≡◌, ◌<◌, ◌+◌, ◌^◌, IfOk, count_by, length, if◌then◌else◌};
+ghost use Rattle.share_history.specs.Histories.{all_edits};
+ghost use Rattle.share_history.specs.Limits.{takes_place, has_place, has_room_for, has_few_lists, takes_batch};
+
+use crate::databases::playlists_with;
+use crate::revisions::edits_of;
+use item_model::{Batch, Edit, Entry};
+use share_history::{MAX_EDITS, MAX_ENTRIES, MAX_LISTS};
+use std::alloc::{AllocError, Global};
+
+fn does_take_place(entry: &Entry) -> bool
+    ensures { result ≡ takes_place entry.now }
+{
+    matches!(entry, Entry::Edits { .. } | Entry::Login { .. })
+}
+
+fn count_with(count: usize, entry: &Entry) -> usize
+    requires { count < usize.MAX }
+    ensures { result ≡ count + (if takes_place entry.now then 1 else 0) }
+{
+    if does_take_place(entry) {
+        count + 1
+    } else {
+        count
+    }
+}
+
+/// Whether one more login, or one more batch, has a place.
+#[tactic(auto, using(crate::proofs::LoginFacts::count_more))]
+pub fn has_place(history: &[Entry]) -> bool
+    ensures { result ≡ has_place history.now }
+{
+    let mut count = 0;
+    for entry in history {
+        count = count_with(count, entry);
+    }
+    count < MAX_ENTRIES
+}
+
+/// Whether so many edits more are not too many.
+#[tactic(auto, using(crate::proofs::LoopFacts::edits_left))]
+pub fn has_room_for(history: &[Entry], count: usize) -> bool
+    ensures { result ≡ has_room_for history.now count }
+{
+    if count > MAX_EDITS {
+        return false;
+    }
+    let mut left = MAX_EDITS - count;
+    for entry in history {
+        let brought = edits_of(entry).len();
+        if brought > left {
+            return false;
+        }
+        left -= brought;
+    }
+    true
+}
+
+// Whether after some edits more there are not too many lists.
+#[tactic(auto, using(crate::proofs::CountFacts::counted_lists))]
+fn has_few_lists(alloc: Global, history: &[Entry], edits: &[Edit]) -> Result<bool, AllocError>
+    ensures { IfOk result (λ has. has ≡ has_few_lists history.now edits.now) }
+{
+    let lists = playlists_with(alloc, history, edits)?;
+    Ok(lists.len() <= MAX_LISTS)
+}
+
+/// Whether a batch meets no limit.
+pub fn takes_batch(alloc: Global, history: &[Entry], batch: &Batch) -> Result<bool, AllocError>
+    ensures { IfOk result (λ takes. takes ≡ takes_batch history.now batch.now) }
+{
+    let edits = batch.edits.as_slice();
+    if !has_place(history) || !has_room_for(history, edits.len()) {
+        return Ok(false);
+    }
+    has_few_lists(alloc, history, edits)
+}

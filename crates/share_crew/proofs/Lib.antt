@@ -1,0 +1,10 @@
+pub mod Nets
+pub mod Numbers
+pub mod Joining
+pub mod Staffing
+pub mod OneHistory
+pub mod Telling
+pub mod Ending
+pub mod Working
+pub mod Counting
+pub mod Crossing

@@ -1,0 +1,34 @@
+-- What is told behind a front.
+use Rattle.std.proofs.Common.{◌≡◌, ◌⊎◌, ◌++◌, ℕ, List, Result, Ok, Err, MatchResult, sym, subst, inl, inr, arith, length-append}
+use Rattle.std.proofs.lemmas.List.{take-append-le}
+use Rattle.std.specs.Io.KnownBytes.{Appends}
+use Rattle.command_core.specs.Seen.{OutputSeen}
+use Rattle.command_core.specs.Endings.{IsWritten, IsCut}
+use Rattle.command_core.specs.Answers.{Tells}
+use Rattle.command_core.proofs.Appending.{written_more, cut_more}
+use Rattle.share_replies.specs.Answers.{Shared}
+use Rattle.share_crew.specs.declared.opening.Begun.{Begun}
+use Rattle.share_crew.specs.declared.opening.Room.{Room}
+use Rattle.share_crew.specs.Begun.{Locks, Announces}
+
+-- behind a front
+pub told_behind : (start mid after : OutputSeen) (front bytes : List ℕ) (wanted status : ℕ) → IsWritten start mid front → Tells wanted bytes mid after status → Tells wanted (front ++ bytes) start after status
+told_behind start mid after front bytes wanted status w (inl h) = inl (h.0, written_more start mid after front bytes w h.1)
+told_behind start mid after front bytes wanted status w (inr h) = inr (h.0, cut_more start mid after front bytes w h.1)
+
+-- an output that failed in some bytes failed in more
+pub cut_wider : (before after : OutputSeen) (bytes more : List ℕ) → IsCut before after bytes → IsCut before after (bytes ++ more)
+cut_wider before after bytes more h = record {
+  taken = (
+    h.taken.0,
+    (let few = h.taken.1 in omega (arith, length-append bytes more)),
+    subst (Appends before.taken after.taken) (sym (take-append-le h.taken.0 bytes more h.taken.1)) h.taken.2,
+  );
+  rose = h.rose;
+}
+
+module _ {D : Type 0} where
+  pub announces : (passes : ℕ) (share : Shared) (room : Room D) (line : List ℕ) (before after : OutputSeen) (result : Result (Begun D) ℕ) → Locks passes share room line before after result
+      → Announces passes share room line before after result
+  announces passes share room line before after (Ok begun) h = h
+  announces passes share room line before after (Err status) h = inr h

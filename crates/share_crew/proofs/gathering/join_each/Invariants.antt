@@ -1,0 +1,25 @@
+use Rattle.std.proofs.Common.{◌≡◌, ◌+◌, ◌≤◌, ◌++◌, List, map, length}
+use Rattle.std.specs.List.{AllZip}
+use Rattle.std.specs.Prelude.{All, vec_len, vec_capacity}
+use Rattle.std.specs.Vec.Iter.{into_iter_items}
+use Rattle.item_model.specs.declared.changes.Entry.{Entry}
+use Rattle.share_lock.specs.Passes.{lock_id, known, IsReady}
+use Rattle.share_replies.specs.Settings.{Settings}
+use Rattle.share_crew.specs.Crews.{IsOf, HasJoined, HasShut}
+use Rattle.share_crew.specs.Stints.{Stint, passes_in}
+use Rattle.share_crew.proofs.gathering.join_each.Given as goal
+
+abbrev pub invariant-loop-worker : goal.invariant-loop-worker
+invariant-loop-worker g l = record {
+  ready : IsReady (lock_id l.lock) l.first;
+  others : All (λ w. IsReady (lock_id l.lock) w.pass) (into_iter_items l.worker-iterator);
+  joined : (settings : Settings) (opening : List Entry) (stints : List (Stint settings opening)) → AllZip (IsOf g.N.D.Door.written g.N.D.Faulted.faults) stints l.yielded
+      → HasJoined (known l.fn.first) (known l.first) (passes_in stints);
+  shut : (settings : Settings) (opening : List Entry) (stints : List (Stint settings opening)) → AllZip (IsOf g.N.D.Door.written g.N.D.Faulted.faults) stints l.yielded
+      → HasShut (g.N.Net.written l.fn.net) (g.N.Net.written l.net) (g.N.Faulted.faults l.fn.net) (g.N.Faulted.faults l.net) stints;
+  asked : g.N.Net.asked l.net ≡ g.N.Net.asked l.fn.net;
+  kept : map (λ reports. reports.items) l.links.items ≡ map (λ reports. reports.items) l.fn.links.items ++ map (λ w. w.reports.items) l.yielded;
+  capacity : vec_capacity l.links ≡ vec_capacity l.fn.links;
+  room : vec_len l.links + length (into_iter_items l.worker-iterator) ≤ vec_capacity l.links;
+  items : l.yielded ++ into_iter_items l.worker-iterator ≡ l.fn.crew.items;
+}

@@ -1,0 +1,77 @@
+-- Workers before they begin and after they have ended, and what is known once their passes were joined and their doors given
+-- back.
+use Rattle.std.specs.Prelude.{◌≡◌, ◌<◌, ◌≤◌, ℕ, List, [], ◌∷◌, ◌++◌, map, All, Option}
+use Rattle.std.specs.List.{flat_map, AllByRecursion}
+use Rattle.item_model.specs.declared.changes.Entry.{Entry}
+use Rattle.daap_outside.specs.Places.{Returned}
+use Rattle.daap_outside.specs.Told.{BeginsEmpty, Grows}
+use Rattle.share_asks.specs.declared.ask.Role.{Role}
+use Rattle.share_lock.specs.Histories.{Continues}
+use Rattle.share_lock.specs.Known.{numbers_of, fresh}
+use Rattle.share_lock.specs.Passes.{LockId, known, IsReady}
+use Rattle.share_replies.specs.Settings.{Settings}
+use Rattle.share_replies.specs.Laws.{maker}
+use Rattle.share_server.specs.Passes.{Pass}
+use Rattle.share_workers.specs.declared.worker.Worker.{Worker}
+use Rattle.share_workers.specs.declared.worker.WorkerEnd.TheVariants.{Running}
+use Rattle.share_workers.specs.Ends.{WorkerServed}
+use Rattle.share_crew.specs.Doors.{CountsShut}
+use Rattle.share_crew.specs.Stints.{Stint, Differ, numbers_of_all, returns_of}
+
+module _ {D : Type 0} where
+  -- a worker that has not begun, with a new pass that has seen what another pass has
+  pub record IsHired (id : LockId) (k : Pass) (worker : Worker D) : Type 0 where
+    pub ready : IsReady id worker.pass
+    pub pass : known worker.pass ≡ fresh (known worker.pass).number k.settings k.seen
+    pub some : 1 ≤ (known worker.pass).number
+    pub few : (known worker.pass).number < id.1
+    pub unreported : worker.reports.items ≡ []
+    pub running : worker.end ≡ Running
+
+  -- a worker for each door was put behind the others
+  pub record HasHired (id : LockId) (k : Pass) (role : Role) (doors : List D) (before after : List (Worker D)) : Type 0 where
+    pub added : List (Worker D)
+    pub are : after ≡ before ++ added
+    pub hired : All (IsHired id k) added
+    pub doors_are : map (λ worker. worker.door) added ≡ doors
+    pub roles_are : map (λ worker. worker.role) added ≡ map (λ door. role) doors
+
+  -- all workers of a share, for these doors and roles
+  pub record IsStaff (id : LockId) (k : Pass) (roles : List Role) (doors : List D) (crew : List (Worker D)) : Type 0 where
+    pub hired : All (IsHired id k) crew
+    pub doors_are : map (λ worker. worker.door) crew ≡ doors
+    pub roles_are : map (λ worker. worker.role) crew ≡ roles
+
+  -- an old worker and what it left
+  abbrev pub HasEnded : (D → Option (List (List ℕ))) → (D → Option (List Returned)) → (D → ℕ) → Worker D → Worker D → Type 0
+  HasEnded coming written faults old new =
+      WorkerServed old.role (known old.pass) (known new.pass) (coming old.door) (coming new.door) (written old.door) (written new.door) (faults old.door) (faults new.door) new.reports.items new.end
+
+  -- a worker that has ended, and its stint
+  pub record IsOf {settings : Settings} {opening : List Entry} (written : D → Option (List Returned)) (faults : D → ℕ) (stint : Stint settings opening) (worker : Worker D) : Type 0 where
+    pub pass_is : stint.pass ≡ known worker.pass
+    pub role_is : stint.role ≡ worker.role
+    pub written_is : stint.written ≡ written worker.door
+    pub faults_are : stint.faults ≡ faults worker.door
+    pub reports_are : stint.reports ≡ worker.reports.items
+    pub end_is : stint.end ≡ worker.end
+
+-- it took no pass in, and a history goes on from what it had seen
+abbrev pub GoesOn : List Entry → Pass → Type 0
+GoesOn history pass = (pass.taken_in ≡ []) × Continues maker (numbers_of pass) pass.seen history
+
+-- some passes were joined to a pass
+pub record HasJoined (k k' : Pass) (passes : List Pass) : Type 0 where
+  pub number : k'.number ≡ k.number
+  pub settings_stay : k'.settings ≡ k.settings
+  pub taken : k'.taken_in ≡ k.taken_in ++ numbers_of_all passes
+  pub front : Continues maker (numbers_of k) k.seen k'.seen
+  pub fronts : AllByRecursion (GoesOn k'.seen) passes
+  pub differ : k.taken_in ≡ [] → Differ (k.number ∷ numbers_of_all passes)
+
+module _ {settings : Settings} {opening : List Entry} where
+  -- the doors of some stints were given back
+  pub record HasShut (written written' : Option (List Returned)) (faults faults' : ℕ) (stints : List (Stint settings opening)) : Type 0 where
+    pub written_grows : (kept : Option (List Returned)) (more : List Returned) → AllByRecursion (λ stint. BeginsEmpty kept stint.begun) stints → Grows kept written more
+        → Grows kept written' (more ++ flat_map returns_of stints)
+    pub counts : CountsShut faults faults' (map (λ stint. stint.end) stints)

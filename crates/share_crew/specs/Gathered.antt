@@ -1,0 +1,29 @@
+-- Workers that have ended and were gathered.
+use Rattle.std.specs.Prelude.{◌≡◌, ℕ, List, [], map, Option}
+use Rattle.std.specs.List.{flat_map, AllByRecursion}
+use Rattle.item_model.specs.declared.changes.Entry.{Entry}
+use Rattle.daap_outside.specs.Places.{Returned}
+use Rattle.daap_outside.specs.Told.{Grows}
+use Rattle.share_asks.specs.declared.ask.Role.{Role}
+use Rattle.share_lock.specs.Known.{fresh}
+use Rattle.share_replies.specs.Settings.{Settings}
+use Rattle.share_server.specs.declared.report.LinkReport.{LinkReport}
+use Rattle.share_server.specs.Passes.{Pass}
+use Rattle.share_crew.specs.declared.verdict.Verdict.{Verdict}
+use Rattle.share_crew.specs.Verdicts.{verdict_of}
+use Rattle.share_crew.specs.Doors.{CountsShut}
+use Rattle.share_crew.specs.Stints.{Stint, IsNumbered, passes_in, returns_of}
+use Rattle.share_crew.specs.Crews.{HasJoined}
+
+-- Their passes were joined and their doors given back: from workers of these roles at doors with these links, under a lock for
+-- so many passes, to a pass and the reports that they leave
+pub record HasGathered (settings : Settings) (opening : List Entry) (passes : ℕ) (roles : List Role) (coming : List (Option (List (List ℕ)))) (kept written written' : Option (List Returned)) (faults faults' : ℕ) (k : Pass) (links : List (List LinkReport)) (verdict : Verdict) : Type 0 where
+  pub crew : List (Stint settings opening)
+  pub roles_are : map (λ stint. stint.role) crew ≡ roles
+  pub coming_are : map (λ stint. stint.to_come) crew ≡ coming
+  pub links_are : links ≡ map (λ stint. stint.reports) crew
+  pub numbered : AllByRecursion (IsNumbered passes) (passes_in crew)
+  pub joined : HasJoined (fresh 0 settings opening) k (passes_in crew)
+  pub verdict_is : verdict ≡ verdict_of (map (λ stint. stint.end) crew)
+  pub written_grows : Grows kept written [] → Grows kept written' (flat_map returns_of crew)
+  pub counts : CountsShut faults faults' (map (λ stint. stint.end) crew)

@@ -1,0 +1,7 @@
+pub mod Lines
+pub mod Verdicts
+pub mod Doors
+pub mod Stints
+pub mod Crews
+pub mod Gathered
+pub mod Begun

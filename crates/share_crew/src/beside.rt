@@ -1,0 +1,85 @@
+//! Workers at work, beside a partner.
+ghost use Rattle.std.specs.Prelude.{◌≡◌, ◌<◌, ◌≤◌, ◌^◌, [], List, Option, map, length, All, vec_len, vec_capacity};
+ghost use Rattle.std.specs.List.{AllZip};
+ghost use Rattle.std.specs.Thread.{IsSync};
+ghost use Rattle.daap_outside.specs.Places.{Returned};
+ghost use Rattle.item_model.specs.declared.changes.Entry.{Entry};
+ghost use Rattle.share_lock.specs.Known.{fresh};
+ghost use Rattle.share_lock.specs.Passes.{lock_id, passes_of, known, IsReady};
+ghost use Rattle.share_replies.specs.Settings.{Settings};
+ghost use Rattle.share_crew.specs.Crews.{IsHired, HasEnded};
+ghost use Rattle.share_crew.specs.Doors.{AreNew};
+ghost use Rattle.share_crew.specs.Lines.{links_in, requests_in};
+ghost use Rattle.share_crew.specs.Gathered.{HasGathered};
+
+use crate::gathering::{Gathered, gather};
+use crate::opening::Begun;
+use crate::partner::Partner;
+use daap_outside::{Door, Net};
+use share_core::Share;
+use share_lock::{Bell, ShareLock};
+use share_workers::{Worker, WorkerEnd, serve_all};
+use std::alloc::Global;
+use std::sync::Wait;
+use std::thread::{Threads, join_mut};
+use std::time::Clock;
+
+/// Lets each worker serve its links in a thread of its own, and the partner work beside them. It returns when all have ended.
+pub fn work_beside<D: Door + Drop + Send, P: Partner, R: Threads + Wait + Clock + Sync>(
+    rt: &R,
+    alloc: Global,
+    lock: &ShareLock<Share>,
+    bell: &Bell,
+    crew: &mut Vec<Worker<D>>,
+    partner: &mut P,
+)
+    requires ready { All (λ w. IsReady (lock_id lock.now) w.pass) crew.old.items }
+    requires running { All (λ w. w.end ≡ WorkerEnd.Running) crew.old.items }
+    requires unreported { All (λ w. w.reports.items ≡ []) crew.old.items }
+    requires partner { P.ready (lock_id lock.now) partner.old }
+    ensures ready { All (λ w. IsReady (lock_id lock.now) w.pass) crew.new.items }
+    ensures roles { AllZip (λ old new. new.role ≡ old.role) crew.old.items crew.new.items }
+    ensures served { AllZip (HasEnded D.coming D.written D.faults) crew.old.items crew.new.items }
+    ensures partner { P.worked (lock_id lock.now) partner.old partner.new }
+{
+    let mut all = ||
+        requires { IsSync R.row × All (λ w. IsReady (lock_id lock.now) w.pass) crew.now.items × All (λ w. w.end ≡ WorkerEnd.Running) crew.now.items × All (λ w. w.reports.items ≡ []) crew.now.items }
+        ensures { All (λ w. IsReady (lock_id lock.entry.now) w.pass) crew.exit.now.items × AllZip (λ old new. new.role ≡ old.role) crew.entry.now.items crew.exit.now.items × AllZip (HasEnded D.coming D.written D.faults) crew.entry.now.items crew.exit.now.items }
+    { serve_all(rt, alloc, lock, bell, crew) };
+    join_mut(rt, &mut all, &mut || partner.work(rt, alloc, lock, bell));
+}
+
+/// Lets all workers and the partner work to their ends, and gathers the workers.
+pub fn worked<N: Net, P: Partner, R: Threads + Wait + Clock + Sync>(
+    rt: &R,
+    alloc: Global,
+    net: &mut N,
+    mut begun: Begun<N::D>,
+    partner: &mut P,
+) -> Gathered
+    requires ready { IsReady (lock_id begun.lock) begun.first }
+    requires hired { All (IsHired (lock_id begun.lock) (known begun.first)) begun.room.crew.items }
+    requires empty { begun.room.links.items ≡ [] }
+    requires room { vec_len begun.room.crew ≤ vec_capacity begun.room.links }
+    requires partner { P.ready (lock_id begun.lock) partner.old }
+    ensures lock { lock_id result.lock ≡ lock_id begun.lock }
+    ensures ready { IsReady (lock_id result.lock) result.first }
+    ensures gathered { (settings : Settings) (opening : List Entry) (kept : Option (List Returned))
+        → known begun.first ≡ fresh 0 settings opening → AreNew N.D.written N.D.faults kept (map (λ w. w.door) begun.room.crew.items)
+        → HasGathered settings opening (passes_of begun.lock) (map (λ w. w.role) begun.room.crew.items) (map (λ w. N.D.coming w.door) begun.room.crew.items)
+        kept (N.written net.old) (N.written net.new) (N.faults net.old) (N.faults net.new) (known result.first) result.links result.verdict }
+    ensures partner { P.worked (lock_id begun.lock) partner.old partner.new }
+    ensures asked { N.asked net.new ≡ N.asked net.old }
+    ensures links { length begun.room.crew.items ≤ 72 → links_in result.links < 2 ^ 64 }
+    ensures requests { length begun.room.crew.items ≤ 72 → requests_in result.links < 2 ^ 64 }
+{
+    work_beside(
+        rt,
+        alloc,
+        &begun.lock,
+        &Bell::new(),
+        &mut begun.room.crew,
+        partner,
+    );
+    gather(net, begun)
+}

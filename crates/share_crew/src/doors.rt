@@ -1,0 +1,21 @@
+//! Doors that are given back before anybody waited at them.
+
+ghost use Rattle.std.specs.Prelude.{◌≡◌, [], List, Option};
+ghost use Rattle.daap_outside.specs.Places.{Returned};
+ghost use Rattle.daap_outside.specs.Told.{Grows};
+ghost use Rattle.share_crew.specs.Doors.{AreNew};
+
+use daap_outside::Net;
+
+/// Gives doors back at which nobody waited.
+pub fn shut_all<N: Net>(net: &mut N, doors: Vec<N::D>)
+    ensures asked { N.asked net.new ≡ N.asked net.old }
+    ensures written { (kept : Option (List Returned)) → AreNew N.D.written N.D.faults kept doors.items
+        → Grows kept (N.written net.old) [] → Grows kept (N.written net.new) [] }
+    ensures count { (kept : Option (List Returned)) → AreNew N.D.written N.D.faults kept doors.items
+        → N.faults net.new ≡ N.faults net.old }
+{
+    for door in doors {
+        net.shut(door);
+    }
+}

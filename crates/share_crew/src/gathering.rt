@@ -1,0 +1,120 @@
+//! Workers that have ended, come together again.
+
+ghost use Rattle.std.specs.Prelude.{◌≡◌, ◌<◌, ◌≤◌, ◌+◌, ◌^◌, ◌++◌, [], List, Option, map, length, All, vec_len, vec_capacity};
+ghost use Rattle.std.specs.List.{AllByRecursion, AllZip};
+ghost use Rattle.daap_outside.specs.Places.{Returned};
+ghost use Rattle.item_model.specs.declared.changes.Entry.{Entry};
+ghost use Rattle.share_lock.specs.Known.{fresh};
+ghost use Rattle.share_lock.specs.Passes.{lock_id, passes_of, known, IsReady};
+ghost use Rattle.share_replies.specs.Settings.{Settings};
+ghost use Rattle.share_replies.specs.Laws.{maker};
+ghost use Rattle.share_workers.specs.declared.worker.Worker.{Worker as Member};
+ghost use Rattle.share_server.specs.Passes.{Pass as Seen};
+ghost use Rattle.share_crew.specs.Crews.{IsHired, HasEnded, IsOf, HasJoined, HasShut};
+ghost use Rattle.share_crew.specs.Doors.{AreNew};
+ghost use Rattle.share_crew.specs.Lines.{links_in, requests_in};
+ghost use Rattle.share_crew.specs.Stints.{Stint, IsHistoryOf, IsNumbered, passes_in};
+ghost use Rattle.share_crew.specs.Gathered.{HasGathered};
+
+use crate::opening::{Begun, Room};
+use crate::outcome::LinkReports;
+use crate::verdict::{Verdict, verdict_of};
+use daap_outside::Net;
+use share_core::Share;
+use share_lock::{Pass, ShareLock};
+use share_server::LinkReport;
+use share_workers::Worker;
+use std::sync::Wait;
+
+/// What workers that have ended leave: the share under its lock, the pass that took theirs in, what is told of their links, and
+/// how they ended.
+pub struct Gathered {
+    pub lock: ShareLock<Share>,
+    pub first: Pass<Share>,
+    pub links: LinkReports,
+    pub verdict: Verdict,
+}
+
+/// Gathers workers that have ended: joins their passes, gives their doors back and keeps what is told of their links, in the
+/// order of the workers.
+pub fn gather<N: Net>(net: &mut N, begun: Begun<N::D>) -> Gathered
+    requires ready { IsReady (lock_id begun.lock) begun.first }
+    requires crew { All (λ w. IsReady (lock_id begun.lock) w.pass) begun.room.crew.items }
+    requires empty { begun.room.links.items ≡ [] }
+    requires room { vec_len begun.room.crew ≤ vec_capacity begun.room.links }
+    ensures lock { lock_id result.lock ≡ lock_id begun.lock }
+    ensures ready { IsReady (lock_id result.lock) result.first }
+    ensures gathered { (settings : Settings) (opening : List Entry) (kept : Option (List Returned)) (before : List (Member N.D))
+        → known begun.first ≡ fresh 0 settings opening → All (IsHired (lock_id begun.lock) (known begun.first)) before
+        → AreNew N.D.written N.D.faults kept (map (λ w. w.door) before)
+        → AllZip (HasEnded N.D.coming N.D.written N.D.faults) before begun.room.crew.items
+        → AllZip (λ old new. new.role ≡ old.role) before begun.room.crew.items
+        → HasGathered settings opening (passes_of begun.lock) (map (λ w. w.role) before) (map (λ w. N.D.coming w.door) before)
+        kept (N.written net.old) (N.written net.new) (N.faults net.old) (N.faults net.new) (known result.first) result.links result.verdict }
+    ensures asked { N.asked net.new ≡ N.asked net.old }
+    ensures links { (before : List (Member N.D)) → AllZip (HasEnded N.D.coming N.D.written N.D.faults) before begun.room.crew.items
+        → length before ≤ 72 → links_in result.links < 2 ^ 64 }
+    ensures requests { (before : List (Member N.D)) → AllZip (HasEnded N.D.coming N.D.written N.D.faults) before begun.room.crew.items
+        → length before ≤ 72 → requests_in result.links < 2 ^ 64 }
+{
+    let Begun {
+        lock,
+        mut first,
+        room: Room { crew, mut links },
+    } = begun;
+    let verdict = verdict_of(crew.as_slice());
+    join_each(&lock, net, &mut first, crew, &mut links);
+    Gathered {
+        lock,
+        first,
+        links: LinkReports::of(links),
+        verdict,
+    }
+}
+
+// Joins the passes of all workers, gives their doors back and keeps what is told of their links. There is room for all of it.
+fn join_each<N: Net>(
+    lock: &ShareLock<Share>,
+    net: &mut N,
+    first: &mut Pass<Share>,
+    crew: Vec<Worker<N::D>>,
+    links: &mut Vec<Vec<LinkReport>>,
+)
+    requires first { IsReady (lock_id lock.now) first.old }
+    requires crew { All (λ w. IsReady (lock_id lock.now) w.pass) crew.items }
+    requires room { vec_len links.old + vec_len crew ≤ vec_capacity links.old }
+    ensures ready { IsReady (lock_id lock.now) first.new }
+    ensures joined { (settings : Settings) (opening : List Entry) (stints : List (Stint settings opening))
+        → AllZip (IsOf N.D.written N.D.faults) stints crew.items → HasJoined (known first.old) (known first.new) (passes_in stints) }
+    ensures shut { (settings : Settings) (opening : List Entry) (stints : List (Stint settings opening))
+        → AllZip (IsOf N.D.written N.D.faults) stints crew.items
+        → HasShut (N.written net.old) (N.written net.new) (N.faults net.old) (N.faults net.new) stints }
+    ensures asked { N.asked net.new ≡ N.asked net.old }
+    ensures links { map (λ l. l.items) links.new.items ≡ map (λ l. l.items) links.old.items ++ map (λ w. w.reports.items) crew.items }
+{
+    for worker in crew {
+        let Worker {
+            pass,
+            door,
+            role: _,
+            reports,
+            end: _,
+        } = worker;
+        lock.join(first, pass);
+        net.shut(door);
+        links.push_reserved(reports);
+    }
+}
+
+/// Takes the share out of its lock, by a last turn of the pass that took all others in.
+pub fn share_of<R: Wait>(rt: &R, lock: &ShareLock<Share>, first: &mut Pass<Share>) -> Share
+    requires ready { IsReady (lock_id lock.now) first.old }
+    ensures { (settings : Settings) (opening : List Entry) (stints : List (Stint settings opening)) (others : List Seen)
+        → All (λ e. maker e ≡ 0) opening → HasJoined (fresh 0 settings opening) (known first.old) (passes_in stints ++ others)
+        → AllByRecursion (IsNumbered (passes_of lock.now)) (passes_in stints ++ others)
+        → passes_of lock.now ≡ length (passes_in stints ++ others) + 1
+        → IsHistoryOf (length (passes_in stints ++ others)) result.history stints others }
+{
+    let turn = lock.take(rt, first);
+    lock.end(turn)
+}

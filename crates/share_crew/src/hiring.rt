@@ -1,0 +1,67 @@
+//! Workers that are hired.
+
+ghost use Rattle.std.specs.Prelude.{◌≡◌, ◌<◌, ◌≤◌, ◌+◌, [], vec_len, vec_capacity};
+ghost use Rattle.share_lock.specs.Known.{fresh};
+ghost use Rattle.share_lock.specs.Passes.{lock_id, passes_of, known, IsReady};
+ghost use Rattle.share_crew.specs.Crews.{HasHired};
+
+use share_asks::Role;
+use share_core::Share;
+use share_lock::{Pass, ShareLock};
+use share_workers::{Worker, WorkerEnd};
+use std::alloc::Global;
+use std::sync::Wait;
+
+/// Adds a worker for each door, with a pass of its own. There is room for all of them.
+pub fn hire<D: Drop, R: Wait>(
+    rt: &R,
+    alloc: Global,
+    lock: &ShareLock<Share>,
+    first: &mut Pass<Share>,
+    doors: Vec<D>,
+    role: Role,
+    crew: &mut Vec<Worker<D>>,
+)
+    requires ready { IsReady (lock_id lock.now) first.old }
+    requires room { vec_len crew.old + vec_len doors ≤ vec_capacity crew.old }
+    ensures ready { IsReady (lock_id lock.now) first.new }
+    ensures pass { known first.new ≡ known first.old }
+    ensures hired { HasHired (lock_id lock.now) (known first.old) role doors.items crew.old.items crew.new.items }
+    ensures len { vec_len crew.new ≡ vec_len crew.old + vec_len doors }
+    ensures room { vec_capacity crew.new ≡ vec_capacity crew.old }
+{
+    for door in doors {
+        let pass = drawn(rt, lock, first);
+        crew.push_reserved(hired(alloc, pass, door, role));
+    }
+}
+
+// A pass of its own, for a worker that has not begun.
+fn drawn<R: Wait>(rt: &R, lock: &ShareLock<Share>, first: &mut Pass<Share>) -> Pass<Share>
+    requires ready { IsReady (lock_id lock.now) first.old }
+    ensures first { IsReady (lock_id lock.now) first.new }
+    ensures same { known first.new ≡ known first.old }
+    ensures ready { IsReady (lock_id lock.now) result }
+    ensures pass { known result ≡ fresh (known result).number (known first.old).settings (known first.old).seen }
+    ensures some { 1 ≤ (known result).number }
+    ensures few { (known result).number < passes_of lock.now }
+{
+    lock.split(rt, first).unwrap()
+}
+
+// A worker that has not begun.
+fn hired<D>(alloc: Global, pass: Pass<Share>, door: D, role: Role) -> Worker<D>
+    ensures pass { result.pass ≡ pass }
+    ensures door { result.door ≡ door }
+    ensures role { result.role ≡ role }
+    ensures unreported { result.reports.items ≡ [] }
+    ensures running { result.end ≡ WorkerEnd.Running }
+{
+    Worker {
+        pass,
+        door,
+        role,
+        reports: Vec::new(alloc),
+        end: WorkerEnd::Running,
+    }
+}

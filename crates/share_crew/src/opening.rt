@@ -1,0 +1,87 @@
+//! A share that comes under its lock, behind the line that tells it.
+
+ghost use Rattle.std.specs.Prelude.{◌≡◌, ◌≤◌, ℕ, List, All, IfOk};
+ghost use Rattle.command_core.specs.Seen.{OutputSeen, output_seen};
+ghost use Rattle.command_core.specs.Endings.{IsWritten};
+ghost use Rattle.share_replies.specs.Laws.{maker};
+ghost use Rattle.share_crew.specs.Begun.{Announces, HasRoom, Locks};
+
+use command_core::out_of_memory;
+use daap_outside::{Sink, put_all};
+use share_core::Share;
+use share_lock::{Pass, ShareLock};
+use share_server::LinkReport;
+use share_workers::Worker;
+use std::alloc::{AllocError, Global};
+
+/// A share under its lock, and the room for its workers and for what is told of their links.
+pub struct Begun<D> {
+    pub lock: ShareLock<Share>,
+    pub first: Pass<Share>,
+    pub room: Room<D>,
+}
+
+/// The room for so many workers, and for what is told of their links.
+#[derive(Drop)]
+pub struct Room<D> {
+    pub crew: Vec<Worker<D>>,
+    pub links: Vec<Vec<LinkReport>>,
+}
+
+impl<D: Drop> Room<D> {
+    /// Room for `workers` of them, of which there is none yet.
+    ///
+    /// # Errors
+    ///
+    /// Returns `AllocError` if an allocation fails.
+    pub fn of(alloc: Global, workers: usize) -> Result<Room<D>, AllocError>
+        ensures { IfOk result (HasRoom workers) }
+    {
+        let crew = Vec::with_capacity(alloc, workers)?;
+        let links = Vec::with_capacity(alloc, workers)?;
+        Ok(Room { crew, links })
+    }
+}
+
+/// Writes the line of a share, and puts the share under a lock for so many passes. Where that fails, the line of the fault was
+/// written, and the status is answered that the program ends with.
+pub fn announced<W: Sink, D: Drop>(
+    alloc: Global,
+    output: &mut W,
+    line: &[u8],
+    share: Share,
+    passes: u32,
+    room: Room<D>,
+) -> Result<Begun<D>, u8>
+    requires passes { 1 ≤ passes }
+    requires opening { All (λ e. maker e ≡ 0) share.history }
+    ensures { Announces passes share room line.now
+        (output_seen (W.taken output.old) (W.faults output.old))
+        (output_seen (W.taken output.new) (W.faults output.new))
+        result }
+{
+    match put_all(output, line) {
+        Ok(()) => locked(alloc, output, share, passes, room),
+        Err(_) => Err(5),
+    }
+}
+
+// Puts the share under a lock for so many passes.
+fn locked<W: Sink, D: Drop>(
+    alloc: Global,
+    output: &mut W,
+    share: Share,
+    passes: u32,
+    room: Room<D>,
+) -> Result<Begun<D>, u8>
+    requires passes { 1 ≤ passes }
+    requires opening { All (λ e. maker e ≡ 0) share.history }
+    ensures { (start : OutputSeen) (front : List ℕ)
+        → IsWritten start (output_seen (W.taken output.old) (W.faults output.old)) front
+        → Locks passes share room front start (output_seen (W.taken output.new) (W.faults output.new)) result }
+{
+    match ShareLock::open(alloc, share, passes) {
+        Ok((lock, first)) => Ok(Begun { lock, first, room }),
+        Err(AllocError) => Err(out_of_memory(output, None).status),
+    }
+}

@@ -1,0 +1,98 @@
+//! What is said of workers that have ended.
+
+ghost use Rattle.std.specs.Prelude.{◌≡◌, map};
+ghost use Rattle.share_crew.specs.Verdicts.{end_number, has_end, verdict_of, verdict_line, verdict_status, with_memory};
+
+use share_workers::{Worker, WorkerEnd};
+
+/// How all workers ended, by the one that counts most.
+#[derive(Clone, Copy, Debug, PartialEq, Eq)]
+pub enum Verdict {
+    /// Each served what came, or until the share was stopped.
+    Done,
+    /// A door could not wait for a link.
+    NetworkFailed,
+    /// There was no memory for what is told of a link.
+    OutOfMemory,
+    /// A worker served as much as it may.
+    Exhausted,
+}
+
+impl Verdict {
+    /// The line that the user sees; none where all was done.
+    pub fn line(self) -> &'static [u8]
+        ensures { result.now ≡ verdict_line self }
+    {
+        match self {
+            Verdict::Done => b"",
+            Verdict::NetworkFailed => b"network failed\n",
+            Verdict::OutOfMemory => b"memory\n",
+            Verdict::Exhausted => b"limit: requests\n",
+        }
+    }
+
+    /// The status that the program ends with.
+    pub fn status(self) -> u8
+        ensures { result ≡ verdict_status self }
+    {
+        match self {
+            Verdict::Done => 0,
+            Verdict::NetworkFailed => 6,
+            Verdict::OutOfMemory => 9,
+            Verdict::Exhausted => 8,
+        }
+    }
+
+    /// The verdict where memory is wanted besides.
+    pub fn with_memory(self) -> Verdict
+        ensures { result ≡ with_memory self }
+    {
+        match self {
+            Verdict::NetworkFailed => Verdict::NetworkFailed,
+            _ => Verdict::OutOfMemory,
+        }
+    }
+}
+
+/// The verdict on workers that have ended.
+pub fn verdict_of<D>(crew: &[Worker<D>]) -> Verdict
+    ensures { result ≡ verdict_of (map (λ w. w.end) crew.now) }
+{
+    if has_end(crew, WorkerEnd::AcceptFault) {
+        return Verdict::NetworkFailed;
+    }
+    if has_end(crew, WorkerEnd::Memory) {
+        return Verdict::OutOfMemory;
+    }
+    if has_end(crew, WorkerEnd::Spent) {
+        return Verdict::Exhausted;
+    }
+    Verdict::Done
+}
+
+// Whether a worker ended so.
+fn has_end<D>(crew: &[Worker<D>], end: WorkerEnd) -> bool
+    ensures { result ≡ has_end end (map (λ w. w.end) crew.now) }
+{
+    let number = end_number(end);
+    for worker in crew {
+        if end_number(worker.end) == number {
+            return true;
+        }
+    }
+    false
+}
+
+// Each end has a number of its own.
+fn end_number(end: WorkerEnd) -> u8
+    ensures { result ≡ end_number end }
+{
+    match end {
+        WorkerEnd::Running => 0,
+        WorkerEnd::Stopped => 1,
+        WorkerEnd::NoMoreLinks => 2,
+        WorkerEnd::Spent => 3,
+        WorkerEnd::AcceptFault => 4,
+        WorkerEnd::Memory => 5,
+    }
+}

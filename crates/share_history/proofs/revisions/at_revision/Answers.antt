@@ -1,7 +1,0 @@
--- Where the entries end before so many batches, all of them are the history at the revision.
-use Rattle.std.proofs.Common.{sym, ◌∙◌}
-use Rattle.share_history.proofs.FoldFacts.{until_end}
-use Rattle.share_history.proofs.revisions.at_revision.Goals as goal
-
-pub returns : goal.returns
-returns c = sym (until_end c.loop-place.left c.args.history.now c.loop-place.place c.loop-place-test.false) ∙ c.loop-place.invariant

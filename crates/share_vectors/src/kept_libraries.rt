@@ -1,0 +1,154 @@
+//! `kept_library`: a file that keeps the edits of a share is opened again and again, with each of its calls failing, and where it is
+//! none or a share doesn't take what it has.
+
+use crate::openings::records;
+use command_core::Fault;
+use edit_file::Frame;
+use kept_library::{FileFault, KeptLibrary, close_file, open_library};
+use outside_disks::{Disk, Failed, Files, MemDisk, MemFiles};
+use records_import::read_batch;
+use std::alloc::Global;
+use std::process::Abort;
+use std::string::String;
+use std::test::Fail;
+
+const NONE: &str = "op,kind,id\n";
+
+const SONG: &str = "op,kind,id,dmap.itemname\nput,item,7,A\n";
+
+/// Files with a disk for each list of the numbers of calls that fail.
+fn files_with(alloc: Global, failing: &[&[u64]]) -> Result<MemFiles, Fail> {
+    let mut disks = Vec::new(alloc);
+    for numbers in failing {
+        disks.push(MemDisk::new(alloc, b"", 4_000, 90, 4_000, numbers)?)?;
+    }
+    Ok(MemFiles::with_disks(alloc, disks, 9)?)
+}
+
+type Opened = Result<KeptLibrary<MemDisk>, Fault<FileFault>>;
+
+fn opened(alloc: Global, files: &mut MemFiles, input: &str) -> Result<Opened, Fail> {
+    let first = read_batch(alloc, input.as_bytes())?;
+    Ok(open_library(alloc, files, "edits", "Demo", 16, first))
+}
+
+/// Opens a share and its file, and gives the revision, or the status of the fault.
+fn opens(alloc: Global, files: &mut MemFiles, input: &str) -> Result<Result<u32, u8>, Fail> {
+    match opened(alloc, files, input)? {
+        Ok(kept) => {
+            close_file(files, kept.file)?;
+            Ok(Ok(kept.share.revision()))
+        }
+        Err(fault) => Ok(Err(fault.status())),
+    }
+}
+
+/// The records of the input, those of an edit that is accepted then, and the revision at which the share is opened.
+type Turn = (&'static str, &'static str, u32);
+
+const TURNS: [Turn; 5] = [
+    (NONE, NONE, 2),
+    (NONE, SONG, 2),
+    (NONE, NONE, 3),
+    (SONG, SONG, 4),
+    (NONE, NONE, 5),
+];
+
+fn keep(alloc: Global, kept: &mut KeptLibrary<MemDisk>, accepted: &str) -> Result<(), Fail> {
+    let batch = read_batch(alloc, accepted.as_bytes())?;
+    if !batch.edits.as_slice().is_empty() {
+        kept.file.append(Frame::of(alloc, &batch)?)?;
+    }
+    Ok(())
+}
+
+fn has_turns(
+    rt: &impl Abort,
+    alloc: Global,
+    files: &mut MemFiles,
+    turns: &[Turn],
+) -> Result<(), Fail> {
+    for (input, accepted, revision) in turns {
+        let Ok(mut kept) = opened(alloc, files, input)? else {
+            return Err(Fail::from(Failed));
+        };
+        assert_eq!(rt; kept.share.revision(), *revision);
+        keep(alloc, &mut kept, accepted)?;
+        close_file(files, kept.file)?;
+    }
+    Ok(())
+}
+
+#[test]
+fn a_share_is_opened_with_what_its_file_kept(rt: HostRuntime) -> Result<(), Fail> {
+    let mut files = files_with(rt.alloc(), &[&[], &[], &[], &[], &[]])?;
+    has_turns(&rt, rt.alloc(), &mut files, &TURNS)
+}
+
+/// Opens a new file with an input, where the call of that number fails, and then opens it again.
+fn opens_twice(alloc: Global, failing: u64) -> Result<(Result<u32, u8>, Result<u32, u8>), Fail> {
+    let mut files = files_with(alloc, &[&[failing], &[]])?;
+    let first = opens(alloc, &mut files, SONG)?;
+    let second = opens(alloc, &mut files, NONE)?;
+    Ok((first, second))
+}
+
+/// Whether a fault is told exactly where one of the first calls fails, and the file opens then with the batch or without it.
+fn each_fails(alloc: Global, calls: u64) -> Result<bool, Fail> {
+    for number in 1..=calls {
+        let (first, second) = opens_twice(alloc, number)?;
+        if first != Err(10) || (second != Ok(2) && second != Ok(3)) {
+            return Ok(false);
+        }
+    }
+    Ok(opens_twice(alloc, calls + 1)? == (Ok(3), Ok(3)))
+}
+
+#[test]
+fn each_call_that_fails_is_told(rt: HostRuntime) -> Result<(), Fail> {
+    assert!(rt; each_fails(rt.alloc(), 12)?);
+    assert_eq!(rt; opens(rt.alloc(), &mut MemFiles::new(), NONE)?, Err(10));
+    Ok(())
+}
+
+/// Bytes, the lists that the input puts, and the line and the status of the refusal.
+type Refused = (&'static [u8], u32, &'static str, u8);
+
+const REFUSED: [Refused; 3] = [
+    (b"\x01DAAP", 0, "file: not an edit file at 0\n", 3),
+    (
+        b"\x01DAAPEDIT\x01\0\0",
+        1,
+        "file: not an edit file at 9\n",
+        3,
+    ),
+    (b"\x01DAAPEDIT\0", 1_025, "limit: library\n", 8),
+];
+
+/// Whether the file is refused so, and stays as it was.
+fn is_refused(alloc: Global, row: &Refused) -> Result<bool, Fail> {
+    let (bytes, lists, line, status) = *row;
+    let mut files = files_with(alloc, &[&[], &[], &[]])?;
+    let mut disk = files.open("edits")?;
+    disk.write_at(0, bytes)?;
+    files.close(disk);
+    let input: String = records(alloc, "put,list", 2, lists + 1)?;
+    let Err(fault) = opened(alloc, &mut files, input.as_str())? else {
+        return Ok(false);
+    };
+    let told = fault.line(alloc)?;
+    let is_told = told.as_slice() == line.as_bytes() && fault.status() == status;
+    Ok(is_told && files.open("edits")?.bytes() == bytes)
+}
+
+fn are_refused(rt: &impl Abort, alloc: Global, rows: &[Refused]) -> Result<(), Fail> {
+    for (n, row) in rows.iter().enumerate() {
+        assert!(rt; is_refused(alloc, row)?, "at {n}");
+    }
+    Ok(())
+}
+
+#[test]
+fn what_is_refused_stays_as_it_was(rt: HostRuntime) -> Result<(), Fail> {
+    are_refused(&rt, rt.alloc(), &REFUSED)
+}
