@@ -58,9 +58,8 @@ module _ {settings : Settings} {opening : List Entry} where
         begins = on.begins;
         own = on.own stint.pass.number (contains_head stint.pass.number stint.pass.taken_in)
             ∙ serves.own
-            ∙ ap (λ l. l ++ added_entries stint.pass.seen served) (none_of_opening stint.pass.number opening some opened)
-            ∙ sym more.entries
-            ∙ ap (λ h. added_entries h served) (sym on.begins);
+            ∙ ap (λ l. l ++ (added_entries stint.pass.seen served ++ stint.served.works.lost)) (none_of_opening stint.pass.number opening some opened)
+            ∙ ap (λ l. l ++ stint.served.works.lost) (sym more.entries ∙ ap (λ h. added_entries h served) (sym on.begins));
       }
 
   parts : (history : List Entry) (bound : ℕ) (stints : List (Stint settings opening)) → AllByRecursion (IsNumbered bound) (passes_in stints) → All (λ e. maker e ≡ 0) opening

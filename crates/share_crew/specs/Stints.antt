@@ -64,11 +64,12 @@ module _ {settings : Settings} {opening : List Entry} where
   abbrev pub passes_in : List (Stint settings opening) → List Pass
   passes_in stints = map (λ stint. stint.pass) stints
 
-  -- what its worker had seen begins the history, which has no other entries of its number than those of its reports
+  -- What its worker had seen begins the history, which has no other entries of its number than those of its reports, and behind
+  -- them those that it lost
   pub record IsPart (history : List Entry) (stint : Stint settings opening) : Type 0 where
     pub later : List Entry
     pub begins : history ≡ stint.pass.seen ++ later
-    pub own : entries_of maker stint.pass.number history ≡ added_entries history (all_served stint.reports)
+    pub own : entries_of maker stint.pass.number history ≡ added_entries history (all_served stint.reports) ++ stint.served.works.lost
 
   -- The entries of a history are those of its opening, and behind them those that passes added, of so many: those of these
   -- workers, and others.
