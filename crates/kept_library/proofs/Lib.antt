@@ -1,2 +1,2 @@
 pub mod Told
-pub mod Counted
+pub mod Stops

@@ -12,13 +12,22 @@ use Rattle.edit_file.specs.declared.file.EditFile.{EditFile}
 use Rattle.kept_library.specs.Opening.{bytes_at}
 use Rattle.kept_library.specs.Closing.{LeavesAt}
 
--- ---- a file that is opened
-
 -- what holds of the bytes of its disk holds of those under its name
 pub told_at : (P : List ℕ → Type 0) (contents : Option Contents) (path : List ℕ) (opened_as bytes : Option (List ℕ)) → OpensFile contents path opened_as bytes → IfSome bytes P
     → IfSome contents (λ c. P (bytes_at c path))
 told_at P None path opened_as bytes opens here = tt
 told_at P (Some c) path opened_as bytes opens here = subst (λ (o : Option (List ℕ)). IfSome o P) opens.1 here
+
+-- a file at rest stands for its batches
+pub rest_stands : (bytes : List ℕ) (closing : ℕ) (batches : List (List Edit)) → AtRest bytes closing batches → FileStands bytes batches
+rest_stands bytes closing batches rest = inr (record {
+  frames = rest.frames;
+  closing = rest.shut;
+  behind = [];
+  bytes_are = rest.bytes_are ∙ append_assoc (opened ∷ signature) rest.frames (rest.shut ∷ []);
+  framed = rest.framed;
+  shut = rest.closed;
+})
 
 module _ {D : Type 0} (g : Ghosts D) {f : faulted.Ghosts D} where
   -- its place is its name
@@ -26,19 +35,6 @@ module _ {D : Type 0} (g : Ghosts D) {f : faulted.Ghosts D} where
       → is_some (g.bytes file.disk) ≡ is_some bytes → g.opened_as file.disk ≡ opened_as → IfSome contents (λ _. place_of g file ≡ Some path)
   placed_at None path opened_as bytes file opens told name = tt
   placed_at (Some c) path opened_as bytes file opens told name = λ i. if (told ∙ ap is_some opens.1) i then (name ∙ opens.0) i else None
-
-  -- ---- a file that is given back
-
-  -- a file at rest stands for its batches
-  pub rest_stands : (bytes : List ℕ) (closing : ℕ) (batches : List (List Edit)) → AtRest bytes closing batches → FileStands bytes batches
-  rest_stands bytes closing batches rest = inr (record {
-    frames = rest.frames;
-    closing = rest.shut;
-    behind = [];
-    bytes_are = rest.bytes_are ∙ append_assoc (opened ∷ signature) rest.frames (rest.shut ∷ []);
-    framed = rest.framed;
-    shut = rest.closed;
-  })
 
   pub leaves_at : (path : List ℕ) (batches : List (List Edit)) (before now : Option Contents) (file : EditFile D g f) → is_broken g file ≡ false → HasBatches g file batches
       → place_of g file ≡ Some path → ClosesFile before now (g.opened_as file.disk) (g.bytes file.disk) → LeavesAt path batches before now

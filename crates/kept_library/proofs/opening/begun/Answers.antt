@@ -1,0 +1,32 @@
+use Rattle.std.proofs.Common.{◌≢◌, ◌++◌, ◌∷◌, [], List, sym, ap, ◌∙◌, subst}
+use Rattle.std.proofs.lemmas.List.Elements.{All-push}
+use Rattle.std.specs.Prelude.{All}
+use Rattle.item_model.specs.declared.changes.Edit.{Edit}
+use Rattle.item_model.specs.Valid.{AreValid}
+use Rattle.edit_file.specs.Files.{HasBatches, disk_of}
+use Rattle.share_core.specs.Opened.{if_filled}
+use Rattle.kept_library.specs.Opening.{CountsStop, share_of}
+use Rattle.kept_library.proofs.Stops.{counts_nothing, counts_same, filled_is}
+use Rattle.kept_library.proofs.opening.begun.Goals as goal
+
+pub returns-then-is_empty-clause-count : goal.returns-then-is_empty-clause-count
+returns-then-is_empty-clause-count g c = let n = g.D.Faulted.faults (disk_of g.D.Disk c.args.file.now) in counts_nothing n c.share_with.result (c.share_with.ensures.count n)
+
+pub share_with-requires-2-clause-valid : goal.share_with-requires-2-clause-valid
+share_with-requires-2-clause-valid g c = subst (All AreValid) (sym c.in_ok-batches.ensures) (All-push AreValid c.args.batches.items c.args.first c.requires.are_valid c.requires.valid)
+
+pub returns-in_err-share-clause-count : goal.returns-in_err-share-clause-count
+returns-in_err-share-clause-count g c = let n = g.D.Faulted.faults (disk_of g.D.Disk c.args.file.now) in counts_same n c.from_residual-in_err-share.result c.in_err-share.field-0.0 c.from_residual-in_err-share.ensures.1 (c.in_err-share.ensures.count n)
+
+pub returns-in-Ok-clause-opened : goal.returns-in-Ok-clause-opened
+returns-in-Ok-clause-opened g c =
+    let some : c.args.first ≢ [] = subst (λ (es : List Edit). es ≢ []) (c.frame.view_is ∙ c.in_ok-frame.ensures) c.frame.invariant.filled in
+    c.in_ok-share.ensures.opened
+    ∙ ap (λ bs. share_of (record { name = c.args.name.now; keep = c.args.keep }) bs) (c.in_ok-batches.ensures ∙ ap (λ last. c.args.batches.items ++ last) (sym (filled_is c.args.first some)))
+
+pub returns-in-Ok-clause-keeps : goal.returns-in-Ok-clause-keeps
+returns-in-Ok-clause-keeps g c has =
+    let some : c.args.first ≢ [] = subst (λ (es : List Edit). es ≢ []) (c.frame.view_is ∙ c.in_ok-frame.ensures) c.frame.invariant.filled in
+    subst (λ (bs : List (List Edit)). HasBatches g.D.Disk c.append.new.self bs)
+    (ap (λ frame. c.args.batches.items ++ frame ∷ []) c.in_ok-frame.ensures ∙ ap (λ last. c.args.batches.items ++ last) (sym (filled_is c.args.first some)))
+    (c.in-Ok.ensures.acknowledged c.args.batches.items has)
