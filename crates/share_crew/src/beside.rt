@@ -42,11 +42,12 @@ pub fn work_beside<D: Door + Drop + Send, P: Partner, R: Threads + Wait + Clock 
     ensures roles { AllZip (λ old new. new.role ≡ old.role) crew.old.items crew.new.items }
     ensures served { AllZip (HasEnded D.coming D.written D.faults) crew.old.items crew.new.items }
     ensures whole { All (λ w. is_worker_loss w.end ≡ false) crew.new.items }
+    ensures room { vec_capacity crew.new ≡ vec_capacity crew.old }
     ensures partner { P.worked (lock_id lock.now) partner.old partner.new }
 {
     let mut all = ||
         requires { IsSync R.row × All (λ w. IsReady (lock_id lock.now) w.pass) crew.now.items × All (λ w. w.end ≡ WorkerEnd.Running) crew.now.items × All (λ w. w.reports.items ≡ []) crew.now.items }
-        ensures { All (λ w. IsReady (lock_id lock.entry.now) w.pass) crew.exit.now.items × AllZip (λ old new. new.role ≡ old.role) crew.entry.now.items crew.exit.now.items × AllZip (HasEnded D.coming D.written D.faults) crew.entry.now.items crew.exit.now.items × All (λ w. is_worker_loss w.end ≡ false) crew.exit.now.items }
+        ensures { All (λ w. IsReady (lock_id lock.entry.now) w.pass) crew.exit.now.items × AllZip (λ old new. new.role ≡ old.role) crew.entry.now.items crew.exit.now.items × AllZip (HasEnded D.coming D.written D.faults) crew.entry.now.items crew.exit.now.items × All (λ w. is_worker_loss w.end ≡ false) crew.exit.now.items × (vec_capacity crew.exit.now ≡ vec_capacity crew.entry.now) }
     { serve_all(rt, alloc, lock, bell, crew) };
     join_mut(rt, &mut all, &mut || partner.work(rt, alloc, lock, bell));
 }
