@@ -6,7 +6,7 @@ use crate::run::run;
 use daap_outside::{
     Door, Failed, Link, MemFiles, MemSink, MemSource, Net, Sink, Source, TcpNet, put_all,
 };
-use std::alloc::Global;
+use std::alloc::{AllocError, Global};
 use std::net::{TcpListener, TcpStream};
 use std::string::String;
 use std::sync::Wait;
@@ -35,8 +35,8 @@ fn free_place<R: net::Net<Listener = TcpListener, Stream = TcpStream>>(
     alloc: Global,
 ) -> io::Result<String> {
     let listener = TcpListener::bind(rt, "127.0.0.1:0")?;
-    let place = listener.local_addr()?;
-    Ok(format!(in alloc; "{place}")?)
+    let port = listener.local_addr()?.port();
+    Ok(format!(in alloc; "127.0.0.1:{port}")?)
 }
 
 /// A link to a place, once somebody listens there. It waits for some seconds at most.
@@ -62,7 +62,7 @@ fn await_open<C: Clock, N: Net>(clock: &C, net: &mut N, place: &str) -> bool {
 }
 
 /// The status of a run over these words and this input.
-fn status_of<R: Threads + Wait + Clock + Sync, W: Sink, N: Net>(
+pub(crate) fn status_of<R: Threads + Wait + Clock + Sync, W: Sink, N: Net>(
     rt: &R,
     alloc: Global,
     net: &mut N,
@@ -146,8 +146,17 @@ fn next_link<D: Door>(door: &mut D) -> Result<D::L, Failed> {
     }
 }
 
+/// The status of a share that is opened at two places of this machine.
+fn serves<R>(rt: &R, alloc: Global, words: &[&str], output: &mut MemSink) -> Option<u8>
+where
+    R: net::Net<Listener = TcpListener, Stream = TcpStream> + Threads + Wait + Clock + Sync,
+{
+    let mut net = TcpNet::new(rt, alloc);
+    status_of(rt, alloc, &mut net, words, LIBRARY, output)
+}
+
 /// Follows the share for two rounds, once it is open, and tells them at the window.
-fn follows<R: Threads + Wait + Clock + Sync, N: Net>(
+fn follows_over<R: Threads + Wait + Clock + Sync, N: Net>(
     rt: &R,
     alloc: Global,
     net: &mut N,
@@ -159,9 +168,28 @@ fn follows<R: Threads + Wait + Clock + Sync, N: Net>(
     status_of(rt, alloc, net, &["follow", place, "2"], b"", &mut told)
 }
 
+fn follows<R>(rt: &R, alloc: Global, window: &str, place: &str) -> Option<u8>
+where
+    R: net::Net<Listener = TcpListener, Stream = TcpStream> + Threads + Wait + Clock + Sync,
+{
+    follows_over(rt, alloc, &mut TcpNet::new(rt, alloc), window, place)
+}
+
+/// Two mirrors, each in a thread of its own.
+fn both_follow<R>(rt: &R, alloc: Global, window: &str, place: &str) -> (Option<u8>, Option<u8>)
+where
+    R: net::Net<Listener = TcpListener, Stream = TcpStream> + Threads + Wait + Clock + Sync,
+{
+    thread::join(
+        rt,
+        || follows(rt, alloc, window, place),
+        || follows(rt, alloc, window, place),
+    )
+}
+
 /// Changes the share once both mirrors have told their first round, and stops it once they have told their second. Answers
 /// whether each was told as it should be.
-fn edits<R: Threads + Wait + Clock + Sync, S: Source, N: Net>(
+fn edits_beside<R: Threads + Wait + Clock + Sync, S: Source, N: Net>(
     rt: &R,
     alloc: Global,
     net: &mut N,
@@ -178,7 +206,7 @@ fn edits<R: Threads + Wait + Clock + Sync, S: Source, N: Net>(
 }
 
 /// The same, for the two mirrors that come to the window.
-fn edits_in_view<R: Threads + Wait + Clock + Sync, N: Net>(
+fn edits_over<R: Threads + Wait + Clock + Sync, N: Net>(
     rt: &R,
     alloc: Global,
     net: &mut N,
@@ -191,7 +219,67 @@ fn edits_in_view<R: Threads + Wait + Clock + Sync, N: Net>(
     let mut one = next_link(door).ok()?;
     let mut other = next_link(door).ok()?;
     await_open(rt, net, place);
-    Some(edits(rt, alloc, net, place, (&mut one, &mut other), output))
+    Some(edits_beside(rt, alloc, net, place, (&mut one, &mut other), output))
+}
+
+/// Whether both changes of a share that two mirrors follow are told by them, and what is answered to these.
+fn edits<R>(rt: &R, alloc: Global, window: &str, place: &str) -> Option<MemSink>
+where
+    R: net::Net<Listener = TcpListener, Stream = TcpStream> + Threads + Wait + Clock + Sync,
+{
+    let mut net = TcpNet::new(rt, alloc);
+    let mut answers = MemSink::new(alloc, 256, 256, &[]).ok()?;
+    match edits_over(rt, alloc, &mut net, window, place, &mut answers) {
+        Some(true) => Some(answers),
+        _ => None,
+    }
+}
+
+/// What two mirrors end with, and what the editor is answered if each mirror tells what it should.
+fn followed_and_edited<R>(
+    rt: &R,
+    alloc: Global,
+    window: &str,
+    listen: &str,
+    edit: &str,
+) -> ((Option<u8>, Option<u8>), Option<MemSink>)
+where
+    R: net::Net<Listener = TcpListener, Stream = TcpStream> + Threads + Wait + Clock + Sync,
+{
+    thread::join(
+        rt,
+        || both_follow(rt, alloc, window, listen),
+        || edits(rt, alloc, window, edit),
+    )
+}
+
+fn are_told(answers: &Option<MemSink>) -> bool {
+    match answers {
+        Some(answers) => answers.taken() == b"revision 4\nstopped\n".as_slice(),
+        None => false,
+    }
+}
+
+fn are_of_a_followed_share(lines: &[u8]) -> bool {
+    lines.starts_with(b"serving daapshare at revision 3\nended at revision 4, links ")
+        && lines.ends_with(b", requests 14\n")
+}
+
+/// Whether a share, two mirrors and an editor end as they should.
+fn is_followed<R>(rt: &R, alloc: Global, listen: &str, edit: &str) -> Result<bool, Fail>
+where
+    R: net::Net<Listener = TcpListener, Stream = TcpStream> + Threads + Wait + Clock + Sync,
+{
+    let window = free_place(rt, alloc)?;
+    let words = ["serve", listen, edit, "--workers=2"];
+    let mut lines = MemSink::new(alloc, 256, 256, &[])?;
+    let (served, (followed, answers)) = thread::join(
+        rt,
+        || serves(rt, alloc, &words, &mut lines),
+        || followed_and_edited(rt, alloc, window.as_str(), listen, edit),
+    );
+    let is_well = served == Some(0) && followed == (Some(0), Some(0));
+    Ok(is_well && are_told(&answers) && are_of_a_followed_share(lines.taken()))
 }
 
 // Each thread opens its own links: none is lent from one to another.
@@ -199,79 +287,52 @@ fn edits_in_view<R: Threads + Wait + Clock + Sync, N: Net>(
 fn a_share_is_followed_while_it_is_changed_until_it_is_stopped(
     rt: HostRuntime,
 ) -> Result<(), Fail> {
-    let alloc = rt.alloc();
-    let listen = free_place(&rt, alloc)?;
-    let edit = free_place(&rt, alloc)?;
-    let window = free_place(&rt, alloc)?;
-    let mut lines = MemSink::new(alloc, 256, 256, &[])?;
-    let mut answers = MemSink::new(alloc, 256, 256, &[])?;
-    let (served, (followed, edited)) = thread::join(
-        &rt,
-        || {
-            let words = ["serve", listen.as_str(), edit.as_str(), "--workers=2"];
-            let mut net = TcpNet::new(&rt, alloc);
-            status_of(&rt, alloc, &mut net, &words, LIBRARY, &mut lines)
-        },
-        || {
-            thread::join(
-                &rt,
-                || {
-                    thread::join(
-                        &rt,
-                        || {
-                            let mut net = TcpNet::new(&rt, alloc);
-                            follows(&rt, alloc, &mut net, window.as_str(), listen.as_str())
-                        },
-                        || {
-                            let mut net = TcpNet::new(&rt, alloc);
-                            follows(&rt, alloc, &mut net, window.as_str(), listen.as_str())
-                        },
-                    )
-                },
-                || {
-                    let mut net = TcpNet::new(&rt, alloc);
-                    let (window, place) = (window.as_str(), edit.as_str());
-                    edits_in_view(&rt, alloc, &mut net, window, place, &mut answers)
-                },
-            )
-        },
-    );
-    assert_eq!(rt; served, Some(0));
-    assert_eq!(rt; followed, (Some(0), Some(0)));
-    assert_eq!(rt; edited, Some(true));
-    assert_eq!(rt; answers.taken(), b"revision 4\nstopped\n".as_slice());
-    let lines = lines.taken();
-    assert!(rt; lines.starts_with(b"serving daapshare at revision 3\nended at revision 4, links "));
-    assert!(rt; lines.ends_with(b", requests 14\n"));
+    let listen = free_place(&rt, rt.alloc())?;
+    let edit = free_place(&rt, rt.alloc())?;
+    assert!(rt; is_followed(&rt, rt.alloc(), listen.as_str(), edit.as_str())?);
     Ok(())
+}
+
+/// Whether a third player is served once two went away, and the status of the editor that stops the share then.
+fn third_comes<R>(
+    rt: &R,
+    alloc: Global,
+    listen: &str,
+    edit: &str,
+) -> Result<(bool, Option<u8>), AllocError>
+where
+    R: net::Net<Listener = TcpListener, Stream = TcpStream> + Threads + Wait + Clock + Sync,
+{
+    let mut net = TcpNet::new(rt, alloc);
+    let third = await_open(rt, &mut net, listen)
+        && two_go_away(&mut net, listen)
+        && third_is_served(rt, &mut net, listen);
+    let mut answers = MemSink::new(alloc, 256, 256, &[])?;
+    let words = ["edit", edit, "--stop"];
+    let stopped = status_of(rt, alloc, &mut net, &words, b"", &mut answers);
+    Ok((third, stopped))
+}
+
+/// Whether two players that go away free the workers of a share for a third.
+fn are_freed<R>(rt: &R, alloc: Global, listen: &str, edit: &str) -> Result<bool, AllocError>
+where
+    R: net::Net<Listener = TcpListener, Stream = TcpStream> + Threads + Wait + Clock + Sync,
+{
+    let words = ["serve", listen, edit, "--workers=2"];
+    let mut lines = MemSink::new(alloc, 256, 256, &[])?;
+    let (served, came) = thread::join(
+        rt,
+        || serves(rt, alloc, &words, &mut lines),
+        || third_comes(rt, alloc, listen, edit),
+    );
+    let is_well = served == Some(0) && came? == (true, Some(0));
+    Ok(is_well && lines.taken().ends_with(b", requests 4\n"))
 }
 
 #[test]
 fn players_that_went_away_free_their_workers(rt: HostRuntime) -> Result<(), Fail> {
-    let alloc = rt.alloc();
-    let listen = free_place(&rt, alloc)?;
-    let edit = free_place(&rt, alloc)?;
-    let mut lines = MemSink::new(alloc, 256, 256, &[])?;
-    let mut answers = MemSink::new(alloc, 256, 256, &[])?;
-    let (served, (third, stopped)) = thread::join(
-        &rt,
-        || {
-            let words = ["serve", listen.as_str(), edit.as_str(), "--workers=2"];
-            let mut net = TcpNet::new(&rt, alloc);
-            status_of(&rt, alloc, &mut net, &words, LIBRARY, &mut lines)
-        },
-        || {
-            let mut net = TcpNet::new(&rt, alloc);
-            let place = listen.as_str();
-            let third = await_open(&rt, &mut net, place)
-                && two_go_away(&mut net, place)
-                && third_is_served(&rt, &mut net, place);
-            let words = ["edit", edit.as_str(), "--stop"];
-            let stopped = status_of(&rt, alloc, &mut net, &words, b"", &mut answers);
-            (third, stopped)
-        },
-    );
-    assert_eq!(rt; (served, third, stopped), (Some(0), true, Some(0)));
-    assert!(rt; lines.taken().ends_with(b", requests 4\n"));
+    let listen = free_place(&rt, rt.alloc())?;
+    let edit = free_place(&rt, rt.alloc())?;
+    assert!(rt; are_freed(&rt, rt.alloc(), listen.as_str(), edit.as_str())?);
     Ok(())
 }

@@ -3,6 +3,7 @@
 #![tactic(auto)]
 
 pub mod laws;
+mod local;
 #[cfg(test)]
 mod loopback;
 mod outcome;

@@ -8,8 +8,8 @@ ghost use Rattle.serve_command.specs.Terms.{MayServe};
 ghost use Rattle.daapshare.specs.Table.{serving_of, IsRunOverNet};
 ghost use Rattle.daapshare.specs.Told.{seen, told_in};
 
+use crate::local::target_of;
 use crate::outcome::{Outcome, linked, unlinked};
-use crate::run::target_of;
 use daap_outside::{Net, Sink, Source};
 use daapshare_words::{NetCommand, ServeWords};
 use link_commands::{edit_share, follow_share};

@@ -1,29 +1,23 @@
 //! A run of the program over any input, output, files and net.
 
 ghost use Rattle.std.specs.Prelude.{◌≡◌, true};
-ghost use Rattle.command_core.specs.Seen.{Around, files_seen, input_seen, net_seen, output_seen, told_beside};
-ghost use Rattle.command_core.specs.Endings.{IsAnswered};
+ghost use Rattle.command_core.specs.Seen.{files_seen, input_seen, net_seen, output_seen};
 ghost use Rattle.daapshare_words.specs.Grammar.{texts_of};
-ghost use Rattle.daapshare_words.specs.Words.{command_of, IsLocalRanged};
-ghost use Rattle.daapshare.specs.Table.{meaning_of, leaves_net, target_of, IsRun};
+ghost use Rattle.daapshare_words.specs.Words.{command_of};
+ghost use Rattle.daapshare.specs.Table.{leaves_net, IsRun};
 ghost use Rattle.daapshare.specs.Told.{seen, told_in};
 
+use crate::local::obeyed;
 use crate::outcome::{Outcome, unlinked};
 use crate::over_net::obeyed_over_net;
 use crate::usage::UsageFault;
 use command_core::{Fault, out_of_memory, refused};
 use daap_outside::{Files, Net, Sink, Source};
-use daapshare_words::{
-    CodesWords, Command, JsonWords, LocalCommand, ShowWords, WordsError, read_words,
-};
-use item_model::Target;
-use json_commands::{read_json, write_json};
-use share_commands::{list_share, rehearse_share, replay_script};
+use daapshare_words::{Command, WordsError, read_words};
 use std::alloc::Global;
 use std::sync::Wait;
 use std::thread::Threads;
 use std::time::Clock;
-use tag_commands::{check_tags, learn_codes, list_codes, read_shown, show_tags};
 
 /// Does what the words ask for. Only `serve` starts threads, and waits for others beside the net.
 ///
@@ -66,61 +60,5 @@ pub fn run<R: Threads + Wait + Clock + Sync, I: Source, W: Sink, F: Files, N: Ne
             )
         }
         Err(WordsError::Memory) => unlinked(alloc, out_of_memory(output, None)),
-    }
-}
-
-/// Does what a command asks for that waits for nobody.
-fn obeyed<I: Source, W: Sink>(
-    alloc: Global,
-    command: &LocalCommand,
-    input: &mut I,
-    output: &mut W,
-) -> command_core::Outcome
-    requires { IsLocalRanged command.now }
-    ensures { (around : Around) → IsAnswered (meaning_of command.now)
-        (told_beside around
-        (input_seen (I.left input.old) (I.faults input.old))
-        (input_seen (I.left input.new) (I.faults input.new))
-        (output_seen (W.taken output.old) (W.faults output.old))
-        (output_seen (W.taken output.new) (W.faults output.new)))
-        result }
-{
-    match command {
-        LocalCommand::List(words) => list_share(
-            alloc,
-            words.query.as_ref(),
-            words.meta.as_ref(),
-            target_of(words.list),
-            input,
-            output,
-        ),
-        LocalCommand::Show(ShowWords { back: false }) => show_tags(alloc, input, output),
-        LocalCommand::Show(ShowWords { back: true }) => read_shown(alloc, input, output),
-        LocalCommand::Check => check_tags(alloc, input, output),
-        LocalCommand::Codes(CodesWords { learn: false }) => list_codes(alloc, output),
-        LocalCommand::Codes(CodesWords { learn: true }) => learn_codes(alloc, input, output),
-        LocalCommand::Replay(words) => {
-            replay_script(alloc, words.keep, words.name.as_str(), input, output)
-        }
-        LocalCommand::Rehearse(words) => rehearse_share(
-            alloc,
-            words.number,
-            words.batches,
-            words.size,
-            words.keep,
-            output,
-        ),
-        LocalCommand::Json(JsonWords { back: false }) => write_json(alloc, input, output),
-        LocalCommand::Json(JsonWords { back: true }) => read_json(alloc, input, output),
-    }
-}
-
-/// What is listed: all items, or the rows of a container.
-pub fn target_of(list: Option<u32>) -> Target
-    ensures { result ≡ target_of list }
-{
-    match list {
-        Some(id) => Target::Container(id),
-        None => Target::Items,
     }
 }

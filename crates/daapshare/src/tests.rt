@@ -1,132 +1,120 @@
 //! Whole runs: the command that the words ask for, and nothing beside it.
 
-use crate::run::run;
-use daap_outside::{MemFiles, MemNet, MemSink, MemSource};
+use crate::loopback::status_of;
+use daap_outside::{MemNet, MemSink};
 use daapshare_words::usage_text;
-use std::alloc::Global;
-use std::process::Abort;
+use std::alloc::{AllocError, Global};
 use std::sync::Wait;
 use std::test::Fail;
 use std::thread::Threads;
 use std::time::Clock;
 
 /// Words, an input, and how the run ends: with a status and these bytes on the output.
-fn known(n: u32) -> (&'static [&'static str], &'static [u8], u8, &'static [u8]) {
-    match n {
-        // The listing of one item with id 7 and name `A`, at revision 3.
-        0 => (
-            &["list"],
-            b"op,kind,id,dmap.itemname\nput,item,7,A\n",
-            0,
-            b"adbs\0\0\0\x5emstt\0\0\0\x04\0\0\0\xc8muty\0\0\0\x01\0musr\0\0\0\x04\0\0\0\x03mtco\0\0\0\x04\0\0\0\x01mrco\0\0\0\x04\0\0\0\x01mlcl\0\0\0\x1dmlit\0\0\0\x15miid\0\0\0\x04\0\0\0\x07minm\0\0\0\x01A",
-        ),
-        1 => (&["list", "--query="], b"not read", 3, b"query: at 0 end\n"),
-        2 => (
-            &["list", "--meta=dmap.itemid", "--query", "'dmap.itemname:b'"],
-            b"op,kind,id,dmap.itemname\nput,item,7,A\n",
-            0,
-            b"adbs\0\0\0\x41mstt\0\0\0\x04\0\0\0\xc8muty\0\0\0\x01\0musr\0\0\0\x04\0\0\0\x03mtco\0\0\0\x04\0\0\0\0mrco\0\0\0\x04\0\0\0\0mlcl\0\0\0\0",
-        ),
-        3 => (
-            &["show"],
-            b"mlcl\0\0\0\x0cmiid\0\0\0\x04\0\0\0\x01",
-            0,
-            b"mlcl list\n  miid u32 1\n",
-        ),
-        4 => (
-            &["show", "--back"],
-            b"mlcl list\n  miid u32 1\n",
-            0,
-            b"mlcl\0\0\0\x0cmiid\0\0\0\x04\0\0\0\x01",
-        ),
-        5 => (&["check"], b"mlcl\0\0\0\0", 0, b"ok 1 tags 8 bytes\n"),
-        6 => (
-            &["codes", "--learn"],
-            b"mccr\0\0\0\x3cmstt\0\0\0\x04\0\0\0\xc8mdcl\0\0\0\x28mcnm\0\0\0\x04zzzzmcna\0\0\0\x0atest.valuemcty\0\0\0\x02\0\x03",
-            0,
-            b"zzzz 3 test.value\n",
-        ),
-        7 => (
-            &["rehearse", "1", "1", "2"],
-            b"not read",
-            0,
-            b"revision 3\nitems 2\nmirror 1 rows 2 full 1 delta 0\nmirror 2 rows 2 full 1 delta 0\nmirror 3 rows 1 full 1 delta 0\n",
-        ),
-        // The last edit of list 3 drops it.
-        8 => (
-            &["list", "--list", "3"],
-            b"op,kind,id,dmap.itemname\nput,list,3,A\nput,list,2,B\ndrop,list,3,\n",
-            3,
-            b"list: none\n",
-        ),
-        9 => (
-            &["list", "--list=2"],
-            b"op,kind,id,dmap.itemname\nput,list,3,A\nput,list,2,B\ndrop,list,3,\n",
-            0,
-            b"apso\0\0\0\x41mstt\0\0\0\x04\0\0\0\xc8muty\0\0\0\x01\0musr\0\0\0\x04\0\0\0\x03mtco\0\0\0\x04\0\0\0\0mrco\0\0\0\x04\0\0\0\0mlcl\0\0\0\0",
-        ),
-        10 => (
-            &["json"],
-            b"miid\0\0\0\x03\0\0\x01",
-            0,
-            b"{\"code\":\"miid\",\"kind\":\"opaque\",\"value\":\"000001\"}\n",
-        ),
-        11 => (
-            &["json", "--back"],
-            b"{\"code\":\"miid\",\"kind\":\"opaque\",\"value\":\"00000001\"}\n",
-            3,
-            b"json: line 1\n",
-        ),
-        _ => (
-            &["rehearse", "1", "1025", "256"],
-            b"",
-            8,
-            b"limit: rehearsal\n",
-        ),
-    }
-}
+type Run = (&'static [&'static str], &'static [u8], u8, &'static [u8]);
 
-fn ends<R: Abort + Threads + Wait + Clock + Sync>(
+const RUNS: [Run; 13] = [
+    // The listing of one item with id 7 and name `A`, at revision 3.
+    (
+        &["list"],
+        b"op,kind,id,dmap.itemname\nput,item,7,A\n",
+        0,
+        b"adbs\0\0\0\x5emstt\0\0\0\x04\0\0\0\xc8muty\0\0\0\x01\0musr\0\0\0\x04\0\0\0\x03mtco\0\0\0\x04\0\0\0\x01mrco\0\0\0\x04\0\0\0\x01mlcl\0\0\0\x1dmlit\0\0\0\x15miid\0\0\0\x04\0\0\0\x07minm\0\0\0\x01A",
+    ),
+    (&["list", "--query="], b"not read", 3, b"query: at 0 end\n"),
+    (
+        &["list", "--meta=dmap.itemid", "--query", "'dmap.itemname:b'"],
+        b"op,kind,id,dmap.itemname\nput,item,7,A\n",
+        0,
+        b"adbs\0\0\0\x41mstt\0\0\0\x04\0\0\0\xc8muty\0\0\0\x01\0musr\0\0\0\x04\0\0\0\x03mtco\0\0\0\x04\0\0\0\0mrco\0\0\0\x04\0\0\0\0mlcl\0\0\0\0",
+    ),
+    (
+        &["show"],
+        b"mlcl\0\0\0\x0cmiid\0\0\0\x04\0\0\0\x01",
+        0,
+        b"mlcl list\n  miid u32 1\n",
+    ),
+    (
+        &["show", "--back"],
+        b"mlcl list\n  miid u32 1\n",
+        0,
+        b"mlcl\0\0\0\x0cmiid\0\0\0\x04\0\0\0\x01",
+    ),
+    (&["check"], b"mlcl\0\0\0\0", 0, b"ok 1 tags 8 bytes\n"),
+    (
+        &["codes", "--learn"],
+        b"mccr\0\0\0\x3cmstt\0\0\0\x04\0\0\0\xc8mdcl\0\0\0\x28mcnm\0\0\0\x04zzzzmcna\0\0\0\x0atest.valuemcty\0\0\0\x02\0\x03",
+        0,
+        b"zzzz 3 test.value\n",
+    ),
+    (
+        &["rehearse", "1", "1", "2"],
+        b"not read",
+        0,
+        b"revision 3\nitems 2\nmirror 1 rows 2 full 1 delta 0\nmirror 2 rows 2 full 1 delta 0\nmirror 3 rows 1 full 1 delta 0\n",
+    ),
+    // The last edit of list 3 drops it.
+    (
+        &["list", "--list", "3"],
+        b"op,kind,id,dmap.itemname\nput,list,3,A\nput,list,2,B\ndrop,list,3,\n",
+        3,
+        b"list: none\n",
+    ),
+    (
+        &["list", "--list=2"],
+        b"op,kind,id,dmap.itemname\nput,list,3,A\nput,list,2,B\ndrop,list,3,\n",
+        0,
+        b"apso\0\0\0\x41mstt\0\0\0\x04\0\0\0\xc8muty\0\0\0\x01\0musr\0\0\0\x04\0\0\0\x03mtco\0\0\0\x04\0\0\0\0mrco\0\0\0\x04\0\0\0\0mlcl\0\0\0\0",
+    ),
+    (
+        &["json"],
+        b"miid\0\0\0\x03\0\0\x01",
+        0,
+        b"{\"code\":\"miid\",\"kind\":\"opaque\",\"value\":\"000001\"}\n",
+    ),
+    (
+        &["json", "--back"],
+        b"{\"code\":\"miid\",\"kind\":\"opaque\",\"value\":\"00000001\"}\n",
+        3,
+        b"json: line 1\n",
+    ),
+    (
+        &["rehearse", "1", "1025", "256"],
+        b"",
+        8,
+        b"limit: rehearsal\n",
+    ),
+];
+
+/// Whether a run ends with this status and these bytes.
+fn ends<R: Threads + Wait + Clock + Sync>(
     rt: &R,
     alloc: Global,
     words: &[&str],
     input: &[u8],
     status: u8,
     output: &[u8],
-) -> Result<(), Fail> {
-    let mut source = MemSource::new(alloc, input, 4096, &[])?;
+) -> Result<bool, AllocError> {
     let mut sink = MemSink::new(alloc, 4096, 4096, &[])?;
-    let mut net = MemNet::new(alloc);
-    let ran = run(
-        rt,
-        alloc,
-        words,
-        &mut source,
-        &mut sink,
-        &mut MemFiles::new(),
-        &mut net,
-    );
-    assert_eq!(rt; ran.status, status);
-    assert_eq!(rt; sink.taken(), output);
-    Ok(())
+    let ended = status_of(rt, alloc, &mut MemNet::new(alloc), words, input, &mut sink);
+    Ok(ended == Some(status) && sink.taken() == output)
 }
 
 #[test]
 fn each_command_does_what_its_words_say(rt: HostRuntime) -> Result<(), Fail> {
-    for n in 0..13 {
-        let (words, input, status, output) = known(n);
-        ends(&rt, rt.alloc(), words, input, status, output)?;
+    for (words, input, status, output) in &RUNS {
+        assert!(rt; ends(&rt, rt.alloc(), words, input, *status, output)?);
     }
     Ok(())
 }
 
+/// Words that are no command.
+const NO_COMMANDS: [&[&str]; 4] = [&[], &["lists"], &["check", "x"], &["--help"]];
+
 #[test]
 fn words_that_are_no_command_get_the_usage(rt: HostRuntime) -> Result<(), Fail> {
-    let alloc = rt.alloc();
-    let usage = usage_text(alloc)?;
-    let text = usage.as_slice();
-    ends(&rt, alloc, &[], b"", 2, text)?;
-    ends(&rt, alloc, &["lists"], b"", 2, text)?;
-    ends(&rt, alloc, &["check", "x"], b"", 2, text)?;
-    ends(&rt, alloc, &["--help"], b"", 2, text)
+    let usage = usage_text(rt.alloc())?;
+    for words in &NO_COMMANDS {
+        assert!(rt; ends(&rt, rt.alloc(), words, b"", 2, usage.as_slice())?);
+    }
+    Ok(())
 }

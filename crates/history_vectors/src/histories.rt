@@ -5,8 +5,8 @@ ghost use Rattle.share_history.specs.Histories.{batches, revision, all_edits};
 
 use dmap_tags::{Tag, encode_into};
 use item_model::{Entry, Query};
-use records_import::read_batch;
 use plain_share::{has_place, has_room_for};
+use records_import::read_batch;
 use song_query::read;
 use std::alloc::{AllocError, Global};
 use std::test::Fail;

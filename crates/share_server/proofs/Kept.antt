@@ -2,8 +2,8 @@
 use Rattle.std.proofs.Common.{◌≡◌, ◌≢◌, ℕ, zero, suc, ◌+◌, ◌≤◌, List, [], ◌∷◌, ◌++◌, length, Bool, true, false, true≢false, cond, ◌||◌, is_some, Option, Some, None, refl, sym, ap, ◌∙◌, subst, append_assoc, append-nil, length-append, arith}
 use Rattle.std.proofs.lemmas.List.Elements.{All-append}
 use Rattle.std.specs.List.{list_any}
-use Rattle.std.specs.Prelude.{All, Ok, Err}
-use Rattle.daap_outside.specs.Counts.{Rose}
+use Rattle.std.specs.Prelude.{All, Result, Ok, Err, OnOk, OnErr, is_ok, is_err}
+use Rattle.daap_outside.specs.Counts.{CountsFaults, Rose}
 use Rattle.item_model.specs.declared.changes.Edit.{Edit as OneEdit}
 use Rattle.item_model.specs.declared.changes.Entry.{Entry}
 use Rattle.item_model.specs.declared.changes.Entry.TheVariants as entry
@@ -25,7 +25,7 @@ use Rattle.share_core.specs.Laws.{Grows}
 use Rattle.share_server.specs.Passes.{Pass}
 use Rattle.share_server.specs.Losses.{ServesBut, edit_and_stop}
 use Rattle.share_server.specs.Answering.{Finds, HasAdded, IsLost}
-use Rattle.share_server.specs.Kept.{Keeping, edits_wanted}
+use Rattle.share_server.specs.Kept.{IsReadyFor, Keeping, edits_wanted}
 use Rattle.share_server.proofs.Listening.{any_neither}
 use Rattle.share_server.proofs.Losing.{keeping_none}
 use Rattle.share_server.proofs.Turning.{own_stays, serves_nothing}
@@ -226,3 +226,69 @@ grows_twice old new newer by (same, more, grown, own) stays stopped = (
 pub kept_in : (k k' : Pass) (h : List Entry) (keeps keeps' : List (List OneEdit) → Type 0) (is_lost' : Bool) (faults faults' : ℕ) (loses : Bool) → k' ≡ after_turn k h
     → Keeping keeps keeps' is_lost' faults faults' k (after_turn k h) loses → Keeping keeps keeps' is_lost' faults faults' k k' loses
 kept_in k k' h keeps keeps' is_lost' faults faults' loses left is = subst (λ now. Keeping keeps keeps' is_lost' faults faults' k now loses) (sym left) is
+
+-- ---- what came of a call of the keeper
+
+from_kept : {T E : Type 0} (P : Type 0) (r : Result T E) → is_ok r ≡ true → OnOk r P → P
+from_kept P (Ok x) ok p = p
+from_kept P (Err e) ok p = absurd (cc)
+
+kept_counts : {T E : Type 0} (r : Result T E) (n m : ℕ) → is_ok r ≡ true → CountsFaults n m r → m ≡ n
+kept_counts (Ok x) n m ok counts = counts
+kept_counts (Err e) n m ok counts = absurd (cc)
+
+kept_goes : {T E : Type 0} (r : Result T E) → is_ok r ≡ true → is_err r ≡ false
+kept_goes (Ok x) ok = refl
+kept_goes (Err e) ok = absurd (cc)
+
+from_lost : {T E : Type 0} (P : Type 0) (r : Result T E) → is_ok r ≡ false → OnErr r P → P
+from_lost P (Ok x) lost p = absurd (cc)
+from_lost P (Err e) lost p = p
+
+lost_counts : {T E : Type 0} (r : Result T E) (n m : ℕ) → is_ok r ≡ false → CountsFaults n m r → Rose n m
+lost_counts (Ok x) n m lost counts = absurd (cc)
+lost_counts (Err e) n m lost counts = counts
+
+lost_goes : {T E : Type 0} (r : Result T E) → is_ok r ≡ false → is_err r ≡ true
+lost_goes (Ok x) lost = absurd (cc)
+lost_goes (Err e) lost = refl
+
+-- what was asked of the share in a turn of this pass
+pub record Turn (k : Pass) (old : Shared) (by : ℕ) (want : Want) (added : Bool) (h' : List Entry) : Type 0 where
+  pub own : k.number ≡ by
+  pub found : Finds k old
+  pub adds_it : HasAdded added old.history by want h'
+  pub is_added : added ≡ true
+
+module _ (k : Pass) (old : Shared) (by : ℕ) (want : Want) (b : Bool) (h' : List Entry) (turn : Turn k old by want b h') where
+  mine : HasAdded true old.history k.number want h'
+  mine = subst (λ n. HasAdded true old.history n want h') (sym turn.own) (subst (λ b. HasAdded b old.history by want h') turn.is_added turn.adds_it)
+
+  pub unready_in_turn : (keeps : List (List OneEdit) → Type 0) (is_lost : Bool) (faults : ℕ) (loses : Bool) → is_lost ≡ false → loses ≡ false → edits_wanted want ≡ []
+      → Keeping keeps keeps is_lost faults faults k (after_turn k h') loses
+  unready_in_turn keeps is_lost faults loses going unlost none =
+      subst (λ l. Keeping keeps keeps is_lost faults faults k (after_turn k h') l) (sym unlost)
+      (kept_unready k old.history turn.found.history want h' mine keeps is_lost faults going none)
+
+  module _ {T E : Type 0} (R : Type 0) (is_for : R → List OneEdit → Type 0) (ready : R) (made : IsReadyFor is_for (edits_wanted want) (Some ready))
+      (keeps keeps' : List (List OneEdit) → Type 0) (is_lost' : Bool) (faults faults' : ℕ) (r : Result T E) (lost_is : is_lost' ≡ is_err r) (counts : CountsFaults faults faults' r) where
+    pub kept_in_turn : (loses : Bool) → loses ≡ false → is_ok r ≡ true
+        → ((batches : List (List OneEdit)) (batch : List OneEdit) → keeps batches → is_for ready batch → OnOk r (keeps' (batches ++ batch ∷ [])))
+        → Keeping keeps keeps' is_lost' faults faults' k (after_turn k h') loses
+    kept_in_turn loses unlost ok acknowledged =
+        subst (λ l. Keeping keeps keeps' is_lost' faults faults' k (after_turn k h') l) (sym unlost)
+        (kept_ready k old.history turn.found.history want h' mine keeps keeps' is_lost' faults faults' (lost_is ∙ kept_goes r ok) (kept_counts r faults faults' ok counts) made.0
+        (λ bs before. from_kept (keeps' (bs ++ edits_wanted want ∷ [])) r ok (acknowledged bs (edits_wanted want) before made.1)))
+
+    module _ (h'' : List Entry) (stopped : h'' ≡ h' ++ entry.Stop by ∷ []) where
+      stopped_mine : h'' ≡ h' ++ entry.Stop k.number ∷ []
+      stopped_mine = stopped ∙ ap (λ n. h' ++ entry.Stop n ∷ []) (sym turn.own)
+
+      pub lost_in_turn : is_ok r ≡ false → ((batches : List (List OneEdit)) → keeps batches → OnErr r (keeps' batches))
+          → Keeping keeps keeps' is_lost' faults faults' k (after_turn k h'') true
+      lost_in_turn lost kept =
+          kept_lost k old.history turn.found.history want h' mine made.0 h'' stopped_mine keeps keeps' is_lost' faults faults' (lost_is ∙ lost_goes r lost)
+          (lost_counts r faults faults' lost counts) (λ bs before. from_lost (keeps' bs) r lost (kept bs before))
+
+      pub is_lost_in_turn : (ask : Ask) → ask.want ≡ want → IsLost k (after_turn k h'') ask
+      is_lost_in_turn ask is = lost_at k old.history turn.found.history want h' mine made.0 h'' stopped_mine ask is

@@ -34,27 +34,12 @@ use Rattle.share_server.specs.Written.{IsGivenUp}
 use Rattle.share_server.specs.Steps.{Goes, Ends, Midway, Feeds, Underway, Pumps, EndsInput}
 use Rattle.share_server.proofs.Outcomes.{cut_whole, ended_at, up_given}
 use Rattle.share_server.proofs.Stepping.{ends_longer}
+use Rattle.share_server.proofs.Waiting.{serves_none}
 
 -- ---- the begin
 
-serves_nothing : (k : Pass) → Serves k k [] []
-serves_nothing k = record {
-  fresh = record {
-    more = [];
-    grows = sym (append-nil k.seen);
-    looks = [];
-    looked = sym (append-nil k.looks);
-    rises = omega arith;
-    among = tt;
-    marked = tt;
-  };
-  stays = refl;
-  are_served = tt;
-  own = sym (append-nil (entries_of maker k.number k.seen));
-}
-
 pub goes_nowhere : (limit : ℕ) (k : Pass) (taken : Option (List ℕ)) → Goes limit k k taken taken [] []
-goes_nowhere limit k taken = record { serves = serves_nothing k; goes_on = tt; written = Appends-nil taken }
+goes_nowhere limit k taken = record { serves = serves_none k; goes_on = tt; written = Appends-nil taken }
 
 -- no byte was read yet
 pub started : (role : Role) (limit : ℕ) (k : Pass) (left taken : Option (List ℕ)) (r : Reader) → 0 < limit → r.role ≡ role → r.ready ≡ None → r.error ≡ None
@@ -168,7 +153,7 @@ module _ (role : Role) (limit : ℕ) (k k' : Pass) (left left1 left2 taken taken
 
     ended_by : (end : LinkEnd) → is_loss end ≡ false → EndsAtEnd role under.bytes k.settings limit k'.seen asks_here served r.kept base end
         → LinkEnded role limit k k' left taken taken2 served end
-    ended_by end no how =
+    ended_by end unlost how =
         let goes = under.midway.goes in
         let some = under.some in
         record {
@@ -180,7 +165,7 @@ module _ (role : Role) (limit : ℕ) (k k' : Pass) (left left1 left2 taken taken
           joins = reads_here.joins;
           lost = [];
           serves = but_nothing k k' asks_here served goes.serves;
-          loses = loses_none role asks_here k k' served end under.bytes no;
+          loses = loses_none role asks_here k k' served end under.bytes unlost;
           output = base;
           written = subst (λ t. Appends taken t base) (sym untouched) goes.written;
           how = inr how;
@@ -218,7 +203,7 @@ spent_at_once role limit k left taken none =
       rest = input;
       joins = no_asks role input;
       lost = [];
-      serves = but_nothing k k [] [] (serves_nothing k);
+      serves = but_nothing k k [] [] (serves_none k);
       loses = refl;
       output = [];
       written = Appends-nil taken;
@@ -235,7 +220,7 @@ pub unbegun : (role : Role) (limit : ℕ) (k : Pass) (left taken taken' : Option
     → LinkEnded role limit k k left taken taken' [] end
 unbegun role limit k left taken taken' end some up =
     ended_inside role [] limit k k left left taken taken' [] end some
-    (up_given role [] limit k k taken taken taken' [] [] [] [] (no_asks role []) (serves_nothing k) (Appends-nil taken) end (inl tt) (all_told refl) up)
+    (up_given role [] limit k k taken taken taken' [] [] [] [] (no_asks role []) (serves_none k) (Appends-nil taken) end (inl tt) (all_told refl) up)
     (Consumes-nil left)
 
 -- ---- players

@@ -24,7 +24,7 @@ use Rattle.share_server.specs.Kept.{IsUnheard, Keeping}
 module _ (role : Role) (asks : List Ask) (k k' : Pass) (served : List Served) (end : LinkEnd) where
   -- an end that is no loss lost nothing
   pub loses_none : (bytes : List ℕ) → is_loss end ≡ false → Loses role bytes asks k k' served [] end
-  loses_none bytes no = subst (λ b. MatchBool b (LosesEdit role bytes asks k k' served []) (◌≡◌ {A = List Entry} [] [])) (sym no) refl
+  loses_none bytes unlost = subst (λ b. MatchBool b (LosesEdit role bytes asks k k' served []) (◌≡◌ {A = List Entry} [] [])) (sym unlost) refl
 
   -- what was lost inside bytes was lost inside all that begin with them
   pub loses_longer : (bytes more : List ℕ) (lost : List Entry) → Loses role bytes asks k k' served lost end → Loses role (bytes ++ more) asks k k' served lost end
@@ -52,7 +52,7 @@ module _ (role : Role) (asks : List Ask) (k k' : Pass) (served : List Served) (e
 
   -- and nothing was, where the end is no loss
   pub lost_none : (bytes : List ℕ) (lost : List Entry) → is_loss end ≡ false → Loses role bytes asks k k' served lost end → lost ≡ []
-  lost_none bytes lost no loses = subst (λ b. MatchBool b (LosesEdit role bytes asks k k' served lost) (lost ≡ [])) no loses
+  lost_none bytes lost unlost loses = subst (λ b. MatchBool b (LosesEdit role bytes asks k k' served lost) (lost ≡ [])) unlost loses
 
 -- ---- keepers
 

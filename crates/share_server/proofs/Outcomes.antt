@@ -97,13 +97,13 @@ module _ (role : Role) (bytes : List ℕ) (limit : ℕ) (k k' : Pass) (taken tak
 
   -- the connection ended with these bytes behind the base
   pub ended_with : (more : List ℕ) (end : LinkEnd) → is_loss end ≡ false → Appends taken' taken'' more → Inside (base ++ more) end → Ends role bytes limit k k' taken taken'' served end
-  ended_with more end no last how = record {
+  ended_with more end unlost last how = record {
     asks = asks;
     rest = rest;
     joins = joins;
     lost = [];
     serves = but_nothing k k' asks served serves;
-    loses = loses_none role asks k k' served end bytes no;
+    loses = loses_none role asks k k' served end bytes unlost;
     output = base ++ more;
     written = Appends-trans taken taken' taken'' base more written last;
     how = how;
@@ -111,13 +111,13 @@ module _ (role : Role) (bytes : List ℕ) (limit : ℕ) (k k' : Pass) (taken tak
 
   -- with nothing more
   pub ended_at : (end : LinkEnd) → is_loss end ≡ false → taken'' ≡ taken' → Inside base end → Ends role bytes limit k k' taken taken'' served end
-  ended_at end no same how = record {
+  ended_at end unlost same how = record {
     asks = asks;
     rest = rest;
     joins = joins;
     lost = [];
     serves = but_nothing k k' asks served serves;
-    loses = loses_none role asks k k' served end bytes no;
+    loses = loses_none role asks k k' served end bytes unlost;
     output = base;
     written = subst (λ t. Appends taken t base) (sym same) written;
     how = how;

@@ -259,7 +259,7 @@ pub record Asked (old new : Shared) (by : ℕ) (want : Want) (result : Result An
 -- want of memory for a want that is free shows that the share was stopped
 free_failed : (error : AllocError) (stopped free : Bool) → (stopped ≡ false → free ≡ true → IsOk {T = Answer} (Err error)) → free ≡ true → stopped ≡ true
 free_failed error true free ok wanted = refl
-free_failed error false free ok wanted = absurd (ok refl wanted)
+free_failed error false free ok wanted = absurd (true≢false (sym (ok refl wanted)))
 
 pub asked_at : (k : Pass) (old new : Shared) (by : ℕ) (ask : Ask) (result : Result Answer AllocError) (stopped : Bool) (revised end : ℕ) → k.number ≡ by → Finds k old
     → Asked old new by ask.want result stopped revised end → IsLooked k (after_turn k new.history) ask (look_of result stopped revised end)

@@ -1,11 +1,14 @@
--- Turns that served nothing, and the one that answered.
-use Rattle.std.proofs.Common.{◌≡◌, [], ◌∷◌, refl, sym, ap, subst, append-nil, arith}
+-- Turns that served nothing, and the one that answered or lost an edit.
+use Rattle.std.proofs.Common.{◌≡◌, ℕ, List, [], ◌∷◌, Bool, false, refl, sym, ap, subst, append-nil, arith}
+use Rattle.item_model.specs.declared.changes.Edit.{Edit}
 use Rattle.share_asks.specs.declared.ask.Ask.{Ask}
 use Rattle.share_lock.specs.Histories.{entries_of}
 use Rattle.share_replies.specs.Laws.{maker}
 use Rattle.share_server.specs.Served.{at_point}
 use Rattle.share_server.specs.Passes.{Pass, Serves}
+use Rattle.share_server.specs.Kept.{Keeping}
 use Rattle.share_server.proofs.InTurn.{serves_in_turn, serves_then_but, lost_behind}
+use Rattle.share_server.proofs.Losing.{keeping_none}
 use Rattle.share_server.specs.declared.turns.outcome.Answered.{Answered}
 use Rattle.share_server.specs.Answering.{Says, IsAnswered, IsLost}
 
@@ -17,6 +20,12 @@ serves_none k = record {
   are_served = tt;
   own = sym (append-nil (entries_of maker k.number k.seen));
 }
+
+-- so nothing was to be kept
+pub keeping_yet : (keeps : List (List Edit) → Type 0) (is_lost : Bool) (faults : ℕ) (k : Pass) (loses : Bool) → is_lost ≡ false → loses ≡ false
+    → Keeping keeps keeps is_lost faults faults k k loses
+keeping_yet keeps is_lost faults k loses going unlost =
+    subst (λ b. Keeping keeps keeps is_lost faults faults k k b) (sym unlost) (keeping_none keeps is_lost faults k k going (serves_none k))
 
 pub waits : (k k' k'' : Pass) → Serves k k' [] [] → Serves k' k'' [] [] → Serves k k'' [] []
 waits k k' k'' before turn = serves_in_turn k k' k'' [] [] [] [] before turn

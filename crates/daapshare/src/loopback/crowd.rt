@@ -1,12 +1,15 @@
 //! As many players as a share has workers for them, and an editor, all connected at once: the updates of all are held
 //! until an edit, and again until a stop.
 
-use crate::loopback::{LIBRARY, await_open, brings, free_place, player, status_of};
+use crate::loopback::{await_open, brings, free_place, player, serves};
 use daap_outside::{Link, MemSink, Net, TcpNet, put_all};
-use std::alloc::Global;
+use std::alloc::{AllocError, Global};
+use std::net::{TcpListener, TcpStream};
+use std::sync::Wait;
 use std::test::Fail;
-use std::thread;
+use std::thread::Threads;
 use std::time::Clock;
+use std::{net, thread};
 
 const AT_FIRST: &[u8] = b"GET /update?session-id=1&revision-number=3 HTTP/1.1\r\n\r\n";
 
@@ -69,31 +72,34 @@ fn all_hear<C: Clock, N: Net>(
     Some(edited && stopped)
 }
 
-#[test]
-fn five_players_hear_of_an_edit_and_a_stop(rt: HostRuntime) -> Result<(), Fail> {
-    let alloc = rt.alloc();
-    let listen = free_place(&rt, alloc)?;
-    let edit = free_place(&rt, alloc)?;
+/// The same, over sockets.
+fn hear_all<R>(rt: &R, alloc: Global, listen: &str, edit: &str) -> Option<bool>
+where
+    R: net::Net<Listener = TcpListener, Stream = TcpStream> + Clock + Sync,
+{
+    all_hear(rt, alloc, &mut TcpNet::new(rt, alloc), listen, edit)
+}
+
+/// Whether five players of a share with five workers hear of an edit and a stop.
+fn five_hear<R>(rt: &R, alloc: Global, listen: &str, edit: &str) -> Result<bool, AllocError>
+where
+    R: net::Net<Listener = TcpListener, Stream = TcpStream> + Threads + Wait + Clock + Sync,
+{
+    let words = ["serve", listen, edit, "--workers=5", "--editors=1"];
     let mut lines = MemSink::new(alloc, 256, 256, &[])?;
     let (served, heard) = thread::join(
-        &rt,
-        || {
-            let words = [
-                "serve",
-                listen.as_str(),
-                edit.as_str(),
-                "--workers=5",
-                "--editors=1",
-            ];
-            let mut net = TcpNet::new(&rt, alloc);
-            status_of(&rt, alloc, &mut net, &words, LIBRARY, &mut lines)
-        },
-        || {
-            let mut net = TcpNet::new(&rt, alloc);
-            all_hear(&rt, alloc, &mut net, listen.as_str(), edit.as_str())
-        },
+        rt,
+        || serves(rt, alloc, &words, &mut lines),
+        || hear_all(rt, alloc, listen, edit),
     );
-    assert_eq!(rt; (served, heard), (Some(0), Some(true)));
-    assert!(rt; lines.taken().ends_with(b", requests 17\n"));
+    let is_well = served == Some(0) && heard == Some(true);
+    Ok(is_well && lines.taken().ends_with(b", requests 17\n"))
+}
+
+#[test]
+fn five_players_hear_of_an_edit_and_a_stop(rt: HostRuntime) -> Result<(), Fail> {
+    let listen = free_place(&rt, rt.alloc())?;
+    let edit = free_place(&rt, rt.alloc())?;
+    assert!(rt; five_hear(&rt, rt.alloc(), listen.as_str(), edit.as_str())?);
     Ok(())
 }

@@ -1,18 +1,18 @@
-use Rattle.std.proofs.Common.{◌≡◌, Bool, List, Some, rules, sym, ap, ◌∙◌, subst}
+use Rattle.std.proofs.Common.{◌≡◌, Bool, List, Some, rules, sym, subst}
 use Rattle.std.specs.Prelude.{Result, Err}
 use Rattle.share_lock.specs.Passes.{known}
 use Rattle.share_server.specs.declared.report.Served.{Served}
 use Rattle.share_server.specs.declared.report.LinkEnd.TheVariants.{LinkFault, FileFault}
 use Rattle.share_server.specs.Answering.{IsOutcome, loses}
+use Rattle.share_server.specs.Losses.{is_loss}
 use Rattle.share_server.specs.Kept.{Keeping}
 use Rattle.share_server.specs.declared.turns.outcome.Answered.{Answered}
 use Rattle.share_server.specs.declared.turns.outcome.Unanswered.{Unanswered}
 use Rattle.share_server.specs.declared.turns.outcome.Unanswered.TheVariants.{Gone, Lost}
 use Rattle.share_server.specs.Served.{at_point}
 use Rattle.share_server.specs.Steps.{Goes, Exchanges}
-use Rattle.share_server.proofs.Losing.{keeping_none}
 use Rattle.share_server.proofs.Requests.{gone, sayable, unkept, unserved}
-use Rattle.share_server.proofs.Waiting.{serves_none}
+use Rattle.share_server.proofs.Waiting.{keeping_yet}
 use Rattle.share_server.proofs.link.exchanging.exchange.Goals as goal
 
 -- there was no room for the report
@@ -65,11 +65,8 @@ returns-in-Err-Lost-clause-exchanges g c = λ k taken asks goes.
 
 pub returns-then-is_err-clause-keeping : goal.returns-then-is_err-clause-keeping
 returns-then-is_err-clause-keeping g c =
-    subst
-    (λ (b : Bool). Keeping (g.F.Keeps.keeps c.args.keeper.now) (g.F.Keeps.keeps c.args.keeper.now) (g.F.Keeps.is_lost c.args.keeper.now) (g.F.Keeps.faults c.args.keeper.now) (g.F.Keeps.faults c.args.keeper.now) (known c.args.pass.now) (known c.args.pass.now) b)
-    (sym c.given_up.ensures.goes_on)
-    (keeping_none (g.F.Keeps.keeps c.args.keeper.now) (g.F.Keeps.is_lost c.args.keeper.now) (g.F.Keeps.faults c.args.keeper.now) (known c.args.pass.now)
-    (known c.args.pass.now) c.requires.going (serves_none (known c.args.pass.now)))
+    keeping_yet (g.F.Keeps.keeps c.args.keeper.now) (g.F.Keeps.is_lost c.args.keeper.now) (g.F.Keeps.faults c.args.keeper.now) (known c.args.pass.now)
+    (is_loss c.given_up.result) c.requires.going c.given_up.ensures.goes_on
 
 pub returns-in-Ok-clause-keeping : goal.returns-in-Ok-clause-keeping
 returns-in-Ok-clause-keeping g c =

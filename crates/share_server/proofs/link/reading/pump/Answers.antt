@@ -2,6 +2,8 @@ use Rattle.std.proofs.Common.{rules, ◌≡◌, ◌<◌, ℕ, List, length, take
 use Rattle.std.specs.Io.KnownBytes.{Consumes}
 use Rattle.share_lock.specs.Passes.{known}
 use Rattle.share_server.proofs.Linking.{at_the_end, faulted, pumped_on}
+use Rattle.share_server.proofs.Waiting.{keeping_yet}
+use Rattle.share_server.specs.Losses.{is_loss}
 use Rattle.share_server.proofs.link.reading.pump.Goals as goal
 
 -- the input ended
@@ -40,3 +42,8 @@ returns-in-Err-clause-pumps g c = λ role k left taken under.
     faulted role c.args.service.now.limit k (known c.args.pass.now) left (g.K.Source.left c.args.link.now) (g.K.Source.left c.read.new.self) taken
     (g.K.Sink.taken c.args.link.now) (g.K.Sink.taken c.read.new.self) c.args.serving.now.reader c.args.serving.now.served.items c.args.consumed.now under untouched
     c.in-Err.ensures.moved
+
+pub returns-then-n-eq0-clause-keeping : goal.returns-then-n-eq0-clause-keeping
+returns-then-n-eq0-clause-keeping g c =
+    keeping_yet (g.F.Keeps.keeps c.args.keeper.now) (g.F.Keeps.is_lost c.args.keeper.now) (g.F.Keeps.faults c.args.keeper.now) (known c.args.pass.now)
+    (is_loss c.end_of_input.result) c.requires.going c.end_of_input.ensures.goes_on

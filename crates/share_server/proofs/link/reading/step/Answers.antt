@@ -1,5 +1,7 @@
 use Rattle.share_lock.specs.Passes.{known}
 use Rattle.share_server.proofs.Stepping.{ended_at_one, took_none, took_one, was_unread}
+use Rattle.share_server.proofs.Waiting.{keeping_yet}
+use Rattle.share_server.specs.Losses.{is_loss}
 use Rattle.share_server.proofs.link.reading.step.Goals as goal
 
 -- the reader refused
@@ -31,3 +33,8 @@ returns-clause-steps g c = λ role bytes k taken midway.
     c.args.serving.now.reader c.feed.new.self c.next.new.self c.args.serving.now.served.items c.next.result midway c.in-Ok.ensures.role c.in-Ok.ensures.error
     c.in-Ok.ensures.read c.next.ensures.result c.next.ensures.rest c.next.ensures.read c.in-Some.ask (known c.exchange.new.pass) (g.K.Sink.taken c.exchange.new.link)
     c.exchange.new.served.items c.in-Some-exchange.end c.in-Some.is c.in-Some-exchange.ensures.exchanges
+
+pub returns-in-Err-clause-keeping : goal.returns-in-Err-clause-keeping
+returns-in-Err-clause-keeping g c =
+    keeping_yet (g.F.Keeps.keeps c.args.keeper.now) (g.F.Keeps.is_lost c.args.keeper.now) (g.F.Keeps.faults c.args.keeper.now) (known c.args.pass.now)
+    (is_loss c.unread.result) c.requires.going c.unread.ensures.goes_on

@@ -1,10 +1,13 @@
-use Rattle.std.proofs.Common.{rules, ◌≡◌, ◌<◌, ℕ, List, sym, ◌∙◌, subst, refl}
+use Rattle.std.proofs.Common.{rules, ◌≡◌, ◌<◌, ℕ, List, false, sym, ◌∙◌, subst, refl}
 use Rattle.share_lock.specs.Passes.{known}
 use Rattle.share_server.specs.declared.report.Served.{Served}
 use Rattle.share_server.specs.declared.report.LinkEnd.TheVariants.{Spent}
 use Rattle.share_server.specs.Links.{LinkEnded}
 use Rattle.share_server.specs.Serving.{CountsEnd}
 use Rattle.share_server.specs.Steps.{Underway}
+use Rattle.share_server.specs.Losses.{is_loss}
+use Rattle.share_server.proofs.Losing.{keeping_then}
+use Rattle.share_server.proofs.Waiting.{keeping_yet}
 use Rattle.share_server.proofs.Linking.{spent_at_once, started, unbegun}
 use Rattle.share_server.proofs.link.serving.serve_to_end.Goals as goal
 
@@ -41,8 +44,8 @@ loop-init g c =
           c.in-Ok.ensures.role c.in-Ok.ensures.idle.0 c.in-Ok.ensures.idle.1 c.in-Ok.ensures.begins);
       going = c.requires.going;
       keeping =
-          keeping_none (g.F.Keeps.keeps c.args.keeper.now) (g.F.Keeps.is_lost c.args.keeper.now) (g.F.Keeps.faults c.args.keeper.now) (known c.args.pass.now)
-          (known c.args.pass.now) c.requires.going (serves_nothing (known c.args.pass.now));
+          keeping_yet (g.F.Keeps.keeps c.args.keeper.now) (g.F.Keeps.is_lost c.args.keeper.now) (g.F.Keeps.faults c.args.keeper.now) (known c.args.pass.now)
+          false c.requires.going refl;
       count = refl;
     }
 
@@ -53,7 +56,7 @@ loop-preserved g c =
       ready = c.pump.ensures.ready;
       idle = c.in-None-pump.ensures.idle refl;
       under = c.in-None-pump.ensures.pumps c.args.role (known c.args.pass.now) (g.K.Source.left c.args.link.now) (g.K.Sink.taken c.args.link.now) inv.under;
-      going = c.pump.ensures.keeping.is_lost;
+      going = c.in-None-pump.ensures.keeping.is_lost;
       keeping =
           keeping_then (g.F.Keeps.keeps c.args.keeper.now) (g.F.Keeps.keeps c.loop.keeper) (g.F.Keeps.keeps c.pump.new.keeper) (g.F.Keeps.is_lost c.loop.keeper)
           (g.F.Keeps.is_lost c.pump.new.keeper) (g.F.Keeps.faults c.args.keeper.now) (g.F.Keeps.faults c.loop.keeper) (g.F.Keeps.faults c.pump.new.keeper)
@@ -68,3 +71,21 @@ returns-in-Some-pump-clause-ended g c =
 pub returns-in-Some-pump-clause-count : goal.returns-in-Some-pump-clause-count
 returns-in-Some-pump-clause-count g c =
     subst (λ (n : ℕ). CountsEnd n (g.K.Faulted.faults c.pump.new.link) c.in-Some-pump.end) c.loop.invariant.count c.in-Some-pump.ensures.count
+
+-- ---- the keeper
+
+pub returns-then-service-eq0-clause-keeping : goal.returns-then-service-eq0-clause-keeping
+returns-then-service-eq0-clause-keeping g c =
+    keeping_yet (g.F.Keeps.keeps c.args.keeper.now) (g.F.Keeps.is_lost c.args.keeper.now) (g.F.Keeps.faults c.args.keeper.now) (known c.args.pass.now)
+    false c.requires.going refl
+
+pub returns-in_default-clause-keeping : goal.returns-in_default-clause-keeping
+returns-in_default-clause-keeping g c =
+    keeping_yet (g.F.Keeps.keeps c.args.keeper.now) (g.F.Keeps.is_lost c.args.keeper.now) (g.F.Keeps.faults c.args.keeper.now) (known c.args.pass.now)
+    (is_loss c.given_up.result) c.requires.going c.given_up.ensures.goes_on
+
+pub returns-in-Some-pump-clause-keeping : goal.returns-in-Some-pump-clause-keeping
+returns-in-Some-pump-clause-keeping g c =
+    keeping_then (g.F.Keeps.keeps c.args.keeper.now) (g.F.Keeps.keeps c.loop.keeper) (g.F.Keeps.keeps c.pump.new.keeper) (g.F.Keeps.is_lost c.loop.keeper) (g.F.Keeps.is_lost c.pump.new.keeper)
+    (g.F.Keeps.faults c.args.keeper.now) (g.F.Keeps.faults c.loop.keeper) (g.F.Keeps.faults c.pump.new.keeper) (known c.args.pass.now) (known c.loop.pass) (known c.pump.new.pass) (is_loss c.in-Some-pump.end) c.loop.invariant.keeping
+    c.in-Some-pump.ensures.keeping

@@ -1,0 +1,186 @@
+//! What commands do that wait for nobody: a function for each, and one that has them all.
+
+ghost use Rattle.std.specs.Prelude.{◌≡◌};
+ghost use Rattle.command_core.specs.Seen.{Around, input_seen, output_seen, told_beside};
+ghost use Rattle.command_core.specs.Endings.{IsAnswered};
+ghost use Rattle.share_commands.specs.ListShare.{list_meaning};
+ghost use Rattle.share_commands.specs.ReplayShare.{replay_meaning};
+ghost use Rattle.share_commands.specs.RehearseShare.{rehearse_meaning};
+ghost use Rattle.daapshare_words.specs.Rehearse.{AreRehearseWords};
+ghost use Rattle.daapshare_words.specs.Replay.{AreReplayWords};
+ghost use Rattle.daapshare_words.specs.Words.{IsLocalRanged};
+ghost use Rattle.daapshare.specs.Table.{jsons, meaning_of, shows, target_of, tells_codes};
+
+use command_core::Outcome;
+use daap_outside::{Sink, Source};
+use daapshare_words::{ListWords, LocalCommand, RehearseWords, ReplayWords};
+use item_model::Target;
+use json_commands::{read_json, write_json};
+use share_commands::{list_share, rehearse_share, replay_script};
+use std::alloc::Global;
+use tag_commands::{check_tags, learn_codes, list_codes, read_shown, show_tags};
+
+/// Does what a command asks for that waits for nobody.
+pub fn obeyed<I: Source, W: Sink>(
+    alloc: Global,
+    command: &LocalCommand,
+    input: &mut I,
+    output: &mut W,
+) -> Outcome
+    requires { IsLocalRanged command.now }
+    ensures { (around : Around) → IsAnswered (meaning_of command.now)
+        (told_beside around
+        (input_seen (I.left input.old) (I.faults input.old))
+        (input_seen (I.left input.new) (I.faults input.new))
+        (output_seen (W.taken output.old) (W.faults output.old))
+        (output_seen (W.taken output.new) (W.faults output.new)))
+        result }
+{
+    match command {
+        LocalCommand::List(words) => listed(alloc, words, input, output),
+        LocalCommand::Show(words) => shown(alloc, words.back, input, output),
+        LocalCommand::Check => check_tags(alloc, input, output),
+        LocalCommand::Codes(words) => told_codes(alloc, words.learn, input, output),
+        LocalCommand::Replay(words) => replayed(alloc, words, input, output),
+        LocalCommand::Rehearse(words) => rehearsed(alloc, words, input, output),
+        LocalCommand::Json(words) => told_json(alloc, words.back, input, output),
+    }
+}
+
+/// Lists a share's rows.
+fn listed<I: Source, W: Sink>(
+    alloc: Global,
+    words: &ListWords,
+    input: &mut I,
+    output: &mut W,
+) -> Outcome
+    ensures { (around : Around) → IsAnswered (list_meaning words.now.query words.now.meta (target_of words.now.list))
+        (told_beside around
+        (input_seen (I.left input.old) (I.faults input.old))
+        (input_seen (I.left input.new) (I.faults input.new))
+        (output_seen (W.taken output.old) (W.faults output.old))
+        (output_seen (W.taken output.new) (W.faults output.new)))
+        result }
+{
+    list_share(
+        alloc,
+        words.query.as_ref(),
+        words.meta.as_ref(),
+        target_of(words.list),
+        input,
+        output,
+    )
+}
+
+/// Shows tags, or reads what shows them.
+fn shown<I: Source, W: Sink>(alloc: Global, back: bool, input: &mut I, output: &mut W) -> Outcome
+    ensures { (around : Around) → IsAnswered (shows back)
+        (told_beside around
+        (input_seen (I.left input.old) (I.faults input.old))
+        (input_seen (I.left input.new) (I.faults input.new))
+        (output_seen (W.taken output.old) (W.faults output.old))
+        (output_seen (W.taken output.new) (W.faults output.new)))
+        result }
+{
+    match back {
+        false => show_tags(alloc, input, output),
+        true => read_shown(alloc, input, output),
+    }
+}
+
+/// Lists the content codes of the table, or of a reply.
+fn told_codes<I: Source, W: Sink>(
+    alloc: Global,
+    learn: bool,
+    input: &mut I,
+    output: &mut W,
+) -> Outcome
+    ensures { (around : Around) → IsAnswered (tells_codes learn)
+        (told_beside around
+        (input_seen (I.left input.old) (I.faults input.old))
+        (input_seen (I.left input.new) (I.faults input.new))
+        (output_seen (W.taken output.old) (W.faults output.old))
+        (output_seen (W.taken output.new) (W.faults output.new)))
+        result }
+{
+    match learn {
+        false => list_codes(alloc, output),
+        true => learn_codes(alloc, input, output),
+    }
+}
+
+/// Plays a script.
+fn replayed<I: Source, W: Sink>(
+    alloc: Global,
+    words: &ReplayWords,
+    input: &mut I,
+    output: &mut W,
+) -> Outcome
+    requires { AreReplayWords words.now }
+    ensures { (around : Around) → IsAnswered (replay_meaning words.now.keep words.now.name)
+        (told_beside around
+        (input_seen (I.left input.old) (I.faults input.old))
+        (input_seen (I.left input.new) (I.faults input.new))
+        (output_seen (W.taken output.old) (W.faults output.old))
+        (output_seen (W.taken output.new) (W.faults output.new)))
+        result }
+{
+    replay_script(alloc, words.keep, words.name.as_str(), input, output)
+}
+
+/// Rehearses a share.
+fn rehearsed<I: Source, W: Sink>(
+    alloc: Global,
+    words: &RehearseWords,
+    input: &mut I,
+    output: &mut W,
+) -> Outcome
+    requires { AreRehearseWords words.now }
+    ensures { (around : Around) → IsAnswered (rehearse_meaning words.now.number words.now.batches words.now.size words.now.keep)
+        (told_beside around
+        (input_seen (I.left input.old) (I.faults input.old))
+        (input_seen (I.left input.new) (I.faults input.new))
+        (output_seen (W.taken output.old) (W.faults output.old))
+        (output_seen (W.taken output.new) (W.faults output.new)))
+        result }
+{
+    rehearse_share(
+        alloc,
+        words.number,
+        words.batches,
+        words.size,
+        words.keep,
+        output,
+    )
+}
+
+/// Shows tags as JSON, or reads what shows them so.
+fn told_json<I: Source, W: Sink>(
+    alloc: Global,
+    back: bool,
+    input: &mut I,
+    output: &mut W,
+) -> Outcome
+    ensures { (around : Around) → IsAnswered (jsons back)
+        (told_beside around
+        (input_seen (I.left input.old) (I.faults input.old))
+        (input_seen (I.left input.new) (I.faults input.new))
+        (output_seen (W.taken output.old) (W.faults output.old))
+        (output_seen (W.taken output.new) (W.faults output.new)))
+        result }
+{
+    match back {
+        false => write_json(alloc, input, output),
+        true => read_json(alloc, input, output),
+    }
+}
+
+/// What is listed: all items, or the rows of a container.
+pub fn target_of(list: Option<u32>) -> Target
+    ensures { result ≡ target_of list }
+{
+    match list {
+        Some(id) => Target::Container(id),
+        None => Target::Items,
+    }
+}

@@ -1,0 +1,49 @@
+-- What was added was kept in the same turn, or lost, and the share stopped.
+use Rattle.std.proofs.Common.{rules, ◌≡◌, Bool, true, false, subst, refl}
+use Rattle.std.specs.Prelude.{is_ok}
+use Rattle.share_server.specs.Passes.{Pass}
+use Rattle.share_server.specs.Answering.{Finds, has_added, loses_in}
+use Rattle.share_server.specs.Kept.{IsReadyFor, edits_wanted}
+use Rattle.share_server.proofs.Kept.{Turn, is_lost_in_turn, kept_in_turn, lost_in_turn, unready_in_turn}
+use Rattle.share_server.proofs.turns.keeping.asked.Goals as goal
+
+-- it brings no edits
+pub returns-in_default-clause-keeping : goal.returns-in_default-clause-keeping
+returns-in_default-clause-keeping g c = λ k own found.
+    let added : has_added c.told-look.result ≡ true = search rules in
+    unready_in_turn k c.args.share.now c.args.by c.args.ask.now.want (has_added c.told-look.result) c.told-look.new.share.history
+    (record { own = own; found = found; adds_it = c.told-look.ensures.added; is_added = added })
+    (g.F.Keeps.keeps c.args.keeper.now) (g.F.Keeps.is_lost c.args.keeper.now) (g.F.Keeps.faults c.args.keeper.now) (loses_in c.told-look.result) c.requires.going
+    c.told-look.ensures.goes_on (subst (λ ready. IsReadyFor g.F.Keeps.is_for (edits_wanted c.args.ask.now.want) ready) c.in_default.is c.requires.made)
+
+-- it was kept
+pub returns-then-is_ok-clause-keeping : goal.returns-then-is_ok-clause-keeping
+returns-then-is_ok-clause-keeping g c = λ k own found.
+    let added : has_added c.told-look.result ≡ true = search rules in
+    let ok : is_ok c.keep.result ≡ true = search rules in
+    kept_in_turn k c.args.share.now c.args.by c.args.ask.now.want (has_added c.told-look.result) c.told-look.new.share.history
+    (record { own = own; found = found; adds_it = c.told-look.ensures.added; is_added = added })
+    _ g.F.Keeps.is_for c.in-Some.ready (subst (λ ready. IsReadyFor g.F.Keeps.is_for (edits_wanted c.args.ask.now.want) ready) c.in-Some.is c.requires.made)
+    (g.F.Keeps.keeps c.args.keeper.now) (g.F.Keeps.keeps c.keep.new.self) (g.F.Keeps.is_lost c.keep.new.self) (g.F.Keeps.faults c.args.keeper.now)
+    (g.F.Keeps.faults c.keep.new.self) c.keep.result c.keep.ensures.lost c.keep.ensures.count (loses_in c.told-look.result) c.told-look.ensures.goes_on ok
+    c.keep.ensures.acknowledged
+
+-- it was lost
+pub returns-clause-looked : goal.returns-clause-looked
+returns-clause-looked g c = λ k own found.
+    let added : has_added c.told-look.result ≡ true = search rules in
+    is_lost_in_turn k c.args.share.now c.args.by c.args.ask.now.want (has_added c.told-look.result) c.told-look.new.share.history
+    (record { own = own; found = found; adds_it = c.told-look.ensures.added; is_added = added })
+    _ g.F.Keeps.is_for c.in-Some.ready (subst (λ ready. IsReadyFor g.F.Keeps.is_for (edits_wanted c.args.ask.now.want) ready) c.in-Some.is c.requires.made)
+    (g.F.Keeps.keeps c.args.keeper.now) (g.F.Keeps.keeps c.keep.new.self) (g.F.Keeps.is_lost c.keep.new.self) (g.F.Keeps.faults c.args.keeper.now)
+    (g.F.Keeps.faults c.keep.new.self) c.keep.result c.keep.ensures.lost c.keep.ensures.count c.stop.new.share.history c.stop.ensures.stopped c.args.ask.now refl
+
+pub returns-clause-keeping : goal.returns-clause-keeping
+returns-clause-keeping g c = λ k own found.
+    let added : has_added c.told-look.result ≡ true = search rules in
+    let lost : is_ok c.keep.result ≡ false = search rules in
+    lost_in_turn k c.args.share.now c.args.by c.args.ask.now.want (has_added c.told-look.result) c.told-look.new.share.history
+    (record { own = own; found = found; adds_it = c.told-look.ensures.added; is_added = added })
+    _ g.F.Keeps.is_for c.in-Some.ready (subst (λ ready. IsReadyFor g.F.Keeps.is_for (edits_wanted c.args.ask.now.want) ready) c.in-Some.is c.requires.made)
+    (g.F.Keeps.keeps c.args.keeper.now) (g.F.Keeps.keeps c.keep.new.self) (g.F.Keeps.is_lost c.keep.new.self) (g.F.Keeps.faults c.args.keeper.now)
+    (g.F.Keeps.faults c.keep.new.self) c.keep.result c.keep.ensures.lost c.keep.ensures.count c.stop.new.share.history c.stop.ensures.stopped lost c.keep.ensures.kept
