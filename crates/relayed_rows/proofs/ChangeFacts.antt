@@ -9,7 +9,7 @@ use Rattle.item_model.specs.declared.request.Target.TheVariants.{Items}
 use Rattle.share_history.specs.Keyed.{at, put_in, taken_out, IsAscending}
 use Rattle.share_history.proofs.KeyedFacts.{has, same_key, sorted-ascending, at-put, ascending-put, at-out, ascending-out, has-keys_of}
 use Rattle.mirror_core.specs.Bodies.{IsRow}
-use Rattle.mirror_core.specs.Reading.{Told, key_of, row_of as keyed}
+use Rattle.mirror_core.specs.Reading.{Told, row_of as keyed}
 use Rattle.relayed_rows.specs.ReadRows.{row_of}
 use Rattle.relayed_rows.specs.Libraries.{IsLibrary, IsOwn, Library}
 use Rattle.relayed_rows.specs.Relays.{is_unread}

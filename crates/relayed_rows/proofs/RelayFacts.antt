@@ -8,7 +8,6 @@ use Rattle.std.specs.Option.{option_and_then, option_or}
 use Rattle.std.proofs.lemmas.Bool.{and_parts}
 use Rattle.std.proofs.lemmas.List.Elements.{recursion_from_All}
 use Rattle.dmap_tags.specs.Tree.{Tree}
-use Rattle.item_model.specs.declared.changes.Edit.{Edit}
 use Rattle.item_model.specs.declared.item.Row.{Row}
 use Rattle.item_model.specs.declared.request.Target.TheVariants.{Items}
 use Rattle.item_model.specs.Valid.{is_id}
@@ -19,7 +18,6 @@ use Rattle.share_history.proofs.KeyedFacts.{has, same_pairs, same_keys_same, sor
 use Rattle.share_history.proofs.DifferenceFacts.{at-passing}
 use Rattle.mirror_core.specs.Bodies.{IsRow}
 use Rattle.mirror_core.specs.Reading.{Told, key_of, listing_of, row_of as keyed}
-use Rattle.relayed_rows.specs.ReadRows.{row_of}
 use Rattle.relayed_rows.specs.Libraries.{IsLibrary, IsOwn, Library, library_in}
 use Rattle.relayed_rows.specs.Differences.{gone_ids, new_rows, drops_and_puts, difference}
 use Rattle.relayed_rows.specs.Relays.{first_unread, is_unread}
@@ -190,6 +188,13 @@ made_as_mirrored held told is s none rows =
     (λ q.
     at-made before cs sound q ∙ sym (follows told.is_delta held (map (key_of Items) told.gone) told.rows s none all q)
     ∙ sym (at-library_in q after t))
+
+-- and so is what a relay holds that held what the mirror's tags told
+pub taken_as_mirrored : (before after : Library) (cs : List Change) (held : Held) (told : Told) → before ≡ library_in held.rows → IsLibrary before
+    → cs ≡ changes_of before told → after ≡ made before cs → IsAscending held.rows → position_from is_unread 0 told.rows ≡ None → All (IsRow Items) (listing_of Items told).rows
+    → after ≡ library_in (mirror_after held (listing_of Items told)).rows
+taken_as_mirrored before after cs held told same is are done s none rows =
+    done ∙ ap (made before) are ∙ ap (λ (l : Library). made l (changes_of l told)) same ∙ made_as_mirrored held told (subst IsLibrary same is) s none rows
 
 -- the place of the first unread tag, with keys beside the tags or without
 unread_keyed : (n : ℕ) (listed : List Tree) → position_from (λ tag. is_unread tag.1) n (map (keyed Items) listed) ≡ position_from is_unread n listed
