@@ -28,12 +28,14 @@ returns-then-is_ok-clause-keeping g c = λ k own found.
     c.keep.ensures.acknowledged
 
 -- it was lost
-pub stop-requires-clause-going : goal.stop-requires-clause-going
-stop-requires-clause-going g c =
-    let added : has_added c.told-look.result ≡ true = search rules in
-    goes_on_behind c.args.share.now.settings c.args.share.now.history c.told-look.new.share.history c.args.by c.args.ask.now.want
-    (subst (λ b. HasAdded b c.args.share.now.history c.args.by c.args.ask.now.want c.told-look.new.share.history) added c.told-look.ensures.added)
-    (subst (λ ready. IsReadyFor g.F.Keeps.is_for (edits_wanted c.args.ask.now.want) ready) c.in-Some.is c.requires.made).0
+pub stop-requires : goal.stop-requires
+stop-requires g c =
+    let added : has_added c.told-look.result ≡ true = search rules in record {
+      going =
+          goes_on_behind c.args.share.now.settings c.args.share.now.history c.told-look.new.share.history c.args.by c.args.ask.now.want
+          (subst (λ b. HasAdded b c.args.share.now.history c.args.by c.args.ask.now.want c.told-look.new.share.history) added c.told-look.ensures.added)
+          (subst (λ ready. IsReadyFor g.F.Keeps.is_for (edits_wanted c.args.ask.now.want) ready) c.in-Some.is c.requires.made).0;
+    }
 
 pub returns-clause-grows : goal.returns-clause-grows
 returns-clause-grows g c =
