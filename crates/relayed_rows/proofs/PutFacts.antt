@@ -14,12 +14,6 @@ use Rattle.relayed_rows.specs.Changes.{Change, rows_in, fresh_rows}
 use Rattle.relayed_rows.specs.Held.{AreFresh, AreHeld}
 use Rattle.relayed_rows.proofs.LibraryFacts.{holds_of_all}
 
--- one item more is folded
-pub folded_more : {A B : Type 0} (f : B → A → B) (b : B) (xs : List A) (i : ℕ) (x : A) → i < length xs → x ≡ get_or xs i x
-    → f (fold f b (take i xs)) x ≡ fold f b (take (i + 1) xs)
-folded_more f b xs i x lt is =
-    ap (λ y. f (fold f b (take i xs)) y) is ∙ sym (fold-append f b (take i xs) (get_or xs i x ∷ [])) ∙ ap (fold f b) (sym (take_more xs i x lt))
-
 -- the next of the items that are left is folded
 pub folded_next : {A B : Type 0} (f : B → A → B) (b : B) (xs : List A) (i : ℕ) (d : A) → i < length xs
     → fold f (f b (get_or xs i d)) (drop (i + 1) xs) ≡ fold f b (drop i xs)
