@@ -8,7 +8,8 @@ use Rattle.edit_file.specs.Files.{AtRest, HasBatches, StandsForOrOneMore, is_bro
 use Rattle.edit_file.specs.Moments.{Holds}
 use Rattle.edit_file.specs.Standing.{opened, signature, FileStands}
 use Rattle.edit_file.specs.declared.file.EditFile.{EditFile}
-use Rattle.kept_library.specs.Closing.{LeavesAt, Puts, PutsBatches, bytes_at}
+use Rattle.kept_library.specs.Closing.{LeavesAt, Puts, PutsBatches}
+use Rattle.kept_library.specs.Opening.{bytes_at}
 
 -- what holds of the bytes of its disk holds of those under its name
 pub told_at : (P : List ℕ → Type 0) (contents : Option Contents) (path : List ℕ) (opened_as bytes : Option (List ℕ)) → OpensFile contents path opened_as bytes → IfSome bytes P

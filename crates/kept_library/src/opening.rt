@@ -7,7 +7,7 @@ ghost use Rattle.outside_disks.specs.Told.{Grows};
 ghost use Rattle.records_import.specs.Written.{IsReadable};
 ghost use Rattle.edit_file.specs.Files.{HasBatches, disk_of, is_broken, place_of};
 ghost use Rattle.share_core.specs.Opened.{if_filled};
-ghost use Rattle.kept_library.specs.Opening.{CountsFault, CountsStop, HasOpened, StopsShare, StopsOpening, share_of};
+ghost use Rattle.kept_library.specs.Opening.{CountsFault, CountsStop, HasOpened, LeavesRefused, StopsShare, StopsOpening, share_of};
 
 use crate::fault::{FileFault, file_fault, open_fault};
 use command_core::Fault;
@@ -47,7 +47,8 @@ pub fn open_library<F: Files>(
     requires valid { AreValid first }
     requires readable { IsReadable first }
     ensures opened { IfOk result (λ kept. HasOpened F.D.Disk.own (F.contents files.old) path.now (record { name = name.now; keep = keep }) first kept) }
-    ensures stops { IfErr result (StopsOpening (F.contents files.old) (F.contents files.new) path.now first) }
+    ensures stops { IfErr result (StopsOpening (F.contents files.old) path.now first) }
+    ensures left { IfErr result (LeavesRefused (F.contents files.old) (F.contents files.new) path.now) }
     ensures asks { Grows (F.asked files.old) (F.asked files.new) (path.now ∷ []) }
     ensures contents { OnOk result (F.contents files.new ≡ F.contents files.old) }
     ensures count { CountsStop (F.faults files.old) (F.faults files.new) result }

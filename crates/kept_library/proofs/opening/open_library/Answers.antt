@@ -5,30 +5,34 @@ use Rattle.share_core.specs.Opened.{if_filled}
 use Rattle.command_core.specs.declared.fault.Fault.TheVariants as fault
 use Rattle.edit_file.specs.Files.{HasBatches}
 use Rattle.edit_file.specs.Standing.{BreaksAt, FileStands}
-use Rattle.kept_library.specs.Closing.{LeavesAt, Puts, bytes_at}
-use Rattle.kept_library.specs.Opening.{StopsOpening}
+use Rattle.kept_library.specs.Closing.{LeavesAt}
+use Rattle.kept_library.specs.Opening.{LeavesRefused, StopsOpening}
 use Rattle.kept_library.specs.declared.fault.FileFault.TheVariants.{Failed}
-use Rattle.kept_library.proofs.Stops.{batches_of_share, both_at, stops_file, stops_share}
+use Rattle.kept_library.proofs.Stops.{batches_of_share, leaves_file, leaves_share, stops_file, stops_share}
 use Rattle.kept_library.proofs.Told.{told_at, same_at, placed_at, leaves_at}
 use Rattle.kept_library.proofs.opening.open_library.Goals as goal
 
 pub returns-in-Err-clause-stops : goal.returns-in-Err-clause-stops
 returns-in-Err-clause-stops g c =
+    let contents = g.F.Files.contents c.args.files.now in
+    subst (StopsOpening contents c.args.path.now c.args.first) (sym c.file_fault.ensures)
+    (stops_file contents c.args.path.now c.args.first c.in-Err.error
+    (λ at is. told_at (λ b. BreaksAt b at) contents c.args.path.now _ _ c.in-Ok.ensures.opened (c.in-Err.ensures.breaks at is)))
+
+pub returns-in-Err-clause-left : goal.returns-in-Err-clause-left
+returns-in-Err-clause-left g c =
     let before = g.F.Files.contents c.args.files.now in
     let now = g.F.Files.contents c.close.new.self in
-    let path = c.args.path.now in
     let closed = subst (λ contents. ClosesFile contents now (g.F.D.Disk.opened_as c.in-Err.disk) (g.F.D.Disk.bytes c.in-Err.disk)) c.in-Ok.ensures.contents_stay c.close.ensures.closed in
-    subst (StopsOpening before now path c.args.first) (sym c.file_fault.ensures)
-    (stops_file before now path c.args.first c.in-Err.error
-    (λ at is. both_at before (λ contents. BreaksAt (bytes_at contents path) at) (λ contents. Puts path (bytes_at contents path) contents now)
-    (told_at (λ b. BreaksAt b at) before path _ _ c.in-Ok.ensures.opened (c.in-Err.ensures.breaks at is))
-    (same_at before now path _ _ _ _ c.in-Ok.ensures.opened c.in-Err.ensures.name_stays (c.in-Err.ensures.unchanged at is).0 closed)))
+    subst (LeavesRefused before now c.args.path.now) (sym c.file_fault.ensures)
+    (leaves_file before now c.args.path.now c.in-Err.error
+    (λ at is. same_at before now c.args.path.now _ _ _ _ c.in-Ok.ensures.opened c.in-Err.ensures.name_stays (c.in-Err.ensures.unchanged at is).0 closed))
 
 pub returns-in-Ok-begun-clause-opened : goal.returns-in-Ok-begun-clause-opened
 returns-in-Ok-begun-clause-opened g c =
     let before = g.F.Files.contents c.args.files.now in
     let opened = c.in-Ok-open.opened in record {
-      stood_for = opened.1.items;
+      before = opened.1.items;
       stood = told_at (λ b. FileStands b opened.1.items) before c.args.path.now _ _ c.in-Ok.ensures.opened c.in-Ok-open.ensures.stands;
       share_is = c.in-Ok-begun.ensures.opened;
       keeps = subst (λ (bs : List (List Edit)). HasBatches g.F.D.Disk c.begun.new.file bs)
@@ -42,12 +46,18 @@ returns-in-Ok-begun-clause-opened g c =
 
 pub returns-in-Err-begun-clause-stops : goal.returns-in-Err-begun-clause-stops
 returns-in-Err-begun-clause-stops g c =
+    let contents = g.F.Files.contents c.args.files.now in
+    let before = c.in-Ok-open.opened.1.items in
+    stops_share contents c.args.path.now c.args.first before c.in-Err-begun.stop
+    (told_at (λ b. FileStands b before) contents c.args.path.now _ _ c.in-Ok.ensures.opened c.in-Ok-open.ensures.stands) c.in-Err-begun.ensures.stops
+
+pub returns-in-Err-begun-clause-left : goal.returns-in-Err-begun-clause-left
+returns-in-Err-begun-clause-left g c =
     let before = g.F.Files.contents c.args.files.now in
     let now = g.F.Files.contents c.close-in-Err-begun.new.self in
-    let path = c.args.path.now in
     let opened = c.in-Ok-open.opened in
-    stops_share before now path c.args.first opened.1.items c.in-Err-begun.stop
-    (told_at (λ b. FileStands b opened.1.items) before path _ _ c.in-Ok.ensures.opened c.in-Ok-open.ensures.stands) c.in-Err-begun.ensures.stops
+    leaves_share before now c.args.path.now opened.1.items (opened.1.items ++ if_filled c.args.first) c.in-Err-begun.stop
+    (told_at (λ b. FileStands b opened.1.items) before c.args.path.now _ _ c.in-Ok.ensures.opened c.in-Ok-open.ensures.stands) c.in-Err-begun.ensures.stops
     (by_file c.in-Err-begun.ensures.unchanged)
   where
     by_file : (c.in-Err-begun.stop ≡ fault.Own Failed) ⊎ (c.begun.new.file ≡ c.in-Ok-open.opened.0)
