@@ -1,5 +1,5 @@
 -- Why no share was opened: by its file, or by the batches that it has.
-use Rattle.std.proofs.Common.{◌≡◌, ◌≢◌, ◌++◌, ℕ, List, [], ◌∷◌, Option, IfSome, Result, Ok, Err, IfErr, refl, sym, subst}
+use Rattle.std.proofs.Common.{◌≡◌, ◌≢◌, ◌⊎◌, inl, inr, ◌++◌, ℕ, List, [], ◌∷◌, Option, IfSome, Result, Ok, Err, IfErr, refl, sym, ap, ◌∙◌, subst}
 use Rattle.std.specs.Result.{IsErrAnd}
 use Rattle.item_model.specs.declared.changes.Edit.{Edit}
 use Rattle.outside_disks.specs.Contents.{Contents}
@@ -8,9 +8,14 @@ use Rattle.command_core.specs.declared.fault.Fault.TheVariants as fault
 use Rattle.edit_file.specs.Standing.{BreaksAt}
 use Rattle.edit_file.specs.declared.refusal.FileError.{FileError}
 use Rattle.edit_file.specs.declared.refusal.FileError.TheVariants as refusal
+use Rattle.share_history.specs.Histories.{batches}
+use Rattle.share_replies.specs.Answers.{Shared}
+use Rattle.share_replies.specs.Settings.{Settings}
 use Rattle.share_core.specs.Opened.{if_filled}
+use Rattle.share_core.proofs.Opening.{batches-opened}
 use Rattle.kept_library.specs.Faults.{file_fault}
-use Rattle.kept_library.specs.Opening.{CountsFault, CountsStop, StandsAt, StopsOpening, StopsShare, bytes_at}
+use Rattle.kept_library.specs.Closing.{LeavesAt, Puts}
+use Rattle.kept_library.specs.Opening.{CountsFault, CountsStop, LeavesRefused, StandsAt, StopsOpening, StopsShare, bytes_at, share_of}
 use Rattle.kept_library.specs.declared.fault.FileFault.{FileFault}
 use Rattle.kept_library.specs.declared.fault.FileFault.TheVariants.{NotEditFile, Failed, TooManyEdits, TooManyLists}
 
@@ -20,14 +25,33 @@ stops_file contents path first (refusal.NotEditFile at) breaks = breaks at refl
 stops_file contents path first refusal.Failed breaks = tt
 stops_file contents path first refusal.Memory breaks = tt
 
-pub stops_share : (contents : Option Contents) (path : List ℕ) (first : List Edit) (batches : List (List Edit)) (stop : Fault FileFault) → StandsAt contents path batches
-    → StopsShare (batches ++ if_filled first) stop → StopsOpening contents path first stop
-stops_share contents path first batches (fault.Own (NotEditFile at)) stood stops = absurd stops
-stops_share contents path first batches (fault.Own Failed) stood stops = tt
-stops_share contents path first batches (fault.Own TooManyEdits) stood stops = record { batches = batches; stood = stood; many = stops }
-stops_share contents path first batches (fault.Own TooManyLists) stood stops = record { batches = batches; stood = stood; many = stops }
-stops_share contents path first batches fault.Read stood stops = absurd stops
-stops_share contents path first batches fault.Memory stood stops = tt
+pub stops_share : (contents : Option Contents) (path : List ℕ) (first : List Edit) (bs : List (List Edit)) (stop : Fault FileFault) → StandsAt contents path bs
+    → StopsShare (bs ++ if_filled first) stop → StopsOpening contents path first stop
+stops_share contents path first bs (fault.Own (NotEditFile at)) stood stops = absurd stops
+stops_share contents path first bs (fault.Own Failed) stood stops = tt
+stops_share contents path first bs (fault.Own TooManyEdits) stood stops = record { before = bs; stood = stood; many = stops }
+stops_share contents path first bs (fault.Own TooManyLists) stood stops = record { before = bs; stood = stood; many = stops }
+stops_share contents path first bs fault.Read stood stops = absurd stops
+stops_share contents path first bs fault.Memory stood stops = tt
+
+-- ---- what a refusal leaves
+
+pub leaves_file : (before now : Option Contents) (path : List ℕ) (error : FileError)
+    → ((at : ℕ) → error ≡ refusal.NotEditFile at → IfSome before (λ c. Puts path (bytes_at c path) c now)) → LeavesRefused before now path (file_fault error)
+leaves_file before now path (refusal.NotEditFile at) left = left at refl
+leaves_file before now path refusal.Failed left = tt
+leaves_file before now path refusal.Memory left = tt
+
+pub leaves_share : (before now : Option Contents) (path : List ℕ) (bs all : List (List Edit)) (stop : Fault FileFault) → StandsAt before path bs → StopsShare all stop
+    → (stop ≡ fault.Own Failed) ⊎ LeavesAt path bs before now → LeavesRefused before now path stop
+leaves_share before now path bs all (fault.Own (NotEditFile at)) stood stops left = absurd stops
+leaves_share before now path bs all (fault.Own Failed) stood stops left = tt
+leaves_share before now path bs all (fault.Own TooManyEdits) stood stops (inl failed) = absurd (cc)
+leaves_share before now path bs all (fault.Own TooManyEdits) stood stops (inr left) = record { batches = bs; stood = stood; left = left }
+leaves_share before now path bs all (fault.Own TooManyLists) stood stops (inl failed) = absurd (cc)
+leaves_share before now path bs all (fault.Own TooManyLists) stood stops (inr left) = record { batches = bs; stood = stood; left = left }
+leaves_share before now path bs all fault.Read stood stops left = tt
+leaves_share before now path bs all fault.Memory stood stops left = tt
 
 -- a refusal that no call on the file led to leaves the count
 pub counts_nothing : {T : Type 0} (n : ℕ) (r : Result T (Fault FileFault)) → IfErr r (CountsFault n n) → CountsStop n n r
@@ -38,6 +62,10 @@ counts_nothing n (Err stop) counted = counted
 pub counts_same : {T : Type 0} (n : ℕ) (r : Result T (Fault FileFault)) (stop : Fault FileFault) → IsErrAnd r (λ e. e ≡ stop) → CountsFault n n stop → CountsStop n n r
 counts_same n (Ok x) stop is counted = absurd is
 counts_same n (Err e) stop is counted = subst (CountsFault n n) (sym is) counted
+
+-- a share that begins with batches has them in its history
+pub batches_of_share : (settings : Settings) (bs : List (List Edit)) (share : Shared) → share ≡ share_of settings bs → batches share.history ≡ bs
+batches_of_share settings bs share is = ap (λ (s : Shared). batches s.history) is ∙ batches-opened bs
 
 -- a batch that has edits is the one batch
 pub filled_is : (es : List Edit) → es ≢ [] → if_filled es ≡ es ∷ []

@@ -1,12 +1,12 @@
 -- A share that is opened with the batches of a file, and with one batch more, which the file keeps from then on.
-use Rattle.std.specs.Prelude.{◌≡◌, ℕ, ◌<◌, List, [], ◌++◌, length, false, Option, Some, unwrap_or, IfSome, Result, MatchResult}
+use Rattle.std.specs.Prelude.{◌≡◌, ℕ, ◌<◌, List, [], ◌++◌, length, false, Option, Some, IfSome, unwrap_or, Result, MatchResult}
 use Rattle.std.specs.FinMap as finite
 use Rattle.item_model.specs.declared.changes.Edit.{Edit}
 use Rattle.outside_disks.specs.Contents.{Contents}
 use Rattle.outside_disks.specs.Counts.{Rose}
 use Rattle.outside_disks.specs.declared.disk.Disk.{Ghosts}
 use Rattle.outside_disks.specs.declared.faulted.Faulted as faulted
-use Rattle.share_history.specs.Histories.{edits}
+use Rattle.share_history.specs.Histories.{batches, edits}
 use Rattle.share_history.specs.Numbers.{most_edits}
 use Rattle.share_replies.specs.Answers.{Shared}
 use Rattle.share_replies.specs.Settings.{Settings}
@@ -15,6 +15,7 @@ use Rattle.edit_file.specs.Files.{HasBatches, disk_of, is_broken, place_of}
 use Rattle.edit_file.specs.Standing.{BreaksAt, FileStands}
 use Rattle.command_core.specs.declared.fault.Fault.{Fault}
 use Rattle.command_core.specs.declared.fault.Fault.TheVariants as fault
+use Rattle.kept_library.specs.Closing.{LeavesAt, Puts}
 use Rattle.kept_library.specs.declared.fault.FileFault.{FileFault}
 use Rattle.kept_library.specs.declared.fault.FileFault.TheVariants.{NotEditFile, Failed, TooManyEdits, TooManyLists}
 use Rattle.kept_library.specs.declared.opening.KeptLibrary.{KeptLibrary}
@@ -25,36 +26,36 @@ bytes_at contents path = unwrap_or (finite.get contents path) []
 
 -- the bytes under the name stand for the batches, where they are told
 abbrev pub StandsAt : Option Contents → List ℕ → List (List Edit) → Type 0
-StandsAt contents path batches = IfSome contents (λ c. FileStands (bytes_at c path) batches)
+StandsAt contents path bs = IfSome contents (λ c. FileStands (bytes_at c path) bs)
 
 abbrev pub share_of : Settings → List (List Edit) → Shared
-share_of settings batches = record { settings = settings; history = opened_with batches; marks = [] }
+share_of settings bs = record { settings = settings; history = opened_with bs; marks = [] }
 
 module _ {D : Type 0} (g : Ghosts D) {f : faulted.Ghosts D} where
-  -- the share begins with the batches that the file stood for, and with the first one, and the file keeps all of them
+  -- the share begins with the batches that the file stood for, and with the first one, and the file keeps those of the share's history
   pub record HasOpened (contents : Option Contents) (path : List ℕ) (settings : Settings) (first : List Edit) (kept : KeptLibrary D g f) : Type 0 where
-    pub batches : List (List Edit)
-    pub stood : StandsAt contents path batches
-    pub share_is : kept.share ≡ share_of settings (batches ++ if_filled first)
-    pub keeps : HasBatches g kept.file (batches ++ if_filled first)
+    pub before : List (List Edit)
+    pub stood : StandsAt contents path before
+    pub share_is : kept.share ≡ share_of settings (before ++ if_filled first)
+    pub keeps : HasBatches g kept.file (batches kept.share.history)
     pub sound : is_broken g kept.file ≡ false
     pub place : IfSome contents (λ _. place_of g kept.file ≡ Some path)
     pub faultless : f.faults (disk_of g kept.file) ≡ 0
 
 -- why the batches open no share; memory may be wanted at any time
 abbrev pub StopsShare : List (List Edit) → Fault FileFault → Type 0
-StopsShare batches (fault.Own (NotEditFile at)) = ⊥
-StopsShare batches (fault.Own Failed) = Unit {0}
-StopsShare batches (fault.Own TooManyEdits) = most_edits < length (edits batches)
-StopsShare batches (fault.Own TooManyLists) = LeaveManyLists batches
-StopsShare batches fault.Read = ⊥
-StopsShare batches fault.Memory = Unit {0}
+StopsShare bs (fault.Own (NotEditFile at)) = ⊥
+StopsShare bs (fault.Own Failed) = Unit {0}
+StopsShare bs (fault.Own TooManyEdits) = most_edits < length (edits bs)
+StopsShare bs (fault.Own TooManyLists) = LeaveManyLists bs
+StopsShare bs fault.Read = ⊥
+StopsShare bs fault.Memory = Unit {0}
 
 -- the batches that the file stood for, with the first one, are too many for a share in some way
 pub record AreRefused (contents : Option Contents) (path : List ℕ) (first : List Edit) (TooMany : List (List Edit) → Type 0) : Type 0 where
-  pub batches : List (List Edit)
-  pub stood : StandsAt contents path batches
-  pub many : TooMany (batches ++ if_filled first)
+  pub before : List (List Edit)
+  pub stood : StandsAt contents path before
+  pub many : TooMany (before ++ if_filled first)
 
 -- why no share was opened; memory may be wanted at any time
 abbrev pub StopsOpening : Option Contents → List ℕ → List Edit → Fault FileFault → Type 0
@@ -64,6 +65,22 @@ StopsOpening contents path first (fault.Own TooManyEdits) = AreRefused contents 
 StopsOpening contents path first (fault.Own TooManyLists) = AreRefused contents path first LeaveManyLists
 StopsOpening contents path first fault.Read = ⊥
 StopsOpening contents path first fault.Memory = Unit {0}
+
+-- the file stood for some batches, and does so still
+pub record LeavesBatches (path : List ℕ) (before now : Option Contents) : Type 0 where
+  pub batches : List (List Edit)
+  pub stood : StandsAt before path batches
+  pub left : LeavesAt path batches before now
+
+-- what is under the file's name after a refusal: the same bytes, or the same batches; a call that failed, and want of memory, may come in
+-- the midst of a change
+abbrev pub LeavesRefused : (before now : Option Contents) → List ℕ → Fault FileFault → Type 0
+LeavesRefused before now path (fault.Own (NotEditFile at)) = IfSome before (λ c. Puts path (bytes_at c path) c now)
+LeavesRefused before now path (fault.Own Failed) = Unit {0}
+LeavesRefused before now path (fault.Own TooManyEdits) = LeavesBatches path before now
+LeavesRefused before now path (fault.Own TooManyLists) = LeavesBatches path before now
+LeavesRefused before now path fault.Read = Unit {0}
+LeavesRefused before now path fault.Memory = Unit {0}
 
 -- the count of faults rises exactly with a fault of a file
 abbrev pub CountsFault : ℕ → ℕ → Fault FileFault → Type 0
