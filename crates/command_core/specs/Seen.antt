@@ -71,6 +71,13 @@ abbrev pub net_seen : Option (List (List ℕ × ℕ)) → Option (List (List ℕ
 net_seen asked written door_links next_input faults =
     record { asked = asked; written = written; door_links = door_links; next_input = next_input; faults = faults }
 
+-- all of these at a moment
+abbrev pub seen : InputSeen → FilesSeen → NetSeen → Seen
+seen input files net = record { input = input; around = record { files = files; net = net } }
+
+abbrev pub told_in : (before after : Seen) (output_before output_after : OutputSeen) → Told
+told_in before after output_before output_after = record { before = before; after = after; output_before = output_before; output_after = output_after }
+
 -- a run that leaves files alone
 abbrev pub told_over : FilesSeen → (input_before input_after : InputSeen) (net_before net_after : NetSeen) (output_before output_after : OutputSeen) → Told
 told_over files input_before input_after net_before net_after output_before output_after = record {

@@ -9,11 +9,11 @@ use Rattle.item_model.specs.declared.request.Target.TheVariants.{Items}
 use Rattle.share_history.specs.Keyed.{at, put_in, taken_out, IsAscending}
 use Rattle.share_history.proofs.KeyedFacts.{has, same_key, sorted-ascending, at-put, ascending-put, at-out, ascending-out, has-keys_of}
 use Rattle.mirror_core.specs.Bodies.{IsRow}
-use Rattle.mirror_core.specs.Reading.{Told, key_of, row_of as keyed}
+use Rattle.mirror_core.specs.Reading.{Told, row_of as keyed}
 use Rattle.relayed_rows.specs.ReadRows.{row_of}
 use Rattle.relayed_rows.specs.Libraries.{IsLibrary, IsOwn, Library}
 use Rattle.relayed_rows.specs.Relays.{is_unread}
-use Rattle.relayed_rows.specs.Changes.{Change, with_gone, with_row, rows_told, ids_left, changes_of, AreSound}
+use Rattle.relayed_rows.specs.Changes.{Change, with_gone, with_row, rows_told, ids_cleared, changes_of, AreSound}
 use Rattle.relayed_rows.proofs.RowFacts.{row_own, listed_own}
 
 -- ---- under each id
@@ -72,11 +72,11 @@ own_told (tag ∷ tags) =
 
 pub changes_sound : (held : Library) (told : Told) (cs : List Change) → IsLibrary held → cs ≡ changes_of held told → AreSound held cs
 changes_sound held told cs is h =
-    let left : List Change = fold with_gone [] (ids_left held told) in
+    let left : List Change = fold with_gone [] (ids_cleared held told) in
     record {
       library = is;
-      ascends = subst IsAscending (sym h) (ascending-rows left (rows_told told.rows) (ascending-gones [] (ids_left held told) (sorted-ascending [])));
-      own = subst Own (sym h) (own_rows left (rows_told told.rows) (own_gones (ids_left held told)) (own_told told.rows));
+      ascends = subst IsAscending (sym h) (ascending-rows left (rows_told told.rows) (ascending-gones [] (ids_cleared held told) (sorted-ascending [])));
+      own = subst Own (sym h) (own_rows left (rows_told told.rows) (own_gones (ids_cleared held told)) (own_told told.rows));
     }
 
 -- ---- the same in a mirror of tags

@@ -1,5 +1,5 @@
 -- What the difference of two libraries has under each id, that it leads from the one to the other, and that its edits are valid.
-use Rattle.std.proofs.Common.{◌≡◌, ◌↔◌, ℕ, Bool, true, false, cond, not, ◌&&◌, List, [], ◌∷◌, ◌++◌, map, filter, fold, Option, Some, None, is_some, is_none, All, refl, sym, ap, subst, ◌∙◌, append_assoc, append-nil}
+use Rattle.std.proofs.Common.{◌≡◌, ℕ, Bool, true, false, cond, not, ◌&&◌, List, [], ◌∷◌, ◌++◌, map, fold, Option, Some, None, is_some, is_none, refl, sym, ap, subst, ◌∙◌, append_assoc, append-nil}
 use Rattle.std.specs.List.{AllByRecursion}
 use Rattle.std.specs.Map.{keys_of}
 use Rattle.std.specs.Option.{option_or, option_map_or, option_and_then}
@@ -11,7 +11,7 @@ use Rattle.item_model.specs.declared.item.Row.{Row}
 use Rattle.item_model.specs.declared.request.Meta.TheVariants as meta
 use Rattle.item_model.specs.Projection.{projection}
 use Rattle.item_model.specs.Valid.{IsValid, is_id}
-use Rattle.share_history.specs.Keyed.{at, put_in, taken_out, IsAscending, AreAscending}
+use Rattle.share_history.specs.Keyed.{at, put_in, taken_out, IsAscending}
 use Rattle.share_history.specs.LastSaid.{only_if}
 use Rattle.share_history.specs.Rows.{library}
 use Rattle.share_history.proofs.KeyedFacts.{has, same_pairs, same_keys_same, sorted-ascending, sorted-filter, all-kept, at-puts, ascending-puts, at-outs, ascending-outs, ascending-filter, has-filter, has-keys_of}
@@ -100,7 +100,7 @@ differences_apply es now was is =
 
 -- ---- validity
 
-valid_ids : (l : Library) → AllByRecursion IsOwn l → AllByRecursion (λ id. is_id id ≡ true) (keys_of l)
+pub valid_ids : (l : Library) → AllByRecursion IsOwn l → AllByRecursion (λ id. is_id id ≡ true) (keys_of l)
 valid_ids [] own = tt
 valid_ids (e ∷ l) own = (own.0.id, valid_ids l own.1)
 

@@ -6,7 +6,7 @@ use Rattle.std.proofs.lemmas.Bool.{and_parts, and_from, ltb-true, lt-ltb, leb-tr
 use Rattle.dmap_tags.specs.Tree.{Tree}
 use Rattle.item_model.specs.declared.property.Property.{Property}
 use Rattle.item_model.specs.declared.item.PropValue.{PropValue}
-use Rattle.item_model.specs.Items.{is_value_of, rises_from, is_item, value_of, with_value}
+use Rattle.item_model.specs.Items.{is_value_of, rises_from, value_of, with_value}
 use Rattle.item_model.specs.Properties.{all_properties, property_count, rank_of, is_same}
 use Rattle.item_model.proofs.Ranks.{same_property, rank_below}
 use Rattle.relayed_rows.specs.ReadRows.{first_told, item_told}

@@ -9,7 +9,6 @@ use Rattle.dmap_tags.specs.Tree.{Tree}
 use Rattle.item_model.specs.declared.item.Row.{Row}
 use Rattle.item_model.specs.declared.request.Meta.TheVariants.{All}
 use Rattle.item_model.specs.declared.request.Target.TheVariants.{Items}
-use Rattle.item_model.specs.Projection.{projection}
 use Rattle.item_model.specs.Valid.{is_id}
 use Rattle.share_history.specs.Keyed.{at, IsAscending}
 use Rattle.share_history.specs.Listings.{shown_rows}

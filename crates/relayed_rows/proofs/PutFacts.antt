@@ -1,23 +1,30 @@
 -- Rows that are put under ids that are not held, taken back, and put under ids that are held.
-use Rattle.std.proofs.Common.{◌≡◌, ◌+◌, ◌<◌, ℕ, zero, suc, Bool, true, false, cond, List, [], ◌∷◌, fold, take, length, get_or, Option, Some, None, is_some, is_none, nat_cmp, is_eq, refl, sym, ap, ◌∙◌}
-use Rattle.std.specs.List.{AllByRecursion}
+use Rattle.std.proofs.Common.{◌≡◌, ◌+◌, ◌<◌, ℕ, zero, suc, Bool, true, false, cond, not, List, [], ◌∷◌, ◌++◌, append_assoc, append-nil, fold, take, drop, length, get_or, Option, Some, None, is_some, is_none, nat_cmp, is_eq, refl, sym, ap, ◌∙◌}
 use Rattle.std.specs.Map.{keys_of}
 use Rattle.std.specs.Option.{option_or}
-use Rattle.std.proofs.lemmas.List.{take_more}
+use Rattle.std.proofs.lemmas.List.{take_more, at_drop_more}
+use Rattle.std.proofs.lemmas.List.Elements.{filter-append}
 use Rattle.std.proofs.lemmas.List.Sums.{fold-append}
 use Rattle.item_model.specs.declared.item.Row.{Row}
 use Rattle.share_history.specs.Keyed.{at, put_in, taken_out, IsAscending}
-use Rattle.share_history.proofs.KeyedFacts.{has, same_pairs, at-put, at-puts, ascending-puts, at-outs, ascending-outs, at-filter, ascending-filter, has-keys_of}
+use Rattle.share_history.proofs.KeyedFacts.{same_pairs, at-put, at-puts, ascending-puts, at-outs, ascending-outs, at-filter, ascending-filter, has-keys_of}
 use Rattle.relayed_rows.specs.Libraries.{Library}
-use Rattle.relayed_rows.specs.Changes.{fresh_rows}
+use Rattle.relayed_rows.specs.Differences.{has_row, new_rows}
+use Rattle.relayed_rows.specs.Changes.{Change, rows_in, fresh_rows}
 use Rattle.relayed_rows.specs.Held.{AreFresh, AreHeld}
 use Rattle.relayed_rows.proofs.LibraryFacts.{holds_of_all}
 
--- one item more is folded
-pub folded_more : {A B : Type 0} (f : B → A → B) (b : B) (xs : List A) (i : ℕ) (x : A) → i < length xs → x ≡ get_or xs i x
-    → f (fold f b (take i xs)) x ≡ fold f b (take (i + 1) xs)
-folded_more f b xs i x lt is =
-    ap (λ y. f (fold f b (take i xs)) y) is ∙ sym (fold-append f b (take i xs) (get_or xs i x ∷ [])) ∙ ap (fold f b) (sym (take_more xs i x lt))
+-- the next of the items that are left is folded
+pub folded_next : {A B : Type 0} (f : B → A → B) (b : B) (xs : List A) (i : ℕ) (d : A) → i < length xs
+    → fold f (f b (get_or xs i d)) (drop (i + 1) xs) ≡ fold f b (drop i xs)
+folded_next f b xs i d lt = sym (at_drop_more (fold f b) xs i d lt)
+
+-- one change more was looked at
+pub news_more : (held olds : Library) (c : Change) (cs : List Change) → (olds ++ new_rows held (rows_in (c ∷ []))) ++ new_rows held (rows_in cs) ≡ olds ++ new_rows held (rows_in (c ∷ cs))
+news_more held olds (id, None) cs = ap (λ (rows : Library). rows ++ new_rows held (rows_in cs)) (append-nil olds)
+news_more held olds (id, Some row) cs =
+    append_assoc olds (new_rows held ((id, row) ∷ [])) (new_rows held (rows_in cs))
+    ∙ ap (λ (more : Library). olds ++ more) (sym (filter-append (λ x. not (has_row held x)) ((id, row) ∷ []) (rows_in cs)))
 
 -- ---- taken back
 
@@ -32,7 +39,7 @@ other_id false row o h = refl
 absent_before : (q i : ℕ) (rows : Library) → at q rows ≡ None → at q (take i rows) ≡ None
 absent_before q i [] h = ap (at q) (take_nothing i)
   where
-    take_nothing : (n : ℕ) → take n [] ≡ []
+    take_nothing : (n : ℕ) → take {A = ℕ × Row} n [] ≡ []
     take_nothing zero = refl
     take_nothing (suc n) = refl
 absent_before q zero (e ∷ rows) h = refl

@@ -8,18 +8,17 @@ use Rattle.std.specs.Option.{option_and_then, option_or}
 use Rattle.std.proofs.lemmas.Bool.{and_parts}
 use Rattle.std.proofs.lemmas.List.Elements.{recursion_from_All}
 use Rattle.dmap_tags.specs.Tree.{Tree}
-use Rattle.item_model.specs.declared.changes.Edit.{Edit}
 use Rattle.item_model.specs.declared.item.Row.{Row}
 use Rattle.item_model.specs.declared.request.Target.TheVariants.{Items}
 use Rattle.item_model.specs.Valid.{is_id}
 use Rattle.share_history.specs.Keyed.{at, put_in, taken_out, IsAscending, AreAscending}
 use Rattle.share_history.specs.LastSaid.{only_if}
+use Rattle.share_history.specs.Listings.{Listing}
 use Rattle.share_history.specs.Mirror.{Held, mirror_after}
 use Rattle.share_history.proofs.KeyedFacts.{has, same_pairs, same_keys_same, sorted-ascending, sorted-filter, all-kept, at-puts, ascending-puts, at-outs, ascending-outs, ascending-filter, has-keys_of}
 use Rattle.share_history.proofs.DifferenceFacts.{at-passing}
 use Rattle.mirror_core.specs.Bodies.{IsRow}
 use Rattle.mirror_core.specs.Reading.{Told, key_of, listing_of, row_of as keyed}
-use Rattle.relayed_rows.specs.ReadRows.{row_of}
 use Rattle.relayed_rows.specs.Libraries.{IsLibrary, IsOwn, Library, library_in}
 use Rattle.relayed_rows.specs.Differences.{gone_ids, new_rows, drops_and_puts, difference}
 use Rattle.relayed_rows.specs.Relays.{first_unread, is_unread}
@@ -171,9 +170,13 @@ follows true held gone listed s none all =
 follows false held gone listed s none all =
     follows_rows [] (fold with_gone [] (keys_of (library_in held.rows))) (library_in held.rows) 0 listed none all (follows_nothing (library_in held.rows))
 
-ascending-tags : (d : Bool) (held : Held) (gone : List ℕ) (listed : List (ℕ × Tree)) → IsAscending held.rows → IsAscending (fold put_in (cond d (fold taken_out held.rows gone) []) listed)
-ascending-tags true held gone listed s = ascending-puts (fold taken_out held.rows gone) listed (ascending-outs held.rows gone s)
-ascending-tags false held gone listed s = ascending-puts [] listed (sorted-ascending [])
+ascending-after : (d : Bool) (tags : List (ℕ × Tree)) (gone : List ℕ) (listed : List (ℕ × Tree)) → IsAscending tags → IsAscending (fold put_in (cond d (fold taken_out tags gone) []) listed)
+ascending-after true tags gone listed s = ascending-puts (fold taken_out tags gone) listed (ascending-outs tags gone s)
+ascending-after false tags gone listed s = ascending-puts [] listed (sorted-ascending [])
+
+-- a mirror's tags ascend after each listing
+pub ascending-mirrored : (held : Held) (l : Listing) → IsAscending held.rows → IsAscending (mirror_after held l).rows
+ascending-mirrored held l s = ascending-after l.is_delta held.rows l.gone l.rows s
 
 -- the library after the changes of a listing is the one that a mirror's tags tell after it
 pub made_as_mirrored : (held : Held) (told : Told) → IsLibrary (library_in held.rows) → IsAscending held.rows → position_from is_unread 0 told.rows ≡ None
@@ -184,12 +187,19 @@ made_as_mirrored held told is s none rows =
     let cs : List Change = changes_of before told in
     let sound : AreSound before cs = changes_sound before told cs is refl in
     let after : List (ℕ × Tree) = (mirror_after held (listing_of Items told)).rows in
-    let t : IsAscending after = ascending-tags told.is_delta held (map (key_of Items) told.gone) (map (keyed Items) told.rows) s in
+    let t : IsAscending after = ascending-mirrored held (listing_of Items told) s in
     let all : AllByRecursion (IsRow Items) (map (keyed Items) told.rows) = recursion_from_All (IsRow Items) (map (keyed Items) told.rows) rows in
     same_pairs (made before cs) (library_in after) (ascending-made before cs sound) (ascending-library_in after t)
     (λ q.
     at-made before cs sound q ∙ sym (follows told.is_delta held (map (key_of Items) told.gone) told.rows s none all q)
     ∙ sym (at-library_in q after t))
+
+-- and so is what a relay holds that held what the mirror's tags told
+pub taken_as_mirrored : (before after : Library) (cs : List Change) (held : Held) (told : Told) → before ≡ library_in held.rows → IsLibrary before
+    → cs ≡ changes_of before told → after ≡ made before cs → IsAscending held.rows → position_from is_unread 0 told.rows ≡ None → All (IsRow Items) (listing_of Items told).rows
+    → after ≡ library_in (mirror_after held (listing_of Items told)).rows
+taken_as_mirrored before after cs held told same is are done s none rows =
+    done ∙ ap (made before) are ∙ ap (λ (l : Library). made l (changes_of l told)) same ∙ made_as_mirrored held told (subst IsLibrary same is) s none rows
 
 -- the place of the first unread tag, with keys beside the tags or without
 unread_keyed : (n : ℕ) (listed : List Tree) → position_from (λ tag. is_unread tag.1) n (map (keyed Items) listed) ≡ position_from is_unread n listed

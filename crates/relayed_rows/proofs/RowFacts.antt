@@ -1,15 +1,17 @@
 -- A row that a listing shows with all properties reads back.
-use Rattle.std.proofs.Common.{◌≡◌, ◌==◌, ◌&&◌, ◌+◌, ◌≤◌, ℕ, Bool, true, false, cond, List, [], ◌∷◌, Option, Some, None, IfSome, refl, sym, ap, subst, ◌∙◌, true≢false, eq-eqb, ltb-true, arith}
+use Rattle.std.proofs.Common.{◌≡◌, ◌||◌, ◌+◌, ◌≤◌, ℕ, Bool, true, false, cond, List, [], ◌∷◌, Option, Some, None, IfSome, refl, sym, ap, subst, ◌∙◌, true≢false, eq-eqb, ltb-true, arith}
 use Rattle.std.specs.List.{cons_option, filter_map, find, list_any}
 use Rattle.std.specs.Option.{option_map, option_or, option_and_then}
 use Rattle.std.specs.Str.{bytes_eq}
-use Rattle.std.proofs.lemmas.Bool.{false_from_ne_true, and_parts, and_from, le-leb}
+use Rattle.std.proofs.lemmas.Bool.{false_from_ne_true, and_from, le-leb}
 use Rattle.dmap_tags.specs.Codes.{Four, code, code_bytes, is_code}
 use Rattle.dmap_tags.specs.Tree.{Tree, leaf, list, more, tree_list}
 use Rattle.dmap_tags.specs.Tree as tree
-use Rattle.dmap_tags.specs.SameTags.{is_same_tag}
+use Rattle.dmap_tags.specs.Seen.{tree_with}
+use Rattle.dmap_tags.specs.declared.tree.Value.{Value}
+use Rattle.dmap_tags.specs.declared.tree.Value.TheVariants.{List as Members}
 use Rattle.dmap_tags.specs.declared.kinds.Kind.{Kind}
-use Rattle.dmap_tags.specs.declared.kinds.Kind.TheVariants.{U8, I8, U16, I16, U32, I32, U64, I64, Text, Date, Version, List as Members, Opaque}
+use Rattle.dmap_tags.specs.declared.kinds.Kind.TheVariants.{U8, I8, U16, I16, U32, I32, U64, I64, Text, Date, Version, List as Lists, Opaque}
 use Rattle.dmap_tags.proofs.SameFacts.{one_code, code_itself, one_tag, tag_itself}
 use Rattle.item_model.specs.declared.property.Property.{Property}
 use Rattle.item_model.specs.declared.property.Property.TheVariants.{Minm, Mikd, Mper, Asar, Asal, Asaa, Asgn, Ascp, Ascm, Agrp, Asfm, Asyr, Astn, Astc, Asdn, Asdc, Asbr, Asbt, Astm, Assr, Assz, Asur, Asco, Aemk, Asda, Asdm}
@@ -78,11 +80,11 @@ found_among : (t : Property → Bool) (p : Property) (qs : List Property) → fi
 found_among t p [] h = absurd (cc)
 found_among t p (q ∷ qs) h =
     elim (t q) as (λ b. cond b (Some q) (find t qs) ≡ Some p → list_any (λ r. is_same r p) (q ∷ qs) ≡ true) [
-      | true ↦ λ k. let same : q ≡ p = cc in ap (λ b. cond b true (list_any (λ r. is_same r p) qs)) (eq-eqb (rank_of q) (rank_of p) (ap rank_of same))
+      | true ↦ λ k. let same : q ≡ p = cc in ap (λ b. b || list_any (λ r. is_same r p) qs) (eq-eqb (rank_of q) (rank_of p) (ap rank_of same))
       | false ↦ λ k. or_true (is_same q p) (list_any (λ r. is_same r p) qs) (found_among t p qs k)
     ] h
   where
-    or_true : (a b : Bool) → b ≡ true → cond a true b ≡ true
+    or_true : (a b : Bool) → b ≡ true → (a || b) ≡ true
     or_true true b h = refl
     or_true false b h = h
 
@@ -105,7 +107,7 @@ kind_back I32 c (Number n) h = absurd (omega (arith, ltb-true n 0 h))
 kind_back I64 c (Number n) h = absurd (omega (arith, ltb-true n 0 h))
 kind_back Text c (Number n) h = absurd (omega (arith, ltb-true n 0 h))
 kind_back Version c (Number n) h = absurd (omega (arith, ltb-true n 0 h))
-kind_back Members c (Number n) h = absurd (omega (arith, ltb-true n 0 h))
+kind_back Lists c (Number n) h = absurd (omega (arith, ltb-true n 0 h))
 kind_back Opaque c (Number n) h = absurd (omega (arith, ltb-true n 0 h))
 kind_back Text c (Words bytes) h = refl
 kind_back U8 c (Words bytes) h = absurd (cc)
@@ -118,7 +120,7 @@ kind_back I16 c (Words bytes) h = absurd (cc)
 kind_back I32 c (Words bytes) h = absurd (cc)
 kind_back I64 c (Words bytes) h = absurd (cc)
 kind_back Version c (Words bytes) h = absurd (cc)
-kind_back Members c (Words bytes) h = absurd (cc)
+kind_back Lists c (Words bytes) h = absurd (cc)
 kind_back Opaque c (Words bytes) h = absurd (cc)
 
 abbrev told_if : Bool → Property → Tree → Option PropValue
@@ -147,7 +149,7 @@ abbrev Shows : Property → Entries → List Property → Bool → Type 0
 Shows p item ps b = first_told p (shown item ps) ≡ cond b (value_of p item) None
 
 next_shown : (p q : Property) (item : Entries) (o : Option PropValue) (ps : List Property) (b among : Bool) → value_of q item ≡ o → IfSome o (λ v. is_value_of q v ≡ true)
-    → is_same q p ≡ b → Shows p item ps among → first_told p (filter_shown q o item ps) ≡ cond (cond b true among) (value_of p item) None
+    → is_same q p ≡ b → Shows p item ps among → first_told p (filter_shown q o item ps) ≡ cond (b || among) (value_of p item) None
 next_shown p q item None ps true true is fits same rest = rest
 next_shown p q item None ps true false is fits same rest =
     rest ∙ sym (ap (λ r. value_of r item) (sym (same_property q p same)) ∙ is)
@@ -271,3 +273,9 @@ unfolding row_of
 listed_own e row is h =
     let told : row_of (list (code "mlit") (more (leaf (code "miid") (tree.U32 e.0)) is.rest)) ≡ Some row = sym (ap row_of is.tag) ∙ h in
     key_unique (is_id e.0) e.0 (item_told (tree_list is.rest)) row told
+
+-- the tag of a list is read by its members
+pub row_of_list : (c : Four) (value : Value) (members : List Tree) (tag : Tree) → tree_with c value ≡ tag → value ≡ Members members → row_among members ≡ row_of tag
+unfolding row_of
+row_of_list c value members tag seen is =
+    ap row_among (sym (listed_again members)) ∙ ap (λ (v : Value). row_of (tree_with c v)) (sym is) ∙ ap row_of seen

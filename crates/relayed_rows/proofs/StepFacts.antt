@@ -1,14 +1,13 @@
 -- The library of a share whose batches are the steps through some libraries.
-use Rattle.std.proofs.Common.{◌≡◌, ℕ, List, [], ◌∷◌, ◌++◌, refl, sym, ap, subst, ◌∙◌, append_assoc, append-nil}
+use Rattle.std.proofs.Common.{◌≡◌, List, [], ◌∷◌, ◌++◌, refl, sym, ap, subst, ◌∙◌, append_assoc, append-nil}
 use Rattle.std.specs.List.{AllByRecursion}
 use Rattle.item_model.specs.declared.changes.Edit.{Edit}
-use Rattle.item_model.specs.declared.changes.Entry.{Entry}
 use Rattle.share_history.specs.Histories.{all_edits, batches, edits}
 use Rattle.share_history.specs.Rows.{library}
 use Rattle.share_history.proofs.EditFacts.{batches-append, all_edits-append}
 use Rattle.relayed_rows.specs.Libraries.{IsLibrary, Library}
 use Rattle.relayed_rows.specs.Differences.{difference}
-use Rattle.relayed_rows.specs.Relays.{StandsAt, steps_between, with_batch}
+use Rattle.relayed_rows.specs.Relays.{steps_between, with_batch}
 use Rattle.relayed_rows.specs.Laws.{RelaysNeverGoBack}
 use Rattle.relayed_rows.proofs.LibraryFacts.{nothing_is_library}
 use Rattle.relayed_rows.proofs.DifferenceFacts.{differences_apply, differences_tell}

@@ -23,12 +23,13 @@ with_row changes e = put_in changes (e.0, Some e.1)
 abbrev pub rows_told : List Tree → Library
 rows_told tags = filter_map (λ tag. option_map (λ row. (row.id, row)) (row_of tag)) tags
 
--- a full listing drops all held ids but those that it lists, and a delta those that it deletes
-abbrev pub ids_left : Library → Told → List ℕ
-ids_left held told = if told.is_delta then map (key_of Items) told.gone else keys_of held
+-- the ids that are left without a row before the listed rows are put: all held ones for a full listing, and the deleted ones for a
+-- delta
+abbrev pub ids_cleared : Library → Told → List ℕ
+ids_cleared held told = if told.is_delta then map (key_of Items) told.gone else keys_of held
 
 abbrev pub changes_of : Library → Told → List Change
-changes_of held told = fold with_row (fold with_gone [] (ids_left held told)) (rows_told told.rows)
+changes_of held told = fold with_row (fold with_gone [] (ids_cleared held told)) (rows_told told.rows)
 
 -- the rows that changes put
 abbrev pub rows_in : List Change → Library

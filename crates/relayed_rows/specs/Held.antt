@@ -1,5 +1,5 @@
 -- Rows that are held or not, by their ids.
-use Rattle.std.specs.Prelude.{◌≡◌, ℕ, List, true, None, Option, is_some}
+use Rattle.std.specs.Prelude.{◌≡◌, ℕ, true, None, is_some}
 use Rattle.std.specs.List.{AllByRecursion}
 use Rattle.share_history.specs.Keyed.{at, IsAscending}
 use Rattle.relayed_rows.specs.Libraries.{Library}

@@ -1,7 +1,7 @@
 -- The row that a listing's `mlit` tells: an id of at least 1 comes first, and of the members behind it those that are
 -- properties with a value of their kind and range make the item. Of two members of one property the first counts, and all
 -- others are skipped. The code of the list itself is not looked at.
-use Rattle.std.specs.Prelude.{◌==◌, ℕ, List, [], ◌∷◌, Bool, filter_map, Option, Some, None, option_map, option_and_then, if◌then◌else◌}
+use Rattle.std.specs.Prelude.{ℕ, List, [], ◌∷◌, filter_map, Option, Some, None, option_map, option_and_then, if◌then◌else◌}
 use Rattle.std.specs.Option.{option_or}
 use Rattle.dmap_tags.specs.Codes.{is_code}
 use Rattle.dmap_tags.specs.Tree.{Tree, leaf, list, tree_code, tree_list}

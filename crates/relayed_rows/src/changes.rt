@@ -7,7 +7,7 @@ ghost use Rattle.mirror_core.specs.Reading.{key_of};
 ghost use Rattle.mirror_core.specs.ToldSeen.{told_of};
 ghost use Rattle.relayed_rows.specs.ReadRows.{row_of};
 ghost use Rattle.relayed_rows.specs.Relays.{is_unread};
-ghost use Rattle.relayed_rows.specs.Changes.{with_gone, with_row, rows_told, ids_left, changes_of};
+ghost use Rattle.relayed_rows.specs.Changes.{with_gone, with_row, rows_told, ids_cleared, changes_of};
 
 use crate::rows::row_of;
 use crate::untaken::Untaken;
@@ -30,24 +30,24 @@ pub(crate) fn changes(alloc: Global, held: &Rows, told: ToldRef<'_>) -> Result<C
     ensures unread { (index : ℕ) → (result ≡ Err (Untaken.Row index)) → position_from is_unread 0 told.entry.rows.now ≡ Some index }
 {
     let mut changes = BTreeMap::new(alloc);
-    leave_ids(&mut changes, held, told)?;
+    clear_ids(&mut changes, held, told)?;
     put_rows(alloc, &mut changes, told.rows)?;
     Ok(changes)
 }
 
-// A full listing leaves all held ids, and a delta those that it deletes.
-fn leave_ids(changes: &mut Changes, held: &Rows, told: ToldRef<'_>) -> Result<(), AllocError>
-    ensures { OnOk result (changes.new.entries ≡ fold with_gone changes.old.entries (ids_left held.now.entries (told_of told.entry))) }
+// Leaves no row under any held id for a full listing, and under the deleted ids for a delta.
+fn clear_ids(changes: &mut Changes, held: &Rows, told: ToldRef<'_>) -> Result<(), AllocError>
+    ensures { OnOk result (changes.new.entries ≡ fold with_gone changes.old.entries (ids_cleared held.now.entries (told_of told.entry))) }
 {
     if told.is_delta {
-        leave_deleted(changes, told.gone)
+        clear_deleted(changes, told.gone)
     } else {
-        leave_held(changes, held)
+        clear_held(changes, held)
     }
 }
 
 #[tactic(auto, using(mirror_core::proofs::TagFacts::folded_left))]
-fn leave_deleted(changes: &mut Changes, keys: &[Tag]) -> Result<(), AllocError>
+fn clear_deleted(changes: &mut Changes, keys: &[Tag]) -> Result<(), AllocError>
     ensures { OnOk result (changes.new.entries ≡ fold with_gone changes.old.entries (map (key_of Target.Items) keys.now)) }
 {
     for key in keys {
@@ -56,7 +56,7 @@ fn leave_deleted(changes: &mut Changes, keys: &[Tag]) -> Result<(), AllocError>
     Ok(())
 }
 
-fn leave_held(changes: &mut Changes, held: &Rows) -> Result<(), AllocError>
+fn clear_held(changes: &mut Changes, held: &Rows) -> Result<(), AllocError>
     ensures { OnOk result (changes.new.entries ≡ fold with_gone changes.old.entries (keys_of held.now.entries)) }
 {
     for (id, _) in held {

@@ -36,21 +36,23 @@ pub(crate) fn new_rows(
 {
     let mut rows = Vec::new(alloc);
     for (id, change) in changes {
-        if let Some(row) = change {
-            push_new(&mut rows, held, *id, row)?;
-        }
+        push_new(&mut rows, held, *id, change)?;
     }
     Ok(rows)
 }
 
+// Pushes the row of a change, unless it is held as it is.
 fn push_new(
     rows: &mut Vec<(u32, SharedRow)>,
     held: &Rows,
     id: u32,
-    row: &SharedRow,
+    change: &Option<SharedRow>,
 ) -> Result<(), AllocError>
-    ensures { OnOk result (rows.new.items ≡ rows.old.items ++ new_rows held.now.entries ((id, row.now) ∷ [])) }
+    ensures { OnOk result (rows.new.items ≡ rows.old.items ++ new_rows held.now.entries (rows_in ((id, change.now) ∷ []))) }
 {
+    let Some(row) = change else {
+        return Ok(());
+    };
     if !has_row(held, id, row) {
         rows.push((id, row.share()?))?;
     }

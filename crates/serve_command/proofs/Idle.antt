@@ -23,4 +23,4 @@ pub by_idle : (serving : Serving) (told : Told) (left : Left) → told.after ≡
     → ServeEnds serving told left
 by_idle serving told left idle tells none =
     unopened fault.Memory (subst (λ (s : Seen). FailsToOpen serving told.before.around.net s.around.net fault.Memory) (sym idle) (no_place serving told.before.around.net))
-    (record { left = ap (λ (s : Seen). s.input.left) idle; faults = ap (λ (s : Seen). s.input.faults) idle }) (inl tells) none
+    (record { left = ap (λ (s : Seen). s.input.left) idle; faults = ap (λ (s : Seen). s.input.faults) idle }) (ap (λ (s : Seen). s.around.files) idle) (inl tells) none

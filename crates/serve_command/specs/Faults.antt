@@ -1,9 +1,6 @@
 -- Why a share is not served: a place that is not opened, an input that is too long, records that are refused, and a batch
 -- that leaves too many lists.
-use Rattle.std.specs.Prelude.{◌≡◌, ◌≢◌, ◌<◌, ◌++◌, ◌∷◌, [], ℕ, List, length, true, codes}
-use Rattle.std.specs.Io.KnownBytes.{Consumes, IsAtEnd}
-use Rattle.item_model.specs.declared.changes.Edit.{Edit}
-use Rattle.share_history.specs.Limits.{has_few_lists}
+use Rattle.std.specs.Prelude.{◌≢◌, ◌<◌, ◌++◌, ◌∷◌, [], ℕ, List, length, codes}
 use Rattle.records_import.specs.declared.refusal.RecordError.TheVariants as records
 use Rattle.daap_outside.specs.declared.net.NetError.{NetError}
 use Rattle.daap_outside.specs.declared.net.NetError.TheVariants as nets
@@ -16,22 +13,9 @@ use Rattle.command_core.specs.Seen.{InputSeen}
 use Rattle.command_core.specs.Causes.{Cause, OfWords, OfInput, StopsBy}
 use Rattle.command_core.specs.declared.records.InputFault.{InputFault}
 use Rattle.command_core.specs.declared.records.InputFault.TheVariants as unread
-use Rattle.command_core.specs.ReadRecords.{records_limit, IsWithin, ReadsAs, IsRefused, LeavesMany}
+use Rattle.command_core.specs.ReadRecords.{records_limit, IsWithin, IsRefused, LeavesMany}
 use Rattle.serve_command.specs.declared.fault.ServeFault.{ServeFault}
 use Rattle.serve_command.specs.declared.fault.ServeFault.TheVariants.{Network, TooLong, Records, TooManyLists}
-
--- its records are the first batch of a share
-pub record IsLibrary (edits : List Edit) (input : List ℕ) : Type 0 where
-  pub reads : ReadsAs edits input
-  pub few : has_few_lists [] edits ≡ true
-
--- the input was read to its end, without a fault, as that batch
-pub record HasRead (edits : List Edit) (before after : InputSeen) : Type 0 where
-  pub bytes : List ℕ
-  pub read : Consumes before.left after.left bytes
-  pub end : IsAtEnd after.left
-  pub faultless : after.faults ≡ before.faults
-  pub of : IsLibrary edits bytes
 
 abbrev pub serve_line : ServeFault → List ℕ
 serve_line Network = codes "network failed" ++ 10 ∷ []
@@ -69,4 +53,5 @@ input_fault fault.Memory = fault.Memory
 
 abbrev pub open_fault : OpenError → Fault ServeFault
 open_fault opens.Lists = fault.Own TooManyLists
+open_fault opens.Edits = fault.Own TooManyLists
 open_fault opens.Memory = fault.Memory

@@ -1,12 +1,21 @@
 -- What follows from how runs of `serve` end.
-use Rattle.std.specs.Prelude.{◌≡◌, ◌⊎◌, ℕ, List, length, Contains, Some}
+use Rattle.std.specs.Prelude.{◌≡◌, ◌⊎◌, ◌≤◌, ℕ, List, [], ◌++◌, length, true, Contains, Option, Some, None}
 use Rattle.item_model.specs.declared.changes.Edit.{Edit}
+use Rattle.item_model.specs.declared.changes.Entry.{Entry}
 use Rattle.daap_outside.specs.Counts.{Rose}
+use Rattle.daap_outside.specs.Places.{Contents}
+use Rattle.share_history.specs.Histories.{batches, edits}
+use Rattle.share_history.specs.Limits.{has_few_lists}
+use Rattle.share_history.specs.Numbers.{most_edits}
+use Rattle.share_core.specs.Opened.{if_filled, LeaveFewLists}
 use Rattle.share_server.specs.declared.report.LinkReport.{LinkReport}
 use Rattle.share_workers.specs.Works.{all_served}
+use Rattle.edit_file.specs.Standing.{FileStands}
+use Rattle.kept_library.specs.Opening.{bytes_at}
+use Rattle.kept_library.specs.Closing.{LeavesAt}
 use Rattle.command_core.specs.Seen.{Told}
+use Rattle.command_core.specs.ReadRecords.{ReadsAs}
 use Rattle.serve_command.specs.declared.terms.Serving.{Serving}
-use Rattle.serve_command.specs.Faults.{IsLibrary}
 use Rattle.serve_command.specs.Runs.{Left, ServeEnds}
 
 -- some worker served as many links, or as many requests, as one may
@@ -15,12 +24,40 @@ pub record IsSpent (workers : List (List LinkReport)) : Type 0 where
   pub stands : Contains workers reports
   pub most : (length reports ≡ 65536) ⊎ (length (all_served reports) ≡ 262144)
 
+-- the bytes under a name stand for batches with which, and with the one of the input, a share begins
+pub record StandsForShare (contents : Option Contents) (path : List ℕ) (first : List Edit) : Type 0 where
+  pub told : Contents
+  pub is : contents ≡ Some told
+  pub stood : List (List Edit)
+  pub stands : FileStands (bytes_at told path) stood
+  pub few_edits : length (edits (stood ++ if_filled first)) ≤ most_edits
+  pub few_lists : LeaveFewLists (stood ++ if_filled first)
+
+-- a share begins with the input's batch, and with its file, where it has one
+abbrev pub IsOpened : Option (List ℕ) → Option Contents → List Edit → Type 0
+IsOpened None contents first = has_few_lists [] first ≡ true
+IsOpened (Some path) contents first = StandsForShare contents path first
+
 -- Where nothing outside fails and the input is told, records that are the first batch of a share end with success, but for
 -- want of memory and for a worker that served as much as it may
 abbrev pub RunsAreDecided : Type 0
 RunsAreDecided =
-    (serving : Serving) (told : Told) (left : Left) (input : List ℕ) (edits : List Edit) → ServeEnds serving told left
-    → told.before.input.left ≡ Some input → IsLibrary edits input
+    (serving : Serving) (told : Told) (left : Left) (input : List ℕ) (first : List Edit) → ServeEnds serving told left
+    → told.before.input.left ≡ Some input → ReadsAs first input → IsOpened serving.file told.before.around.files.contents first
     → ¬ (Rose told.before.input.faults told.after.input.faults) → ¬ (Rose told.output_before.faults told.output_after.faults)
-    → ¬ (Rose told.before.around.net.faults told.after.around.net.faults)
+    → ¬ (Rose told.before.around.net.faults told.after.around.net.faults) → ¬ (Rose told.before.around.files.faults told.after.around.files.faults)
     → (left.status ≡ 0) ⊎ ((left.status ≡ 9) ⊎ ((left.status ≡ 8) × IsSpent left.links))
+
+-- what success says of a file: no fault of files was counted, and the bytes under its name stand for the batches of the history
+pub record IsLeft (path : List ℕ) (told : Told) (left : Left) : Type 0 where
+  pub faultless : told.after.around.files.faults ≡ told.before.around.files.faults
+  pub history : List Entry
+  pub history_is : left.history ≡ Some history
+  pub left_at : LeavesAt path (batches history) told.before.around.files.contents told.after.around.files.contents
+
+abbrev pub SuccessLeavesTheFile : Type 0
+SuccessLeavesTheFile = (serving : Serving) (path : List ℕ) (told : Told) (left : Left) → ServeEnds serving told left → left.status ≡ 0 → serving.file ≡ Some path → IsLeft path told left
+
+-- a file call that failed is told where the count of files rose, and nowhere else
+abbrev pub FileFaultsAreCounted : Type 0
+FileFaultsAreCounted = (serving : Serving) (told : Told) (left : Left) → ServeEnds serving told left → left.status ≡ 10 → Rose told.before.around.files.faults told.after.around.files.faults

@@ -1,6 +1,8 @@
 pub mod Terms
 pub mod Lines
 pub mod Faults
+pub mod Files
+pub mod KeptFiles
 pub mod Places
 pub mod Runs
 pub mod Begun

@@ -35,3 +35,9 @@ pub record FailsToOpen (serving : Serving) (before after : NetSeen) (stop : Faul
   pub some : stop ≡ fault.Own Network → 1 ≤ count
   pub asked : HasAsked (take count (places_of serving)) before after
   pub stops : StopsOpening before.faults after.faults stop
+
+-- doors at which nobody waited were given back: no more is told of the net since it opened them
+pub record IsGivenBack (start before after : NetSeen) : Type 0 where
+  pub asked : after.asked ≡ before.asked
+  pub written : Grows start.written before.written [] → Grows start.written after.written []
+  pub faultless : after.faults ≡ before.faults

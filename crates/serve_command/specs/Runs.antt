@@ -1,24 +1,32 @@
 -- How a run of `serve` ends.
-use Rattle.std.specs.Prelude.{◌≡◌, ◌⊎◌, ℕ, List, [], ◌++◌, map, Option, Some, None}
+use Rattle.std.specs.Prelude.{◌≡◌, ◌⊎◌, ℕ, List, [], ◌∷◌, ◌++◌, Bool, false, map, Option, Some, None}
 use Rattle.std.specs.List.{flat_map, AllByRecursion}
 use Rattle.item_model.specs.declared.changes.Edit.{Edit}
 use Rattle.item_model.specs.declared.changes.Entry.{Entry}
 use Rattle.daap_outside.specs.Told.{Grows}
-use Rattle.share_history.specs.Histories.{batches, opening, revision}
+use Rattle.share_history.specs.Histories.{batches, revision}
 use Rattle.share_server.specs.declared.report.LinkReport.{LinkReport}
+use Rattle.share_workers.specs.declared.worker.WorkerEnd.TheVariants.{FileFault as lost_edit}
+use Rattle.kept_library.specs.declared.fault.FileFault.{FileFault}
+use Rattle.kept_library.specs.Faults.{file_line, file_status}
+use Rattle.kept_library.specs.Opening.{CountsFault, StopsOpening}
 use Rattle.command_core.specs.declared.fault.Fault.{Fault}
+use Rattle.command_core.specs.declared.fault.Fault.TheVariants as fault
 use Rattle.command_core.specs.Faults.{memory_line, fault_line, fault_status}
-use Rattle.command_core.specs.Seen.{InputSeen, OutputSeen, NetSeen, IsUnread, Told}
+use Rattle.command_core.specs.Seen.{FilesSeen, InputSeen, OutputSeen, NetSeen, IsUnread, Told}
 use Rattle.command_core.specs.Endings.{IsCut}
 use Rattle.command_core.specs.Answers.{Tells}
+use Rattle.command_core.specs.ReadRecords.{HasReadAs}
 use Rattle.serve_command.specs.declared.fault.ServeFault.{ServeFault}
+use Rattle.serve_command.specs.declared.fault.ServeFault.TheVariants.{TooManyLists}
 use Rattle.serve_command.specs.declared.terms.Serving.{Serving}
 use Rattle.share_crew.specs.declared.verdict.Verdict.{Verdict}
 use Rattle.serve_command.specs.Terms.{settings_of, places_of, workers_of, roles_of}
 use Rattle.share_crew.specs.Lines.{ended_line}
 use Rattle.serve_command.specs.Lines.{serving_line}
-use Rattle.serve_command.specs.Faults.{HasRead, serve_line, serve_status, StopsServing}
-use Rattle.share_crew.specs.Verdicts.{verdict_of, verdict_line, verdict_status, with_memory}
+use Rattle.serve_command.specs.Faults.{serve_line, serve_status, StopsServing}
+use Rattle.serve_command.specs.Files.{AreKept, IsOpening}
+use Rattle.share_crew.specs.Verdicts.{has_end, verdict_of, verdict_line, verdict_status, with_memory}
 use Rattle.share_crew.specs.Doors.{CountsShut, HaveLinks}
 use Rattle.serve_command.specs.Places.{HasAsked, FailsToOpen}
 use Rattle.share_crew.specs.Stints.{Stint, IsHistoryOf, IsWhole, returns_of}
@@ -31,22 +39,31 @@ pub record Left : Type 0 where
   pub links : List (List LinkReport)
 
 -- the line of a fault was written, or that of want of memory, or the output failed in it
+abbrev pub TellsFault : {F : Type 0} → (F → List ℕ) → (F → ℕ) → Fault F → OutputSeen → OutputSeen → ℕ → Type 0
+TellsFault line status_of stop before after status = Tells (fault_status status_of stop) (fault_line line stop) before after status ⊎ Tells 9 memory_line before after status
+
 abbrev pub TellsStop : Fault ServeFault → OutputSeen → OutputSeen → ℕ → Type 0
-TellsStop stop before after status =
-    Tells (fault_status serve_status stop) (fault_line serve_line stop) before after status ⊎ Tells 9 memory_line before after status
+TellsStop stop before after status = TellsFault serve_line serve_status stop before after status
 
-abbrev pub first_line : Serving → List Edit → List ℕ
-first_line serving edits = serving_line serving.name (revision (batches (opening edits)))
+abbrev pub first_line : Serving → (opened : List Entry) → List ℕ
+first_line serving opened = serving_line serving.name (revision (batches opened))
 
--- the share did not come under its lock: the input was refused or memory was wanted, or the output failed in the first line,
--- or memory was wanted behind it
-pub data NotBegun (serving : Serving) (before after : InputSeen) (output output' : OutputSeen) (status : ℕ) : Type 0 where
-  stopped : (stop : Fault ServeFault) → StopsServing ⊥ before after stop → TellsStop stop output output' status
-      → NotBegun serving before after output output' status
-  cut : (edits : List Edit) → HasRead edits before after → status ≡ 5 → IsCut output output' (first_line serving edits)
-      → NotBegun serving before after output output' status
-  wanting : (edits : List Edit) → HasRead edits before after → Tells 9 (first_line serving edits ++ memory_line) output output' status
-      → NotBegun serving before after output output' status
+-- memory was wanted before the first line, or the output failed in that, or memory was wanted behind it
+abbrev pub NotAnnounced : (line : List ℕ) → OutputSeen → OutputSeen → ℕ → Type 0
+NotAnnounced line before after status =
+    Tells 9 memory_line before after status ⊎ ((status ≡ 5) × IsCut before after line) ⊎ Tells 9 (line ++ memory_line) before after status
+
+-- the share did not come under its lock
+pub data NotBegun (serving : Serving) (before after : InputSeen) (files files' : FilesSeen) (output output' : OutputSeen) (status : ℕ) : Type 0 where
+  -- the input was refused, or its records were; a share with a file is not refused for the lists of the input alone
+  stopped : (stop : Fault ServeFault) → StopsServing ⊥ before after stop → (stop ≡ fault.Own TooManyLists → serving.file ≡ None) → files' ≡ files → TellsStop stop output output' status
+      → NotBegun serving before after files files' output output' status
+  -- the file was
+  unkept : (edits : List Edit) (path : List ℕ) (stop : Fault FileFault) → HasReadAs edits before after → serving.file ≡ Some path → StopsOpening files.contents path edits stop
+      → CountsFault files.faults files'.faults stop → Grows files.asked files'.asked (path ∷ []) → TellsFault file_line file_status stop output output' status
+      → NotBegun serving before after files files' output output' status
+  unannounced : (edits : List Edit) (opened : List Entry) → HasReadAs edits before after → IsOpening serving.file files.contents edits opened → AreKept serving.file files files' opened false
+      → NotAnnounced (first_line serving opened) output output' status → NotBegun serving before after files files' output output' status
 
 -- behind a front, all workers have ended, and so was told: the line that counts links and requests, and that of the verdict;
 -- or there was no memory for the first of them
@@ -55,12 +72,13 @@ TellsEnd front ended verdict before after status =
     Tells (verdict_status verdict) (front ++ (ended ++ verdict_line verdict)) before after status
     ⊎ Tells (verdict_status (with_memory verdict)) (front ++ verdict_line (with_memory verdict)) before after status
 
--- the share was served: the stints of its workers, the history that they left, and what was told of both
-pub record HasServed (serving : Serving) (edits : List Edit) (front : List ℕ) (net net' : NetSeen) (output output' : OutputSeen) (left : Left) : Type 0 where
+-- The share was served: the stints of its workers, the history that they left, and what was told of both. What is kept of the
+-- history, by whether an edit was lost, is a parameter.
+pub record HasServed (serving : Serving) (opened : List Entry) (kept : List Entry → Bool → Type 0) (front : List ℕ) (net net' : NetSeen) (output output' : OutputSeen) (left : Left) : Type 0 where
   pub history : List Entry
   pub history_is : left.history ≡ Some history
   -- a stint for each worker, in order
-  pub crew : List (Stint (settings_of serving) (opening edits))
+  pub crew : List (Stint (settings_of serving) opened)
   pub roles : map (λ stint. stint.role) crew ≡ roles_of serving
   pub links : left.links ≡ map (λ stint. stint.reports) crew
   -- each saw a front of the history, and added its entries of the worker's number
@@ -70,6 +88,7 @@ pub record HasServed (serving : Serving) (edits : List Edit) (front : List ℕ) 
   pub asked : Grows net.asked net'.asked (places_of serving)
   pub written : Grows net.written net'.written (flat_map returns_of crew)
   pub counts : CountsShut net.faults net'.faults (map (λ stint. stint.end) crew)
+  pub kept_so : kept history (has_end lost_edit (map (λ stint. stint.end) crew))
   pub told : TellsEnd front (ended_line (revision (batches history)) left.links) (verdict_of (map (λ stint. stint.end) crew)) output output' left.status
   -- success says that all links were served, or a stop came
   pub whole : left.status ≡ 0 → AllByRecursion (IsWhole history) crew
@@ -79,12 +98,21 @@ pub record HasNoShare (left : Left) : Type 0 where
   pub history : left.history ≡ None
   pub links : left.links ≡ []
 
+-- how a share ends that was opened, and what is kept of its history
+pub data ShareEnds (serving : Serving) (opened : List Entry) (kept : List Entry → Bool → Type 0) (net net' : NetSeen) (output output' : OutputSeen) (left : Left) : Type 0 where
+  -- the doors were given back before anybody waited at them
+  not_announced : NotAnnounced (first_line serving opened) output output' left.status → HasAsked (places_of serving) net net' → net'.faults ≡ net.faults → kept opened false → HasNoShare left
+      → ShareEnds serving opened kept net net' output output' left
+  announced : HasServed serving opened kept (first_line serving opened) net net' output output' left → ShareEnds serving opened kept net net' output output' left
+
 pub data ServeEnds (serving : Serving) (told : Told) (left : Left) : Type 0 where
   -- a place was not opened, or memory was wanted before
   unopened : (stop : Fault ServeFault) → FailsToOpen serving told.before.around.net told.after.around.net stop → IsUnread told.before.input told.after.input
-      → TellsStop stop told.output_before told.output_after left.status → HasNoShare left → ServeEnds serving told left
+      → told.after.around.files ≡ told.before.around.files → TellsStop stop told.output_before told.output_after left.status → HasNoShare left → ServeEnds serving told left
   -- the doors were given back before anybody waited at them
   unbegun : HasAsked (places_of serving) told.before.around.net told.after.around.net → told.after.around.net.faults ≡ told.before.around.net.faults
-      → NotBegun serving told.before.input told.after.input told.output_before told.output_after left.status → HasNoShare left → ServeEnds serving told left
-  served : (edits : List Edit) → HasRead edits told.before.input told.after.input
-      → HasServed serving edits (first_line serving edits) told.before.around.net told.after.around.net told.output_before told.output_after left → ServeEnds serving told left
+      → NotBegun serving told.before.input told.after.input told.before.around.files told.after.around.files told.output_before told.output_after left.status → HasNoShare left
+      → ServeEnds serving told left
+  served : (edits : List Edit) (opened : List Entry) → HasReadAs edits told.before.input told.after.input → IsOpening serving.file told.before.around.files.contents edits opened
+      → HasServed serving opened (AreKept serving.file told.before.around.files told.after.around.files) (first_line serving opened)
+      told.before.around.net told.after.around.net told.output_before told.output_after left → ServeEnds serving told left

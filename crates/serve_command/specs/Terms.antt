@@ -1,12 +1,12 @@
 -- What follows from what a share is served with: its settings, its places with their doors, and the roles of its workers.
-use Rattle.std.specs.Prelude.{◌≤◌, ℕ, ◌+◌, List, [], ◌∷◌, ◌++◌, length, replicate}
+use Rattle.std.specs.Prelude.{◌≡◌, ◌≤◌, IfSome, ℕ, ◌+◌, List, [], ◌∷◌, ◌++◌, length, replicate}
 use Rattle.item_model.specs.Limits.{text_limit}
 use Rattle.share_asks.specs.declared.ask.Role.{Role}
 use Rattle.share_asks.specs.declared.ask.Role.TheVariants.{Listen, Edit}
 use Rattle.share_replies.specs.Settings.{Settings}
 use Rattle.serve_command.specs.declared.terms.Serving.{Serving}
 
--- the numbers of a share that may be served, and the length of its name
+-- the numbers of a share that may be served, and the length of its name; a file that keeps its edits has one editor
 pub record MayServe (serving : Serving) : Type 0 where
   pub name : length serving.name ≤ text_limit
   pub some_kept : 1 ≤ serving.keep
@@ -15,6 +15,7 @@ pub record MayServe (serving : Serving) : Type 0 where
   pub few_workers : serving.workers ≤ 64
   pub some_editors : 1 ≤ serving.editors
   pub few_editors : serving.editors ≤ 8
+  pub one_editor : IfSome serving.file (λ file. serving.editors ≡ 1)
 
 abbrev pub settings_of : Serving → Settings
 settings_of serving = record { name = serving.name; keep = serving.keep }

@@ -73,7 +73,7 @@ pub(crate) fn open_fault(error: OpenError) -> Fault<ServeFault>
     ensures { result ≡ open_fault error }
 {
     match error {
-        OpenError::Lists => Fault::Own(ServeFault::TooManyLists),
+        OpenError::Edits | OpenError::Lists => Fault::Own(ServeFault::TooManyLists),
         OpenError::Memory => Fault::Memory,
     }
 }

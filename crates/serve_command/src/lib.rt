@@ -1,15 +1,19 @@
 //! The command `serve`: a share at two places, one for its players and one for those who change it, from the records that it
-//! begins with to the history that it leaves. Every link is served by a worker in a thread of its own.
+//! begins with to the history that it leaves. Every link is served by a worker in a thread of its own. A file may keep the edits.
 #![tactic(auto)]
 
 mod closing;
 mod command;
+mod editor;
 mod fault;
 pub mod laws;
-mod library;
 mod opening;
+mod placed;
 mod places;
+mod records;
+mod shares;
 mod terms;
+mod unserved;
 
 pub use command::serve;
 pub use fault::ServeFault;

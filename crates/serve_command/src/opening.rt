@@ -1,48 +1,42 @@
-//! What stands before the first link is served: the share under its lock, and the line that tells it.
+//! What stands before the first link is served: the line that tells the share, and the share under its lock.
 
-ghost use Rattle.std.specs.Prelude.{◌≡◌, IfOk, MatchResult};
-ghost use Rattle.command_core.specs.Seen.{input_seen, output_seen};
+ghost use Rattle.std.specs.Prelude.{◌≡◌, All, IfOk, MatchResult};
+ghost use Rattle.command_core.specs.Seen.{output_seen};
+ghost use Rattle.share_replies.specs.Laws.{maker};
 ghost use Rattle.share_history.specs.Histories.{batches, revision};
 ghost use Rattle.share_crew.specs.Begun.{HasRoom};
 ghost use Rattle.serve_command.specs.Begun.{HasBegun};
 ghost use Rattle.serve_command.specs.Lines.{serving_line};
-ghost use Rattle.serve_command.specs.Runs.{NotBegun};
-ghost use Rattle.serve_command.specs.Terms.{MayServe, workers_of};
+ghost use Rattle.serve_command.specs.Runs.{NotAnnounced, first_line};
+ghost use Rattle.serve_command.specs.Terms.{MayServe, settings_of, workers_of};
 
-use crate::library::library;
 use crate::terms::Serving;
-use command_core::{out_of_memory, refused};
-use daap_outside::{Sink, Source};
+use command_core::out_of_memory;
+use daap_outside::Sink;
 use fault_lines::push_number;
 use share_core::Share;
 use share_crew::{Begun, Room, announced};
 use std::alloc::{AllocError, Global};
 
-/// Opens the share of the input, and puts it under a lock once its line was written. Where that fails, the line of the fault
-/// was written, and the status is answered that the program ends with.
-pub(crate) fn begin<I: Source, W: Sink, D: Drop>(
+/// Puts a share under a lock once its line was written. Where that fails, the line of the fault was written, and the status is
+/// answered that the program ends with.
+pub(crate) fn begin<W: Sink, D: Drop>(
     alloc: Global,
     serving: &Serving,
-    input: &mut I,
     output: &mut W,
+    share: Share,
 ) -> Result<Begun<D>, u8>
-    requires { MayServe serving.now }
+    requires may { MayServe serving.now }
+    requires opening { All (λ e. maker e ≡ 0) share.history }
+    requires settings { share.settings ≡ settings_of serving.now }
     ensures { MatchResult result
-        (HasBegun serving.now
-        (input_seen (I.left input.old) (I.faults input.old))
-        (input_seen (I.left input.new) (I.faults input.new))
+        (HasBegun serving.now share.history
         (output_seen (W.taken output.old) (W.faults output.old))
         (output_seen (W.taken output.new) (W.faults output.new)))
-        (NotBegun serving.now
-        (input_seen (I.left input.old) (I.faults input.old))
-        (input_seen (I.left input.new) (I.faults input.new))
+        (NotAnnounced (first_line serving.now share.history)
         (output_seen (W.taken output.old) (W.faults output.old))
         (output_seen (W.taken output.new) (W.faults output.new))) }
 {
-    let share = match library(alloc, serving, input) {
-        Ok(share) => share,
-        Err(stop) => return Err(refused(alloc, output, &stop).status),
-    };
     let passes = serving.workers + serving.editors + 1;
     match prepared(alloc, serving, &share) {
         Ok((line, room)) => announced(alloc, output, line.as_slice(), share, passes, room),

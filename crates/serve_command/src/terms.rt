@@ -15,6 +15,8 @@ pub struct Serving {
     pub keep: u32,
     /// How many links of players are served at once.
     pub workers: u32,
-    /// How many links of those who change it.
+    /// How many links of those who change it: one where a file keeps the changes.
     pub editors: u32,
+    /// The name of the file that keeps the changes, if there is one.
+    pub file: Option<Text>,
 }

@@ -10,22 +10,24 @@ use Rattle.share_workers.specs.declared.worker.WorkerEnd.{WorkerEnd}
 use Rattle.share_workers.specs.declared.worker.WorkerEnd.TheVariants as worker
 use Rattle.share_workers.specs.Works.{Came, IsOver}
 use Rattle.share_workers.specs.Ends.{EndsWorker}
-use Rattle.share_crew.specs.declared.verdict.Verdict.TheVariants.{Done, NetworkFailed, OutOfMemory, Exhausted}
+use Rattle.share_crew.specs.declared.verdict.Verdict.TheVariants.{Done, NetworkFailed, FileFailed, OutOfMemory, Exhausted}
 use Rattle.share_crew.specs.Stints.{Stint, IsPart, IsWhole, AreAll}
 use Rattle.share_crew.specs.Verdicts.{end_number, has_end, verdict_of}
 
 -- then no worker ended for want of the net, of memory or of numbers
 pub record NoneFailed (ends : List WorkerEnd) : Type 0 where
   pub network : has_end worker.AcceptFault ends ≡ false
+  pub file : has_end worker.FileFault ends ≡ false
   pub memory : has_end worker.Memory ends ≡ false
   pub spent : has_end worker.Spent ends ≡ false
 
-none_failed : (ends : List WorkerEnd) (network memory spent : Bool) → has_end worker.AcceptFault ends ≡ network → has_end worker.Memory ends ≡ memory → has_end worker.Spent ends ≡ spent
-    → cond network NetworkFailed (cond memory OutOfMemory (cond spent Exhausted Done)) ≡ Done → NoneFailed ends
-none_failed ends true memory spent n m s is = absurd (cc)
-none_failed ends false true spent n m s is = absurd (cc)
-none_failed ends false false true n m s is = absurd (cc)
-none_failed ends false false false n m s is = record { network = n; memory = m; spent = s }
+none_failed : (ends : List WorkerEnd) (network file memory spent : Bool) → has_end worker.AcceptFault ends ≡ network → has_end worker.FileFault ends ≡ file → has_end worker.Memory ends ≡ memory → has_end worker.Spent ends ≡ spent
+    → cond network NetworkFailed (cond file FileFailed (cond memory OutOfMemory (cond spent Exhausted Done))) ≡ Done → NoneFailed ends
+none_failed ends true file memory spent n f m s is = absurd (cc)
+none_failed ends false true memory spent n f m s is = absurd (cc)
+none_failed ends false false true spent n f m s is = absurd (cc)
+none_failed ends false false false true n f m s is = absurd (cc)
+none_failed ends false false false false n f m s is = record { network = n; file = f; memory = m; spent = s }
 
 or_left : (a b : Bool) → (a || b) ≡ false → a ≡ false
 or_left true b is = absurd (cc)
@@ -64,6 +66,7 @@ module _ {settings : Settings} {opening : List Entry} where
   whole_as history stint worker.Spent part ends none = absurd (let h = none.spent in cc)
   whole_as history stint worker.AcceptFault part ends none = absurd (let h = none.network in cc)
   whole_as history stint worker.Memory part ends none = absurd (let h = none.memory in cc)
+  whole_as history stint worker.FileFault part ends none = absurd (let h = none.file in cc)
 
   wholes : (history : List Entry) (stints : List (Stint settings opening)) → AllByRecursion (IsPart history) stints → NoneFailed (map (λ (s : Stint settings opening). s.end) stints)
       → AllByRecursion (IsWhole history) stints
@@ -75,9 +78,9 @@ module _ {settings : Settings} {opening : List Entry} where
       let rest : (end : WorkerEnd) → has_end end (stint.end ∷ ends) ≡ false → has_end end ends ≡ false =
       λ end is. or_right (nat_eq (end_number stint.end) (end_number end)) (has_end end ends) is in (
         whole_as history stint stint.end parts.0 stint.served.ends
-            (record { network = first worker.AcceptFault none.network; memory = first worker.Memory none.memory; spent = first worker.Spent none.spent }),
+            (record { network = first worker.AcceptFault none.network; file = first worker.FileFault none.file; memory = first worker.Memory none.memory; spent = first worker.Spent none.spent }),
         wholes history stints parts.1
-            (record { network = rest worker.AcceptFault none.network; memory = rest worker.Memory none.memory; spent = rest worker.Spent none.spent }),
+            (record { network = rest worker.AcceptFault none.network; file = rest worker.FileFault none.file; memory = rest worker.Memory none.memory; spent = rest worker.Spent none.spent }),
       )
 
   -- where all was done, each worker served what came, or until the stop
@@ -85,4 +88,4 @@ module _ {settings : Settings} {opening : List Entry} where
       → AllByRecursion (IsWhole history) stints
   wholes_by history stints parts done =
       let ends = map (λ (s : Stint settings opening). s.end) stints in
-      wholes history stints parts (none_failed ends (has_end worker.AcceptFault ends) (has_end worker.Memory ends) (has_end worker.Spent ends) refl refl refl done)
+      wholes history stints parts (none_failed ends (has_end worker.AcceptFault ends) (has_end worker.FileFault ends) (has_end worker.Memory ends) (has_end worker.Spent ends) refl refl refl refl done)

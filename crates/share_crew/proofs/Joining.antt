@@ -15,7 +15,7 @@ use Rattle.share_replies.specs.Settings.{Settings}
 use Rattle.share_replies.specs.Laws.{maker}
 use Rattle.share_server.specs.Passes.{Pass}
 use Rattle.share_workers.specs.declared.worker.WorkerEnd.{WorkerEnd}
-use Rattle.share_workers.specs.declared.worker.WorkerEnd.TheVariants.{Running, Stopped, NoMoreLinks, Spent, AcceptFault, Memory}
+use Rattle.share_workers.specs.declared.worker.WorkerEnd.TheVariants.{Running, Stopped, NoMoreLinks, Spent, AcceptFault, FileFault, Memory}
 use Rattle.share_workers.specs.Ends.{CountsAccepts}
 use Rattle.share_crew.specs.Verdicts.{end_number, has_end}
 use Rattle.share_crew.specs.Doors.{CountsShut}
@@ -85,6 +85,7 @@ count_more failed Stopped before mid after given was counts rises = count_stays 
 count_more failed NoMoreLinks before mid after given was counts rises = count_stays failed before mid after was (rises.faultless counts)
 count_more failed Spent before mid after given was counts rises = count_stays failed before mid after was (rises.faultless counts)
 count_more failed Memory before mid after given was counts rises = count_stays failed before mid after was (rises.faultless counts)
+count_more failed FileFault before mid after given was counts rises = count_stays failed before mid after was (rises.faultless counts)
 
 own_number : (k : Pass) → k.taken_in ≡ [] → numbers_of k ≡ k.number ∷ []
 own_number k none = ap (λ l. k.number ∷ l) none

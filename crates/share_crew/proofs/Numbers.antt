@@ -26,7 +26,7 @@ or_true : (b : Bool) → (b || true) ≡ true
 or_true true = refl
 or_true false = refl
 
-head_or_tail : (q x : ℕ) (xs : List ℕ) → Contains (x ∷ xs) q → (q ≡ x) ⊎ Contains xs q
+pub head_or_tail : (q x : ℕ) (xs : List ℕ) → Contains (x ∷ xs) q → (q ≡ x) ⊎ Contains xs q
 head_or_tail q x xs (zero, less, is) = inl (sym is)
 head_or_tail q x xs (suc k, less, is) = inr (k, omega arith, is)
 

@@ -1,7 +1,7 @@
 -- The history that the stints of all workers leave together.
 use Rattle.std.proofs.Common.{◌≡◌, ◌≢◌, ◌⊎◌, ◌+◌, ◌<◌, ◌≤◌, ℕ, zero, suc, cond, List, [], ◌∷◌, ◌++◌, length, get_or, refl, sym, subst, ap, ◌∙◌, inl, inr, arith, append_assoc, ne_eqb}
 use Rattle.std.proofs.lemmas.List.{length-map}
-use Rattle.std.proofs.lemmas.List.Elements.{All-append, Contains-append_right, Contains-append_cases}
+use Rattle.std.proofs.lemmas.List.Elements.{All-append, Contains-append_left, Contains-append_right, Contains-append_cases}
 use Rattle.std.specs.List.{AllByRecursion}
 use Rattle.std.specs.Prelude.{All, Contains}
 use Rattle.item_model.specs.declared.changes.Entry.{Entry}
@@ -20,7 +20,7 @@ use Rattle.share_crew.proofs.Joining.{further}
 use Rattle.share_crew.proofs.Numbers.{each_stands, contains_head}
 
 -- the opening has no entries of a worker
-none_of_opening : (n : ℕ) (es : List Entry) → 1 ≤ n → All (λ e. maker e ≡ 0) es → entries_of maker n es ≡ []
+pub none_of_opening : (n : ℕ) (es : List Entry) → 1 ≤ n → All (λ e. maker e ≡ 0) es → entries_of maker n es ≡ []
 none_of_opening n [] some all = refl
 none_of_opening n (e ∷ es) some all =
     let other : maker e ≢ n = λ is. let zero : maker e ≡ 0 = all 0 e (omega arith) in absurd (omega arith) in
@@ -56,11 +56,11 @@ module _ {settings : Settings} {opening : List Entry} where
       let more = stays settings stint.pass.number 0 stint.pass.seen on.more 0 stint.served.works.asks served serves.are_served in record {
         later = on.more;
         begins = on.begins;
+        none = λ i d less has. on.later i d less (Contains-append_left (stint.pass.number ∷ []) stint.pass.taken_in _ has);
         own = on.own stint.pass.number (contains_head stint.pass.number stint.pass.taken_in)
             ∙ serves.own
-            ∙ ap (λ l. l ++ added_entries stint.pass.seen served) (none_of_opening stint.pass.number opening some opened)
-            ∙ sym more.entries
-            ∙ ap (λ h. added_entries h served) (sym on.begins);
+            ∙ ap (λ l. l ++ (added_entries stint.pass.seen served ++ stint.served.works.lost)) (none_of_opening stint.pass.number opening some opened)
+            ∙ ap (λ l. l ++ stint.served.works.lost) (sym more.entries ∙ ap (λ h. added_entries h served) (sym on.begins));
       }
 
   parts : (history : List Entry) (bound : ℕ) (stints : List (Stint settings opening)) → AllByRecursion (IsNumbered bound) (passes_in stints) → All (λ e. maker e ≡ 0) opening

@@ -47,12 +47,13 @@ module _ {D : Type 0} where
       → ((stints : List (Stint settings opening)) → AllZip (IsOf written faults) stints after → HasJoined k k' (passes_in stints))
       → ((stints : List (Stint settings opening)) → AllZip (IsOf written faults) stints after → HasShut w w' n n' stints)
       → links ≡ map (λ (one : Worker D). one.reports.items) after → verdict ≡ verdict_of (map (λ (one : Worker D). one.end) after)
-      → HasGathered settings opening id.1 (map (λ (one : Worker D). one.role) before) (map (λ (one : Worker D). coming one.door) before) kept w w' n n' k' links verdict
+      → (g : HasGathered settings opening id.1 (map (λ (one : Worker D). one.role) before) (map (λ (one : Worker D). coming one.door) before) kept w w' n n' k' links verdict)
+      × AllZip (IsOf written faults) g.crew after
   has_gathered settings opening id k k' coming written faults kept before after w w' n n' links verdict start hired doors served roles joined shut links_are verdict_is =
       let all = stints_of settings opening id k coming written faults kept before after start (recursion_from_All (IsHired id k) before hired)
       (of_doors (IsNew written faults kept) before (recursion_from_All (IsNew written faults kept) (map (λ (one : Worker D). one.door) before) doors)) served roles in
       let stints : List (Stint settings opening) = all.stints in
-      let given_back = shut stints all.are in record {
+      let given_back = shut stints all.are in (record {
         crew = stints;
         roles_are = all.roles;
         coming_are = all.come;
@@ -62,4 +63,4 @@ module _ {D : Type 0} where
         verdict_is = verdict_is ∙ ap verdict_of (sym (ends_are written faults stints after all.are));
         written_grows = λ grows. given_back.written_grows kept [] all.begun grows;
         counts = given_back.counts;
-      }
+      }, all.are)

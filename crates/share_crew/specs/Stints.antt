@@ -5,7 +5,7 @@ use Rattle.item_model.specs.declared.changes.Entry.{Entry}
 use Rattle.daap_outside.specs.Places.{Returned}
 use Rattle.share_asks.specs.declared.ask.Role.{Role}
 use Rattle.share_history.specs.Sessions.{is_stopped}
-use Rattle.share_lock.specs.Histories.{entries_of}
+use Rattle.share_lock.specs.Histories.{NoneOf, entries_of}
 use Rattle.share_lock.specs.Known.{fresh}
 use Rattle.share_replies.specs.Settings.{Settings}
 use Rattle.share_replies.specs.Laws.{maker}
@@ -64,11 +64,13 @@ module _ {settings : Settings} {opening : List Entry} where
   abbrev pub passes_in : List (Stint settings opening) → List Pass
   passes_in stints = map (λ stint. stint.pass) stints
 
-  -- what its worker had seen begins the history, which has no other entries of its number than those of its reports
+  -- What its worker had seen begins the history, which has no other entries of its number than those of its reports, and behind
+  -- them those that it lost
   pub record IsPart (history : List Entry) (stint : Stint settings opening) : Type 0 where
     pub later : List Entry
     pub begins : history ≡ stint.pass.seen ++ later
-    pub own : entries_of maker stint.pass.number history ≡ added_entries history (all_served stint.reports)
+    pub none : NoneOf maker (stint.pass.number ∷ []) later
+    pub own : entries_of maker stint.pass.number history ≡ added_entries history (all_served stint.reports) ++ stint.served.works.lost
 
   -- The entries of a history are those of its opening, and behind them those that passes added, of so many: those of these
   -- workers, and others.

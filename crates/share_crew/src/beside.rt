@@ -1,5 +1,5 @@
 //! Workers at work, beside a partner.
-ghost use Rattle.std.specs.Prelude.{◌≡◌, ◌<◌, ◌≤◌, ◌^◌, [], List, Option, map, length, All, vec_len, vec_capacity};
+ghost use Rattle.std.specs.Prelude.{◌≡◌, ◌<◌, ◌≤◌, ◌^◌, false, [], List, Option, map, length, All, vec_len, vec_capacity};
 ghost use Rattle.std.specs.List.{AllZip};
 ghost use Rattle.std.specs.Thread.{IsSync};
 ghost use Rattle.daap_outside.specs.Places.{Returned};
@@ -7,6 +7,7 @@ ghost use Rattle.item_model.specs.declared.changes.Entry.{Entry};
 ghost use Rattle.share_lock.specs.Known.{fresh};
 ghost use Rattle.share_lock.specs.Passes.{lock_id, passes_of, known, IsReady};
 ghost use Rattle.share_replies.specs.Settings.{Settings};
+ghost use Rattle.share_workers.specs.Ends.{is_worker_loss};
 ghost use Rattle.share_crew.specs.Crews.{IsHired, HasEnded};
 ghost use Rattle.share_crew.specs.Doors.{AreNew};
 ghost use Rattle.share_crew.specs.Lines.{links_in, requests_in};
@@ -40,11 +41,13 @@ pub fn work_beside<D: Door + Drop + Send, P: Partner, R: Threads + Wait + Clock 
     ensures ready { All (λ w. IsReady (lock_id lock.now) w.pass) crew.new.items }
     ensures roles { AllZip (λ old new. new.role ≡ old.role) crew.old.items crew.new.items }
     ensures served { AllZip (HasEnded D.coming D.written D.faults) crew.old.items crew.new.items }
+    ensures whole { All (λ w. is_worker_loss w.end ≡ false) crew.new.items }
+    ensures room { vec_capacity crew.new ≡ vec_capacity crew.old }
     ensures partner { P.worked (lock_id lock.now) partner.old partner.new }
 {
     let mut all = ||
         requires { IsSync R.row × All (λ w. IsReady (lock_id lock.now) w.pass) crew.now.items × All (λ w. w.end ≡ WorkerEnd.Running) crew.now.items × All (λ w. w.reports.items ≡ []) crew.now.items }
-        ensures { All (λ w. IsReady (lock_id lock.entry.now) w.pass) crew.exit.now.items × AllZip (λ old new. new.role ≡ old.role) crew.entry.now.items crew.exit.now.items × AllZip (HasEnded D.coming D.written D.faults) crew.entry.now.items crew.exit.now.items }
+        ensures { All (λ w. IsReady (lock_id lock.entry.now) w.pass) crew.exit.now.items × AllZip (λ old new. new.role ≡ old.role) crew.entry.now.items crew.exit.now.items × AllZip (HasEnded D.coming D.written D.faults) crew.entry.now.items crew.exit.now.items × All (λ w. is_worker_loss w.end ≡ false) crew.exit.now.items × (vec_capacity crew.exit.now ≡ vec_capacity crew.entry.now) }
     { serve_all(rt, alloc, lock, bell, crew) };
     join_mut(rt, &mut all, &mut || partner.work(rt, alloc, lock, bell));
 }

@@ -49,8 +49,9 @@ pub fn gather<N: Net>(net: &mut N, begun: Begun<N::D>) -> Gathered
         → AreNew N.D.written N.D.faults kept (map (λ w. w.door) before)
         → AllZip (HasEnded N.D.coming N.D.written N.D.faults) before begun.room.crew.items
         → AllZip (λ old new. new.role ≡ old.role) before begun.room.crew.items
-        → HasGathered settings opening (passes_of begun.lock) (map (λ w. w.role) before) (map (λ w. N.D.coming w.door) before)
-        kept (N.written net.old) (N.written net.new) (N.faults net.old) (N.faults net.new) (known result.first) result.links result.verdict }
+        → (g : HasGathered settings opening (passes_of begun.lock) (map (λ w. w.role) before) (map (λ w. N.D.coming w.door) before)
+        kept (N.written net.old) (N.written net.new) (N.faults net.old) (N.faults net.new) (known result.first) result.links result.verdict)
+        × AllZip (IsOf N.D.written N.D.faults) g.crew begun.room.crew.items }
     ensures asked { N.asked net.new ≡ N.asked net.old }
     ensures links { (before : List (Member N.D)) → AllZip (HasEnded N.D.coming N.D.written N.D.faults) before begun.room.crew.items
         → length before ≤ 72 → links_in result.links < 2 ^ 64 }

@@ -12,6 +12,8 @@ pub enum Verdict {
     Done,
     /// A door could not wait for a link.
     NetworkFailed,
+    /// An edit could not be kept.
+    FileFailed,
     /// There was no memory for what is told of a link.
     OutOfMemory,
     /// A worker served as much as it may.
@@ -26,6 +28,7 @@ impl Verdict {
         match self {
             Verdict::Done => b"",
             Verdict::NetworkFailed => b"network failed\n",
+            Verdict::FileFailed => b"file failed\n",
             Verdict::OutOfMemory => b"memory\n",
             Verdict::Exhausted => b"limit: requests\n",
         }
@@ -38,6 +41,7 @@ impl Verdict {
         match self {
             Verdict::Done => 0,
             Verdict::NetworkFailed => 6,
+            Verdict::FileFailed => 10,
             Verdict::OutOfMemory => 9,
             Verdict::Exhausted => 8,
         }
@@ -49,6 +53,7 @@ impl Verdict {
     {
         match self {
             Verdict::NetworkFailed => Verdict::NetworkFailed,
+            Verdict::FileFailed => Verdict::FileFailed,
             _ => Verdict::OutOfMemory,
         }
     }
@@ -60,6 +65,9 @@ pub fn verdict_of<D>(crew: &[Worker<D>]) -> Verdict
 {
     if has_end(crew, WorkerEnd::AcceptFault) {
         return Verdict::NetworkFailed;
+    }
+    if has_end(crew, WorkerEnd::FileFault) {
+        return Verdict::FileFailed;
     }
     if has_end(crew, WorkerEnd::Memory) {
         return Verdict::OutOfMemory;
@@ -94,5 +102,6 @@ fn end_number(end: WorkerEnd) -> u8
         WorkerEnd::Spent => 3,
         WorkerEnd::AcceptFault => 4,
         WorkerEnd::Memory => 5,
+        WorkerEnd::FileFault => 6,
     }
 }

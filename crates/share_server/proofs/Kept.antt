@@ -1,7 +1,6 @@
 -- What one turn makes of an edit: it is kept in the turn that adds it, or the share is stopped behind it.
-use Rattle.std.proofs.Common.{◌≡◌, ◌≢◌, ℕ, zero, suc, ◌+◌, ◌≤◌, List, [], ◌∷◌, ◌++◌, length, Bool, true, false, true≢false, cond, ◌||◌, is_some, Option, Some, None, refl, sym, ap, ◌∙◌, subst, append_assoc, append-nil, length-append, arith}
+use Rattle.std.proofs.Common.{◌≡◌, ◌≢◌, ℕ, zero, suc, ◌+◌, List, [], ◌∷◌, ◌++◌, length, Bool, true, false, cond, ◌||◌, is_some, Some, None, refl, sym, ap, ◌∙◌, subst, append_assoc, append-nil, length-append, arith}
 use Rattle.std.proofs.lemmas.List.Elements.{All-append}
-use Rattle.std.specs.List.{list_any}
 use Rattle.std.specs.Prelude.{All, Result, Ok, Err, OnOk, OnErr, is_ok, is_err}
 use Rattle.daap_outside.specs.Counts.{CountsFaults, Rose}
 use Rattle.item_model.specs.declared.changes.Edit.{Edit as OneEdit}
@@ -23,7 +22,7 @@ use Rattle.share_replies.specs.Settings.{Settings}
 use Rattle.share_replies.proofs.ReplyFacts.{entries_are_the_askers, stopped_shares_refuse}
 use Rattle.share_core.specs.Laws.{Grows}
 use Rattle.share_server.specs.Passes.{Pass}
-use Rattle.share_server.specs.Losses.{ServesBut, edit_and_stop}
+use Rattle.share_server.specs.Losses.{edit_and_stop}
 use Rattle.share_server.specs.Answering.{Finds, HasAdded, IsLost}
 use Rattle.share_server.specs.Kept.{IsReadyFor, Keeping, edits_wanted}
 use Rattle.share_server.proofs.Listening.{any_neither}

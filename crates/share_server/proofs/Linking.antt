@@ -9,8 +9,7 @@ use Rattle.share_asks.specs.declared.ask.Role.{Role}
 use Rattle.share_asks.specs.declared.ask.Role.TheVariants.{Listen}
 use Rattle.share_history.specs.Histories.{batches}
 use Rattle.share_history.specs.Sessions.{is_stop}
-use Rattle.share_lock.specs.Histories.{entries_of}
-use Rattle.share_replies.specs.Laws.{is_change, is_edit, maker}
+use Rattle.share_replies.specs.Laws.{is_change, is_edit}
 use Rattle.http_front.specs.Readers.{HasRead, Reader}
 use Rattle.http_front.specs.Readings.{IsReading, Joins, reading}
 use Rattle.http_front.proofs.ReadingLaws.{handed_join, reads_all}
@@ -20,7 +19,7 @@ use Rattle.share_server.specs.declared.report.LinkReport.{LinkReport}
 use Rattle.share_server.specs.declared.report.LinkEnd.TheVariants.{Closed, Cut, Refused, Spent, Stopped, LinkFault, FileFault, Memory}
 use Rattle.share_server.specs.Served.{added_entries}
 use Rattle.share_server.specs.Replies.{replies}
-use Rattle.share_server.specs.Passes.{Pass, Serves}
+use Rattle.share_server.specs.Passes.{Pass}
 use Rattle.share_server.specs.Ends.{EndsInside, EndsAtEnd, Idles, all_told, replying}
 use Rattle.share_server.specs.Losses.{LosesEdit, is_loss}
 use Rattle.share_server.specs.Kept.{Keeping}

@@ -5,10 +5,8 @@ use Rattle.item_model.specs.declared.changes.Entry.{Entry}
 use Rattle.share_asks.specs.declared.ask.Want.{Want}
 use Rattle.share_asks.specs.declared.ask.Want.TheVariants.{ServerInfo, Codes, Login, Logout, Update, Databases, Rows, Lists, Values, Edit, Stop, Bad}
 use Rattle.share_history.specs.Sessions.{is_live, is_stopped}
-use Rattle.share_replies.specs.Settings.{Settings}
-use Rattle.share_replies.specs.Replies.{Body, Answer, Replies, Holds, answer_to, refusal, success, is_held, reply_with, session_of}
-use Rattle.share_server.specs.declared.report.Served.{Served}
-use Rattle.share_server.specs.Served.{at_point, answered_on, IsGivenUp, IsReplied, IsServed}
+use Rattle.share_replies.specs.Replies.{Body, Answer, Replies, Holds, refusal, success, is_held, reply_with, session_of}
+use Rattle.share_server.specs.Served.{at_point, answered_on, IsGivenUp, IsReplied}
 use Rattle.share_server.specs.Laws.{SessionsAreLive}
 
 none : {A : Type 0} → 0 < 0 → A

@@ -1,5 +1,5 @@
 //! Many workers at once.
-ghost use Rattle.std.specs.Prelude.{◌≡◌, ◌<◌, [], All, false};
+ghost use Rattle.std.specs.Prelude.{◌≡◌, ◌<◌, [], All, false, vec_capacity};
 ghost use Rattle.std.specs.List.{AllZip};
 ghost use Rattle.std.specs.Thread.{IsSync};
 ghost use Rattle.share_lock.specs.Passes.{lock_id, known, IsReady};
@@ -33,6 +33,7 @@ pub fn serve_all<D: Door + Drop + Send, R: Threads + Wait + Clock + Sync>(
     ensures roles { AllZip (λ old new. new.role ≡ old.role) workers.old.items workers.new.items }
     ensures served { AllZip (λ old new. WorkerServed old.role (known old.pass) (known new.pass) (D.coming old.door) (D.coming new.door) (D.written old.door) (D.written new.door) (D.faults old.door) (D.faults new.door) new.reports.items new.end) workers.old.items workers.new.items }
     ensures whole { All (λ w. is_worker_loss w.end ≡ false) workers.new.items }
+    ensures room { vec_capacity workers.new ≡ vec_capacity workers.old }
 {
     let threads = workers.len().max(1);
     serve_each(rt, alloc, lock, bell, workers.as_mut_slice(), threads);

@@ -26,7 +26,7 @@ pub const EDITORS_REQUESTS: &str =
 
 // The same edit twice.
 pub const TWO_EDITS: &str =
-    "POST /edit HTTP/1.1\r\nContent-Length: 38\r\n\r\nop,kind,id,dmap.itemname\nput,item,7,APOST /edit HTTP/1.1\r\nContent-Length: 38\r\n\r\nop,kind,id,dmap.itemname\nput,item,7,A";
+    "POST /edit HTTP/1.1\r\nContent-Length: 38\r\n\r\nop,kind,id,dmap.itemname\nput,item,7,A\nPOST /edit HTTP/1.1\r\nContent-Length: 38\r\n\r\nop,kind,id,dmap.itemname\nput,item,7,A\n";
 
 // How many bytes the player's replies are: up to the one before the edit, and with the one after it.
 pub const BEFORE_EDIT: u64 = 224;

@@ -1,5 +1,5 @@
 //! An editor whose edits are kept in memory, beside a player whose update is held.
-ghost use Rattle.std.specs.Prelude.{◌≡◌, ⊤, false, IfOk};
+ghost use Rattle.std.specs.Prelude.{◌≡◌, ⊤, false, None, IfOk};
 
 use crate::held::{
     AFTER_EDIT, ALL_HEARD, BEFORE_EDIT, EDITORS_REQUESTS, TWO_EDITS, Told, player, tells, told_of,
@@ -50,6 +50,8 @@ impl Keeps for Counted {
     ghost is_lost = { λ k. k.lost };
 
     ghost faults = { λ k. k.faults };
+
+    ghost place = { λ _. None };
 
     ghost is_for = { λ _ _. ⊤ };
 

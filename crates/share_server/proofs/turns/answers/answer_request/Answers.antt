@@ -53,3 +53,7 @@ returns-in-Lost-clause-keeping g c =
     keeping_then (g.F.Keeps.keeps c.args.keeper.now) (g.F.Keeps.keeps c.loop.keeper) (g.F.Keeps.keeps c.turn.new.keeper) (g.F.Keeps.is_lost c.loop.keeper) (g.F.Keeps.is_lost c.turn.new.keeper)
     (g.F.Keeps.faults c.args.keeper.now) (g.F.Keeps.faults c.loop.keeper) (g.F.Keeps.faults c.turn.new.keeper) (known c.args.pass.now) (known c.loop.pass) (known c.turn.new.pass) true c.loop.invariant.keeping
     c.in-Lost.ensures.keeping
+
+pub returns-in-Lost-clause-outcome : goal.returns-in-Lost-clause-outcome
+returns-in-Lost-clause-outcome g c =
+    loses_behind (known c.args.pass.now) (known c.loop.pass) (known c.turn.new.pass) c.args.ask.now c.loop.invariant.quiet c.in-Lost.ensures.looked

@@ -1,10 +1,9 @@
 -- What was added was kept in the same turn, or lost, and the share stopped.
-use Rattle.std.proofs.Common.{rules, ◌≡◌, Bool, true, false, subst, refl}
+use Rattle.std.proofs.Common.{rules, ◌≡◌, true, false, subst, refl}
 use Rattle.std.specs.Prelude.{is_ok}
-use Rattle.share_server.specs.Passes.{Pass}
-use Rattle.share_server.specs.Answering.{Finds, has_added, loses_in}
+use Rattle.share_server.specs.Answering.{HasAdded, has_added, loses_in}
 use Rattle.share_server.specs.Kept.{IsReadyFor, edits_wanted}
-use Rattle.share_server.proofs.Kept.{Turn, is_lost_in_turn, kept_in_turn, lost_in_turn, unready_in_turn}
+use Rattle.share_server.proofs.Kept.{goes_on_behind, grows_twice, is_lost_in_turn, kept_in_turn, lost_in_turn, unready_in_turn}
 use Rattle.share_server.proofs.turns.keeping.asked.Goals as goal
 
 -- it brings no edits
@@ -29,6 +28,19 @@ returns-then-is_ok-clause-keeping g c = λ k own found.
     c.keep.ensures.acknowledged
 
 -- it was lost
+pub stop-requires : goal.stop-requires
+stop-requires g c =
+    let added : has_added c.told-look.result ≡ true = search rules in record {
+      going =
+          goes_on_behind c.args.share.now.settings c.args.share.now.history c.told-look.new.share.history c.args.by c.args.ask.now.want
+          (subst (λ b. HasAdded b c.args.share.now.history c.args.by c.args.ask.now.want c.told-look.new.share.history) added c.told-look.ensures.added)
+          (subst (λ ready. IsReadyFor g.F.Keeps.is_for (edits_wanted c.args.ask.now.want) ready) c.in-Some.is c.requires.made).0;
+    }
+
+pub returns-clause-grows : goal.returns-clause-grows
+returns-clause-grows g c =
+    grows_twice c.args.share.now c.told-look.new.share c.stop.new.share c.args.by c.told-look.ensures.grows c.stop.ensures.settings c.stop.ensures.stopped
+
 pub returns-clause-looked : goal.returns-clause-looked
 returns-clause-looked g c = λ k own found.
     let added : has_added c.told-look.result ≡ true = search rules in

@@ -1,0 +1,37 @@
+-- The file that keeps the edits of a share: what the share begins with, and what a run leaves of the file.
+use Rattle.std.specs.Prelude.{◌≡◌, ℕ, List, ◌∷◌, [], ◌++◌, Bool, true, false, MatchBool, Option, Some, None}
+use Rattle.item_model.specs.declared.changes.Edit.{Edit}
+use Rattle.item_model.specs.declared.changes.Entry.{Entry}
+use Rattle.daap_outside.specs.Counts.{Rose}
+use Rattle.daap_outside.specs.Places.{Contents}
+use Rattle.daap_outside.specs.Told.{Grows}
+use Rattle.share_history.specs.Histories.{batches, opening}
+use Rattle.share_history.specs.Limits.{has_few_lists}
+use Rattle.share_core.specs.Opened.{opened_with, if_filled}
+use Rattle.share_workers.specs.Keepers.{KeepsBut}
+use Rattle.kept_library.specs.Opening.{StandsAt}
+use Rattle.kept_library.specs.Closing.{LeavesAt}
+use Rattle.command_core.specs.Seen.{FilesSeen}
+
+-- the entries that a share begins with: an entry for each batch that its file stood for, where it has a file, and for the batch of
+-- the input, where that has edits
+abbrev pub IsOpening : Option (List ℕ) → Option Contents → List Edit → List Entry → Type 0
+IsOpening None contents edits opened = (opened ≡ opening edits) × (has_few_lists [] edits ≡ true)
+IsOpening (Some path) contents edits opened = (stood : List (List Edit)) × StandsAt contents path stood × (opened ≡ opened_with (stood ++ if_filled edits))
+
+-- A file was asked for, and has the batches of this history, unless an edit was lost. The count of files rises exactly with that.
+pub record IsKept (path : List ℕ) (before after : FilesSeen) (history : List Entry) (lost : Bool) : Type 0 where
+  pub asked : Grows before.asked after.asked (path ∷ [])
+  pub counts : MatchBool lost (Rose before.faults after.faults) (after.faults ≡ before.faults)
+  pub left : lost ≡ false → LeavesAt path (batches history) before.contents after.contents
+
+-- what a share leaves of the files; without a file of its own it leaves them alone, and loses no edit
+abbrev pub AreKept : Option (List ℕ) → FilesSeen → FilesSeen → List Entry → Bool → Type 0
+AreKept None before after history lost = (after ≡ before) × (lost ≡ false)
+AreKept (Some path) before after history lost = IsKept path before after history lost
+
+-- what a keeper keeps of a history whose opening it had, and of which one worker made all edits behind that
+pub record HasKept (editors : ℕ) (keeps keeps' : List (List Edit) → Type 0) (is_lost' : Bool) (faults faults' : ℕ) (opened history : List Entry) (lost : Bool) : Type 0 where
+  pub is_lost : is_lost' ≡ lost
+  pub counts : MatchBool lost (Rose faults faults') (faults' ≡ faults)
+  pub kept : editors ≡ 1 → keeps (batches opened) → KeepsBut lost keeps' (batches history)

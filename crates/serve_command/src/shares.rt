@@ -1,0 +1,170 @@
+//! A share from its first line to its last, at doors that are open.
+
+ghost use Rattle.std.specs.Prelude.{◌≡◌, ◌≤◌, ◌<◌, ◌+◌, ◌++◌, ◌∷◌, [], ℕ, List, map, length, vec_len, vec_capacity, false, All};
+ghost use Rattle.item_model.specs.declared.changes.Entry.{Entry};
+ghost use Rattle.command_core.specs.Seen.{NetSeen, OutputSeen, net_seen, output_seen};
+ghost use Rattle.command_core.specs.Endings.{IsWritten};
+ghost use Rattle.share_lock.specs.Passes.{lock_id, known, passes_of, IsReady};
+ghost use Rattle.share_replies.specs.Laws.{maker};
+ghost use Rattle.share_crew.specs.Crews.{IsStaff};
+ghost use Rattle.share_crew.specs.Doors.{AreNew};
+ghost use Rattle.serve_command.specs.Begun.{IsBegunWith};
+ghost use Rattle.serve_command.specs.Files.{HasKept};
+ghost use Rattle.serve_command.specs.Outcomes.{left_of};
+ghost use Rattle.serve_command.specs.Places.{HasOpened};
+ghost use Rattle.serve_command.specs.Runs.{HasServed, ShareEnds};
+ghost use Rattle.serve_command.specs.Terms.{MayServe, settings_of};
+
+use crate::closing::closed;
+use crate::editor::Editor;
+use crate::opening::begin;
+use crate::places::Doors;
+use crate::terms::Serving;
+use crate::unserved::{given_back, unserved};
+use daap_outside::{Net, Sink};
+use edit_keeping::Keeps;
+use share_asks::Role;
+use share_core::Share;
+use share_crew::{Begun, Gathered, Outcome, Room, gather, hire, share_of, work_beside};
+use share_lock::Bell;
+use share_workers::Worker;
+use std::alloc::Global;
+use std::sync::Wait;
+use std::thread::Threads;
+use std::time::Clock;
+
+/// Serves a share, with what keeps its edits, which is given back.
+pub(crate) fn serve_share<W: Sink, N: Net, K: Keeps, R: Threads + Wait + Clock + Sync>(
+    rt: &R,
+    alloc: Global,
+    serving: &Serving,
+    output: &mut W,
+    net: &mut N,
+    doors: Doors<N::D>,
+    share: Share,
+    keeper: K,
+) -> (Outcome, K)
+    requires may { MayServe serving.now }
+    requires listening { length doors.listen.items ≡ serving.now.workers }
+    requires editing { length doors.edit.items ≡ serving.now.editors }
+    requires opening { All (λ e. maker e ≡ 0) share.history }
+    requires settings { share.settings ≡ settings_of serving.now }
+    requires going { K.is_lost keeper ≡ false }
+    ensures { (start : NetSeen)
+        → HasOpened serving.now start (net_seen (N.asked net.old) (N.written net.old) (N.door_links net.old) (N.next_input net.old) (N.faults net.old))
+        (length doors.listen.items) (length doors.edit.items) (map N.D.coming (doors.listen.items ++ doors.edit.items))
+        → AreNew N.D.written N.D.faults start.written doors.listen.items → AreNew N.D.written N.D.faults start.written doors.edit.items
+        → ShareEnds serving.now share.history
+        (HasKept serving.now.editors (K.keeps keeper) (K.keeps result.1) (K.is_lost result.1) (K.faults keeper) (K.faults result.1) share.history)
+        start (net_seen (N.asked net.new) (N.written net.new) (N.door_links net.new) (N.next_input net.new) (N.faults net.new))
+        (output_seen (W.taken output.old) (W.faults output.old))
+        (output_seen (W.taken output.new) (W.faults output.new)) (left_of result.0) }
+{
+    match begin(alloc, serving, output, share) {
+        Ok(begun) => serve_begun(rt, alloc, output, net, doors, begun, keeper),
+        Err(status) => {
+            given_back(net, doors);
+            (unserved(alloc, status), keeper)
+        }
+    }
+}
+
+// Serves a share that is under its lock, to its end. The last of those who edit it works in this thread.
+fn serve_begun<W: Sink, N: Net, K: Keeps, R: Threads + Wait + Clock + Sync>(
+    rt: &R,
+    alloc: Global,
+    output: &mut W,
+    net: &mut N,
+    doors: Doors<N::D>,
+    begun: Begun<N::D>,
+    keeper: K,
+) -> (Outcome, K)
+    requires ready { IsReady (lock_id begun.lock) begun.first }
+    requires no_crew { begun.room.crew.items ≡ [] }
+    requires no_links { begun.room.links.items ≡ [] }
+    requires crew { length doors.listen.items + length doors.edit.items ≤ vec_capacity begun.room.crew }
+    requires links { length doors.listen.items + length doors.edit.items ≤ vec_capacity begun.room.links }
+    requires some { 1 ≤ length doors.edit.items }
+    requires few { length doors.listen.items + length doors.edit.items ≤ 72 }
+    requires going { K.is_lost keeper ≡ false }
+    ensures { (serving : Serving) (opened : List Entry) (start : NetSeen) (before : OutputSeen) (front : List ℕ)
+        → IsBegunWith serving opened begun → All (λ e. maker e ≡ 0) opened
+        → HasOpened serving start (net_seen (N.asked net.old) (N.written net.old) (N.door_links net.old) (N.next_input net.old) (N.faults net.old))
+        (length doors.listen.items) (length doors.edit.items) (map N.D.coming (doors.listen.items ++ doors.edit.items))
+        → AreNew N.D.written N.D.faults start.written doors.listen.items → AreNew N.D.written N.D.faults start.written doors.edit.items
+        → IsWritten before (output_seen (W.taken output.old) (W.faults output.old)) front
+        → HasServed serving opened
+        (HasKept serving.editors (K.keeps keeper) (K.keeps result.1) (K.is_lost result.1) (K.faults keeper) (K.faults result.1) opened) front start
+        (net_seen (N.asked net.new) (N.written net.new) (N.door_links net.new) (N.next_input net.new) (N.faults net.new))
+        before (output_seen (W.taken output.new) (W.faults output.new)) (left_of result.0) }
+{
+    let (mut begun, last) = staffed(rt, alloc, begun, doors);
+    let mut editor = Editor {
+        worker: last,
+        keeper,
+    };
+    work_beside(
+        rt,
+        alloc,
+        &begun.lock,
+        &Bell::new(),
+        &mut begun.room.crew,
+        &mut editor,
+    );
+    let Editor { worker, keeper } = editor;
+    begun.room.crew.push_reserved(worker);
+    let Gathered {
+        lock,
+        mut first,
+        links,
+        verdict,
+    } = gather(net, begun);
+    let share = share_of(rt, &lock, &mut first);
+    (closed(alloc, output, share, links, verdict), keeper)
+}
+
+// Gives each door its worker, and takes out the last of them.
+fn staffed<D: Drop, R: Wait>(
+    rt: &R,
+    alloc: Global,
+    begun: Begun<D>,
+    doors: Doors<D>,
+) -> (Begun<D>, Worker<D>)
+    requires ready { IsReady (lock_id begun.lock) begun.first }
+    requires empty { begun.room.crew.items ≡ [] }
+    requires room { length doors.listen.items + length doors.edit.items ≤ vec_capacity begun.room.crew }
+    requires some { 1 ≤ length doors.edit.items }
+    ensures lock { lock_id result.0.lock ≡ lock_id begun.lock }
+    ensures ready { IsReady (lock_id result.0.lock) result.0.first }
+    ensures pass { known result.0.first ≡ known begun.first }
+    ensures staff { IsStaff (lock_id result.0.lock) (known result.0.first)
+        (map (λ door. Role.Listen) doors.listen.items ++ map (λ door. Role.Edit) doors.edit.items)
+        (doors.listen.items ++ doors.edit.items) (result.0.room.crew.items ++ result.1 ∷ []) }
+    ensures len { length result.0.room.crew.items + 1 ≡ length doors.listen.items + length doors.edit.items }
+    ensures room { vec_len result.0.room.crew < vec_capacity result.0.room.crew }
+    ensures links { result.0.room.links ≡ begun.room.links }
+{
+    let Begun {
+        lock,
+        mut first,
+        room: Room { mut crew, links },
+    } = begun;
+    let Doors { listen, edit } = doors;
+    hire(
+        rt,
+        alloc,
+        &lock,
+        &mut first,
+        listen,
+        Role::Listen,
+        &mut crew,
+    );
+    hire(rt, alloc, &lock, &mut first, edit, Role::Edit, &mut crew);
+    let last = crew.pop().unwrap();
+    let begun = Begun {
+        lock,
+        first,
+        room: Room { crew, links },
+    };
+    (begun, last)
+}
