@@ -8,11 +8,11 @@ use Rattle.daapshare.proofs.local.listed.Goals as goal
 pub returns : goal.returns
 returns g c =
     let words = c.args.words.now in
-    let meta = option_copied c.as_ref-1.result in
+    let meta = option_copied c.as_ref-2.result in
     λ around.
     let told : Told = told_beside around
     (input_seen (g.I.Source.left c.args.input.now) (g.I.Faulted.faults c.args.input.now)) (input_seen (g.I.Source.left c.list_share.new.input) (g.I.Faulted.faults c.list_share.new.input))
     (output_seen (g.W.Sink.taken c.args.output.now) (g.W.Faulted.faults c.args.output.now)) (output_seen (g.W.Sink.taken c.list_share.new.output) (g.W.Faulted.faults c.list_share.new.output)) in
     subst (λ (t : Target). IsAnswered (list_meaning words.query words.meta t) told c.list_share.result) c.target_of.ensures
-    (subst (λ (m : Option (List ℕ)). IsAnswered (list_meaning words.query m c.target_of.result) told c.list_share.result) c.as_ref-1.ensures.value
+    (subst (λ (m : Option (List ℕ)). IsAnswered (list_meaning words.query m c.target_of.result) told c.list_share.result) c.as_ref-2.ensures.value
     (subst (λ (q : Option (List ℕ)). IsAnswered (list_meaning q meta c.target_of.result) told c.list_share.result) c.as_ref.ensures.value (c.list_share.ensures around)))
