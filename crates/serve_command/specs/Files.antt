@@ -1,5 +1,5 @@
 -- The file that keeps the edits of a share: what the share begins with, and what a run leaves of the file.
-use Rattle.std.specs.Prelude.{◌≡◌, ℕ, List, ◌∷◌, [], ◌++◌, Bool, true, false, MatchBool, Option, Some, None, IfSome}
+use Rattle.std.specs.Prelude.{◌≡◌, ℕ, List, ◌∷◌, [], ◌++◌, Bool, true, false, MatchBool, Option, Some, None}
 use Rattle.item_model.specs.declared.changes.Edit.{Edit}
 use Rattle.item_model.specs.declared.changes.Entry.{Entry}
 use Rattle.daap_outside.specs.Counts.{Rose}
@@ -9,8 +9,7 @@ use Rattle.share_history.specs.Histories.{batches, opening}
 use Rattle.share_history.specs.Limits.{has_few_lists}
 use Rattle.share_core.specs.Opened.{opened_with, if_filled}
 use Rattle.share_workers.specs.Keepers.{KeepsBut}
-use Rattle.kept_library.specs.Opening.{StandsAt}
-use Rattle.kept_library.specs.Closing.{LeavesAt}
+use Rattle.kept_library.specs.Closing.{LeavesAt, StandsAt}
 use Rattle.command_core.specs.Seen.{FilesSeen}
 
 -- the entries that a share begins with: an entry for each batch that its file stood for, where it has a file, and for the batch of
@@ -23,7 +22,7 @@ IsOpening (Some path) contents edits opened = (stood : List (List Edit)) × Stan
 pub record IsKept (path : List ℕ) (before after : FilesSeen) (history : List Entry) (lost : Bool) : Type 0 where
   pub asked : Grows before.asked after.asked (path ∷ [])
   pub counts : MatchBool lost (Rose before.faults after.faults) (after.faults ≡ before.faults)
-  pub left : lost ≡ false → IfSome before.contents (λ c. LeavesAt path (batches history) (Some c) after.contents)
+  pub left : lost ≡ false → LeavesAt path (batches history) before.contents after.contents
 
 -- what a share leaves of the files; without a file of its own it leaves them alone, and loses no edit
 abbrev pub AreKept : Option (List ℕ) → FilesSeen → FilesSeen → List Entry → Bool → Type 0

@@ -1,5 +1,5 @@
 -- What follows from how runs of `serve` end.
-use Rattle.std.specs.Prelude.{◌≡◌, ◌⊎◌, ◌≤◌, ℕ, List, [], ◌++◌, length, true, Contains, Option, Some, None, IfSome}
+use Rattle.std.specs.Prelude.{◌≡◌, ◌⊎◌, ◌≤◌, ℕ, List, [], ◌++◌, length, true, Contains, Option, Some, None}
 use Rattle.item_model.specs.declared.changes.Edit.{Edit}
 use Rattle.item_model.specs.declared.changes.Entry.{Entry}
 use Rattle.daap_outside.specs.Counts.{Rose}
@@ -11,8 +11,7 @@ use Rattle.share_core.specs.Opened.{if_filled, LeaveFewLists}
 use Rattle.share_server.specs.declared.report.LinkReport.{LinkReport}
 use Rattle.share_workers.specs.Works.{all_served}
 use Rattle.edit_file.specs.Standing.{FileStands}
-use Rattle.kept_library.specs.Opening.{bytes_at}
-use Rattle.kept_library.specs.Closing.{LeavesAt}
+use Rattle.kept_library.specs.Closing.{LeavesAt, bytes_at}
 use Rattle.command_core.specs.Seen.{Told}
 use Rattle.command_core.specs.ReadRecords.{ReadsAs}
 use Rattle.serve_command.specs.declared.terms.Serving.{Serving}
@@ -53,7 +52,7 @@ pub record IsLeft (path : List ℕ) (told : Told) (left : Left) : Type 0 where
   pub faultless : told.after.around.files.faults ≡ told.before.around.files.faults
   pub history : List Entry
   pub history_is : left.history ≡ Some history
-  pub left_at : IfSome told.before.around.files.contents (λ c. LeavesAt path (batches history) (Some c) told.after.around.files.contents)
+  pub left_at : LeavesAt path (batches history) told.before.around.files.contents told.after.around.files.contents
 
 abbrev pub SuccessLeavesTheFile : Type 0
 SuccessLeavesTheFile = (serving : Serving) (path : List ℕ) (told : Told) (left : Left) → ServeEnds serving told left → left.status ≡ 0 → serving.file ≡ Some path → IsLeft path told left

@@ -1,4 +1,4 @@
-use Rattle.std.proofs.Common.{Some, None, sym, ◌∙◌}
+use Rattle.std.proofs.Common.{rules}
 use Rattle.command_core.specs.Seen.{FilesSeen, files_seen}
 use Rattle.serve_command.proofs.records.serve_records.Goals as goal
 
