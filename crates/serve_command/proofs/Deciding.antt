@@ -99,7 +99,7 @@ not_kept_out files files' path first (fault.Own file.Failed) stands calm stops c
 not_kept_out files files' path first (fault.Own file.TooManyEdits) stands calm stops counts =
     let same = stood_once files.contents path first stands stops.stood_for stops.stood in
     let many = stops.many in
-    let few : length (edits (stops.before ++ if_filled first)) ≤ most_edits = subst (λ bs. length (edits (bs ++ if_filled first)) ≤ most_edits) same stands.few_edits in
+    let few : length (edits (stops.stood_for ++ if_filled first)) ≤ most_edits = subst (λ bs. length (edits (bs ++ if_filled first)) ≤ most_edits) same stands.few_edits in
     absurd (omega (arith, many, few))
 not_kept_out files files' path first (fault.Own file.TooManyLists) stands calm stops counts =
     let same = stood_once files.contents path first stands stops.stood_for stops.stood in

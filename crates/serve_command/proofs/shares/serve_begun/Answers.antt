@@ -8,7 +8,7 @@ use Rattle.std.specs.Prelude.{All, vec_capacity, vec_len}
 use Rattle.share_lock.specs.Known.{fresh}
 use Rattle.share_lock.specs.Passes.{IsReady, known, lock_id, passes_of}
 use Rattle.share_workers.specs.declared.worker.Worker.{Worker}
-use Rattle.share_crew.specs.Crews.{HasEnded, HasJoined, IsHired}
+use Rattle.share_crew.specs.Crews.{HasEnded, HasJoined, IsHired, IsOf}
 use Rattle.share_crew.specs.Doors.{AreNew, IsNew}
 use Rattle.share_crew.specs.Gathered.{HasGathered}
 use Rattle.share_crew.specs.Stints.{IsNumbered, passes_in}
@@ -51,7 +51,7 @@ push_reserved-requires g c =
     omega (arith, count, c.keep_beside.ensures.room, c.staffed-begun.ensures.room)
 
 pub gather-lock-requires-clause-crew : goal.gather-lock-requires-clause-crew
-gather-lock-requires-clause-crew g c =
+gather-lock-requires-clause-crew g c = λ κs bounds.
     let id = lock_id c.staffed-begun.result.0.lock in
     subst (All (λ w. IsReady id w.pass)) (sym c.push_reserved.ensures.items)
     (All-push (λ w. IsReady id w.pass) c.keep_beside.new.crew.items c.keep_beside.new.worker c.keep_beside.ensures.ready c.keep_beside.ensures.keeper_ready)
@@ -112,8 +112,9 @@ returns g c = λ serving opened start before front begun first opens new_listen 
     let served = subst (λ l. AllZip R crew l) (sym c.push_reserved.ensures.items) (AllZip-push R r.0.room.crew.items c.keep_beside.new.crew.items r.1 c.keep_beside.new.worker c.keep_beside.ensures.served c.keep_beside.ensures.keeper_served) in
     let same_roles = subst (λ l. AllZip Q crew l) (sym c.push_reserved.ensures.items) (AllZip-push Q r.0.room.crew.items c.keep_beside.new.crew.items r.1 c.keep_beside.new.worker c.keep_beside.ensures.roles c.keep_beside.ensures.keeper_role) in
     let pair = c.gather-lock.ensures.gathered (settings_of serving) opened start.written crew (c.staffed-begun.ensures.pass ∙ begun.pass) staff.hired doors served same_roles in
-    let g0 = pair.0 in
-    let all = subst (λ n. HasGathered (settings_of serving) opened n roles come start.written mid.written now.written mid.faults now.faults k c.gather-lock.result.links c.gather-lock.result.verdict) passes g0 in
+    let both = subst (λ n. (q : HasGathered (settings_of serving) opened n roles come start.written mid.written now.written mid.faults now.faults k c.gather-lock.result.links c.gather-lock.result.verdict)
+    × AllZip (IsOf written faults) q.crew c.push_reserved.new.self.items) passes pair in
+    let all = both.0 in
     let members = append-nil (passes_in all.crew) in
     let count_of : passes_of c.gather-lock.result.lock ≡ length crew + 1 = ap (λ l. l.1) c.gather-lock.ensures.lock ∙ passes in
     let numbered = subst (λ n. AllByRecursion (IsNumbered n) (passes_in all.crew)) (sym count_of) all.numbered in
@@ -128,6 +129,6 @@ returns g c = λ serving opened start before front begun first opens new_listen 
     k history c.gather-lock.result.links c.gather-lock.result.verdict opens all one
     (crew_keeps written faults history all.crew c.keep_beside.new.crew.items c.keep_beside.new.worker (workers_of serving) serving.workers serving.editors (known r.1.pass)
     (g.K.Keeps.keeps c.args.keeper) (g.K.Keeps.keeps c.keep_beside.new.keeper) (g.K.Keeps.is_lost c.keep_beside.new.keeper) (g.K.Keeps.faults c.args.keeper) (g.K.Keeps.faults c.keep_beside.new.keeper)
-    ? c.keep_beside.ensures.whole (all.roles_are ∙ (staff.roles_are ∙ roles_are serving listen edit opens.listening opens.editing)) first one seen c.keep_beside.ensures.keeping)
+    (subst (λ l. AllZip (IsOf written faults) all.crew l) c.push_reserved.ensures.items both.1) c.keep_beside.ensures.whole (all.roles_are ∙ (staff.roles_are ∙ roles_are serving listen edit opens.listening opens.editing)) first one seen c.keep_beside.ensures.keeping)
     staff.roles_are (sym (map-map coming (λ w. w.door) crew) ∙ ap (map coming) staff.doors_are) c.gather-lock.ensures.asked c.closed.ensures.history c.closed.ensures.links
     (c.closed.ensures.told before front wrote)
