@@ -4,9 +4,7 @@ use Rattle.std.proofs.lemmas.List.{get_or_append_left}
 use Rattle.std.specs.Prelude.{All, OnOk, OnErr}
 use Rattle.share_lock.proofs.Fronts.{all_rest}
 use Rattle.daap_outside.specs.Counts.{RisesWith, Rose}
-use Rattle.daap_outside.specs.Places.{Contents}
 use Rattle.daap_outside.specs.Told.{Grows}
-use Rattle.kept_library.specs.Closing.{LeavesAt}
 use Rattle.item_model.specs.declared.changes.Edit.{Edit}
 use Rattle.item_model.specs.declared.changes.Entry.{Entry}
 use Rattle.command_core.specs.Seen.{FilesSeen, InputSeen, NetSeen, OutputSeen, seen, told_in}
@@ -76,9 +74,3 @@ last_of_all P xs y all = all_rest P xs (y ∷ []) all 0 y (omega arith)
 pub counts_back : (lost : Bool) (n n' d d' : ℕ) → d ≡ 0 → MatchBool lost (Rose d d') (d' ≡ d) → RisesWith n n' d' → MatchBool lost (Rose n n') (n' ≡ n)
 counts_back true n n' d d' is counts rises = rises.faulty (let r = counts.1 in omega (arith, is, r))
 counts_back false n n' d d' is counts rises = rises.faultless (counts ∙ is)
-
--- where contents are told the file is in its place
-pub leaves_told : (place : Option (List ℕ)) (path : List ℕ) (bs : List (List Edit)) (before now : Option Contents) → IfSome before (λ c. place ≡ Some path) → (place ≡ Some path → LeavesAt path bs before now)
-    → LeavesAt path bs before now
-leaves_told place path bs None now is leaves = tt
-leaves_told place path bs (Some c) now is leaves = leaves is

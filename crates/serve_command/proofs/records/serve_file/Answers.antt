@@ -1,4 +1,4 @@
-use Rattle.std.proofs.Common.{◌≡◌, ◌++◌, ◌∷◌, [], List, ℕ, Option, Some, Bool, false, length, map, refl, sym, subst, ap, ◌∙◌}
+use Rattle.std.proofs.Common.{◌≡◌, ◌++◌, ◌∷◌, [], List, ℕ, Option, Some, IfSome, Bool, false, length, map, refl, sym, subst, ap, ◌∙◌}
 use Rattle.std.specs.Prelude.{All}
 use Rattle.daap_outside.specs.Counts.{RisesWith}
 use Rattle.daap_outside.specs.Places.{Contents}
@@ -15,7 +15,7 @@ use Rattle.serve_command.specs.KeptFiles.{IsKeptIn}
 use Rattle.serve_command.specs.Outcomes.{left_of}
 use Rattle.serve_command.specs.Runs.{unbegun, unkept}
 use Rattle.serve_command.proofs.Beginning.{opened_made}
-use Rattle.serve_command.proofs.Returning.{asked_still, counts_back, ends_so, faultless_still, leaves_told, run_ends}
+use Rattle.serve_command.proofs.Returning.{asked_still, counts_back, ends_so, faultless_still, run_ends}
 use Rattle.serve_command.proofs.records.serve_file.Goals as goal
 
 pub serve_kept-outcome-requires-clause-opening : goal.serve_kept-outcome-requires-clause-opening
@@ -52,9 +52,9 @@ returns-in-Ok g c = λ before after start read opens listen edit.
       asked = subst (λ a. Grows (g.F.Files.asked f0) a (path ∷ [])) (sym c.close_file.ensures.asked_stays) at.asks;
       counts = counts_back lost (g.F.Faulted.faults f0) (g.F.Faulted.faults f2) (g.F.D.Faulted.faults (disk_of g.F.D.Disk file)) (g.F.D.Faulted.faults (disk_of g.F.D.Disk file')) opened.faultless k.counts
           (subst (λ n. RisesWith n (g.F.Faulted.faults f2) (g.F.D.Faulted.faults (disk_of g.F.D.Disk file'))) at.count c.close_file.ensures.count);
-      left = λ none. leaves_told place path (batches h) (g.F.Files.contents f0) (g.F.Files.contents f2) opened.place
-          (λ there. subst (λ o. LeavesAt path (batches h) o (g.F.Files.contents f2)) at.contents
-          (c.close_file.ensures.kept path (batches h) (k.is_broken_so ∙ none) (k.keeps none) (k.in_place none ∙ there)));
+      left = λ none. subst (λ o. LeavesAt path (batches h) o (g.F.Files.contents f2)) at.contents
+          (c.close_file.ensures.kept path (batches h) (k.is_broken_so ∙ none) (k.keeps none)
+          (subst (λ p. IfSome (g.F.Files.contents f1) (λ told. p ≡ Some path)) (sym (k.in_place none)) (subst (λ o. IfSome o (λ told. place ≡ Some path)) (sym at.contents) opened.place)));
     })) (c.serve_kept-outcome.ensures start opens listen edit))
 
 pub returns-in-Err : goal.returns-in-Err
