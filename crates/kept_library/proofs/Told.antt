@@ -1,5 +1,5 @@
 -- What is told of a file under its name, when it is opened and when it is given back.
-use Rattle.std.proofs.Common.{◌≡◌, ℕ, false, List, [], ◌∷◌, Option, Some, None, is_some, IfSome, MatchBool, if◌then◌else◌, ap, ◌∙◌, subst, append_assoc, inr}
+use Rattle.std.proofs.Common.{◌≡◌, ◌⊎◌, ℕ, true, false, List, [], ◌∷◌, Option, Some, None, is_some, IfSome, MatchBool, if◌then◌else◌, ap, ◌∙◌, subst, append_assoc, ◌++◌, refl, inl, inr}
 use Rattle.item_model.specs.declared.changes.Edit.{Edit}
 use Rattle.outside_disks.specs.Contents.{Contents, OpensFile, ClosesFile}
 use Rattle.outside_disks.specs.declared.disk.Disk.{Ghosts}
@@ -8,7 +8,7 @@ use Rattle.edit_file.specs.Files.{AtRest, HasBatches, StandsForOrOneMore, is_bro
 use Rattle.edit_file.specs.Moments.{Holds}
 use Rattle.edit_file.specs.Standing.{opened, signature, FileStands}
 use Rattle.edit_file.specs.declared.file.EditFile.{EditFile}
-use Rattle.kept_library.specs.Closing.{LeavesAt, Puts, PutsBatches}
+use Rattle.kept_library.specs.Closing.{LeavesAt, LeavesOrOneMore, Puts, PutsBatches}
 use Rattle.kept_library.specs.Opening.{bytes_at}
 
 -- what holds of the bytes of its disk holds of those under its name
@@ -56,3 +56,23 @@ module _ {D : Type 0} (g : Ghosts D) {f : faulted.Ghosts D} where
       by_bytes None name none rest closed = absurd (cc)
       by_bytes (Some b) name is rest closed =
           record { bytes = b; stands = rest_stands b file.closing bs rest.0; told = subst (λ n. ClosesFile (Some c) now n (Some b)) is closed }
+
+  -- one that has failed leaves its batches, or one more: the bytes of its disk are what a crash may leave
+  pub leaves_broken : ((disk : D) (told : List ℕ) → g.bytes disk ≡ Some told → g.images disk told) → (path : List ℕ) (bs : List (List Edit)) (before now : Option Contents) (file : EditFile D g f)
+      → is_broken g file ≡ true → HasBatches g file bs → IfSome before (λ _. place_of g file ≡ Some path) → ClosesFile before now (g.opened_as file.disk) (g.bytes file.disk)
+      → LeavesOrOneMore path bs before now
+  leaves_broken counts path bs None now file broken has place closes = inl tt
+  leaves_broken counts path bs (Some c) now file broken has place closes =
+      by_bytes (g.bytes file.disk) (g.opened_as file.disk) refl place
+      (subst (λ b. MatchBool b (IfSome (g.bytes file.disk) (λ _. (image : List ℕ) → g.images file.disk image → StandsForOrOneMore bs image)) (IfSome (g.bytes file.disk) (λ bytes. AtRest bytes file.closing bs × Holds g file.disk bytes))) broken has)
+      closes
+    where
+      by_image : (b : List ℕ) → Puts path b c now → StandsForOrOneMore bs b → LeavesOrOneMore path bs (Some c) now
+      by_image b told (inl stands) = inl (record { bytes = b; stands = stands; told = told })
+      by_image b told (inr more) = inr (more.0, record { bytes = b; stands = more.1; told = told })
+
+      by_bytes : (bytes name : Option (List ℕ)) → g.bytes file.disk ≡ bytes → (if is_some bytes then name else None) ≡ Some path
+          → IfSome bytes (λ _. (image : List ℕ) → g.images file.disk image → StandsForOrOneMore bs image) → ClosesFile (Some c) now name bytes → LeavesOrOneMore path bs (Some c) now
+      by_bytes None name same none images closed = absurd (cc)
+      by_bytes (Some b) name same is images closed =
+          by_image b (subst (λ n. ClosesFile (Some c) now n (Some b)) is closed) (images b (counts file.disk b same))

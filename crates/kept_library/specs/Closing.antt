@@ -1,5 +1,5 @@
 -- What is under the name of a file of edits, when its disk has been given back.
-use Rattle.std.specs.Prelude.{◌≡◌, ℕ, List, Option, Some, IfSome}
+use Rattle.std.specs.Prelude.{◌≡◌, ◌⊎◌, ℕ, List, [], ◌∷◌, ◌++◌, Option, Some, IfSome}
 use Rattle.std.specs.FinMap as finite
 use Rattle.item_model.specs.declared.changes.Edit.{Edit}
 use Rattle.outside_disks.specs.Contents.{Contents}
@@ -18,3 +18,7 @@ pub record PutsBatches (path : List ℕ) (bs : List (List Edit)) (before : Conte
 -- where the contents were told
 abbrev pub LeavesAt : List ℕ → List (List Edit) → Option Contents → Option Contents → Type 0
 LeavesAt path bs before now = IfSome before (λ c. PutsBatches path bs c now)
+
+-- bytes that stand for the batches, or for these and one more
+abbrev pub LeavesOrOneMore : List ℕ → List (List Edit) → Option Contents → Option Contents → Type 0
+LeavesOrOneMore path bs before now = LeavesAt path bs before now ⊎ ((batch : List Edit) × LeavesAt path (bs ++ batch ∷ []) before now)

@@ -1,5 +1,5 @@
 -- A share that is opened with the batches of a file, and with one batch more, which the file keeps from then on.
-use Rattle.std.specs.Prelude.{◌≡◌, ℕ, ◌<◌, List, [], ◌++◌, length, false, Option, Some, IfSome, unwrap_or, Result, MatchResult}
+use Rattle.std.specs.Prelude.{◌≡◌, ℕ, ◌<◌, ◌≤◌, List, [], ◌++◌, length, false, Option, Some, IfSome, unwrap_or, Result, MatchResult}
 use Rattle.std.specs.FinMap as finite
 use Rattle.item_model.specs.declared.changes.Edit.{Edit}
 use Rattle.outside_disks.specs.Contents.{Contents}
@@ -10,7 +10,7 @@ use Rattle.share_history.specs.Histories.{batches, edits}
 use Rattle.share_history.specs.Numbers.{most_edits}
 use Rattle.share_replies.specs.Answers.{Shared}
 use Rattle.share_replies.specs.Settings.{Settings}
-use Rattle.share_core.specs.Opened.{opened_with, if_filled, LeaveManyLists}
+use Rattle.share_core.specs.Opened.{opened_with, if_filled, LeaveFewLists, LeaveManyLists}
 use Rattle.edit_file.specs.Files.{HasBatches, disk_of, is_broken, place_of}
 use Rattle.edit_file.specs.Standing.{BreaksAt, FileStands}
 use Rattle.command_core.specs.declared.fault.Fault.{Fault}
@@ -31,12 +31,19 @@ StandsAt contents path bs = IfSome contents (λ c. FileStands (bytes_at c path) 
 abbrev pub share_of : Settings → List (List Edit) → Shared
 share_of settings bs = record { settings = settings; history = opened_with bs; marks = [] }
 
+-- the batches are within the limits of a share
+pub record AreFew (bs : List (List Edit)) : Type 0 where
+  pub few_edits : length (edits bs) ≤ most_edits
+  pub few_lists : LeaveFewLists bs
+
 module _ {D : Type 0} (g : Ghosts D) {f : faulted.Ghosts D} where
-  -- the share begins with the batches that the file stood for, and with the first one, and the file keeps those of the share's history
+  -- the share begins with the batches that the file stood for, and with the first one, which are few enough for it, and the file keeps
+  -- those of the share's history
   pub record HasOpened (contents : Option Contents) (path : List ℕ) (settings : Settings) (first : List Edit) (kept : KeptLibrary D g f) : Type 0 where
     pub before : List (List Edit)
     pub stood : StandsAt contents path before
     pub share_is : kept.share ≡ share_of settings (before ++ if_filled first)
+    pub few : AreFew (before ++ if_filled first)
     pub keeps : HasBatches g kept.file (batches kept.share.history)
     pub sound : is_broken g kept.file ≡ false
     pub place : IfSome contents (λ _. place_of g kept.file ≡ Some path)

@@ -1,15 +1,16 @@
 //! Giving back the disk of a file that kept edits.
 
-ghost use Rattle.std.specs.Prelude.{◌≡◌, List, ℕ, Some, false, is_err, IfSome};
+ghost use Rattle.std.specs.Prelude.{◌≡◌, List, ℕ, Some, true, false, is_err, IfSome};
 ghost use Rattle.item_model.specs.declared.changes.Edit.{Edit};
 ghost use Rattle.outside_disks.specs.Counts.{RisesWith};
 ghost use Rattle.edit_file.specs.Files.{HasBatches, disk_of, is_broken, place_of};
-ghost use Rattle.kept_library.specs.Closing.{LeavesAt};
+ghost use Rattle.kept_library.specs.Closing.{LeavesAt, LeavesOrOneMore};
 
 use daap_outside::{Failed, Files};
 use edit_file::EditFile;
 
-/// Gives the disk of `file` back to the files that opened it.
+/// Gives the disk of `file` back to the files that opened it. What is under the file's name then stands for the file's batches; if
+/// an append has failed, one more may be there.
 ///
 /// # Errors
 ///
@@ -18,6 +19,8 @@ pub fn close_file<F: Files>(files: &mut F, file: EditFile<F::D>) -> Result<(), F
     ensures failed { is_err result ≡ is_broken F.D.Disk.own file }
     ensures kept { (path : List ℕ) (batches : List (List Edit)) → is_broken F.D.Disk.own file ≡ false → HasBatches F.D.Disk.own file batches
         → IfSome (F.contents files.old) (λ _. place_of F.D.Disk.own file ≡ Some path) → LeavesAt path batches (F.contents files.old) (F.contents files.new) }
+    ensures lost { (path : List ℕ) (batches : List (List Edit)) → is_broken F.D.Disk.own file ≡ true → HasBatches F.D.Disk.own file batches
+        → IfSome (F.contents files.old) (λ _. place_of F.D.Disk.own file ≡ Some path) → LeavesOrOneMore path batches (F.contents files.old) (F.contents files.new) }
     ensures asked_stays { F.asked files.new ≡ F.asked files.old }
     ensures count { RisesWith (F.faults files.old) (F.faults files.new) (F.D.faults (disk_of F.D.Disk.own file)) }
 {

@@ -7,7 +7,7 @@ ghost use Rattle.outside_disks.specs.Told.{Grows};
 ghost use Rattle.records_import.specs.Written.{IsReadable};
 ghost use Rattle.edit_file.specs.Files.{HasBatches, disk_of, is_broken, place_of};
 ghost use Rattle.share_core.specs.Opened.{if_filled};
-ghost use Rattle.kept_library.specs.Opening.{CountsFault, CountsStop, HasOpened, LeavesRefused, StopsShare, StopsOpening, share_of};
+ghost use Rattle.kept_library.specs.Opening.{AreFew, CountsFault, CountsStop, HasOpened, LeavesRefused, StopsShare, StopsOpening, share_of};
 
 use crate::fault::{FileFault, file_fault, open_fault};
 use command_core::Fault;
@@ -90,6 +90,7 @@ fn begun<D: Disk + Drop>(
     requires readable { IsReadable first }
     requires sound { is_broken D.Disk.own file.old ≡ false }
     ensures opened { IfOk result (λ share. share ≡ share_of (record { name = name.now; keep = keep }) (batches.items ++ if_filled first)) }
+    ensures few { OnOk result (AreFew (batches.items ++ if_filled first)) }
     ensures stops { IfErr result (StopsShare (batches.items ++ if_filled first)) }
     ensures unchanged { IfErr result (λ stop. (stop ≡ Fault.Own FileFault.Failed) ⊎ (file.new ≡ file.old)) }
     ensures keeps { HasBatches D.Disk.own file.old batches.items → OnOk result (HasBatches D.Disk.own file.new (batches.items ++ if_filled first)) }
@@ -131,6 +132,7 @@ fn share_with(
     requires filled { All (λ batch. batch ≢ []) batches.items }
     requires valid { All AreValid batches.items }
     ensures opened { IfOk result (λ share. share ≡ share_of (record { name = name.now; keep = keep }) batches.items) }
+    ensures few { OnOk result (AreFew batches.items) }
     ensures stops { IfErr result (StopsShare batches.items) }
     ensures count { (n : ℕ) → IfErr result (CountsFault n n) }
 {

@@ -4,7 +4,7 @@ use Rattle.std.specs.Prelude.{All}
 use Rattle.item_model.specs.declared.changes.Edit.{Edit}
 use Rattle.item_model.specs.Valid.{AreValid}
 use Rattle.edit_file.specs.Files.{HasBatches, disk_of}
-use Rattle.kept_library.specs.Opening.{share_of}
+use Rattle.kept_library.specs.Opening.{AreFew, share_of}
 use Rattle.kept_library.proofs.Stops.{counts_nothing, counts_same, filled_is}
 use Rattle.kept_library.proofs.opening.begun.Goals as goal
 
@@ -22,6 +22,11 @@ returns-in-Ok-clause-opened g c =
     let some : c.args.first ≢ [] = subst (λ (es : List Edit). es ≢ []) (c.frame.view_is ∙ c.in_ok-frame.ensures) c.frame.invariant.filled in
     c.in_ok-share.ensures.opened
     ∙ ap (λ bs. share_of (record { name = c.args.name.now; keep = c.args.keep }) bs) (c.in_ok-batches.ensures ∙ ap (λ last. c.args.batches.items ++ last) (sym (filled_is c.args.first some)))
+
+pub returns-in-Ok-clause-few : goal.returns-in-Ok-clause-few
+returns-in-Ok-clause-few g c =
+    let some : c.args.first ≢ [] = subst (λ (es : List Edit). es ≢ []) (c.frame.view_is ∙ c.in_ok-frame.ensures) c.frame.invariant.filled in
+    subst AreFew (c.in_ok-batches.ensures ∙ ap (λ last. c.args.batches.items ++ last) (sym (filled_is c.args.first some))) c.in_ok-share.ensures.few
 
 pub returns-in-Ok-clause-keeps : goal.returns-in-Ok-clause-keeps
 returns-in-Ok-clause-keeps g c has =

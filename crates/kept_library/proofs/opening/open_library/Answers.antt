@@ -35,6 +35,7 @@ returns-in-Ok-begun-clause-opened g c =
       before = opened.1.items;
       stood = told_at (λ b. FileStands b opened.1.items) before c.args.path.now _ _ c.in-Ok.ensures.opened c.in-Ok-open.ensures.stands;
       share_is = c.in-Ok-begun.ensures.opened;
+      few = c.in-Ok-begun.ensures.few;
       keeps = subst (λ (bs : List (List Edit)). HasBatches g.F.D.Disk c.begun.new.file bs)
           (sym (batches_of_share (record { name = c.args.name.now; keep = c.args.keep }) (opened.1.items ++ if_filled c.args.first) c.in-Ok-begun.share c.in-Ok-begun.ensures.opened))
           (c.in-Ok-begun.ensures.keeps c.in-Ok-open.ensures.keeps);
