@@ -24,8 +24,7 @@ use Rattle.edit_file.proofs.Once.{broken_is_none, one_list}
 use Rattle.kept_library.specs.declared.fault.FileFault.{FileFault}
 use Rattle.kept_library.specs.declared.fault.FileFault.TheVariants as file
 use Rattle.kept_library.specs.Faults.{file_line, file_status}
-use Rattle.kept_library.specs.Closing.{Puts, StandsAt, bytes_at}
-use Rattle.kept_library.specs.Opening.{CountsFault, StopsOpening}
+use Rattle.kept_library.specs.Opening.{CountsFault, StandsAt, StopsOpening, bytes_at}
 use Rattle.command_core.proofs.Reading.{read_whole}
 use Rattle.command_core.specs.declared.fault.Fault.{Fault}
 use Rattle.command_core.specs.declared.fault.Fault.TheVariants as fault
@@ -91,18 +90,18 @@ stood_once contents path first stands before stood =
 
 -- a file that stands for a share's batches is not refused
 not_kept_out : (files files' : FilesSeen) (path : List ℕ) (first : List Edit) (stop : Fault FileFault) → StandsForShare files.contents path first → ¬ (Rose files.faults files'.faults)
-    → StopsOpening files.contents files'.contents path first stop → CountsFault files.faults files'.faults stop → stop ≡ fault.Memory
+    → StopsOpening files.contents path first stop → CountsFault files.faults files'.faults stop → stop ≡ fault.Memory
 not_kept_out files files' path first (fault.Own (file.NotEditFile at)) stands calm stops counts =
-    let broken : BreaksAt (bytes_at stands.told path) at = (subst (λ o. IfSome o (λ c. BreaksAt (bytes_at c path) at × Puts path (bytes_at c path) c files'.contents)) stands.is stops).0 in
+    let broken : BreaksAt (bytes_at stands.told path) at = subst (λ o. IfSome o (λ c. BreaksAt (bytes_at c path) at)) stands.is stops in
     absurd (broken_is_none (bytes_at stands.told path) at stands.stood broken stands.stands)
 not_kept_out files files' path first (fault.Own file.Failed) stands calm stops counts = absurd (calm counts)
 not_kept_out files files' path first (fault.Own file.TooManyEdits) stands calm stops counts =
-    let same = stood_once files.contents path first stands stops.stood_for stops.stood in
+    let same = stood_once files.contents path first stands stops.before stops.stood in
     let many = stops.many in
-    let few : length (edits (stops.stood_for ++ if_filled first)) ≤ most_edits = subst (λ bs. length (edits (bs ++ if_filled first)) ≤ most_edits) same stands.few_edits in
+    let few : length (edits (stops.before ++ if_filled first)) ≤ most_edits = subst (λ bs. length (edits (bs ++ if_filled first)) ≤ most_edits) same stands.few_edits in
     absurd (omega (arith, many, few))
 not_kept_out files files' path first (fault.Own file.TooManyLists) stands calm stops counts =
-    let same = stood_once files.contents path first stands stops.stood_for stops.stood in
+    let same = stood_once files.contents path first stands stops.before stops.stood in
     let many = stops.many.1 in
     let few = subst (λ bs. LeaveFewLists (bs ++ if_filled first)) same stands.few_lists stops.many.0 in
     absurd (omega (arith, many, few))
@@ -129,10 +128,10 @@ not_begun : (serving : Serving) (before after : InputSeen) (files files' : Files
     → NotBegun serving before after files files' output output' status → status ≡ 9
 not_begun serving before after files files' output output' status input first told reads is steady whole calm (stopped stop cause alone same tells) =
     wants stop output output' status whole (not_refused before after input first stop told reads (λ lists. few_for serving files.contents first is (alone lists)) steady cause) tells
-not_begun serving before after files files' output output' status input first told reads is steady whole calm (unkept edits path stop read named stops counts asked tells) =
+not_begun serving before after files files' output output' status input first told reads is steady whole calm (unkept edits path stop read named stops leaves counts asked tells) =
     let same = read_same before after input first edits told reads read in
     file_wants stop output output' status whole
-    (not_kept_out files files' path first stop (subst (λ f. IsOpened f files.contents first) named is) calm (subst (λ es. StopsOpening files.contents files'.contents path es stop) same stops) counts) tells
+    (not_kept_out files files' path first stop (subst (λ f. IsOpened f files.contents first) named is) calm (subst (λ es. StopsOpening files.contents path es stop) same stops) counts) tells
 not_begun serving before after files files' output output' status input first told reads is steady whole calm (unannounced edits opened read opening_is kept tells) =
     not_announced_as (first_line serving opened) output output' status whole tells
 

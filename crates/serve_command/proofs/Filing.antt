@@ -25,7 +25,7 @@ use Rattle.serve_command.specs.declared.fault.ServeFault.{ServeFault}
 use Rattle.serve_command.specs.declared.fault.ServeFault.TheVariants.{Network, TooLong, Records, TooManyLists}
 use Rattle.serve_command.specs.declared.terms.Serving.{Serving}
 use Rattle.serve_command.specs.Faults.{serve_line, serve_status}
-use Rattle.serve_command.specs.Files.{AreKept, IsKept}
+use Rattle.serve_command.specs.Files.{AreKept, IsKept, LeavesBut}
 use Rattle.serve_command.specs.Laws.{FileFaultsAreCounted, IsLeft, SuccessLeavesTheFile}
 use Rattle.serve_command.specs.Runs.{first_line, Left, NotAnnounced, NotBegun, TellsEnd, TellsFault, TellsStop, announced, served, stopped, unannounced, unbegun, unkept, unopened}
 use Rattle.serve_command.specs.Terms.{settings_of}
@@ -95,14 +95,14 @@ ten_status stop before after status n n' counts (inr (inr h)) ten = absurd (omeg
 
 not_begun_some : (serving : Serving) (before after : InputSeen) (files files' : FilesSeen) (output output' : OutputSeen) (status : ℕ) → NotBegun serving before after files files' output output' status → 3 ≤ status
 not_begun_some serving before after files files' output output' status (stopped stop cause alone same tells) = (stop_between stop output output' status tells).0
-not_begun_some serving before after files files' output output' status (unkept edits path stop read named stops counts asked tells) = some_status stop output output' status tells
+not_begun_some serving before after files files' output output' status (unkept edits path stop read named stops leaves counts asked tells) = some_status stop output output' status tells
 not_begun_some serving before after files files' output output' status (unannounced edits opened read is kept tells) = (not_announced_between (first_line serving opened) output output' status tells).0
 
 not_begun_ten : (serving : Serving) (before after : InputSeen) (files files' : FilesSeen) (output output' : OutputSeen) (status : ℕ) → NotBegun serving before after files files' output output' status → status ≡ 10
     → Rose files.faults files'.faults
 not_begun_ten serving before after files files' output output' status (stopped stop cause alone same tells) ten =
     let within = (stop_between stop output output' status tells).1 in absurd (omega (arith, within, ten))
-not_begun_ten serving before after files files' output output' status (unkept edits path stop read named stops counts asked tells) ten = ten_status stop output output' status files.faults files'.faults counts tells ten
+not_begun_ten serving before after files files' output output' status (unkept edits path stop read named stops leaves counts asked tells) ten = ten_status stop output output' status files.faults files'.faults counts tells ten
 not_begun_ten serving before after files files' output output' status (unannounced edits opened read is kept tells) ten =
     let within = (not_announced_between (first_line serving opened) output output' status tells).1 in absurd (omega (arith, within, ten))
 
@@ -128,7 +128,7 @@ success_leaves_the_file serving path told left (served edits opened read is run)
       faultless = subst (λ b. MatchBool b (Rose told.before.around.files.faults told.after.around.files.faults) (told.after.around.files.faults ≡ told.before.around.files.faults)) none kept.counts;
       history = run.history;
       history_is = run.history_is;
-      left_at = kept.left none;
+      left_at = subst (λ b. LeavesBut b path (batches run.history) told.before.around.files.contents told.after.around.files.contents) none kept.left;
     }
 
 -- only an edit that was lost has the status of a file that failed

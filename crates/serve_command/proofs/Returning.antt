@@ -1,16 +1,19 @@
 -- Doors that were given back before anybody waited at them, and what is kept of a history.
-use Rattle.std.proofs.Common.{◌≡◌, ℕ, List, [], ◌∷◌, ◌++◌, Bool, true, false, MatchBool, IfSome, Option, Result, Ok, Err, None, Some, sym, subst, ◌∙◌, arith, length-append}
+use Rattle.std.proofs.Common.{◌≡◌, ℕ, List, [], ◌∷◌, ◌++◌, Bool, true, false, MatchBool, IfSome, Option, Result, Ok, Err, None, Some, refl, sym, subst, ◌∙◌, arith, length-append}
 use Rattle.std.proofs.lemmas.List.{get_or_append_left}
 use Rattle.std.specs.Prelude.{All, OnOk, OnErr}
 use Rattle.share_lock.proofs.Fronts.{all_rest}
 use Rattle.daap_outside.specs.Counts.{RisesWith, Rose}
+use Rattle.daap_outside.specs.Places.{Contents}
 use Rattle.daap_outside.specs.Told.{Grows}
+use Rattle.kept_library.specs.Closing.{LeavesAt, LeavesOrOneMore}
+use Rattle.share_workers.specs.Keepers.{KeepsBut}
 use Rattle.item_model.specs.declared.changes.Edit.{Edit}
 use Rattle.item_model.specs.declared.changes.Entry.{Entry}
 use Rattle.command_core.specs.Seen.{FilesSeen, InputSeen, NetSeen, OutputSeen, seen, told_in}
 use Rattle.command_core.specs.ReadRecords.{HasReadAs}
 use Rattle.serve_command.specs.declared.terms.Serving.{Serving}
-use Rattle.serve_command.specs.Files.{AreKept, IsOpening}
+use Rattle.serve_command.specs.Files.{AreKept, IsOpening, LeavesBut}
 use Rattle.serve_command.specs.Places.{HasAsked, HasOpened, IsGivenBack}
 use Rattle.serve_command.specs.Runs.{HasServed, Left, ServeEnds, ShareEnds, announced, not_announced, served, unannounced, unbegun}
 use Rattle.serve_command.specs.Terms.{places_of}
@@ -74,3 +77,10 @@ last_of_all P xs y all = all_rest P xs (y ∷ []) all 0 y (omega arith)
 pub counts_back : (lost : Bool) (n n' d d' : ℕ) → d ≡ 0 → MatchBool lost (Rose d d') (d' ≡ d) → RisesWith n n' d' → MatchBool lost (Rose n n') (n' ≡ n)
 counts_back true n n' d d' is counts rises = rises.faulty (let r = counts.1 in omega (arith, is, r))
 counts_back false n n' d d' is counts rises = rises.faultless (counts ∙ is)
+
+-- what a file keeps is left where its disk is given back
+pub left_back : (lost : Bool) (keeps : List (List Edit) → Type 0) (bs : List (List Edit)) (path : List ℕ) (before now : Option Contents) → KeepsBut lost keeps bs
+    → (lost ≡ false → (kept : List (List Edit)) → keeps kept → LeavesAt path kept before now) → (lost ≡ true → (kept : List (List Edit)) → keeps kept → LeavesOrOneMore path kept before now)
+    → LeavesBut lost path bs before now
+left_back false keeps bs path before now kept sound broken = sound refl bs kept
+left_back true keeps bs path before now kept sound broken = (kept.0, kept.1, kept.2, broken refl kept.0 kept.3)

@@ -9,20 +9,27 @@ use Rattle.share_history.specs.Histories.{batches, opening}
 use Rattle.share_history.specs.Limits.{has_few_lists}
 use Rattle.share_core.specs.Opened.{opened_with, if_filled}
 use Rattle.share_workers.specs.Keepers.{KeepsBut}
-use Rattle.kept_library.specs.Closing.{LeavesAt, StandsAt}
+use Rattle.kept_library.specs.Closing.{LeavesAt, LeavesOrOneMore}
+use Rattle.kept_library.specs.Opening.{AreFew, StandsAt}
 use Rattle.command_core.specs.Seen.{FilesSeen}
 
 -- the entries that a share begins with: an entry for each batch that its file stood for, where it has a file, and for the batch of
--- the input, where that has edits
+-- the input, where that has edits; they are within the limits of a share
 abbrev pub IsOpening : Option (List ℕ) → Option Contents → List Edit → List Entry → Type 0
 IsOpening None contents edits opened = (opened ≡ opening edits) × (has_few_lists [] edits ≡ true)
-IsOpening (Some path) contents edits opened = (stood : List (List Edit)) × StandsAt contents path stood × (opened ≡ opened_with (stood ++ if_filled edits))
+IsOpening (Some path) contents edits opened = (stood : List (List Edit)) × StandsAt contents path stood × (opened ≡ opened_with (stood ++ if_filled edits)) × AreFew (stood ++ if_filled edits)
 
--- A file was asked for, and has the batches of this history, unless an edit was lost. The count of files rises exactly with that.
+-- All batches are left under the name. Where the last edit was lost, all before it are, and there may be one more.
+abbrev pub LeavesBut : Bool → List ℕ → List (List Edit) → Option Contents → Option Contents → Type 0
+LeavesBut false path bs before now = LeavesAt path bs before now
+LeavesBut true path bs before now = (earlier : List (List Edit)) × (last : List Edit) × (bs ≡ earlier ++ last ∷ []) × LeavesOrOneMore path earlier before now
+
+-- A file was asked for, and has the batches of this history, but for a last one that was lost. The count of files rises exactly with
+-- that.
 pub record IsKept (path : List ℕ) (before after : FilesSeen) (history : List Entry) (lost : Bool) : Type 0 where
   pub asked : Grows before.asked after.asked (path ∷ [])
   pub counts : MatchBool lost (Rose before.faults after.faults) (after.faults ≡ before.faults)
-  pub left : lost ≡ false → LeavesAt path (batches history) before.contents after.contents
+  pub left : LeavesBut lost path (batches history) before.contents after.contents
 
 -- what a share leaves of the files; without a file of its own it leaves them alone, and loses no edit
 abbrev pub AreKept : Option (List ℕ) → FilesSeen → FilesSeen → List Entry → Bool → Type 0

@@ -9,7 +9,7 @@ use Rattle.share_server.specs.declared.report.LinkReport.{LinkReport}
 use Rattle.share_workers.specs.declared.worker.WorkerEnd.TheVariants.{FileFault as lost_edit}
 use Rattle.kept_library.specs.declared.fault.FileFault.{FileFault}
 use Rattle.kept_library.specs.Faults.{file_line, file_status}
-use Rattle.kept_library.specs.Opening.{CountsFault, StopsOpening}
+use Rattle.kept_library.specs.Opening.{CountsFault, LeavesRefused, StopsOpening}
 use Rattle.command_core.specs.declared.fault.Fault.{Fault}
 use Rattle.command_core.specs.declared.fault.Fault.TheVariants as fault
 use Rattle.command_core.specs.Faults.{memory_line, fault_line, fault_status}
@@ -58,9 +58,9 @@ pub data NotBegun (serving : Serving) (before after : InputSeen) (files files' :
   -- the input was refused, or its records were; a share with a file is not refused for the lists of the input alone
   stopped : (stop : Fault ServeFault) → StopsServing ⊥ before after stop → (stop ≡ fault.Own TooManyLists → serving.file ≡ None) → files' ≡ files → TellsStop stop output output' status
       → NotBegun serving before after files files' output output' status
-  -- the file was
-  unkept : (edits : List Edit) (path : List ℕ) (stop : Fault FileFault) → HasReadAs edits before after → serving.file ≡ Some path → StopsOpening files.contents files'.contents path edits stop
-      → CountsFault files.faults files'.faults stop → Grows files.asked files'.asked (path ∷ []) → TellsFault file_line file_status stop output output' status
+  -- the file was, or the batches of both
+  unkept : (edits : List Edit) (path : List ℕ) (stop : Fault FileFault) → HasReadAs edits before after → serving.file ≡ Some path → StopsOpening files.contents path edits stop
+      → LeavesRefused files.contents files'.contents path stop → CountsFault files.faults files'.faults stop → Grows files.asked files'.asked (path ∷ []) → TellsFault file_line file_status stop output output' status
       → NotBegun serving before after files files' output output' status
   unannounced : (edits : List Edit) (opened : List Entry) → HasReadAs edits before after → IsOpening serving.file files.contents edits opened → AreKept serving.file files files' opened false
       → NotAnnounced (first_line serving opened) output output' status → NotBegun serving before after files files' output output' status

@@ -1,7 +1,5 @@
-use Rattle.std.proofs.Common.{◌≡◌, Bool, false, List, subst}
+use Rattle.std.proofs.Common.{◌≡◌, List}
 use Rattle.item_model.specs.declared.changes.Edit.{Edit}
-use Rattle.share_history.specs.Histories.{batches}
-use Rattle.share_workers.specs.Keepers.{KeepsBut}
 use Rattle.edit_file.specs.Files.{HasBatches, disk_of, is_broken, place_of}
 use Rattle.command_core.specs.Seen.{NetSeen, OutputSeen, net_seen, output_seen}
 use Rattle.serve_command.specs.Files.{HasKept}
@@ -27,7 +25,6 @@ returns g c = λ start opens listen edit.
     (λ h lost k. record {
       is_broken_so = k.is_lost;
       counts = k.counts;
-      keeps = λ none. (subst (λ b. KeepsBut b keeps' (batches h)) none (k.kept c.requires.one (c.requires.keeps, c.requires.place))).0;
-      in_place = λ none. (subst (λ b. KeepsBut b keeps' (batches h)) none (k.kept c.requires.one (c.requires.keeps, c.requires.place))).1;
+      keeps = k.kept c.requires.one (c.requires.keeps, c.requires.place);
     })
     (c.serve_share-outcome.ensures start opens listen edit)
