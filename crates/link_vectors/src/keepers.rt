@@ -29,7 +29,7 @@ struct Counting {
 }
 
 impl Keeps for Counting {
-    ghost use Rattle.std.specs.Prelude.{⊤};
+    ghost use Rattle.std.specs.Prelude.{⊤, None};
 
     type Ready = usize;
 
@@ -38,6 +38,8 @@ impl Keeps for Counting {
     ghost is_lost = { λ a. a.lost };
 
     ghost faults = { λ a. a.faults };
+
+    ghost place = { λ _. None };
 
     ghost is_for = { λ _ _. ⊤ };
 

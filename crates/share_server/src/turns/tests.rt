@@ -63,7 +63,7 @@ struct Losing {
 }
 
 impl Keeps for Losing {
-    ghost use Rattle.std.specs.Prelude.{⊤};
+    ghost use Rattle.std.specs.Prelude.{⊤, None};
 
     type Ready = ();
 
@@ -72,6 +72,8 @@ impl Keeps for Losing {
     ghost is_lost = { λ a. a.lost };
 
     ghost faults = { λ a. a.faults };
+
+    ghost place = { λ _. None };
 
     ghost is_for = { λ _ _. ⊤ };
 

@@ -1,8 +1,8 @@
-use Rattle.std.proofs.Common.{◌≡◌, ◌+◌, ◌∷◌, [], ◌++◌, length, ℕ, List, true, ap, subst, sym, ◌∙◌, arith}
+use Rattle.std.proofs.Common.{◌∷◌, [], ◌++◌, length, List, ap, subst, ◌∙◌, arith}
 use Rattle.item_model.specs.declared.changes.Edit.{Edit}
 use Rattle.item_model.specs.declared.changes.Entry.TheVariants.{Edits}
 use Rattle.share_history.specs.Histories.{batches}
-use Rattle.share_history.specs.Limits.{has_place, has_room_for, has_few_lists}
+use Rattle.share_history.specs.Limits.{has_place, has_room_for}
 use Rattle.share_replies.specs.Answers.{Shared}
 use Rattle.share_core.specs.Held.{StandFor}
 use Rattle.share_core.proofs.Sound.{sound_edit, sound_left, sound_on, taken, few_next_at, few_lists_by}
