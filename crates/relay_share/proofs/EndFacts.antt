@@ -365,3 +365,19 @@ counts_none before now end h same = subst (λ (b : Bool). MatchBool b (Rose befo
 -- a count behind one that stayed
 pub counts_from : (before middle now : ℕ) (end : RelayEnd) → middle ≡ before → CountsRelay middle now end → CountsRelay before now end
 counts_from before middle now end same h = subst (λ (n : ℕ). CountsRelay n now end) same h
+
+pub begins_as : (host other : List ℕ) (rounds : ℕ) (p q : Point) (known : Known) (k : Pass) (done : List Relayed) (now : Relaying) → Opened host p q known → other ≡ host
+    → done ≡ [] → now ≡ record { revision = 0; library = [] } → Stands other rounds p (Asking known []) q k k done now
+begins_as host other rounds p q known k done now o host_is none new =
+    subst (λ (h : List ℕ). Stands h rounds p (Asking known []) q k k done now) (sym host_is)
+    (subst (λ (ds : List Relayed). Stands host rounds p (Asking known []) q k k ds now) (sym none) (begins host rounds p q known k now o new))
+
+pub stands_as : (host other : List ℕ) (rounds : ℕ) (p q : Point) (known same : Known) (ls : List Listing) (k k' : Pass) (done : List Relayed) (now : Relaying) → other ≡ host
+    → same ≡ known → Stands other rounds p (Holding known ls) q k k' done now → Stands host rounds p (Holding same ls) q k k' done now
+stands_as host other rounds p q known same ls k k' done now host_is known_is one =
+    subst (λ (n : Known). Stands host rounds p (Holding n ls) q k k' done now) (sym known_is)
+    (subst (λ (h : List ℕ). Stands h rounds p (Holding known ls) q k k' done now) host_is one)
+
+pub ends_as : (host other : List ℕ) (rounds : ℕ) (p : Point) (taken : Option (List ℕ)) (k k' : Pass) (done : List Relayed) (end : RelayEnd) → other ≡ host
+    → EndsRelay other rounds p taken k k' done end → EndsRelay host rounds p taken k k' done end
+ends_as host other rounds p taken k k' done end host_is ends = subst (λ (h : List ℕ). EndsRelay h rounds p taken k k' done end) host_is ends
