@@ -101,10 +101,10 @@ def counts(records):
 
 
 def line_of(cells):
-    """A line of comma separated text, in bytes."""
+    """A line of comma separated text, in bytes. A cell with either of the two bytes of a line end is quoted."""
     text = io.StringIO()
-    csv.writer(text, lineterminator="\n").writerow(cells)
-    return text.getvalue().encode("utf-8")
+    csv.writer(text, lineterminator="\r\n").writerow(cells)
+    return text.getvalue()[:-2].encode("utf-8") + b"\n"
 
 
 def lines_of(records):

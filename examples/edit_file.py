@@ -22,7 +22,7 @@ import os
 import sys
 from collections import namedtuple
 
-from catalogue import Library, Refusal, apply, batches, differences, line_of, shown, why, write
+from catalogue import HEADER, Library, Refusal, apply, batches, differences, line_of, shown, why, write
 
 OPEN, CLOSED = b"\x01", b"\x00"
 SIGNATURE = b"DAAPEDIT"
@@ -67,9 +67,13 @@ def batches_of(data, path):
 
 
 def rows_of(batch, path):
-    """The records of a batch, each as cells by column."""
+    """The records of a batch, each as cells by column. There is one at least, and each has a cell for each column."""
     try:
-        return list(csv.DictReader(io.StringIO(batch.records.decode("utf-8"), newline="")))
+        lines = csv.DictReader(io.StringIO(batch.records.decode("utf-8"), newline=""))
+        rows = list(lines)
+        if not rows or lines.fieldnames[:3] != HEADER[:3] or any(None in row or None in row.values() for row in rows):
+            raise ValueError(lines.fieldnames)
+        return rows
     except (ValueError, csv.Error):
         raise Refusal(f"{shown(path)}: not an edit file at {batch.at}") from None
 

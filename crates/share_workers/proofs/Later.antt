@@ -58,6 +58,7 @@ module _ (settings : Settings) (by limit : ℕ) (h later : List Entry) where
     rises = rises_wider 0 0 (length h) (length (h ++ later)) report.served (omega arith) (let len : length (h ++ later) ≡ length h + length later = length-append h later in omega arith) link.rises;
     how = by_end link.how;
     faulted = link.faulted;
+    unlost = link.unlost;
   }
     where
       by_end : EndsInside role input settings limit h link.asks report.served link.rest returned.0 report.end

@@ -145,6 +145,7 @@ module _ {L : Type 0} (left taken : L → Option (List ℕ)) (link : L) (role : 
         rises = rises_wider (length j.seen) 0 (length done.before.seen) (length done.before.seen) report.served (omega arith) (omega arith) ended.serves.fresh.rises;
         how = ended.how;
         faulted = counted done.faults report.end done.counted;
+        unlost = done.served.unlost;
       })))))
 
   links : LinksAt k.settings k.number role 262144 k'.seen (under.works.inputs ++ ended.input ∷ []) (reports ++ report ∷ []) (under.works.returns ++ (ended.output, nat_lt 0 done.faults) ∷ [])

@@ -7,6 +7,7 @@ use Rattle.daap_outside.specs.Places.{Returned}
 use Rattle.daap_outside.specs.Told.{Grows}
 use Rattle.share_asks.specs.declared.ask.Ask.{Ask}
 use Rattle.share_asks.specs.declared.ask.Role.{Role}
+use Rattle.share_asks.specs.declared.ask.Role.TheVariants.{Listen}
 use Rattle.http_front.specs.Readings.{Joins}
 use Rattle.share_lock.specs.Histories.{NoneOf}
 use Rattle.share_lock.specs.Known.{after_turn}
@@ -48,6 +49,8 @@ pub record LinkAt (settings : Settings) (by limit : ℕ) (role : Role) (h : List
   pub how : EndsInside role input settings limit h asks report.served rest returned.0 report.end
       ⊎ EndsAtEnd role input settings limit h asks report.served rest returned.0 report.end
   pub faulted : returned.1 ≡ is_fault report.end
+  -- only who edits can lose an edit
+  pub unlost : role ≡ Listen → is_loss report.end ≡ false
 
 -- link after link, each with what the earlier ones left of the budget
 abbrev pub LinksAt : Settings → ℕ → Role → ℕ → List Entry → List (List ℕ) → List LinkReport → List Returned → Type 0

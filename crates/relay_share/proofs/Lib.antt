@@ -1,0 +1,7 @@
+pub mod ResultFacts
+pub mod TurnFacts
+pub mod EditFacts
+pub mod RoundFacts
+pub mod EndFacts
+pub mod StepFacts
+pub mod StopFacts

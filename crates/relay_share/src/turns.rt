@@ -1,0 +1,145 @@
+//! Turns of the relay's pass.
+
+ghost use Rattle.std.specs.Prelude.{◌≡◌, ◌<◌, true};
+ghost use Rattle.item_model.specs.Valid.{AreValid};
+ghost use Rattle.share_asks.specs.Valid.{IsValidWant};
+ghost use Rattle.share_core.specs.Laws.{Grows};
+ghost use Rattle.share_lock.specs.Known.{after_turn};
+ghost use Rattle.share_lock.specs.Passes.{lock_id, known, IsReady};
+ghost use Rattle.share_server.specs.Answering.{Finds};
+ghost use Rattle.share_server.specs.Passes.{Pass as Seen};
+ghost use Rattle.relay_share.specs.Asks.{edit_ask, stop_ask, is_change, told_of};
+ghost use Rattle.relay_share.specs.Turns.{IsTold};
+
+use item_model::Batch;
+use share_asks::{Ask, Role, Want};
+use share_core::{Answer, Share};
+use share_lock::{Bell, Pass, ShareLock};
+use share_server::Served;
+use song_query::Steps;
+use std::alloc::AllocError;
+use std::marker::Brand;
+use std::sync::Wait;
+use std::sync::ledger::{Blank, Ledger};
+
+/// What a turn told: the answer, and the share's revision at its point.
+#[derive(Clone, Copy, Debug)]
+pub(crate) struct Told {
+    pub(crate) served: Served,
+    pub(crate) revision: u32,
+}
+
+/// Asks the share for an edit, in a turn of the pass.
+pub(crate) fn edit<R: Wait>(
+    rt: &R,
+    lock: &ShareLock<Share>,
+    bell: &Bell,
+    pass: &mut Pass<Share>,
+    batch: Batch,
+) -> Told
+    requires ready { IsReady (lock_id lock.now) pass.old }
+    requires valid { AreValid batch }
+    ensures ready { IsReady (lock_id lock.now) pass.new }
+    ensures told { IsTold (known pass.old) (known pass.new) (edit_ask batch) result }
+{
+    let ask = Ask {
+        role: Role::Edit,
+        close: false,
+        want: Want::Edit { body: Ok(batch) },
+    };
+    turn(rt, lock, bell, pass, &ask)
+}
+
+/// Stops the share, in a turn of the pass. It stays as it is if it was stopped before.
+pub(crate) fn stop<R: Wait>(
+    rt: &R,
+    lock: &ShareLock<Share>,
+    bell: &Bell,
+    pass: &mut Pass<Share>,
+) -> Told
+    requires ready { IsReady (lock_id lock.now) pass.old }
+    ensures ready { IsReady (lock_id lock.now) pass.new }
+    ensures told { IsTold (known pass.old) (known pass.new) stop_ask result }
+{
+    let ask = Ask {
+        role: Role::Edit,
+        close: false,
+        want: Want::Stop,
+    };
+    turn(rt, lock, bell, pass, &ask)
+}
+
+// Takes a turn for an ask, gives it back, and rings the bell if an entry was added.
+fn turn<R: Wait>(
+    rt: &R,
+    lock: &ShareLock<Share>,
+    bell: &Bell,
+    pass: &mut Pass<Share>,
+    ask: &Ask,
+) -> Told
+    requires ready { IsReady (lock_id lock.now) pass.old }
+    requires valid { IsValidWant ask.now.want }
+    requires change { is_change ask.now.want ≡ true }
+    ensures ready { IsReady (lock_id lock.now) pass.new }
+    ensures told { IsTold (known pass.old) (known pass.new) ask.now result }
+{
+    let told = looked(rt, lock, pass, ask);
+    if told.served.added {
+        bell.ring(rt, told.served.point);
+    }
+    told
+}
+
+fn looked<R: Wait>(rt: &R, lock: &ShareLock<Share>, pass: &mut Pass<Share>, ask: &Ask) -> Told
+    requires ready { IsReady (lock_id lock.now) pass.old }
+    requires valid { IsValidWant ask.now.want }
+    requires change { is_change ask.now.want ≡ true }
+    ensures ready { IsReady (lock_id lock.now) pass.new }
+    ensures told { IsTold (known pass.old) (known pass.new) ask.now result }
+{
+    let by = pass.number();
+    let mut turn = lock.take(rt, pass);
+    let told = asked::<Brand>(Blank::new(1), turn.state(), by, ask);
+    lock.give(turn);
+    told
+}
+
+// Asks the share, for the pass of a number that found it so. Looks of rules at items are not counted.
+fn asked<L: Ledger>(blank: Blank, share: &mut Share, by: u32, ask: &Ask) -> Told
+    requires name { blank.name ≡ L.name }
+    requires parts { blank.parts ≡ L.parts }
+    requires any { 0 < blank.parts }
+    requires valid { IsValidWant ask.now.want }
+    requires change { is_change ask.now.want ≡ true }
+    ensures grows { Grows share.old by share.new }
+    ensures told { (k : Seen) → k.number ≡ by → Finds k share.old → IsTold k (after_turn k share.new.history) ask.now result }
+{
+    let mut steps = Steps::<L>::open(blank);
+    let answer = share.answer(by, ask, &mut steps);
+    let revision = share.revision();
+    let end = share.len();
+    told_of(answer, revision, end)
+}
+
+// What is told of an answer, or of want of memory at the end of the history. No edit and no stop is held.
+fn told_of(answer: Result<Answer, AllocError>, revision: u32, end: u64) -> Told
+    ensures { result ≡ told_of answer revision end }
+{
+    let served = match answer {
+        Ok(Answer::Reply(reply)) => Served {
+            session: reply.session,
+            seen: reply.seen,
+            point: reply.point,
+            status: reply.said.status,
+            added: reply.added,
+        },
+        Ok(Answer::Wait { .. }) | Err(_) => Served {
+            session: 0,
+            seen: 0,
+            point: end,
+            status: 500,
+            added: false,
+        },
+    };
+    Told { served, revision }
+}
