@@ -66,13 +66,12 @@ fn served<I: Source, W: Sink, F: Files, N: Net, R: Threads + Wait + Clock + Sync
     Ok(serve(rt, alloc, &terms, input, output, files, net))
 }
 
-/// What a run left: its status, its output, whether it had a share, and how many bytes it replied.
+/// What a run left: its status, its output, and the replies on its one connection, if it had one.
 #[derive(Drop)]
 struct Ran {
     status: u8,
     output: Vec<u8>,
-    opened: bool,
-    replied: usize,
+    replied: Vec<u8>,
 }
 
 /// Serves a share without records, which a file keeps.
@@ -89,17 +88,28 @@ fn run<R: Threads + Wait + Clock + Sync>(
     Ok(Ran {
         status: outcome.status,
         output: output.into_taken(),
-        opened: outcome.history.is_some(),
-        replied: replied(&net),
+        replied: Vec::from_slice(alloc, replied(&net))?,
     })
 }
 
-fn replied(net: &MemNet) -> usize {
+fn replied(net: &MemNet) -> &[u8] {
     match net.written() {
-        Some([returned]) => returned.bytes.len(),
-        _ => 0,
+        Some([returned]) => returned.bytes.as_slice(),
+        _ => b"",
     }
 }
+
+/// The replies to the edit, which made revision 3, and to the stop.
+const REPLIES: &[u8] =
+    b"HTTP/1.1 200 OK\r\nContent-Type: application/x-dmap-tagged\r\nContent-Length: 32\r\n\r\n\
+mupd\0\0\0\x18mstt\0\0\0\x04\0\0\0\xc8musr\0\0\0\x04\0\0\0\x03\
+HTTP/1.1 204 No Content\r\nConnection: close\r\n\r\n";
+
+/// The output of a share whose file has no edit, or has the one of these tests, and which nobody connects to.
+const WITHOUT: &[u8] =
+    b"serving daapshare at revision 2\nended at revision 2, links 0, requests 0\n";
+
+const WITH: &[u8] = b"serving daapshare at revision 3\nended at revision 3, links 0, requests 0\n";
 
 #[test]
 fn a_share_is_served_again_with_its_edits(rt: HostRuntime) -> Result<(), Fail> {
@@ -111,12 +121,10 @@ fn a_share_is_served_again_with_its_edits(rt: HostRuntime) -> Result<(), Fail> {
         first.output.as_slice(),
         b"serving daapshare at revision 2\nended at revision 3, links 1, requests 2\n".as_slice()
     );
+    assert_eq!(rt; first.replied.as_slice(), REPLIES);
     let again = run(&rt, alloc, &mut files, false)?;
     assert_eq!(rt; again.status, 0);
-    assert_eq!(rt;
-        again.output.as_slice(),
-        b"serving daapshare at revision 3\nended at revision 3, links 0, requests 0\n".as_slice()
-    );
+    assert_eq!(rt; again.output.as_slice(), WITH);
     Ok(())
 }
 
@@ -125,31 +133,38 @@ const UNOPENED: &[u8] = b"file failed\n";
 const LOST: &[u8] =
     b"serving daapshare at revision 2\nended at revision 3, links 1, requests 0\nfile failed\n";
 
-/// The numbers of disk calls of which each fails, and what is told: the first make the file, the others keep the edit.
-const FAILING: [(u64, u64, &[u8]); 2] = [(1, 8, UNOPENED), (9, 12, LOST)];
+/// The numbers of disk calls of which each fails, what is told, and what a share tells that opens the file then: the first
+/// calls make the file, so that no edit is in it; the others keep the edit, which may be in it or not.
+type Fault = (u64, u64, &'static [u8], &'static [&'static [u8]]);
 
-/// Whether a call that fails is told so, and no reply shows the edit; and whether the file opens then, with it or without it.
+const FAULTS: [Fault; 2] = [
+    (1, 8, UNOPENED, &[WITHOUT]),
+    (9, 12, LOST, &[WITHOUT, WITH]),
+];
+
+/// Whether a call that fails is told so, and nothing is replied; and whether the file opens then, with one of these outputs.
 fn is_told<R: Threads + Wait + Clock + Sync>(
     rt: &R,
     alloc: Global,
     number: u64,
     output: &[u8],
+    opened: &[&[u8]],
 ) -> Result<bool, AllocError> {
     let mut files = files_with(alloc, &[&[number], &[]])?;
     let ran = run(rt, alloc, &mut files, true)?;
     let again = run(rt, alloc, &mut files, false)?;
-    let told = ran.status == 10 && ran.output.as_slice() == output && ran.replied == 0;
-    Ok(told && again.status == 0 && again.opened)
+    let told = ran.status == 10 && ran.output.as_slice() == output && ran.replied.is_empty();
+    Ok(told && again.status == 0 && opened.contains(&again.output.as_slice()))
 }
 
 fn are_told<R: Threads + Wait + Clock + Sync + Abort>(
     rt: &R,
     alloc: Global,
-    rows: &[(u64, u64, &[u8])],
+    faults: &[Fault],
 ) -> Result<(), Fail> {
-    for (first, last, output) in rows {
+    for (first, last, output, opened) in faults {
         for number in *first..=*last {
-            assert!(rt; is_told(rt, alloc, number, output)?, "at {number}");
+            assert!(rt; is_told(rt, alloc, number, output, opened)?, "at {number}");
         }
     }
     Ok(())
@@ -157,5 +172,5 @@ fn are_told<R: Threads + Wait + Clock + Sync + Abort>(
 
 #[test]
 fn each_call_that_fails_is_told(rt: HostRuntime) -> Result<(), Fail> {
-    are_told(&rt, rt.alloc(), &FAILING)
+    are_told(&rt, rt.alloc(), &FAULTS)
 }
