@@ -106,7 +106,6 @@ unopened host rounds p taken k e (inr b) = record {
 
 -- ---- a listing is asked for
 
-
 -- the body that answered was taken
 pub taken_round : (host : List ℕ) (rounds : ℕ) (p : Point) (known : Known) (ls : List Listing) (base : ℕ) (q q' : Point) (answer : Reply) (tag : Tree) (k k' k'' : Pass)
     (done done' : List Relayed) (old now : Relaying) → Stands host rounds p (Asking known ls) q k k' done old → base ≡ old.revision
