@@ -46,12 +46,13 @@ abbrev pub HasHead : List ℕ → Bool → Type 0
 HasHead bytes it = MatchBool it ((rest : List ℕ) × (bytes ≡ opened ∷ signature ++ rest)) (take 9 bytes ≢ opened ∷ signature)
 
 module _ {D : Type 0} (g : Ghosts D) where
-  -- a refusal of the bytes comes with the same bytes, and with no image that was none before
+  -- the same bytes, and no image that was none before
   abbrev pub IsSameDisk : D → D → Type 0
   IsSameDisk old new = (g.bytes new ≡ g.bytes old) × IsQuiet g old new
 
+  -- an error leaves the disk the same, unless the disk failed
   abbrev pub LeavesRefused : {T : Type 0} → D → D → Result T FileError → Type 0
-  LeavesRefused old new result = (at : ℕ) → result ≡ Err (refusal.NotEditFile at) → IsSameDisk old new
+  LeavesRefused old new result = (error : FileError) → result ≡ Err error → error ≢ refusal.Failed → IsSameDisk old new
 
 module _ {D : Type 0} (g : Ghosts D) {f : faulted.Ghosts D} where
   -- the disk, in the file or given back

@@ -32,7 +32,7 @@ impl<D: Disk + Drop> EditFile<D> {
         ensures valid { IfOk result (λ r. All AreValid r.1.items) }
         ensures sound { IfOk result (λ r. is_broken D.Disk.own r.0 ≡ false) }
         ensures breaks { (at : ℕ) → IfErr result (λ e. e.0 ≡ FileError.NotEditFile at → IfSome (D.bytes disk) (λ b. BreaksAt b at)) }
-        ensures unchanged { (at : ℕ) → IfErr result (λ e. e.0 ≡ FileError.NotEditFile at → IsSameDisk D.Disk.own disk e.1) }
+        ensures unchanged { IfErr result (λ e. e.0 ≢ FileError.Failed → IsSameDisk D.Disk.own disk e.1) }
         ensures crash { (bytes : List ℕ) (batches : List (List Edit)) → FileStands bytes batches → Holds D.Disk.own disk bytes
             → LeavesOnly D.Disk.own disk (disk_after D.Disk.own result) (λ image. FileStands image batches) }
         ensures told_stays { is_some (D.bytes (disk_after D.Disk.own result)) ≡ is_some (D.bytes disk) }

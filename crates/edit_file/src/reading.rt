@@ -4,7 +4,7 @@ ghost use Rattle.std.specs.Int.{w32, from_be_bytes, to_be_bytes};
 ghost use Rattle.item_model.specs.Valid.{AreValid};
 ghost use Rattle.outside_disks.specs.Counts.{CountsFaults};
 ghost use Rattle.edit_file.specs.Moments.{IsQuiet};
-ghost use Rattle.edit_file.specs.Opening.{CountsOpening};
+ghost use Rattle.edit_file.specs.Opening.{CountsOpening, LeavesRefused};
 ghost use Rattle.edit_file.specs.Reading.{FillsFrom, IsPayload, IsBatchIn, IsFound, IsUsable, IsWithin};
 
 use crate::refusal::FileError;
@@ -62,6 +62,7 @@ pub(crate) fn read_frame<D: Disk>(
     ensures within { IfOk result (λ found. IsWithin at len found) }
     ensures usable { IfOk result IsUsable }
     ensures whole { (at' : ℕ) → result ≡ Err (FileError.NotEditFile at') → ⊥ }
+    ensures unchanged { LeavesRefused D.Disk.own disk.old disk.new result }
     ensures bytes_stay { OnOk result (D.bytes disk.new ≡ D.bytes disk.old) }
     ensures quiet { IsQuiet D.Disk.own disk.old disk.new }
     ensures told_stays { is_some (D.bytes disk.new) ≡ is_some (D.bytes disk.old) }
@@ -117,6 +118,7 @@ fn read_payload<D: Disk>(
     requires near { at < 2 ^ 63 }
     ensures exact { IfOk result (λ o. IfSome (D.bytes disk.old) (λ b. IsPayload b at count (option_map (λ v. v.items) o))) }
     ensures whole { (at' : ℕ) → result ≡ Err (FileError.NotEditFile at') → ⊥ }
+    ensures unchanged { LeavesRefused D.Disk.own disk.old disk.new result }
     ensures bytes_stay { OnOk result (D.bytes disk.new ≡ D.bytes disk.old) }
     ensures quiet { IsQuiet D.Disk.own disk.old disk.new }
     ensures told_stays { is_some (D.bytes disk.new) ≡ is_some (D.bytes disk.old) }

@@ -1,11 +1,12 @@
 -- Why no share was opened: by its file, or by the batches that it has.
-use Rattle.std.proofs.Common.{◌≡◌, ◌≢◌, ◌⊎◌, inl, inr, ◌++◌, ℕ, List, [], ◌∷◌, Option, IfSome, Result, Ok, Err, IfErr, refl, sym, ap, ◌∙◌, subst}
+use Rattle.std.proofs.Common.{◌≡◌, ◌≢◌, ◌⊎◌, inl, inr, ◌++◌, ℕ, List, [], ◌∷◌, Option, Some, None, IfSome, Result, Ok, Err, IfErr, refl, sym, ap, ◌∙◌, subst}
 use Rattle.std.specs.Result.{IsErrAnd}
 use Rattle.item_model.specs.declared.changes.Edit.{Edit}
 use Rattle.outside_disks.specs.Contents.{Contents}
 use Rattle.command_core.specs.declared.fault.Fault.{Fault}
 use Rattle.command_core.specs.declared.fault.Fault.TheVariants as fault
 use Rattle.edit_file.specs.Standing.{BreaksAt}
+use Rattle.edit_file.proofs.Once.{one_list}
 use Rattle.edit_file.specs.declared.refusal.FileError.{FileError}
 use Rattle.edit_file.specs.declared.refusal.FileError.TheVariants as refusal
 use Rattle.share_history.specs.Histories.{batches}
@@ -14,8 +15,8 @@ use Rattle.share_replies.specs.Settings.{Settings}
 use Rattle.share_core.specs.Opened.{if_filled}
 use Rattle.share_core.proofs.Opening.{batches-opened}
 use Rattle.kept_library.specs.Faults.{file_fault}
-use Rattle.kept_library.specs.Closing.{LeavesAt, Puts}
-use Rattle.kept_library.specs.Opening.{CountsFault, CountsStop, LeavesRefused, StandsAt, StopsOpening, StopsShare, bytes_at, share_of}
+use Rattle.kept_library.specs.Closing.{LeavesAt, Puts, PutsBatches}
+use Rattle.kept_library.specs.Opening.{CountsFault, CountsStop, LeavesRefused, LeavesStanding, StandsAt, StopsOpening, StopsShare, bytes_at, share_of}
 use Rattle.kept_library.specs.declared.fault.FileFault.{FileFault}
 use Rattle.kept_library.specs.declared.fault.FileFault.TheVariants.{NotEditFile, Failed, TooManyEdits, TooManyLists}
 
@@ -36,11 +37,21 @@ stops_share contents path first bs fault.Memory stood stops = tt
 
 -- ---- what a refusal leaves
 
+-- the same bytes stand for the same batches
+same_stands : (before now : Option Contents) (path : List ℕ) → IfSome before (λ c. Puts path (bytes_at c path) c now) → LeavesStanding path before now
+same_stands None now path puts bs stands = tt
+same_stands (Some c) now path puts bs stands = record { bytes = bytes_at c path; stands = stands; told = puts }
+
+-- bytes stand for one list of batches
+stands_still : (before now : Option Contents) (path : List ℕ) (bs : List (List Edit)) → StandsAt before path bs → LeavesAt path bs before now → LeavesStanding path before now
+stands_still None now path bs stood left other stands = tt
+stands_still (Some c) now path bs stood left other stands = subst (λ l. PutsBatches path l c now) (one_list (bytes_at c path) bs other stood stands) left
+
 pub leaves_file : (before now : Option Contents) (path : List ℕ) (error : FileError)
-    → ((at : ℕ) → error ≡ refusal.NotEditFile at → IfSome before (λ c. Puts path (bytes_at c path) c now)) → LeavesRefused before now path (file_fault error)
-leaves_file before now path (refusal.NotEditFile at) left = left at refl
+    → (error ≢ refusal.Failed → IfSome before (λ c. Puts path (bytes_at c path) c now)) → LeavesRefused before now path (file_fault error)
+leaves_file before now path (refusal.NotEditFile at) left = left (λ is. absurd (cc))
 leaves_file before now path refusal.Failed left = tt
-leaves_file before now path refusal.Memory left = tt
+leaves_file before now path refusal.Memory left = same_stands before now path (left (λ is. absurd (cc)))
 
 pub leaves_share : (before now : Option Contents) (path : List ℕ) (bs all : List (List Edit)) (stop : Fault FileFault) → StandsAt before path bs → StopsShare all stop
     → (stop ≡ fault.Own Failed) ⊎ LeavesAt path bs before now → LeavesRefused before now path stop
@@ -51,7 +62,8 @@ leaves_share before now path bs all (fault.Own TooManyEdits) stood stops (inr le
 leaves_share before now path bs all (fault.Own TooManyLists) stood stops (inl failed) = absurd (cc)
 leaves_share before now path bs all (fault.Own TooManyLists) stood stops (inr left) = record { batches = bs; stood = stood; left = left }
 leaves_share before now path bs all fault.Read stood stops left = tt
-leaves_share before now path bs all fault.Memory stood stops left = tt
+leaves_share before now path bs all fault.Memory stood stops (inl failed) = absurd (cc)
+leaves_share before now path bs all fault.Memory stood stops (inr left) = stands_still before now path bs stood left
 
 -- a refusal that no call on the file led to leaves the count
 pub counts_nothing : {T : Type 0} (n : ℕ) (r : Result T (Fault FileFault)) → IfErr r (CountsFault n n) → CountsStop n n r

@@ -1,5 +1,5 @@
 -- What is told of a file under its name, when it is opened and when it is given back.
-use Rattle.std.proofs.Common.{◌≡◌, ◌⊎◌, ℕ, true, false, List, [], ◌∷◌, Option, Some, None, is_some, IfSome, MatchBool, if◌then◌else◌, ap, ◌∙◌, subst, append_assoc, ◌++◌, refl, inl, inr}
+use Rattle.std.proofs.Common.{◌≡◌, ℕ, true, false, List, [], ◌∷◌, Option, Some, None, is_some, IfSome, MatchBool, if◌then◌else◌, ap, ◌∙◌, subst, append_assoc, refl, inl, inr}
 use Rattle.item_model.specs.declared.changes.Edit.{Edit}
 use Rattle.outside_disks.specs.Contents.{Contents, OpensFile, ClosesFile}
 use Rattle.outside_disks.specs.declared.disk.Disk.{Ghosts}

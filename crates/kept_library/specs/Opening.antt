@@ -79,15 +79,18 @@ pub record LeavesBatches (path : List ℕ) (before now : Option Contents) : Type
   pub stood : StandsAt before path batches
   pub left : LeavesAt path batches before now
 
--- what is under the file's name after a refusal: the same bytes, or the same batches; a call that failed, and want of memory, may come in
--- the midst of a change
+-- whatever batches the file stood for, it stands for still
+abbrev pub LeavesStanding : List ℕ → (before now : Option Contents) → Type 0
+LeavesStanding path before now = (bs : List (List Edit)) → StandsAt before path bs → LeavesAt path bs before now
+
+-- what is under the file's name after a refusal: the same bytes, or the same batches; a call that failed may come in the midst of a change
 abbrev pub LeavesRefused : (before now : Option Contents) → List ℕ → Fault FileFault → Type 0
 LeavesRefused before now path (fault.Own (NotEditFile at)) = IfSome before (λ c. Puts path (bytes_at c path) c now)
 LeavesRefused before now path (fault.Own Failed) = Unit {0}
 LeavesRefused before now path (fault.Own TooManyEdits) = LeavesBatches path before now
 LeavesRefused before now path (fault.Own TooManyLists) = LeavesBatches path before now
 LeavesRefused before now path fault.Read = Unit {0}
-LeavesRefused before now path fault.Memory = Unit {0}
+LeavesRefused before now path fault.Memory = LeavesStanding path before now
 
 -- the count of faults rises exactly with a fault of a file
 abbrev pub CountsFault : ℕ → ℕ → Fault FileFault → Type 0

@@ -3,9 +3,8 @@ use Rattle.std.proofs.Common.{◌≡◌, ◌⊎◌, ◌+◌, ◌++◌, ℕ, List
 use Rattle.std.proofs.lemmas.List.Elements.{All-nil, All-cons}
 use Rattle.std.specs.Prelude.{All}
 use Rattle.item_model.specs.declared.changes.Edit.{Edit}
-use Rattle.item_model.specs.declared.changes.Entry.{Entry}
 use Rattle.item_model.specs.declared.changes.Entry.TheVariants.{Edits}
-use Rattle.share_history.specs.Histories.{batches, opening, revision}
+use Rattle.share_history.specs.Histories.{opening}
 use Rattle.share_replies.specs.Answers.{Shared}
 use Rattle.share_replies.specs.Laws.{maker}
 use Rattle.share_core.specs.Opened.{opened_with}
@@ -18,7 +17,6 @@ use Rattle.share_crew.specs.declared.opening.Begun.{Begun}
 use Rattle.share_crew.specs.declared.opening.Room.{Room}
 use Rattle.share_crew.specs.Begun.{HasRoom, Announces}
 use Rattle.serve_command.specs.declared.terms.Serving.{Serving}
-use Rattle.serve_command.specs.Lines.{serving_line}
 use Rattle.serve_command.specs.Runs.{first_line, NotAnnounced}
 use Rattle.serve_command.specs.Begun.{HasBegun}
 use Rattle.serve_command.specs.Terms.{settings_of, workers_of}

@@ -1,9 +1,8 @@
 -- A history of which one worker made all edits: the others serve players, whose requests ask for none.
-use Rattle.std.proofs.Common.{◌≡◌, ◌⊎◌, ◌==◌, ◌||◌, ◌≤◌, ◌-◌, ℕ, suc, Bool, true, false, cond, List, [], ◌∷◌, ◌++◌, get_or, length, map, Option, MatchBool, refl, sym, subst, ap, ◌∙◌, inl, inr, arith, append_assoc, append-nil, eq-eqb}
+use Rattle.std.proofs.Common.{◌≡◌, ◌⊎◌, ◌==◌, ◌||◌, ◌≤◌, ◌-◌, ℕ, suc, Bool, true, false, cond, List, [], ◌∷◌, ◌++◌, get_or, length, Option, refl, sym, subst, ap, ◌∙◌, inl, inr, arith, append_assoc, append-nil, eq-eqb}
 use Rattle.std.proofs.lemmas.List.Elements.{All-nil, All-cons, All-append}
 use Rattle.std.specs.List.{AllByRecursion, list_any}
 use Rattle.std.specs.Prelude.{All, Contains}
-use Rattle.daap_outside.specs.Counts.{Rose}
 use Rattle.daap_outside.specs.Places.{Returned}
 use Rattle.item_model.specs.declared.changes.Edit.{Edit}
 use Rattle.item_model.specs.declared.changes.Entry.{Entry}
@@ -21,7 +20,7 @@ use Rattle.share_server.specs.Passes.{Pass}
 use Rattle.share_server.specs.Served.{added_entries, added_part, at_point}
 use Rattle.share_server.proofs.Listening.{any_neither, players_change_nothing}
 use Rattle.share_workers.specs.Ends.{is_worker_loss}
-use Rattle.share_workers.specs.Keepers.{EditsAreBy, KeepsBut}
+use Rattle.share_workers.specs.Keepers.{KeepsBut}
 use Rattle.share_workers.specs.Works.{IsLostBy, LinksAt, Works, all_served, loses_any}
 use Rattle.share_workers.proofs.Keepers.{keeps_history}
 use Rattle.share_crew.specs.Stints.{Stint, IsHistoryOf, IsPart, numbers_of_all, passes_in}

@@ -1,5 +1,5 @@
 -- What the status of a run says of its file.
-use Rattle.std.proofs.Common.{◌≡◌, ◌⊎◌, ◌≤◌, ℕ, Bool, true, false, cond, List, map, Option, None, Some, MatchBool, refl, sym, subst, ap, ◌∙◌, inl, inr, arith}
+use Rattle.std.proofs.Common.{◌≡◌, ◌⊎◌, ◌≤◌, ℕ, Bool, true, false, cond, List, map, Option, None, Some, MatchBool, refl, sym, subst, ◌∙◌, inl, inr, arith}
 use Rattle.std.proofs.lemmas.Bool.{false≢true}
 use Rattle.item_model.specs.declared.changes.Entry.{Entry}
 use Rattle.daap_outside.specs.Counts.{Rose}
@@ -14,20 +14,20 @@ use Rattle.command_core.specs.declared.fault.Fault.{Fault}
 use Rattle.command_core.specs.declared.fault.Fault.TheVariants as fault
 use Rattle.command_core.specs.Answers.{Tells}
 use Rattle.command_core.specs.Faults.{fault_status}
-use Rattle.command_core.specs.Seen.{FilesSeen, InputSeen, OutputSeen, Told}
+use Rattle.command_core.specs.Seen.{FilesSeen, InputSeen, OutputSeen}
 use Rattle.share_crew.specs.declared.verdict.Verdict.{Verdict}
 use Rattle.share_crew.specs.declared.verdict.Verdict.TheVariants.{Done, NetworkFailed, FileFailed, OutOfMemory, Exhausted}
 use Rattle.share_crew.specs.Lines.{ended_line}
 use Rattle.share_crew.specs.Stints.{Stint}
 use Rattle.share_crew.specs.Verdicts.{has_end, verdict_of, verdict_status, with_memory}
-use Rattle.share_crew.proofs.Ending.{NoneFailed, none_failed}
+use Rattle.share_crew.proofs.Ending.{none_failed}
 use Rattle.serve_command.specs.declared.fault.ServeFault.{ServeFault}
 use Rattle.serve_command.specs.declared.fault.ServeFault.TheVariants.{Network, TooLong, Records, TooManyLists}
 use Rattle.serve_command.specs.declared.terms.Serving.{Serving}
-use Rattle.serve_command.specs.Faults.{serve_line, serve_status}
+use Rattle.serve_command.specs.Faults.{serve_status}
 use Rattle.serve_command.specs.Files.{AreKept, IsKept, LeavesBut}
-use Rattle.serve_command.specs.Laws.{FileFaultsAreCounted, IsLeft, SuccessLeavesTheFile}
-use Rattle.serve_command.specs.Runs.{first_line, Left, NotAnnounced, NotBegun, TellsEnd, TellsFault, TellsStop, announced, served, stopped, unannounced, unbegun, unkept, unopened}
+use Rattle.serve_command.specs.Laws.{FileFaultsAreCounted, SuccessLeavesTheFile}
+use Rattle.serve_command.specs.Runs.{first_line, NotAnnounced, NotBegun, TellsEnd, TellsFault, TellsStop, served, stopped, unannounced, unbegun, unkept, unopened}
 use Rattle.serve_command.specs.Terms.{settings_of}
 use Rattle.serve_command.proofs.Ending.{done_from}
 

@@ -1,5 +1,5 @@
 -- Doors that were given back before anybody waited at them, and what is kept of a history.
-use Rattle.std.proofs.Common.{◌≡◌, ℕ, List, [], ◌∷◌, ◌++◌, Bool, true, false, MatchBool, IfSome, Option, Result, Ok, Err, None, Some, refl, sym, subst, ◌∙◌, arith, length-append}
+use Rattle.std.proofs.Common.{◌≡◌, ℕ, List, [], ◌∷◌, ◌++◌, Bool, true, false, MatchBool, Option, Result, Ok, Err, refl, sym, subst, ◌∙◌, arith, length-append}
 use Rattle.std.proofs.lemmas.List.{get_or_append_left}
 use Rattle.std.specs.Prelude.{All, OnOk, OnErr}
 use Rattle.share_lock.proofs.Fronts.{all_rest}
@@ -15,7 +15,7 @@ use Rattle.command_core.specs.ReadRecords.{HasReadAs}
 use Rattle.serve_command.specs.declared.terms.Serving.{Serving}
 use Rattle.serve_command.specs.Files.{AreKept, IsOpening, LeavesBut}
 use Rattle.serve_command.specs.Places.{HasAsked, HasOpened, IsGivenBack}
-use Rattle.serve_command.specs.Runs.{HasServed, Left, ServeEnds, ShareEnds, announced, not_announced, served, unannounced, unbegun}
+use Rattle.serve_command.specs.Runs.{Left, ServeEnds, ShareEnds, announced, not_announced, served, unannounced, unbegun}
 use Rattle.serve_command.specs.Terms.{places_of}
 
 pub asked_still : (serving : Serving) (start mid now : NetSeen) (listen edit : ℕ) (coming : List (Option (List (List ℕ)))) → HasOpened serving start mid listen edit coming → IsGivenBack start mid now

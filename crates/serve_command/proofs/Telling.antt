@@ -1,8 +1,6 @@
 -- What is told at the end, piece by piece.
 use Rattle.std.specs.declared.alloc.AllocError.{AllocError}
-use Rattle.std.proofs.Common.{Vec, Global, MatchResult, ◌≡◌, ◌++◌, ℕ, List, Ok, Err, Result, IfOk, refl, sym, subst, inl, inr, arith, length-append}
-use Rattle.std.proofs.lemmas.List.{take-append-le}
-use Rattle.std.specs.Io.KnownBytes.{Appends}
+use Rattle.std.proofs.Common.{Vec, Global, MatchResult, ◌≡◌, ◌++◌, ℕ, List, Ok, Err, Result, IfOk, refl, subst, inl, inr}
 use Rattle.command_core.specs.Seen.{OutputSeen}
 use Rattle.command_core.specs.Endings.{IsWritten, IsCut}
 use Rattle.command_core.specs.Answers.{Tells}

@@ -1,5 +1,5 @@
 -- A share that came under its lock, with room for its workers.
-use Rattle.std.specs.Prelude.{◌≡◌, ℕ, ◌+◌, List}
+use Rattle.std.specs.Prelude.{◌≡◌, ◌+◌, List}
 use Rattle.item_model.specs.declared.changes.Entry.{Entry}
 use Rattle.share_lock.specs.Known.{fresh}
 use Rattle.share_lock.specs.Passes.{lock_id, passes_of, known, IsReady}

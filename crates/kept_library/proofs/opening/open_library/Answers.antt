@@ -26,7 +26,7 @@ returns-in-Err-clause-left g c =
     let closed = subst (λ contents. ClosesFile contents now (g.F.D.Disk.opened_as c.in-Err.disk) (g.F.D.Disk.bytes c.in-Err.disk)) c.in-Ok.ensures.contents_stay c.close.ensures.closed in
     subst (LeavesRefused before now c.args.path.now) (sym c.file_fault.ensures)
     (leaves_file before now c.args.path.now c.in-Err.error
-    (λ at is. same_at before now c.args.path.now _ _ _ _ c.in-Ok.ensures.opened c.in-Err.ensures.name_stays (c.in-Err.ensures.unchanged at is).0 closed))
+    (λ sound. same_at before now c.args.path.now _ _ _ _ c.in-Ok.ensures.opened c.in-Err.ensures.name_stays (c.in-Err.ensures.unchanged sound).0 closed))
 
 pub returns-in-Ok-begun-clause-opened : goal.returns-in-Ok-begun-clause-opened
 returns-in-Ok-begun-clause-opened g c =

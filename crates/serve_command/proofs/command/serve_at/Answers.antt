@@ -1,5 +1,5 @@
 use Rattle.std.proofs.Common.{◌≡◌, ◌++◌, length, map, None, refl, sym, subst, ◌∙◌}
-use Rattle.command_core.specs.Seen.{InputSeen, NetSeen, OutputSeen, input_seen, net_seen, output_seen}
+use Rattle.command_core.specs.Seen.{InputSeen, NetSeen, input_seen, net_seen}
 use Rattle.serve_command.specs.Faults.{StopsServing}
 use Rattle.serve_command.specs.Runs.{stopped, unbegun}
 use Rattle.serve_command.proofs.Inputs.{unread_alone, unread_cause}

@@ -1,7 +1,6 @@
-use Rattle.std.proofs.Common.{◌≡◌, ◌++◌, ◌∷◌, [], List, ℕ, Option, Some, IfSome, Bool, false, length, map, refl, sym, subst, ap, ◌∙◌}
+use Rattle.std.proofs.Common.{◌≡◌, ◌++◌, ◌∷◌, [], Some, IfSome, length, map, sym, subst, ap, ◌∙◌}
 use Rattle.std.specs.Prelude.{All}
 use Rattle.daap_outside.specs.Counts.{RisesWith}
-use Rattle.daap_outside.specs.Places.{Contents}
 use Rattle.daap_outside.specs.Told.{Grows}
 use Rattle.share_core.specs.Opened.{if_filled}
 use Rattle.share_history.specs.Histories.{batches}

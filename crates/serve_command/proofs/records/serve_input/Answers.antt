@@ -1,12 +1,11 @@
-use Rattle.std.proofs.Common.{◌≡◌, ◌++◌, List, Bool, Option, None, Err, length, map, refl, sym, subst, ap}
+use Rattle.std.proofs.Common.{◌≡◌, ◌++◌, Err, length, map, refl, sym, subst, ap}
 use Rattle.std.specs.Prelude.{All}
-use Rattle.item_model.specs.declared.changes.Entry.{Entry}
 use Rattle.share_core.specs.declared.share.OpenError.{OpenError}
 use Rattle.share_replies.specs.Answers.{Shared}
 use Rattle.share_replies.specs.Laws.{maker}
 use Rattle.command_core.specs.Seen.{NetSeen, OutputSeen, net_seen, output_seen}
 use Rattle.serve_command.specs.Faults.{StopsServing}
-use Rattle.serve_command.specs.Files.{AreKept, HasKept, IsOpening}
+use Rattle.serve_command.specs.Files.{AreKept, IsOpening}
 use Rattle.serve_command.specs.Outcomes.{left_of}
 use Rattle.serve_command.specs.Runs.{stopped, unbegun}
 use Rattle.serve_command.proofs.Beginning.{opening_made}

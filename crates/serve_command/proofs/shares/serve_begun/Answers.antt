@@ -1,10 +1,10 @@
-use Rattle.std.proofs.Common.{◌≡◌, ◌+◌, ◌<◌, ◌≤◌, [], ◌∷◌, ◌++◌, map, length, sym, subst, ap, ◌∙◌, append-nil, arith, length-append}
+use Rattle.std.proofs.Common.{◌≡◌, ◌+◌, [], ◌∷◌, ◌++◌, map, length, sym, subst, ap, ◌∙◌, append-nil, arith, length-append}
 use Rattle.std.proofs.lemmas.List.{length-map}
 use Rattle.std.proofs.lemmas.List.Elements.{All-append, All-push, AllZip-push}
 use Rattle.std.proofs.lemmas.Simd.{map-map}
 use Rattle.std.proofs.lemmas.Slice.Zip.{AllZip-long}
 use Rattle.std.specs.List.{AllByRecursion, AllZip}
-use Rattle.std.specs.Prelude.{All, vec_capacity, vec_len}
+use Rattle.std.specs.Prelude.{All, vec_capacity}
 use Rattle.share_lock.specs.Known.{fresh}
 use Rattle.share_lock.specs.Passes.{IsReady, known, lock_id, passes_of}
 use Rattle.share_workers.specs.declared.worker.Worker.{Worker}

@@ -1,4 +1,4 @@
-use Rattle.std.proofs.Common.{◌++◌, ◌≤◌, length, map, refl, sym, subst, arith}
+use Rattle.std.proofs.Common.{◌++◌, length, map, refl, sym, subst}
 use Rattle.command_core.specs.Seen.{NetSeen, OutputSeen, net_seen, output_seen}
 use Rattle.serve_command.specs.Runs.{NotAnnounced, announced, first_line, not_announced}
 use Rattle.serve_command.proofs.Returning.{asked_still, faultless_still}

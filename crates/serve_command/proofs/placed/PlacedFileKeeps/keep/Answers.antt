@@ -1,6 +1,6 @@
 use Rattle.std.proofs.Common.{◌≡◌, ◌∷◌, [], ◌++◌, ◌∙◌}
 use Rattle.edit_file.specs.Files.{HasBatches, place_of}
-use Rattle.serve_command.proofs.Returning.{ok_and, err_and}
+use Rattle.serve_command.proofs.Returning.{ok_and}
 use Rattle.serve_command.proofs.placed.PlacedFileKeeps.keep.Goals as goal
 
 pub returns-clause-acknowledged : goal.returns-clause-acknowledged
