@@ -1,7 +1,7 @@
 -- Doors that were given back before anybody waited at them, and what is kept of a history.
 use Rattle.std.proofs.Common.{◌≡◌, ℕ, List, [], ◌∷◌, ◌++◌, Bool, true, false, MatchBool, Option, Result, Ok, Err, refl, sym, subst, ◌∙◌, arith, length-append}
 use Rattle.std.proofs.lemmas.List.{get_or_append_left}
-use Rattle.std.specs.Prelude.{All, OnOk, OnErr}
+use Rattle.std.specs.Prelude.{All, OnOk}
 use Rattle.share_lock.proofs.Fronts.{all_rest}
 use Rattle.daap_outside.specs.Counts.{RisesWith, Rose}
 use Rattle.daap_outside.specs.Places.{Contents}
@@ -61,10 +61,6 @@ run_ends serving opened edits before after files files' net net' output output' 
 pub ok_and : {T E : Type 0} (r : Result T E) (P Q : Type 0) → OnOk r P → Q → OnOk r (P × Q)
 ok_and (Ok x) P Q p q = (p, q)
 ok_and (Err e) P Q p q = tt
-
-pub err_and : {T E : Type 0} (r : Result T E) (P Q : Type 0) → OnErr r P → Q → OnErr r (P × Q)
-err_and (Ok x) P Q p q = tt
-err_and (Err e) P Q p q = (p, q)
 
 -- what holds of all items holds of those before the last, and of the last
 pub front_of : {A : Type 0} (P : A → Type 0) (xs : List A) (y : A) → All P (xs ++ y ∷ []) → All P xs
