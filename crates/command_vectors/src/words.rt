@@ -36,9 +36,10 @@ rehearse --keep=1 07 2 003 => Ok(Local(Rehearse(RehearseWords { number: 7, batch
 replay => Ok(Local(Replay(ReplayWords { keep: 256, name: Text { text: \"daapshare\" } })))\n\
 replay --name=-- --keep 65536 => Ok(Local(Replay(ReplayWords { keep: 65536, name: Text { text: \"--\" } })))\n\
 replay --keep=1 --name  => Ok(Local(Replay(ReplayWords { keep: 1, name: Text { text: \"\" } })))\n\
-serve :3689 127.0.0.1:3688 => Ok(Net(Serve(ServeWords { listen: Text { text: \":3689\" }, edit: Text { text: \"127.0.0.1:3688\" }, name: Text { text: \"daapshare\" }, keep: 256, workers: 16, editors: 2 })))\n\
-serve --workers 64 a --editors=8 b --name Attic --keep 1 => Ok(Net(Serve(ServeWords { listen: Text { text: \"a\" }, edit: Text { text: \"b\" }, name: Text { text: \"Attic\" }, keep: 1, workers: 64, editors: 8 })))\n\
-serve a a --workers 1 --editors 1 => Ok(Net(Serve(ServeWords { listen: Text { text: \"a\" }, edit: Text { text: \"a\" }, name: Text { text: \"daapshare\" }, keep: 256, workers: 1, editors: 1 })))\n\
+serve :3689 127.0.0.1:3688 => Ok(Net(Serve(ServeWords { listen: Text { text: \":3689\" }, edit: Text { text: \"127.0.0.1:3688\" }, name: Text { text: \"daapshare\" }, keep: 256, workers: 16, editors: 2, file: None })))\n\
+serve --workers 64 a --editors=8 b --name Attic --keep 1 => Ok(Net(Serve(ServeWords { listen: Text { text: \"a\" }, edit: Text { text: \"b\" }, name: Text { text: \"Attic\" }, keep: 1, workers: 64, editors: 8, file: None })))\n\
+serve a a --workers 1 --editors 1 => Ok(Net(Serve(ServeWords { listen: Text { text: \"a\" }, edit: Text { text: \"a\" }, name: Text { text: \"daapshare\" }, keep: 256, workers: 1, editors: 1, file: None })))\n\
+serve a b --file F => Ok(Net(Serve(ServeWords { listen: Text { text: \"a\" }, edit: Text { text: \"b\" }, name: Text { text: \"daapshare\" }, keep: 256, workers: 16, editors: 1, file: Some(Text { text: \"F\" }) })))\n\
 edit h:1 => Ok(Net(Edit(EditWords { place: Text { text: \"h:1\" }, stop: false })))\n\
 edit --stop h:1 => Ok(Net(Edit(EditWords { place: Text { text: \"h:1\" }, stop: true })))\n\
 edit !~ => Ok(Net(Edit(EditWords { place: Text { text: \"!~\" }, stop: false })))\n\
@@ -115,6 +116,7 @@ serve a b --workers 0\n\
 serve a b --workers 65\n\
 serve a b --editors 0\n\
 serve a b --editors 9\n\
+serve a b --file F --editors 2\n\
 serve a b --workers x\n\
 serve a b --query x\n\
 edit\n\
@@ -157,7 +159,7 @@ usage: daapshare list [--query Q] [--meta M] [--list ID]
        daapshare codes [--learn]
        daapshare replay [--keep K] [--name N]
        daapshare rehearse NUMBER BATCHES SIZE [--keep K]
-       daapshare serve LISTEN EDIT [--name N] [--keep K] [--workers W] [--editors E]
+       daapshare serve LISTEN EDIT [--name N] [--keep K] [--workers W] [--editors E] [--file F]
        daapshare edit PLACE [--stop]
        daapshare follow PLACE ROUNDS [--query Q] [--meta M] [--list ID]
        daapshare json [--back]

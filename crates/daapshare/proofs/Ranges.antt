@@ -14,4 +14,5 @@ may_serve words h = record {
   few_workers = h.workers.1;
   some_editors = h.editors.0;
   few_editors = h.editors.1;
+  one_editor = h.one_editor;
 }

@@ -1,4 +1,3 @@
 pub mod Left
 pub mod Usage
 pub mod Table
-pub mod Told

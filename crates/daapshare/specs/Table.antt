@@ -1,5 +1,5 @@
 -- What each command means, a line for each, and how a run of it ends.
-use Rattle.std.specs.Prelude.{ℕ, Bool, true, false, Option, Some, None}
+use Rattle.std.specs.Prelude.{ℕ, Bool, true, false, not, is_some, Option, Some, None}
 use Rattle.item_model.specs.declared.request.Target.{Target}
 use Rattle.item_model.specs.declared.request.Target.TheVariants.{Items, Container}
 use Rattle.command_core.specs.Endings.{IsAnswered}
@@ -67,6 +67,7 @@ serving_of words = record {
   keep = words.keep;
   workers = words.workers;
   editors = words.editors;
+  file = words.file;
 }
 
 -- a run of a command over the net ends as it means
@@ -81,6 +82,11 @@ abbrev pub IsRun : Option Command → Told → Outcome → Type 0
 IsRun None told outcome = Unlinked (IsAnswered usage_meaning told) outcome
 IsRun (Some (Local command)) told outcome = Unlinked (IsAnswered (meaning_of command) told) outcome
 IsRun (Some (Net command)) told outcome = IsRunOverNet command told outcome
+
+-- whether a run leaves files alone
+abbrev pub leaves_files : Option Command → Bool
+leaves_files (Some (Net (net.Serve words))) = not (is_some words.file)
+leaves_files _ = true
 
 -- whether a run leaves the net alone
 abbrev pub leaves_net : Option Command → Bool

@@ -17,7 +17,7 @@ use crate::outcome::{Outcome, unlinked};
 use crate::run::run;
 use crate::usage::UsageFault;
 use command_core::{Fault, out_of_memory, refused};
-use daap_outside::{MemFiles, Net, Reading, TcpNet, Writing};
+use daap_outside::{Files, Net, Reading, SystemFiles, TcpNet, Writing};
 use std::alloc::Global;
 use std::io::{ErrorKind, Read, Write};
 use std::process::ExitCode;
@@ -45,24 +45,17 @@ fn texts_of(alloc: Global, words: &[String]) -> io::Result<Vec<&str>> {
 }
 
 /// Runs the program over its standard input and output.
-fn run_on<R: Threads + Wait + Clock + Sync, I: Read, W: Write, N: Net>(
+fn run_on<R: Threads + Wait + Clock + Sync, I: Read, W: Write, F: Files, N: Net>(
     rt: &R,
     alloc: Global,
     words: &[String],
     input: &mut Reading<I>,
     output: &mut Writing<W>,
+    files: &mut F,
     net: &mut N,
 ) -> Outcome {
     match texts_of(alloc, words) {
-        Ok(texts) => run(
-            rt,
-            alloc,
-            texts.as_slice(),
-            input,
-            output,
-            &mut MemFiles::new(),
-            net,
-        ),
+        Ok(texts) => run(rt, alloc, texts.as_slice(), input, output, files, net),
         Err(_) => unlinked(alloc, out_of_memory(output, None)),
     }
 }
@@ -71,6 +64,7 @@ fn main(rt: HostRuntime) -> ExitCode {
     let alloc = rt.alloc();
     let mut input = Reading::new(rt.stdin());
     let mut output = Writing::new(rt.stdout());
+    let mut files = SystemFiles::new(&rt);
     let mut net = TcpNet::new(&rt, alloc);
     let status = match words_of(&rt) {
         Ok(words) => {
@@ -80,6 +74,7 @@ fn main(rt: HostRuntime) -> ExitCode {
                 words.as_slice(),
                 &mut input,
                 &mut output,
+                &mut files,
                 &mut net,
             )
             .status

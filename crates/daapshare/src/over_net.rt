@@ -1,16 +1,16 @@
 //! What the commands over the net do.
 
-ghost use Rattle.std.specs.Prelude.{◌≡◌};
-ghost use Rattle.command_core.specs.Seen.{FilesSeen, input_seen, net_seen, output_seen};
+ghost use Rattle.std.specs.Prelude.{◌≡◌, Some, true};
+ghost use Rattle.daapshare_words.specs.declared.command.Command.TheVariants.{Net as OverNet};
+ghost use Rattle.command_core.specs.Seen.{files_seen, input_seen, net_seen, output_seen, seen, told_in};
 ghost use Rattle.daapshare_words.specs.Serve.{AreServeWords};
 ghost use Rattle.daapshare_words.specs.Words.{IsNetRanged};
 ghost use Rattle.serve_command.specs.Terms.{MayServe};
-ghost use Rattle.daapshare.specs.Table.{serving_of, IsRunOverNet};
-ghost use Rattle.daapshare.specs.Told.{seen, told_in};
+ghost use Rattle.daapshare.specs.Table.{leaves_files, serving_of, IsRunOverNet};
 
 use crate::local::target_of;
 use crate::outcome::{Outcome, linked, unlinked};
-use daap_outside::{Net, Sink, Source};
+use daap_outside::{Files, Net, Sink, Source};
 use daapshare_words::{NetCommand, ServeWords};
 use link_commands::{edit_share, follow_share};
 use serve_command::{Serving, serve};
@@ -20,28 +20,32 @@ use std::thread::Threads;
 use std::time::Clock;
 
 /// Does what a command over the net asks for.
-pub fn obeyed_over_net<R: Threads + Wait + Clock + Sync, I: Source, W: Sink, N: Net>(
+pub fn obeyed_over_net<R: Threads + Wait + Clock + Sync, I: Source, W: Sink, F: Files, N: Net>(
     rt: &R,
     alloc: Global,
     command: NetCommand,
     input: &mut I,
     output: &mut W,
+    files: &mut F,
     net: &mut N,
 ) -> Outcome
     requires { IsNetRanged command }
-    ensures { (files : FilesSeen) → IsRunOverNet command
+    ensures answered { IsRunOverNet command
         (told_in
-        (seen (input_seen (I.left input.old) (I.faults input.old)) files
+        (seen (input_seen (I.left input.old) (I.faults input.old))
+        (files_seen (F.asked files.old) (F.contents files.old) (F.faults files.old))
         (net_seen (N.asked net.old) (N.written net.old) (N.door_links net.old) (N.next_input net.old) (N.faults net.old)))
-        (seen (input_seen (I.left input.new) (I.faults input.new)) files
+        (seen (input_seen (I.left input.new) (I.faults input.new))
+        (files_seen (F.asked files.new) (F.contents files.new) (F.faults files.new))
         (net_seen (N.asked net.new) (N.written net.new) (N.door_links net.new) (N.next_input net.new) (N.faults net.new)))
         (output_seen (W.taken output.old) (W.faults output.old))
         (output_seen (W.taken output.new) (W.faults output.new)))
         result }
+    ensures files { leaves_files (Some (OverNet command)) ≡ true → files.new ≡ files.old }
 {
     match command {
         NetCommand::Serve(words) => {
-            linked(serve(rt, alloc, &serving_of(words), input, output, net))
+            linked(serve(rt, alloc, &serving_of(words), input, output, files, net))
         }
         NetCommand::Edit(words) => {
             let ended = edit_share(alloc, words.place.as_str(), words.stop, input, output, net);
@@ -76,5 +80,6 @@ fn serving_of(words: ServeWords) -> Serving
         keep: words.keep,
         workers: words.workers,
         editors: words.editors,
+        file: words.file,
     }
 }

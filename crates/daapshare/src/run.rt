@@ -1,11 +1,10 @@
 //! A run of the program over any input, output, files and net.
 
 ghost use Rattle.std.specs.Prelude.{◌≡◌, true};
-ghost use Rattle.command_core.specs.Seen.{files_seen, input_seen, net_seen, output_seen};
+ghost use Rattle.command_core.specs.Seen.{files_seen, input_seen, net_seen, output_seen, seen, told_in};
 ghost use Rattle.daapshare_words.specs.Grammar.{texts_of};
 ghost use Rattle.daapshare_words.specs.Words.{command_of};
-ghost use Rattle.daapshare.specs.Table.{leaves_net, IsRun};
-ghost use Rattle.daapshare.specs.Told.{seen, told_in};
+ghost use Rattle.daapshare.specs.Table.{leaves_files, leaves_net, IsRun};
 
 use crate::local::obeyed;
 use crate::outcome::{Outcome, unlinked};
@@ -23,8 +22,8 @@ use std::time::Clock;
 ///
 /// The statuses are 0 where all was done, 2 for words that are no command's, 3 for a query, names of properties, records, a
 /// container, tags, shown text, JSON, a script or a reply of content codes that are refused, 4 and 5 where the input or the output
-/// failed, 6 where the net did, 7 where a peer answered otherwise than it should, 8 where a number passed its limit, and 9
-/// for want of memory. Each but 0 and 5 has its line on the output.
+/// failed, 6 where the net did, 7 where a peer answered otherwise than it should, 8 where a number passed its limit, 9
+/// for want of memory, and 10 where a file call failed. Each but 0 and 5 has its line on the output.
 pub fn run<R: Threads + Wait + Clock + Sync, I: Source, W: Sink, F: Files, N: Net>(
     rt: &R,
     alloc: Global,
@@ -46,13 +45,15 @@ pub fn run<R: Threads + Wait + Clock + Sync, I: Source, W: Sink, F: Files, N: Ne
         (output_seen (W.taken output.new) (W.faults output.new)))
         result }
 
-    // Files are left alone, and the net is by all commands but those over it.
-    ensures files { files.new ≡ files.old }
+    // Files are left alone by all commands but `serve` with a file, and the net is by all but those over it.
+    ensures files { leaves_files (command_of (texts_of words.now)) ≡ true → files.new ≡ files.old }
     ensures net { leaves_net (command_of (texts_of words.now)) ≡ true → net.new ≡ net.old }
 {
     match read_words(alloc, words) {
         Ok(Command::Local(command)) => unlinked(alloc, obeyed(alloc, &command, input, output)),
-        Ok(Command::Net(command)) => obeyed_over_net(rt, alloc, command, input, output, net),
+        Ok(Command::Net(command)) => {
+            obeyed_over_net(rt, alloc, command, input, output, files, net)
+        }
         Err(WordsError::Usage) => {
             unlinked(
                 alloc,

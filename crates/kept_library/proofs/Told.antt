@@ -1,6 +1,5 @@
 -- What is told of a file under its name, when it is opened and when it is given back.
-use Rattle.std.proofs.Common.{◌≡◌, ◌≢◌, ℕ, true, false, List, [], ◌∷◌, ◌++◌, length, Option, Some, None, is_some, unwrap_or, IfSome, MatchBool, if◌then◌else◌, refl, sym, ap, ◌∙◌, subst, append_assoc, inr}
-use Rattle.std.specs.FinMap as finite
+use Rattle.std.proofs.Common.{◌≡◌, ℕ, false, List, [], ◌∷◌, Option, Some, None, is_some, IfSome, MatchBool, if◌then◌else◌, ap, ◌∙◌, subst, append_assoc, inr}
 use Rattle.item_model.specs.declared.changes.Edit.{Edit}
 use Rattle.outside_disks.specs.Contents.{Contents, OpensFile, ClosesFile}
 use Rattle.outside_disks.specs.declared.disk.Disk.{Ghosts}
@@ -9,14 +8,20 @@ use Rattle.edit_file.specs.Files.{AtRest, HasBatches, StandsForOrOneMore, is_bro
 use Rattle.edit_file.specs.Moments.{Holds}
 use Rattle.edit_file.specs.Standing.{opened, signature, FileStands}
 use Rattle.edit_file.specs.declared.file.EditFile.{EditFile}
-use Rattle.kept_library.specs.Opening.{bytes_at}
-use Rattle.kept_library.specs.Closing.{LeavesAt}
+use Rattle.kept_library.specs.Closing.{LeavesAt, Puts, PutsBatches, bytes_at}
 
 -- what holds of the bytes of its disk holds of those under its name
 pub told_at : (P : List ℕ → Type 0) (contents : Option Contents) (path : List ℕ) (opened_as bytes : Option (List ℕ)) → OpensFile contents path opened_as bytes → IfSome bytes P
     → IfSome contents (λ c. P (bytes_at c path))
 told_at P None path opened_as bytes opens here = tt
 told_at P (Some c) path opened_as bytes opens here = subst (λ (o : Option (List ℕ)). IfSome o P) opens.1 here
+
+-- a disk that is given back as it was leaves its bytes
+pub same_at : (contents now : Option Contents) (path : List ℕ) (opened_as bytes opened_as' bytes' : Option (List ℕ)) → OpensFile contents path opened_as bytes
+    → opened_as' ≡ opened_as → bytes' ≡ bytes → ClosesFile contents now opened_as' bytes' → IfSome contents (λ c. Puts path (bytes_at c path) c now)
+same_at None now path opened_as bytes opened_as' bytes' opens name same closes = tt
+same_at (Some c) now path opened_as bytes opened_as' bytes' opens name same closes =
+    subst (λ b. ClosesFile (Some c) now (Some path) b) (same ∙ opens.1) (subst (λ n. ClosesFile (Some c) now n bytes') (name ∙ opens.0) closes)
 
 -- a file at rest stands for its batches
 pub rest_stands : (bytes : List ℕ) (closing : ℕ) (batches : List (List Edit)) → AtRest bytes closing batches → FileStands bytes batches
@@ -36,18 +41,17 @@ module _ {D : Type 0} (g : Ghosts D) {f : faulted.Ghosts D} where
   placed_at None path opened_as bytes file opens told name = tt
   placed_at (Some c) path opened_as bytes file opens told name = λ i. if (told ∙ ap is_some opens.1) i then (name ∙ opens.0) i else None
 
-  pub leaves_at : (path : List ℕ) (batches : List (List Edit)) (before now : Option Contents) (file : EditFile D g f) → is_broken g file ≡ false → HasBatches g file batches
-      → place_of g file ≡ Some path → ClosesFile before now (g.opened_as file.disk) (g.bytes file.disk) → LeavesAt path batches before now
-  leaves_at path batches before now file sound has place closes =
+  -- a file that is given back leaves its batches
+  pub leaves_at : (path : List ℕ) (bs : List (List Edit)) (before now : Option Contents) (file : EditFile D g f) → is_broken g file ≡ false → HasBatches g file bs
+      → IfSome before (λ _. place_of g file ≡ Some path) → ClosesFile before now (g.opened_as file.disk) (g.bytes file.disk) → LeavesAt path bs before now
+  leaves_at path bs None now file sound has place closes = tt
+  leaves_at path bs (Some c) now file sound has place closes =
       by_bytes (g.bytes file.disk) (g.opened_as file.disk) place
-      (subst (λ b. MatchBool b (IfSome (g.bytes file.disk) (λ _. (image : List ℕ) → g.images file.disk image → StandsForOrOneMore batches image)) (IfSome (g.bytes file.disk) (λ bytes. AtRest bytes file.closing batches × Holds g file.disk bytes))) sound has)
+      (subst (λ b. MatchBool b (IfSome (g.bytes file.disk) (λ _. (image : List ℕ) → g.images file.disk image → StandsForOrOneMore bs image)) (IfSome (g.bytes file.disk) (λ bytes. AtRest bytes file.closing bs × Holds g file.disk bytes))) sound has)
       closes
     where
-      by_contents : (c : Option Contents) (bytes : List ℕ) → AtRest bytes file.closing batches → ClosesFile c now (Some path) (Some bytes) → LeavesAt path batches c now
-      by_contents None bytes rest closed = record { bytes = bytes; stands = rest_stands bytes file.closing batches rest; told = tt }
-      by_contents (Some c) bytes rest closed = record { bytes = bytes; stands = rest_stands bytes file.closing batches rest; told = closed }
-
-      by_bytes : (bytes name : Option (List ℕ)) → (if is_some bytes then name else None) ≡ Some path → IfSome bytes (λ b. AtRest b file.closing batches × Holds g file.disk b)
-          → ClosesFile before now name bytes → LeavesAt path batches before now
+      by_bytes : (bytes name : Option (List ℕ)) → (if is_some bytes then name else None) ≡ Some path → IfSome bytes (λ b. AtRest b file.closing bs × Holds g file.disk b)
+          → ClosesFile (Some c) now name bytes → PutsBatches path bs c now
       by_bytes None name none rest closed = absurd (cc)
-      by_bytes (Some b) name is rest closed = by_contents before b rest.0 (subst (λ n. ClosesFile before now n (Some b)) is closed)
+      by_bytes (Some b) name is rest closed =
+          record { bytes = b; stands = rest_stands b file.closing bs rest.0; told = subst (λ n. ClosesFile (Some c) now n (Some b)) is closed }

@@ -1,3 +1,3 @@
 pub mod Faults
-pub mod Opening
 pub mod Closing
+pub mod Opening

@@ -1,6 +1,6 @@
 //! Giving back the disk of a file that kept edits.
 
-ghost use Rattle.std.specs.Prelude.{◌≡◌, List, ℕ, Some, false, is_err};
+ghost use Rattle.std.specs.Prelude.{◌≡◌, List, ℕ, Some, false, is_err, IfSome};
 ghost use Rattle.item_model.specs.declared.changes.Edit.{Edit};
 ghost use Rattle.outside_disks.specs.Counts.{RisesWith};
 ghost use Rattle.edit_file.specs.Files.{HasBatches, disk_of, is_broken, place_of};
@@ -17,7 +17,7 @@ use edit_file::EditFile;
 pub fn close_file<F: Files>(files: &mut F, file: EditFile<F::D>) -> Result<(), Failed>
     ensures failed { is_err result ≡ is_broken F.D.Disk.own file }
     ensures kept { (path : List ℕ) (batches : List (List Edit)) → is_broken F.D.Disk.own file ≡ false → HasBatches F.D.Disk.own file batches
-        → place_of F.D.Disk.own file ≡ Some path → LeavesAt path batches (F.contents files.old) (F.contents files.new) }
+        → IfSome (F.contents files.old) (λ _. place_of F.D.Disk.own file ≡ Some path) → LeavesAt path batches (F.contents files.old) (F.contents files.new) }
     ensures asked_stays { F.asked files.new ≡ F.asked files.old }
     ensures count { RisesWith (F.faults files.old) (F.faults files.new) (F.D.faults (disk_of F.D.Disk.own file)) }
 {

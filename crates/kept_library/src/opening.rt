@@ -1,6 +1,6 @@
 //! Opening a share together with the file that keeps its edits.
 
-ghost use Rattle.std.specs.Prelude.{◌≡◌, ◌≢◌, ◌≤◌, ◌++◌, ◌∷◌, [], All, ℕ, false, length, IfOk, IfErr, OnOk};
+ghost use Rattle.std.specs.Prelude.{◌≡◌, ◌≢◌, ◌⊎◌, ◌≤◌, ◌++◌, ◌∷◌, [], All, ℕ, false, length, IfOk, IfErr, OnOk};
 ghost use Rattle.item_model.specs.Limits.{text_limit};
 ghost use Rattle.item_model.specs.Valid.{AreValid};
 ghost use Rattle.outside_disks.specs.Told.{Grows};
@@ -47,7 +47,7 @@ pub fn open_library<F: Files>(
     requires valid { AreValid first }
     requires readable { IsReadable first }
     ensures opened { IfOk result (λ kept. HasOpened F.D.Disk.own (F.contents files.old) path.now (record { name = name.now; keep = keep }) first kept) }
-    ensures stops { IfErr result (λ stop. StopsOpening (F.contents files.old) path.now first stop) }
+    ensures stops { IfErr result (StopsOpening (F.contents files.old) (F.contents files.new) path.now first) }
     ensures asks { Grows (F.asked files.old) (F.asked files.new) (path.now ∷ []) }
     ensures contents { OnOk result (F.contents files.new ≡ F.contents files.old) }
     ensures count { CountsStop (F.faults files.old) (F.faults files.new) result }
@@ -90,6 +90,7 @@ fn begun<D: Disk + Drop>(
     requires sound { is_broken D.Disk.own file.old ≡ false }
     ensures opened { IfOk result (λ share. share ≡ share_of (record { name = name.now; keep = keep }) (batches.items ++ if_filled first)) }
     ensures stops { IfErr result (StopsShare (batches.items ++ if_filled first)) }
+    ensures unchanged { IfErr result (λ stop. (stop ≡ Fault.Own FileFault.Failed) ⊎ (file.new ≡ file.old)) }
     ensures keeps { HasBatches D.Disk.own file.old batches.items → OnOk result (HasBatches D.Disk.own file.new (batches.items ++ if_filled first)) }
     ensures sound { OnOk result (is_broken D.Disk.own file.new ≡ false) }
     ensures place_stays { place_of D.Disk.own file.new ≡ place_of D.Disk.own file.old }

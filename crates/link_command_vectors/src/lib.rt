@@ -6,6 +6,8 @@ mod edits;
 #[cfg(test)]
 mod follows;
 #[cfg(test)]
+mod kept_shares;
+#[cfg(test)]
 mod known;
 #[cfg(test)]
 mod nets;

@@ -5,7 +5,7 @@ ghost use Rattle.daap_outside.specs.MemDoor.{IsNew as is_new_door};
 ghost use Rattle.daap_outside.specs.MemLink.{IsNew};
 ghost use Rattle.serve_command.specs.Terms.{MayServe};
 
-use daap_outside::{MemDoor, MemLink, MemNet, MemSink, MemSource, Net, Sink, Source};
+use daap_outside::{MemDoor, MemFiles, MemLink, MemNet, MemSink, MemSource, Net, Sink, Source};
 use dmap_tags::Text;
 use serve_command::{LinkReports, Outcome, Serving, serve};
 use std::alloc::{AllocError, Global};
@@ -29,7 +29,7 @@ const PLAYER: &[u8] = b"GET /login HTTP/1.1\r\n\r\n\
 GET /databases/1/items?session-id=1&query=(('com.apple.itunes.mediakind:1','com.apple.itunes.mediakind:32')+'daap.songalbum!:') HTTP/1.1\r\n\r\n";
 
 /// One edit, and the stop.
-const EDITOR: &[u8] = b"POST /edit HTTP/1.1\r\nContent-Length: 38\r\n\r\n\
+pub(crate) const EDITOR: &[u8] = b"POST /edit HTTP/1.1\r\nContent-Length: 38\r\n\r\n\
 op,kind,id,dmap.itemname\nput,item,9,Z\n\
 POST /stop HTTP/1.1\r\n\r\n";
 
@@ -44,6 +44,7 @@ fn terms(alloc: Global, workers: u32, editors: u32) -> Result<Serving, AllocErro
         keep: 256,
         workers: workers.clamp(1, 64),
         editors: editors.clamp(1, 8),
+        file: None,
     })
 }
 
@@ -56,7 +57,7 @@ fn link(alloc: Global, bytes: &[u8]) -> Result<MemLink, AllocError>
 }
 
 /// A door with such a connection, of whose waits one fails (0: none does).
-fn door(alloc: Global, bytes: &[u8], failed_wait: u64) -> Result<MemDoor, AllocError>
+pub(crate) fn door(alloc: Global, bytes: &[u8], failed_wait: u64) -> Result<MemDoor, AllocError>
     ensures { IfOk result is_new_door }
 {
     let mut door = MemDoor::new(alloc, &[failed_wait], 4)?;
@@ -92,7 +93,7 @@ fn served<I: Source, W: Sink, N: Net, R: Threads + Wait + Clock + Sync>(
     net: &mut N,
 ) -> Result<Outcome, AllocError> {
     let terms = terms(alloc, workers[0], workers[1])?;
-    Ok(serve(rt, alloc, &terms, input, output, net))
+    Ok(serve(rt, alloc, &terms, input, output, &mut MemFiles::new(), net))
 }
 
 fn requests_in(links: &LinkReports) -> usize {

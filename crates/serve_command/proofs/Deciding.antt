@@ -19,11 +19,14 @@ use Rattle.share_workers.specs.Works.{all_served}
 use Rattle.share_workers.specs.declared.worker.WorkerEnd.{WorkerEnd}
 use Rattle.share_workers.specs.declared.worker.WorkerEnd.TheVariants as worker
 use Rattle.share_workers.specs.Ends.{EndsWorker}
-use Rattle.edit_file.specs.Standing.{BreaksAt}
+use Rattle.edit_file.specs.Standing.{BreaksAt, FileStands}
+use Rattle.edit_file.proofs.Once.{broken_is_none, one_list}
 use Rattle.kept_library.specs.declared.fault.FileFault.{FileFault}
 use Rattle.kept_library.specs.declared.fault.FileFault.TheVariants as file
 use Rattle.kept_library.specs.Faults.{file_line, file_status}
-use Rattle.kept_library.specs.Opening.{CountsFault, StandsAt, StopsOpening, bytes_at}
+use Rattle.kept_library.specs.Closing.{Puts, StandsAt, bytes_at}
+use Rattle.kept_library.specs.Opening.{CountsFault, StopsOpening}
+use Rattle.command_core.proofs.Reading.{read_whole}
 use Rattle.command_core.specs.declared.fault.Fault.{Fault}
 use Rattle.command_core.specs.declared.fault.Fault.TheVariants as fault
 use Rattle.command_core.specs.Answers.{Tells}
@@ -45,7 +48,6 @@ use Rattle.serve_command.specs.Files.{AreKept}
 use Rattle.serve_command.specs.Laws.{IsOpened, IsSpent, RunsAreDecided, StandsForShare}
 use Rattle.serve_command.specs.Runs.{first_line, NotAnnounced, TellsFault, TellsStop, TellsEnd, NotBegun, stopped, unkept, unannounced, unopened, unbegun, served}
 use Rattle.serve_command.specs.Terms.{settings_of}
-use Rattle.serve_command.proofs.Standing.{all_read, broken_files_stand_for_none, stood_once}
 
 -- what was told whole has its status
 told_as : (wanted : ℕ) (bytes : List ℕ) (before after : OutputSeen) (status : ℕ) → ¬ (Rose before.faults after.faults) → Tells wanted bytes before after status → status ≡ wanted
@@ -79,25 +81,28 @@ not_refused before after input first fault.Memory told reads few steady cause = 
 
 -- what an input reads as that is told
 read_same : (before after : InputSeen) (input : List ℕ) (first edits : List Edit) → before.left ≡ Some input → ReadsAs first input → HasReadAs edits before after → edits ≡ first
-read_same before after input first edits told reads read = batch_same (table_of read.bytes) edits first read.of.read (subst (λ i. BatchReads (table_of i) (Ok first)) (whole before after input read told) reads.read)
-  where
-    whole : (before after : InputSeen) (input : List ℕ) (read : HasReadAs edits before after) → before.left ≡ Some input → input ≡ read.bytes
-    whole before after input read told = all_read before.left after.left input read.bytes told read.read read.end
+read_same before after input first edits told reads read =
+    batch_same (table_of read.bytes) edits first read.of.read (subst (λ i. BatchReads (table_of i) (Ok first)) (read_whole input read.bytes before.left after.left told read.read read.end) reads.read)
+
+-- bytes stand for one list of batches
+stood_once : (contents : Option Contents) (path : List ℕ) (first : List Edit) (stands : StandsForShare contents path first) (before : List (List Edit)) → StandsAt contents path before → stands.stood ≡ before
+stood_once contents path first stands before stood =
+    one_list (bytes_at stands.told path) stands.stood before stands.stands (subst (λ o. IfSome o (λ c. FileStands (bytes_at c path) before)) stands.is stood)
 
 -- a file that stands for a share's batches is not refused
 not_kept_out : (files files' : FilesSeen) (path : List ℕ) (first : List Edit) (stop : Fault FileFault) → StandsForShare files.contents path first → ¬ (Rose files.faults files'.faults)
-    → StopsOpening files.contents path first stop → CountsFault files.faults files'.faults stop → stop ≡ fault.Memory
+    → StopsOpening files.contents files'.contents path first stop → CountsFault files.faults files'.faults stop → stop ≡ fault.Memory
 not_kept_out files files' path first (fault.Own (file.NotEditFile at)) stands calm stops counts =
-    let broken : BreaksAt (bytes_at stands.told path) at = subst (λ o. IfSome o (λ c. BreaksAt (bytes_at c path) at)) stands.is stops in
-    absurd (broken_files_stand_for_none (bytes_at stands.told path) at stands.stood broken stands.stands)
+    let broken : BreaksAt (bytes_at stands.told path) at = (subst (λ o. IfSome o (λ c. BreaksAt (bytes_at c path) at × Puts path (bytes_at c path) c files'.contents)) stands.is stops).0 in
+    absurd (broken_is_none (bytes_at stands.told path) at stands.stood broken stands.stands)
 not_kept_out files files' path first (fault.Own file.Failed) stands calm stops counts = absurd (calm counts)
 not_kept_out files files' path first (fault.Own file.TooManyEdits) stands calm stops counts =
-    let same = stood_once files path first stands stops.before stops.stood in
+    let same = stood_once files.contents path first stands stops.stood_for stops.stood in
     let many = stops.many in
-    let few : length (edits (stops.before ++ if_filled first)) ≤ most_edits = subst (λ bs. length (edits (bs ++ if_filled first)) ≤ most_edits) same stands.few_edits in
+    let few : length (edits (stops.stood_for ++ if_filled first)) ≤ most_edits = subst (λ bs. length (edits (bs ++ if_filled first)) ≤ most_edits) same stands.few_edits in
     absurd (omega (arith, many, few))
 not_kept_out files files' path first (fault.Own file.TooManyLists) stands calm stops counts =
-    let same = stood_once files path first stands stops.before stops.stood in
+    let same = stood_once files.contents path first stands stops.stood_for stops.stood in
     let many = stops.many.1 in
     let few = subst (λ bs. LeaveFewLists (bs ++ if_filled first)) same stands.few_lists stops.many.0 in
     absurd (omega (arith, many, few))
@@ -127,7 +132,7 @@ not_begun serving before after files files' output output' status input first to
 not_begun serving before after files files' output output' status input first told reads is steady whole calm (unkept edits path stop read named stops counts asked tells) =
     let same = read_same before after input first edits told reads read in
     file_wants stop output output' status whole
-    (not_kept_out files files' path first stop (subst (λ f. IsOpened f files.contents first) named is) calm (subst (λ es. StopsOpening files.contents path es stop) same stops) counts) tells
+    (not_kept_out files files' path first stop (subst (λ f. IsOpened f files.contents first) named is) calm (subst (λ es. StopsOpening files.contents files'.contents path es stop) same stops) counts) tells
 not_begun serving before after files files' output output' status input first told reads is steady whole calm (unannounced edits opened read opening_is kept tells) =
     not_announced_as (first_line serving opened) output output' status whole tells
 

@@ -1,5 +1,5 @@
 -- A history of which one worker made all edits: the others serve players, whose requests ask for none.
-use Rattle.std.proofs.Common.{◌≡◌, ◌⊎◌, ◌==◌, ◌||◌, ◌≤◌, ℕ, suc, Bool, true, false, cond, List, [], ◌∷◌, ◌++◌, get_or, length, map, Option, MatchBool, refl, sym, subst, ap, ◌∙◌, inl, inr, arith, append_assoc, append-nil, eq-eqb}
+use Rattle.std.proofs.Common.{◌≡◌, ◌⊎◌, ◌==◌, ◌||◌, ◌≤◌, ◌-◌, ℕ, suc, Bool, true, false, cond, List, [], ◌∷◌, ◌++◌, get_or, length, map, Option, MatchBool, refl, sym, subst, ap, ◌∙◌, inl, inr, arith, append_assoc, append-nil, eq-eqb}
 use Rattle.std.proofs.lemmas.List.Elements.{All-nil, All-cons, All-append}
 use Rattle.std.specs.List.{AllByRecursion, list_any}
 use Rattle.std.specs.Prelude.{All, Contains}
@@ -44,7 +44,7 @@ quiet_links settings by budget h (input ∷ inputs) [] returns links = refl
 quiet_links settings by budget h (input ∷ inputs) (report ∷ reports) [] links = absurd links
 quiet_links settings by budget h (input ∷ inputs) (report ∷ reports) (returned ∷ returns) links =
     let one = (players_change_nothing input links.0.asks links.0.rest settings by h report.served links.0.joins links.0.are_served).0 in
-    let rest = quiet_links settings by _ h inputs reports returns links.1 in
+    let rest = quiet_links settings by (budget - length report.served) h inputs reports returns links.1 in
     ap (list_any is_edit) (added_joined h report.served (all_served reports)) ∙ any_neither is_edit (added_entries h report.served) (added_entries h (all_served reports)) one rest
 
 or_left : (a b : Bool) → (a || b) ≡ false → a ≡ false
@@ -119,11 +119,13 @@ module _ {settings : Settings} {opened : List Entry} where
       at : (maker e ≡ editor.pass.number) ⊎ Contains [] (maker e) → maker e ≡ editor.pass.number
       at (inl same) = same
       at (inr none) = let h = none.1 in absurd (omega arith)
-  by_editor e (s ∷ players) editor is quiet has = at (head_or_tail (maker e) s.pass.number (numbers_of_all (passes_in (players ++ editor ∷ []) ++ [])) has)
+  by_editor e (s ∷ players) editor is quiet has =
+      at (λ there. by_editor e players editor is quiet.1 there) (head_or_tail (maker e) s.pass.number (numbers_of_all (passes_in (players ++ editor ∷ []) ++ [])) has)
     where
-      at : (maker e ≡ s.pass.number) ⊎ Contains (numbers_of_all (passes_in (players ++ editor ∷ []) ++ [])) (maker e) → maker e ≡ editor.pass.number
-      at (inl same) = absurd (let n = quiet.0 same in let f : true ≡ false = sym is ∙ n in cc)
-      at (inr there) = by_editor e players editor is quiet.1 there
+      at : (Contains (numbers_of_all (passes_in (players ++ editor ∷ []) ++ [])) (maker e) → maker e ≡ editor.pass.number)
+          → (maker e ≡ s.pass.number) ⊎ Contains (numbers_of_all (passes_in (players ++ editor ∷ []) ++ [])) (maker e) → maker e ≡ editor.pass.number
+      at rest (inl same) = absurd (let n = quiet.0 same in let f : true ≡ false = sym is ∙ n in cc)
+      at rest (inr there) = rest there
 
   each_at : (behind : List Entry) (i : ℕ) (d : Entry) (players : List (Stint settings opened)) → suc i ≤ length behind → AllByRecursion (λ s. All (IsQuiet s.pass.number) behind) players
       → AllByRecursion (λ s. IsQuiet s.pass.number (get_or behind i d)) players

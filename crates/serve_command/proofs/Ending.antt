@@ -5,7 +5,7 @@ use Rattle.item_model.specs.declared.changes.Entry.{Entry}
 use Rattle.share_replies.specs.Settings.{Settings}
 use Rattle.command_core.specs.Seen.{OutputSeen}
 use Rattle.share_crew.specs.declared.verdict.Verdict.{Verdict}
-use Rattle.share_crew.specs.declared.verdict.Verdict.TheVariants.{Done, NetworkFailed, OutOfMemory, Exhausted}
+use Rattle.share_crew.specs.declared.verdict.Verdict.TheVariants.{Done, NetworkFailed, FileFailed, OutOfMemory, Exhausted}
 use Rattle.share_crew.specs.Stints.{Stint, IsPart, IsWhole}
 use Rattle.share_crew.specs.Verdicts.{verdict_of, verdict_status, with_memory}
 use Rattle.share_crew.proofs.Ending.{wholes_by}
@@ -15,16 +15,18 @@ use Rattle.serve_command.specs.Runs.{TellsEnd}
 done_by : (verdict : Verdict) → 0 ≡ verdict_status verdict → verdict ≡ Done
 done_by Done is = refl
 done_by NetworkFailed is = absurd (let e : 0 ≡ 6 = is in omega arith)
+done_by FileFailed is = absurd (let e : 0 ≡ 10 = is in omega arith)
 done_by OutOfMemory is = absurd (let e : 0 ≡ 9 = is in omega arith)
 done_by Exhausted is = absurd (let e : 0 ≡ 8 = is in omega arith)
 
 not_done : (verdict : Verdict) → 0 ≡ verdict_status (with_memory verdict) → ⊥
 not_done Done is = let e : 0 ≡ 9 = is in omega arith
 not_done NetworkFailed is = let e : 0 ≡ 6 = is in omega arith
+not_done FileFailed is = let e : 0 ≡ 10 = is in omega arith
 not_done OutOfMemory is = let e : 0 ≡ 9 = is in omega arith
 not_done Exhausted is = let e : 0 ≡ 9 = is in omega arith
 
-done_from : (front ended : List ℕ) (verdict : Verdict) (before after : OutputSeen) (status : ℕ) → status ≡ 0 → TellsEnd front ended verdict before after status → verdict ≡ Done
+pub done_from : (front ended : List ℕ) (verdict : Verdict) (before after : OutputSeen) (status : ℕ) → status ≡ 0 → TellsEnd front ended verdict before after status → verdict ≡ Done
 done_from front ended verdict before after status is (inl (inl h)) = done_by verdict (sym is ∙ h.0)
 done_from front ended verdict before after status is (inl (inr h)) = absurd (omega (arith, is, h.0))
 done_from front ended verdict before after status is (inr (inl h)) = absurd (not_done verdict (sym is ∙ h.0))

@@ -3,6 +3,10 @@ pub mod Nets
 pub mod Telling
 pub mod Beginning
 pub mod Ending
+pub mod Editing
+pub mod Losing
+pub mod Returning
 pub mod Whole
 pub mod Idle
 pub mod Deciding
+pub mod Filing

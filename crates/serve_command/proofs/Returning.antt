@@ -1,5 +1,9 @@
 -- Doors that were given back before anybody waited at them, and what is kept of a history.
-use Rattle.std.proofs.Common.{◌≡◌, ℕ, List, Bool, Option, None, Some, sym, subst, ◌∙◌}
+use Rattle.std.proofs.Common.{◌≡◌, ℕ, List, [], ◌∷◌, ◌++◌, Bool, true, false, MatchBool, IfSome, Option, Result, Ok, Err, None, Some, sym, subst, ◌∙◌, arith, length-append}
+use Rattle.std.proofs.lemmas.List.{get_or_append_left}
+use Rattle.std.specs.Prelude.{All, OnOk, OnErr}
+use Rattle.share_lock.proofs.Fronts.{all_rest}
+use Rattle.daap_outside.specs.Counts.{RisesWith, Rose}
 use Rattle.daap_outside.specs.Told.{Grows}
 use Rattle.item_model.specs.declared.changes.Edit.{Edit}
 use Rattle.item_model.specs.declared.changes.Entry.{Entry}
@@ -49,3 +53,24 @@ pub run_ends : (serving : Serving) (opened : List Entry) (edits : List Edit) (be
 run_ends serving opened edits before after files files' net net' output output' left read is (not_announced told asked faults kept none) =
     unbegun asked faults (unannounced edits opened read is kept told) none
 run_ends serving opened edits before after files files' net net' output output' left read is (announced run) = served edits opened read is run
+
+-- a fact beside the one that an answer says
+pub ok_and : {T E : Type 0} (r : Result T E) (P Q : Type 0) → OnOk r P → Q → OnOk r (P × Q)
+ok_and (Ok x) P Q p q = (p, q)
+ok_and (Err e) P Q p q = tt
+
+pub err_and : {T E : Type 0} (r : Result T E) (P Q : Type 0) → OnErr r P → Q → OnErr r (P × Q)
+err_and (Ok x) P Q p q = tt
+err_and (Err e) P Q p q = (p, q)
+
+-- what holds of all items holds of those before the last, and of the last
+pub front_of : {A : Type 0} (P : A → Type 0) (xs : List A) (y : A) → All P (xs ++ y ∷ []) → All P xs
+front_of P xs y all = λ k d less. subst P (get_or_append_left xs (y ∷ []) d k less) (all k d (let more = length-append xs (y ∷ []) in omega (arith, more, less)))
+
+pub last_of_all : {A : Type 0} (P : A → Type 0) (xs : List A) (y : A) → All P (xs ++ y ∷ []) → P y
+last_of_all P xs y all = all_rest P xs (y ∷ []) all 0 y (omega arith)
+
+-- the count of a disk that was given back, which had none at first
+pub counts_back : (lost : Bool) (n n' d d' : ℕ) → d ≡ 0 → MatchBool lost (Rose d d') (d' ≡ d) → RisesWith n n' d' → MatchBool lost (Rose n n') (n' ≡ n)
+counts_back true n n' d d' is counts rises = rises.faulty (let r = counts.1 in omega (arith, is, r))
+counts_back false n n' d d' is counts rises = rises.faultless (counts ∙ is)

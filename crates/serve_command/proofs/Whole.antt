@@ -1,13 +1,13 @@
 -- A run of `serve`, put together.
-use Rattle.std.proofs.Common.{◌≡◌, ◌+◌, ℕ, List, [], ◌++◌, length, map, Option, Some, sym, subst, ap, ◌∙◌, append-nil}
+use Rattle.std.proofs.Common.{◌≡◌, ◌+◌, ℕ, Bool, List, [], ◌++◌, length, map, Option, Some, sym, subst, ap, ◌∙◌, append-nil}
 use Rattle.std.proofs.lemmas.List.{length-map}
 use Rattle.std.proofs.lemmas.Simd.{splat_is_map}
 use Rattle.daap_outside.specs.Told.{Grows}
-use Rattle.item_model.specs.declared.changes.Edit.{Edit}
+use Rattle.daap_outside.specs.Places.{Returned}
 use Rattle.item_model.specs.declared.changes.Entry.{Entry}
 use Rattle.share_asks.specs.declared.ask.Role.{Role}
 use Rattle.share_asks.specs.declared.ask.Role.TheVariants as role
-use Rattle.share_history.specs.Histories.{batches, opening, revision}
+use Rattle.share_history.specs.Histories.{batches, revision}
 use Rattle.share_server.specs.declared.report.LinkReport.{LinkReport}
 use Rattle.share_server.specs.Passes.{Pass}
 use Rattle.command_core.specs.Seen.{NetSeen, OutputSeen}
@@ -15,41 +15,52 @@ use Rattle.serve_command.specs.declared.terms.Serving.{Serving}
 use Rattle.share_crew.specs.declared.verdict.Verdict.{Verdict}
 use Rattle.serve_command.specs.Terms.{settings_of, places_of, workers_of, roles_of}
 use Rattle.share_crew.specs.Lines.{ended_line}
-use Rattle.share_crew.specs.Verdicts.{verdict_of}
+use Rattle.share_workers.specs.declared.worker.WorkerEnd.TheVariants.{FileFault}
+use Rattle.share_crew.specs.Verdicts.{has_end, verdict_of}
 use Rattle.share_crew.specs.Doors.{CountsShut, HaveLinks}
 use Rattle.share_crew.specs.Gathered.{HasGathered}
 use Rattle.serve_command.specs.Places.{HasOpened}
-use Rattle.share_crew.specs.Stints.{IsHistoryOf, passes_in}
+use Rattle.share_crew.specs.Stints.{Stint, IsHistoryOf, passes_in}
 use Rattle.serve_command.specs.Runs.{Left, TellsEnd, HasServed}
 use Rattle.serve_command.proofs.Ending.{whole_by}
 
-roles_are : {D : Type 0} (serving : Serving) (listen edit : List D) → length listen ≡ serving.workers → length edit ≡ serving.editors
+pub roles_are : {D : Type 0} (serving : Serving) (listen edit : List D) → length listen ≡ serving.workers → length edit ≡ serving.editors
     → map (λ (d : D). role.Listen) listen ++ map (λ (d : D). role.Edit) edit ≡ roles_of serving
 roles_are {D} serving listen edit w e = λ i. sym (splat_is_map listen serving.workers role.Listen w) i ++ sym (splat_is_map edit serving.editors role.Edit e) i
 
-pub has_served : {D : Type 0} (serving : Serving) (edits : List Edit) (front : List ℕ) (start mid now : NetSeen) (before after : OutputSeen) (left : Left) (coming : D → Option (List (List ℕ))) (listen edit : List D)
-    (count : ℕ) (roles : List Role) (come : List (Option (List (List ℕ)))) (k : Pass) (history : List Entry) (links : List (List LinkReport)) (verdict : Verdict)
-    → HasOpened serving start mid (length listen) (length edit) (map coming (listen ++ edit))
-    → (g : HasGathered (settings_of serving) (opening edits) (count + 1) roles come start.written mid.written now.written mid.faults now.faults k links verdict)
+-- as many passes were joined as there are workers
+pub history_of : (serving : Serving) (opened : List Entry) (count : ℕ) (roles : List Role) (come : List (Option (List (List ℕ)))) (kept written written' : Option (List Returned)) (faults faults' : ℕ) (k : Pass)
+    (history : List Entry) (links : List (List LinkReport)) (verdict : Verdict)
+    → (g : HasGathered (settings_of serving) opened (count + 1) roles come kept written written' faults faults' k links verdict)
     → (count + 1 ≡ length (passes_in g.crew ++ []) + 1 → IsHistoryOf (length (passes_in g.crew ++ [])) history g.crew [])
-    → count ≡ workers_of serving → count ≡ length roles → roles ≡ map (λ (d : D). role.Listen) listen ++ map (λ (d : D). role.Edit) edit → come ≡ map coming (listen ++ edit) → now.asked ≡ mid.asked
-    → left.history ≡ Some history → left.links ≡ links → TellsEnd front (ended_line (revision (batches history)) links) verdict before after left.status
-    → HasServed serving edits front start now before after left
-has_served serving edits front start mid now before after left coming listen edit count roles come k history links verdict opened g one count_is as_many roles_is come_is asked history_is links_is told =
+    → count ≡ workers_of serving → count ≡ length roles → IsHistoryOf (workers_of serving) history g.crew []
+history_of serving opened count roles come kept written written' faults faults' k history links verdict g one count_is as_many =
     let members : length (passes_in g.crew ++ []) ≡ count =
     ap length (append-nil (passes_in g.crew)) ∙ (length-map g.crew (λ s. s.pass) ∙ (sym (length-map g.crew (λ s. s.role)) ∙ (ap length g.roles_are ∙ sym as_many))) in
-    let whole_history = subst (λ n. IsHistoryOf n history g.crew []) (members ∙ count_is) (one (ap (λ n. n + 1) (sym members))) in record {
-      history = history;
-      history_is = history_is;
-      crew = g.crew;
-      roles = g.roles_are ∙ (roles_is ∙ roles_are serving listen edit opened.listening opened.editing);
-      links = links_is ∙ g.links_are;
-      one = whole_history;
-      to_come = subst (HaveLinks start.door_links) (sym (g.coming_are ∙ come_is)) opened.links;
-      asked = subst (λ a. Grows start.asked a (places_of serving)) (sym asked) opened.asked.asked;
-      written = g.written_grows opened.asked.written;
-      counts = subst (λ n. CountsShut n now.faults (map (λ stint. stint.end) g.crew)) opened.faultless g.counts;
-      told = subst (λ l. TellsEnd front (ended_line (revision (batches history)) l) (verdict_of (map (λ stint. stint.end) g.crew)) before after left.status) (sym links_is)
-          (subst (λ v. TellsEnd front (ended_line (revision (batches history)) links) v before after left.status) g.verdict_is told);
-      whole = whole_by history g.crew front (ended_line (revision (batches history)) links) verdict before after left.status whole_history.parts g.verdict_is told;
-    }
+    subst (λ n. IsHistoryOf n history g.crew []) (members ∙ count_is) (one (ap (λ n. n + 1) (sym members)))
+
+pub has_served : {D : Type 0} (serving : Serving) (opened : List Entry) (kept : List Entry → Bool → Type 0) (front : List ℕ) (start mid now : NetSeen) (before after : OutputSeen) (left : Left)
+    (coming : D → Option (List (List ℕ))) (listen edit : List D)
+    (count : ℕ) (roles : List Role) (come : List (Option (List (List ℕ)))) (k : Pass) (history : List Entry) (links : List (List LinkReport)) (verdict : Verdict)
+    → HasOpened serving start mid (length listen) (length edit) (map coming (listen ++ edit))
+    → (g : HasGathered (settings_of serving) opened (count + 1) roles come start.written mid.written now.written mid.faults now.faults k links verdict)
+    → IsHistoryOf (workers_of serving) history g.crew [] → kept history (has_end FileFault (map (λ (s : Stint (settings_of serving) opened). s.end) g.crew))
+    → roles ≡ map (λ (d : D). role.Listen) listen ++ map (λ (d : D). role.Edit) edit → come ≡ map coming (listen ++ edit) → now.asked ≡ mid.asked
+    → left.history ≡ Some history → left.links ≡ links → TellsEnd front (ended_line (revision (batches history)) links) verdict before after left.status
+    → HasServed serving opened kept front start now before after left
+has_served serving opened kept front start mid now before after left coming listen edit count roles come k history links verdict opens g one kept_so roles_is come_is asked history_is links_is told = record {
+  history = history;
+  history_is = history_is;
+  crew = g.crew;
+  roles = g.roles_are ∙ (roles_is ∙ roles_are serving listen edit opens.listening opens.editing);
+  links = links_is ∙ g.links_are;
+  one = one;
+  to_come = subst (HaveLinks start.door_links) (sym (g.coming_are ∙ come_is)) opens.links;
+  asked = subst (λ a. Grows start.asked a (places_of serving)) (sym asked) opens.asked.asked;
+  written = g.written_grows opens.asked.written;
+  counts = subst (λ n. CountsShut n now.faults (map (λ stint. stint.end) g.crew)) opens.faultless g.counts;
+  kept_so = kept_so;
+  told = subst (λ l. TellsEnd front (ended_line (revision (batches history)) l) (verdict_of (map (λ stint. stint.end) g.crew)) before after left.status) (sym links_is)
+      (subst (λ v. TellsEnd front (ended_line (revision (batches history)) links) v before after left.status) g.verdict_is told);
+  whole = whole_by history g.crew front (ended_line (revision (batches history)) links) verdict before after left.status one.parts g.verdict_is told;
+}

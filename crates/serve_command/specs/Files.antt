@@ -9,8 +9,7 @@ use Rattle.share_history.specs.Histories.{batches, opening}
 use Rattle.share_history.specs.Limits.{has_few_lists}
 use Rattle.share_core.specs.Opened.{opened_with, if_filled}
 use Rattle.share_workers.specs.Keepers.{KeepsBut}
-use Rattle.kept_library.specs.Opening.{StandsAt}
-use Rattle.kept_library.specs.Closing.{LeavesAt}
+use Rattle.kept_library.specs.Closing.{LeavesAt, StandsAt}
 use Rattle.command_core.specs.Seen.{FilesSeen}
 
 -- the entries that a share begins with: an entry for each batch that its file stood for, where it has a file, and for the batch of

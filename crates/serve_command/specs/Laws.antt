@@ -11,8 +11,7 @@ use Rattle.share_core.specs.Opened.{if_filled, LeaveFewLists}
 use Rattle.share_server.specs.declared.report.LinkReport.{LinkReport}
 use Rattle.share_workers.specs.Works.{all_served}
 use Rattle.edit_file.specs.Standing.{FileStands}
-use Rattle.kept_library.specs.Opening.{bytes_at}
-use Rattle.kept_library.specs.Closing.{LeavesAt}
+use Rattle.kept_library.specs.Closing.{LeavesAt, bytes_at}
 use Rattle.command_core.specs.Seen.{Told}
 use Rattle.command_core.specs.ReadRecords.{ReadsAs}
 use Rattle.serve_command.specs.declared.terms.Serving.{Serving}

@@ -59,7 +59,7 @@ pub data NotBegun (serving : Serving) (before after : InputSeen) (files files' :
   stopped : (stop : Fault ServeFault) → StopsServing ⊥ before after stop → (stop ≡ fault.Own TooManyLists → serving.file ≡ None) → files' ≡ files → TellsStop stop output output' status
       → NotBegun serving before after files files' output output' status
   -- the file was
-  unkept : (edits : List Edit) (path : List ℕ) (stop : Fault FileFault) → HasReadAs edits before after → serving.file ≡ Some path → StopsOpening files.contents path edits stop
+  unkept : (edits : List Edit) (path : List ℕ) (stop : Fault FileFault) → HasReadAs edits before after → serving.file ≡ Some path → StopsOpening files.contents files'.contents path edits stop
       → CountsFault files.faults files'.faults stop → Grows files.asked files'.asked (path ∷ []) → TellsFault file_line file_status stop output output' status
       → NotBegun serving before after files files' output output' status
   unannounced : (edits : List Edit) (opened : List Entry) → HasReadAs edits before after → IsOpening serving.file files.contents edits opened → AreKept serving.file files files' opened false

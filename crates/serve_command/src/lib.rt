@@ -4,7 +4,6 @@
 
 mod closing;
 mod command;
-mod editor;
 mod fault;
 pub mod laws;
 mod opening;

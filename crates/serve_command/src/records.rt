@@ -198,5 +198,6 @@ fn serve_kept<P: Placed, W: Sink, N: Net, D: Disk + Drop, R: Threads + Wait + Cl
         of: PhantomData::<P>,
     };
     let (outcome, keeper) = serve_share(rt, alloc, serving, output, net, doors, share, keeper);
-    (outcome, keeper.file)
+    let PlacedFile { file, of: _ } = keeper;
+    (outcome, file)
 }

@@ -16,7 +16,6 @@ ghost use Rattle.serve_command.specs.Runs.{HasServed, ShareEnds};
 ghost use Rattle.serve_command.specs.Terms.{MayServe, settings_of};
 
 use crate::closing::closed;
-use crate::editor::Editor;
 use crate::opening::begin;
 use crate::places::Doors;
 use crate::terms::Serving;
@@ -25,7 +24,7 @@ use daap_outside::{Net, Sink};
 use edit_keeping::Keeps;
 use share_asks::Role;
 use share_core::Share;
-use share_crew::{Begun, Gathered, Outcome, Room, gather, hire, share_of, work_beside};
+use share_crew::{Begun, Gathered, Outcome, Room, gather, hire, keep_beside, share_of};
 use share_lock::Bell;
 use share_workers::Worker;
 use std::alloc::Global;
@@ -98,21 +97,18 @@ fn serve_begun<W: Sink, N: Net, K: Keeps, R: Threads + Wait + Clock + Sync>(
         (net_seen (N.asked net.new) (N.written net.new) (N.door_links net.new) (N.next_input net.new) (N.faults net.new))
         before (output_seen (W.taken output.new) (W.faults output.new)) (left_of result.0) }
 {
-    let (mut begun, last) = staffed(rt, alloc, begun, doors);
-    let mut editor = Editor {
-        worker: last,
-        keeper,
-    };
-    work_beside(
+    let (mut begun, mut last) = staffed(rt, alloc, begun, doors);
+    let mut keeper = keeper;
+    keep_beside(
         rt,
         alloc,
         &begun.lock,
         &Bell::new(),
         &mut begun.room.crew,
-        &mut editor,
+        &mut last,
+        &mut keeper,
     );
-    let Editor { worker, keeper } = editor;
-    begun.room.crew.push_reserved(worker);
+    begun.room.crew.push_reserved(last);
     let Gathered {
         lock,
         mut first,

@@ -21,7 +21,7 @@ pub record NoneFailed (ends : List WorkerEnd) : Type 0 where
   pub memory : has_end worker.Memory ends ≡ false
   pub spent : has_end worker.Spent ends ≡ false
 
-none_failed : (ends : List WorkerEnd) (network file memory spent : Bool) → has_end worker.AcceptFault ends ≡ network → has_end worker.FileFault ends ≡ file → has_end worker.Memory ends ≡ memory → has_end worker.Spent ends ≡ spent
+pub none_failed : (ends : List WorkerEnd) (network file memory spent : Bool) → has_end worker.AcceptFault ends ≡ network → has_end worker.FileFault ends ≡ file → has_end worker.Memory ends ≡ memory → has_end worker.Spent ends ≡ spent
     → cond network NetworkFailed (cond file FileFailed (cond memory OutOfMemory (cond spent Exhausted Done))) ≡ Done → NoneFailed ends
 none_failed ends true file memory spent n f m s is = absurd (cc)
 none_failed ends false true memory spent n f m s is = absurd (cc)

@@ -53,14 +53,17 @@ module _ {D : Type 0} where
       let all = stints_of settings opening id k coming written faults kept before after start (recursion_from_All (IsHired id k) before hired)
       (of_doors (IsNew written faults kept) before (recursion_from_All (IsNew written faults kept) (map (λ (one : Worker D). one.door) before) doors)) served roles in
       let stints : List (Stint settings opening) = all.stints in
-      let given_back = shut stints all.are in (record {
-        crew = stints;
-        roles_are = all.roles;
-        coming_are = all.come;
-        links_are = links_are ∙ sym (reports_are written faults stints after all.are);
-        numbered = all.numbered;
-        joined = subst (λ (p : Pass). HasJoined p k' (passes_in stints)) start (joined stints all.are);
-        verdict_is = verdict_is ∙ ap verdict_of (sym (ends_are written faults stints after all.are));
-        written_grows = λ grows. given_back.written_grows kept [] all.begun grows;
-        counts = given_back.counts;
-      }, all.are)
+      let given_back = shut stints all.are in (
+        record {
+          crew = stints;
+          roles_are = all.roles;
+          coming_are = all.come;
+          links_are = links_are ∙ sym (reports_are written faults stints after all.are);
+          numbered = all.numbered;
+          joined = subst (λ (p : Pass). HasJoined p k' (passes_in stints)) start (joined stints all.are);
+          verdict_is = verdict_is ∙ ap verdict_of (sym (ends_are written faults stints after all.are));
+          written_grows = λ grows. given_back.written_grows kept [] all.begun grows;
+          counts = given_back.counts;
+        },
+        all.are,
+      )

@@ -7,6 +7,7 @@ ghost use Rattle.item_model.specs.declared.changes.Entry.{Entry};
 ghost use Rattle.share_lock.specs.Known.{fresh};
 ghost use Rattle.share_lock.specs.Passes.{lock_id, passes_of, known, IsReady};
 ghost use Rattle.share_replies.specs.Settings.{Settings};
+ghost use Rattle.share_server.specs.Kept.{Keeping};
 ghost use Rattle.share_workers.specs.Ends.{is_worker_loss};
 ghost use Rattle.share_crew.specs.Crews.{IsHired, HasEnded};
 ghost use Rattle.share_crew.specs.Doors.{AreNew};
@@ -17,9 +18,10 @@ use crate::gathering::{Gathered, gather};
 use crate::opening::Begun;
 use crate::partner::Partner;
 use daap_outside::{Door, Net};
+use edit_keeping::Keeps;
 use share_core::Share;
 use share_lock::{Bell, ShareLock};
-use share_workers::{Worker, WorkerEnd, serve_all};
+use share_workers::{Worker, WorkerEnd, keep_worker, serve_all};
 use std::alloc::Global;
 use std::sync::Wait;
 use std::thread::{Threads, join_mut};
@@ -50,6 +52,45 @@ pub fn work_beside<D: Door + Drop + Send, P: Partner, R: Threads + Wait + Clock 
         ensures { All (λ w. IsReady (lock_id lock.entry.now) w.pass) crew.exit.now.items × AllZip (λ old new. new.role ≡ old.role) crew.entry.now.items crew.exit.now.items × AllZip (HasEnded D.coming D.written D.faults) crew.entry.now.items crew.exit.now.items × All (λ w. is_worker_loss w.end ≡ false) crew.exit.now.items × (vec_capacity crew.exit.now ≡ vec_capacity crew.entry.now) }
     { serve_all(rt, alloc, lock, bell, crew) };
     join_mut(rt, &mut all, &mut || partner.work(rt, alloc, lock, bell));
+}
+
+/// Lets each worker serve its links in a thread of its own, and beside them, in this thread, one more whose edits are kept. It
+/// returns when all have ended.
+pub fn keep_beside<D: Door + Drop + Send, F: Keeps, R: Threads + Wait + Clock + Sync>(
+    rt: &R,
+    alloc: Global,
+    lock: &ShareLock<Share>,
+    bell: &Bell,
+    crew: &mut Vec<Worker<D>>,
+    worker: &mut Worker<D>,
+    keeper: &mut F,
+)
+    requires ready { All (λ w. IsReady (lock_id lock.now) w.pass) crew.old.items }
+    requires running { All (λ w. w.end ≡ WorkerEnd.Running) crew.old.items }
+    requires unreported { All (λ w. w.reports.items ≡ []) crew.old.items }
+    requires keeper_ready { IsReady (lock_id lock.now) worker.old.pass }
+    requires keeper_running { worker.old.end ≡ WorkerEnd.Running }
+    requires keeper_unreported { worker.old.reports.items ≡ [] }
+    requires going { F.is_lost keeper.old ≡ false }
+    ensures ready { All (λ w. IsReady (lock_id lock.now) w.pass) crew.new.items }
+    ensures roles { AllZip (λ old new. new.role ≡ old.role) crew.old.items crew.new.items }
+    ensures served { AllZip (HasEnded D.coming D.written D.faults) crew.old.items crew.new.items }
+    ensures whole { All (λ w. is_worker_loss w.end ≡ false) crew.new.items }
+    ensures room { vec_capacity crew.new ≡ vec_capacity crew.old }
+    ensures keeper_ready { IsReady (lock_id lock.now) worker.new.pass }
+    ensures keeper_role { worker.new.role ≡ worker.old.role }
+    ensures keeper_served { HasEnded D.coming D.written D.faults worker.old worker.new }
+    ensures keeping { Keeping (F.keeps keeper.old) (F.keeps keeper.new) (F.is_lost keeper.new) (F.faults keeper.old) (F.faults keeper.new) (known worker.old.pass) (known worker.new.pass) (is_worker_loss worker.new.end) }
+{
+    let mut all = ||
+        requires { IsSync R.row × All (λ w. IsReady (lock_id lock.now) w.pass) crew.now.items × All (λ w. w.end ≡ WorkerEnd.Running) crew.now.items × All (λ w. w.reports.items ≡ []) crew.now.items }
+        ensures { All (λ w. IsReady (lock_id lock.entry.now) w.pass) crew.exit.now.items × AllZip (λ old new. new.role ≡ old.role) crew.entry.now.items crew.exit.now.items × AllZip (HasEnded D.coming D.written D.faults) crew.entry.now.items crew.exit.now.items × All (λ w. is_worker_loss w.end ≡ false) crew.exit.now.items × (vec_capacity crew.exit.now ≡ vec_capacity crew.entry.now) }
+    { serve_all(rt, alloc, lock, bell, crew) };
+    let mut kept = ||
+        requires { IsReady (lock_id lock.now) worker.now.pass × (worker.now.end ≡ WorkerEnd.Running) × (worker.now.reports.items ≡ []) × (F.is_lost keeper.now ≡ false) }
+        ensures { IsReady (lock_id lock.entry.now) worker.exit.now.pass × (worker.exit.now.role ≡ worker.entry.now.role) × HasEnded D.coming D.written D.faults worker.entry.now worker.exit.now × Keeping (F.keeps keeper.entry.now) (F.keeps keeper.exit.now) (F.is_lost keeper.exit.now) (F.faults keeper.entry.now) (F.faults keeper.exit.now) (known worker.entry.now.pass) (known worker.exit.now.pass) (is_worker_loss worker.exit.now.end) }
+    { keep_worker(rt, alloc, lock, bell, worker, keeper) };
+    join_mut(rt, &mut all, &mut kept);
 }
 
 /// Lets all workers and the partner work to their ends, and gathers the workers.

@@ -12,12 +12,12 @@ mod outcome;
 mod partner;
 mod verdict;
 
-pub use beside::{work_beside, worked};
+pub use beside::{keep_beside, work_beside, worked};
 pub use doors::shut_all;
 pub use gathering::{Gathered, gather, share_of};
 pub use hiring::hire;
 pub use lines::ended_line_of;
 pub use opening::{Begun, Room, announced};
 pub use outcome::{LinkReports, Outcome};
-pub use partner::{Alone, Partner};
+pub use partner::Partner;
 pub use verdict::{Verdict, verdict_of};

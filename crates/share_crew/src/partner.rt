@@ -1,5 +1,4 @@
 //! What works beside the workers of a share.
-ghost use Rattle.std.specs.Prelude.{◌≡◌, ⊤};
 ghost use Rattle.share_lock.specs.Passes.{LockId, lock_id};
 
 use share_core::Share;
@@ -20,22 +19,4 @@ pub trait Partner {
     fn work<R: Wait + Clock>(&mut self, rt: &R, alloc: Global, lock: &ShareLock<Share>, bell: &Bell)
         requires { ready (lock_id lock.now) self.old }
         ensures { worked (lock_id lock.now) self.old self.new };
-}
-
-/// A partner that does nothing.
-#[derive(Clone, Copy, Debug, Drop)]
-pub struct Alone;
-
-impl Partner for Alone {
-    ghost ready = { λ id partner. ⊤ };
-
-    ghost worked = { λ id before after. ⊤ };
-
-    fn work<R: Wait + Clock>(
-        &mut self,
-        _rt: &R,
-        _alloc: Global,
-        _lock: &ShareLock<Share>,
-        _bell: &Bell,
-    ) {}
 }

@@ -1,7 +1,7 @@
 use Rattle.std.proofs.Common.{ℕ, List, Option, option_copied, sym, subst}
 use Rattle.item_model.specs.declared.request.Target.{Target}
 use Rattle.command_core.specs.declared.outcome.Outcome.{Outcome as CoreOutcome}
-use Rattle.command_core.specs.Seen.{NetSeen, Told, input_seen, net_seen, output_seen}
+use Rattle.command_core.specs.Seen.{FilesSeen, NetSeen, Told, files_seen, input_seen, net_seen, output_seen, seen, told_in}
 use Rattle.link_commands.specs.EditShare.{edit_meaning}
 use Rattle.link_commands.specs.FollowShare.{follow_meaning}
 use Rattle.link_commands.specs.Meanings.{IsLinkAnswered}
@@ -10,24 +10,26 @@ use Rattle.serve_command.specs.Outcomes.{left_of}
 use Rattle.serve_command.specs.Runs.{Left, ServeEnds}
 use Rattle.daapshare_words.specs.declared.command.NetCommand.{NetCommand}
 use Rattle.daapshare.specs.Table.{serving_of, target_of, IsRunOverNet}
-use Rattle.daapshare.specs.Told.{seen, told_in}
 use Rattle.daapshare.proofs.over_net.obeyed_over_net.Goals as goal
 
-pub returns-in-Serve : goal.returns-in-Serve
-returns-in-Serve g c =
-    λ files.
+pub returns-in-Serve-clause-answered : goal.returns-in-Serve-clause-answered
+returns-in-Serve-clause-answered g c =
+    let old = c.args.files.now in
+    let new = c.serve.new.files in
+    let files : FilesSeen = files_seen (g.F.Files.asked old) (g.F.Files.contents old) (g.F.Faulted.faults old) in
+    let files' : FilesSeen = files_seen (g.F.Files.asked new) (g.F.Files.contents new) (g.F.Faulted.faults new) in
     let before : NetSeen = net_seen (g.N.Net.asked c.args.net.now) (g.N.Net.written c.args.net.now) (g.N.Net.door_links c.args.net.now) (g.N.Net.next_input c.args.net.now) (g.N.Faulted.faults c.args.net.now) in
     let after : NetSeen = net_seen (g.N.Net.asked c.serve.new.net) (g.N.Net.written c.serve.new.net) (g.N.Net.door_links c.serve.new.net) (g.N.Net.next_input c.serve.new.net) (g.N.Faulted.faults c.serve.new.net) in
     let told : Told = told_in (seen (input_seen (g.I.Source.left c.args.input.now) (g.I.Faulted.faults c.args.input.now)) files before)
-    (seen (input_seen (g.I.Source.left c.serve.new.input) (g.I.Faulted.faults c.serve.new.input)) files after)
+    (seen (input_seen (g.I.Source.left c.serve.new.input) (g.I.Faulted.faults c.serve.new.input)) files' after)
     (output_seen (g.W.Sink.taken c.args.output.now) (g.W.Faulted.faults c.args.output.now)) (output_seen (g.W.Sink.taken c.serve.new.output) (g.W.Faulted.faults c.serve.new.output)) in
     subst (λ (asked : NetCommand). IsRunOverNet asked told c.linked.result) (sym c.in-Serve.is)
     (subst (λ (left : Left). ServeEnds (serving_of c.in-Serve.words) told left) (sym c.linked.ensures)
-    (subst (λ (serving : Serving). ServeEnds serving told (left_of c.serve.result)) c.serving_of.ensures.asked (c.serve.ensures files)))
+    (subst (λ (serving : Serving). ServeEnds serving told (left_of c.serve.result)) c.serving_of.ensures.asked c.serve.ensures.ends))
 
-pub returns-in-Edit : goal.returns-in-Edit
-returns-in-Edit g c =
-    λ files.
+pub returns-in-Edit-clause-answered : goal.returns-in-Edit-clause-answered
+returns-in-Edit-clause-answered g c =
+    let files : FilesSeen = files_seen (g.F.Files.asked c.args.files.now) (g.F.Files.contents c.args.files.now) (g.F.Faulted.faults c.args.files.now) in
     let before : NetSeen = net_seen (g.N.Net.asked c.args.net.now) (g.N.Net.written c.args.net.now) (g.N.Net.door_links c.args.net.now) (g.N.Net.next_input c.args.net.now) (g.N.Faulted.faults c.args.net.now) in
     let after : NetSeen = net_seen (g.N.Net.asked c.edit_share-ended.new.net) (g.N.Net.written c.edit_share-ended.new.net) (g.N.Net.door_links c.edit_share-ended.new.net) (g.N.Net.next_input c.edit_share-ended.new.net) (g.N.Faulted.faults c.edit_share-ended.new.net) in
     let told : Told = told_in (seen (input_seen (g.I.Source.left c.args.input.now) (g.I.Faulted.faults c.args.input.now)) files before)
@@ -40,9 +42,9 @@ returns-in-Edit g c =
           (subst (λ (place : List ℕ). IsLinkAnswered (edit_meaning place words.stop) told c.edit_share-ended.result) c.as_str.ensures (c.edit_share-ended.ensures files)),
     )
 
-pub returns-in-Follow : goal.returns-in-Follow
-returns-in-Follow g c =
-    λ files.
+pub returns-in-Follow-clause-answered : goal.returns-in-Follow-clause-answered
+returns-in-Follow-clause-answered g c =
+    let files : FilesSeen = files_seen (g.F.Files.asked c.args.files.now) (g.F.Files.contents c.args.files.now) (g.F.Faulted.faults c.args.files.now) in
     let before : NetSeen = net_seen (g.N.Net.asked c.args.net.now) (g.N.Net.written c.args.net.now) (g.N.Net.door_links c.args.net.now) (g.N.Net.next_input c.args.net.now) (g.N.Faulted.faults c.args.net.now) in
     let after : NetSeen = net_seen (g.N.Net.asked c.follow_share-ended.new.net) (g.N.Net.written c.follow_share-ended.new.net) (g.N.Net.door_links c.follow_share-ended.new.net) (g.N.Net.next_input c.follow_share-ended.new.net) (g.N.Faulted.faults c.follow_share-ended.new.net) in
     let told : Told = told_in (seen (input_seen (g.I.Source.left c.args.input.now) (g.I.Faulted.faults c.args.input.now)) files before)

@@ -4,8 +4,7 @@ use Rattle.std.specs.Prelude.{All}
 use Rattle.item_model.specs.declared.changes.Edit.{Edit}
 use Rattle.item_model.specs.Valid.{AreValid}
 use Rattle.edit_file.specs.Files.{HasBatches, disk_of}
-use Rattle.share_core.specs.Opened.{if_filled}
-use Rattle.kept_library.specs.Opening.{CountsStop, share_of}
+use Rattle.kept_library.specs.Opening.{share_of}
 use Rattle.kept_library.proofs.Stops.{counts_nothing, counts_same, filled_is}
 use Rattle.kept_library.proofs.opening.begun.Goals as goal
 
