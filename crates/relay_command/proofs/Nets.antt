@@ -7,6 +7,7 @@ use Rattle.daap_outside.specs.Places.{Returned, returned}
 use Rattle.daap_outside.specs.Told.{BeginsEmpty, Grows, GrowsByTold}
 use Rattle.daap_outside.specs.declared.net.NetError.{NetError}
 use Rattle.daap_outside.specs.declared.net.NetError.TheVariants as nets
+use Rattle.share_crew.specs.Doors.{HaveLinks}
 use Rattle.share_crew.proofs.Nets.{grows_none, grows_then, grows_told, rose_then, stood_then}
 use Rattle.relay_command.specs.Faults.{net_fault}
 use Rattle.relay_command.specs.Places.{StopsOpening, unused}
@@ -47,3 +48,17 @@ counts_all false false n0 n1 n2 n3 f0 f crew same none link rises = rises.faultl
 pub stops_opening : (T : Type 0) (before mid after : ℕ) (e : NetError) → mid ≡ before → CountsNetFaults {T = T} mid after (Err e) → StopsOpening before after (net_fault e)
 stops_opening T before mid after nets.Failed is count = inl (refl, subst (λ n. Rose n after) is count)
 stops_opening T before mid after nets.Memory is count = inr (refl, count ∙ is)
+
+-- the doors but the last have their links, too
+front_links : (xs : List (Option (List (List ℕ)))) (y : Option (List (List ℕ))) (inputs : List (List (List ℕ)))
+    → xs ++ y ∷ [] ≡ map (λ i. Some i) (take (length (xs ++ y ∷ [])) inputs) → xs ≡ map (λ i. Some i) (take (length xs) inputs)
+front_links [] y inputs is = refl
+front_links (x ∷ xs) y [] is = absurd (cc)
+front_links (x ∷ xs) y (i ∷ inputs) is =
+    let head : x ≡ Some i = (cc) in
+    let rest : xs ++ y ∷ [] ≡ map (λ i. Some i) (take (length (xs ++ y ∷ [])) inputs) = (cc) in
+    λ j. head j ∷ front_links xs y inputs rest j
+
+pub have_front : (links : Option (List (List (List ℕ)))) (xs : List (Option (List (List ℕ)))) (y : Option (List (List ℕ))) → HaveLinks links (xs ++ y ∷ []) → HaveLinks links xs
+have_front None xs y h = tt
+have_front (Some inputs) xs y h = front_links xs y inputs h

@@ -1,6 +1,6 @@
 //! The command, whole.
 
-ghost use Rattle.std.specs.Prelude.{◌≡◌, map};
+ghost use Rattle.std.specs.Prelude.{◌≡◌, ◌+◌, length, map};
 ghost use Rattle.command_core.specs.Seen.{NetSeen, net_seen, output_seen};
 ghost use Rattle.share_crew.specs.Doors.{AreNew};
 ghost use Rattle.relay_command.specs.Places.{HasOpened, IsGivenBack};
@@ -51,6 +51,7 @@ fn relay_at<W: Sink, N: Net, R: Threads + Wait + Clock + Sync>(
     places: Places<N::L, N::D>,
 ) -> Outcome
     requires may { MayRelay relaying.now }
+    requires doors { length places.doors.items ≡ relaying.now.workers + 1 }
     ensures { (start : NetSeen)
         → HasOpened relaying.now start (net_seen (N.asked net.old) (N.written net.old) (N.door_links net.old) (N.next_input net.old) (N.faults net.old))
         (N.L.taken places.link) (N.L.left places.link) (N.L.faults places.link) (map N.D.coming places.doors.items)
