@@ -18,6 +18,10 @@ const REVISION: &[u8] = b"mupd\0\0\0\x18mstt\0\0\0\x04\0\0\0\xc8musr\0\0\0\x04\0
 const DROPPED: &[u8] =
     b"adbs\0\0\0Umstt\0\0\0\x04\0\0\0\xc8muty\0\0\0\x01\x01musr\0\0\0\x04\0\0\0\x04mtco\0\0\0\x04\0\0\0\0mrco\0\0\0\x04\0\0\0\0mlcl\0\0\0\0mudl\0\0\0\x0cmiid\0\0\0\x04\0\0\0\x07";
 
+/// A listing of the same, in which nothing changed.
+const SAME: &[u8] =
+    b"adbs\0\0\0Imstt\0\0\0\x04\0\0\0\xc8muty\0\0\0\x01\x01musr\0\0\0\x04\0\0\0\x04mtco\0\0\0\x04\0\0\0\0mrco\0\0\0\x04\0\0\0\0mlcl\0\0\0\0mudl\0\0\0\0";
+
 /// A full listing without items, at revision 2.
 const NOTHING: &[u8] =
     b"adbs\0\0\0Amstt\0\0\0\x04\0\0\0\xc8muty\0\0\0\x01\0musr\0\0\0\x04\0\0\0\x02mtco\0\0\0\x04\0\0\0\0mrco\0\0\0\x04\0\0\0\0mlcl\0\0\0\0";
@@ -31,12 +35,13 @@ const RECORD: &[u8] = b"records: record 3 column 4 number\n";
 /// A reply: its name, the end of its status line, and its body. One of status 204 has none.
 type Reply = (&'static str, &'static str, &'static [u8]);
 
-const REPLIES: [Reply; 12] = [
+const REPLIES: [Reply; 13] = [
     ("codes", "200 OK", CODES),
     ("login", "200 OK", LOGIN),
     ("item", "200 OK", ITEM),
     ("revision", "200 OK", REVISION),
     ("dropped", "200 OK", DROPPED),
+    ("same", "200 OK", SAME),
     ("nothing", "200 OK", NOTHING),
     ("no-revision", "200 OK", NO_REVISION),
     ("done", "204 No Content", b""),

@@ -12,4 +12,6 @@ mod known;
 #[cfg(test)]
 mod nets;
 #[cfg(test)]
+mod relays;
+#[cfg(test)]
 mod shares;

@@ -1,0 +1,5 @@
+pub mod Telling
+pub mod Nets
+pub mod Staying
+pub mod Staff
+pub mod Success

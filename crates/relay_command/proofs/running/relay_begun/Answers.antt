@@ -1,0 +1,124 @@
+use Rattle.std.proofs.Common.{◌≡◌, ◌+◌, ◌||◌, [], ◌∷◌, ◌++◌, ℕ, List, map, length, refl, sym, subst, ap, ◌∙◌, arith, length-append, nat_lt, option_map, Option}
+use Rattle.std.proofs.lemmas.List.{length-map, map-append}
+use Rattle.std.proofs.lemmas.Simd.{map-map, splat_is_map}
+use Rattle.std.specs.List.{AllByRecursion, flat_map}
+use Rattle.daap_outside.specs.Told.{BeginsEmpty, Grows}
+use Rattle.command_core.specs.Seen.{NetSeen, OutputSeen, net_seen, output_seen}
+use Rattle.item_model.specs.declared.changes.Entry.{Entry}
+use Rattle.link_commands.specs.Linked.{LinkSeen, link_seen, start_of}
+use Rattle.share_asks.specs.declared.ask.Role.TheVariants as role
+use Rattle.share_history.specs.Histories.{batches, revision}
+use Rattle.share_lock.specs.Known.{fresh}
+use Rattle.share_lock.specs.Passes.{known, lock_id, passes_of}
+use Rattle.share_server.specs.Passes.{Pass}
+use Rattle.share_workers.specs.declared.worker.WorkerEnd.TheVariants.{AcceptFault}
+use Rattle.share_crew.specs.Crews.{HasJoined}
+use Rattle.share_crew.specs.Doors.{AreNew, CountsShut, HaveLinks, IsNew}
+use Rattle.share_crew.specs.Stints.{IsHistoryOf, IsNumbered, passes_in, returns_of}
+use Rattle.share_crew.specs.Verdicts.{has_end, verdict_of}
+use Rattle.share_crew.proofs.Ending.{wholes_by}
+use Rattle.share_crew.proofs.Joining.{join_more}
+use Rattle.relay_share.specs.Ends.{HasRelayed, is_fault}
+use Rattle.relay_command.specs.Faults.{crew_fault, end_fault, worse}
+use Rattle.relay_command.specs.Runs.{TellsEnd, last_lines}
+use Rattle.relay_command.specs.Terms.{places_of, settings_of}
+use Rattle.relay_command.proofs.Nets.{counts_all, have_front, linked_behind, shut_behind}
+use Rattle.relay_command.proofs.Staff.{all_push, front_of, last_of_all}
+use Rattle.relay_command.proofs.Staying.{relay_stays}
+use Rattle.relay_command.proofs.Success.{crew_done, end_none}
+use Rattle.relay_command.proofs.running.relay_begun.Goals as goal
+
+pub returns : goal.returns
+returns g c = λ start before first front begun opens new wrote.
+    let coming = g.N.D.Door.coming in
+    let written = g.N.D.Door.written in
+    let faults = g.N.D.Faulted.faults in
+    let relaying = c.args.relaying.now in
+    let settings = settings_of relaying in
+    let r = c.staffed-begun.result in
+    let e = c.staffed-begun.ensures in
+    let crew = r.0.room.crew.items in
+    let after = c.worked-lock.new.partner in
+    let w = c.worked-lock.ensures.partner in
+    let k0 = known r.1 in
+    let k1 = known after.pass in
+    let all_doors : AreNew written faults start.written (map (λ w. w.door) crew ++ r.2 ∷ []) = subst (AreNew written faults start.written) e.doors new in
+    let crew_doors = front_of (IsNew written faults start.written) (map (λ w. w.door) crew) r.2 all_doors in
+    let last_door = last_of_all (IsNew written faults start.written) (map (λ w. w.door) crew) r.2 all_doors in
+    let began : known r.0.first ≡ fresh 0 settings [] = e.pass ∙ begun.pass in
+    let all = c.worked-lock.ensures.gathered settings [] start.written began crew_doors in
+    let fresh_pass : k0 ≡ fresh k0.number settings [] = e.relay_pass ∙ ap (λ (p : Pass). fresh k0.number p.settings p.seen) begun.pass in
+    let link : LinkSeen = link_seen (g.N.L.Sink.taken c.args.places.link) (g.N.L.Source.left c.args.places.link) (g.N.L.Sink.taken after.link) (g.N.L.Faulted.faults after.link) in
+    let stays = relay_stays relaying.upstream relaying.rounds (start_of link) link.taken k0 k1 after.report w.1 in
+    let number : k1.number ≡ k0.number = ap (λ (p : Pass). p.number) stays in
+    let alone : k1.taken_in ≡ [] = ap (λ (p : Pass). p.taken_in) stays ∙ ap (λ (p : Pass). p.taken_in) fresh_pass in
+    let members = passes_in all.crew ++ k1 ∷ [] in
+    let history = c.share_of-share.result.history in
+    let joined : HasJoined (fresh 0 settings []) (known c.join.new.pass) members =
+    join_more (fresh 0 settings []) (known c.worked-lock.result.first) (known c.join.new.pass) k1 (passes_in all.crew) all.joined alone c.join.ensures.pass c.join.ensures.first
+    c.join.ensures.second c.join.ensures.apart in
+    let doors_count : length crew + 1 ≡ relaying.workers + 1 =
+    sym (length-append (map (λ w. w.door) crew) (r.2 ∷ []) ∙ ap (λ n. n + 1) (length-map crew (λ w. w.door))) ∙ ap length (sym e.doors) ∙ c.requires.doors in
+    let crew_count : length crew ≡ relaying.workers = omega (arith, doors_count) in
+    let stint_count : length (passes_in all.crew) ≡ length crew =
+    length-map all.crew (λ s. s.pass) ∙ sym (length-map all.crew (λ s. s.role)) ∙ ap length all.roles_are ∙ length-map crew (λ w. w.role) in
+    let member_count : length members ≡ relaying.workers + 1 = length-append (passes_in all.crew) (k1 ∷ []) ∙ ap (λ n. n + 1) (stint_count ∙ crew_count) in
+    let passes : passes_of c.worked-lock.result.lock ≡ relaying.workers + 2 = ap (λ l. l.1) c.worked-lock.ensures.lock ∙ (ap (λ l. l.1) e.lock ∙ begun.passes) in
+    let same_passes : passes_of r.0.lock ≡ passes_of c.worked-lock.result.lock = sym (ap (λ l. l.1) c.worked-lock.ensures.lock) in
+    let begun_passes : passes_of c.args.begun.lock ≡ passes_of c.worked-lock.result.lock = sym (ap (λ l. l.1) e.lock) ∙ same_passes in
+    let some = e.relay_some in
+    let few = e.relay_few in
+    let mine : IsNumbered (passes_of c.worked-lock.result.lock) k1 = (omega (arith, number, some), omega (arith, number, few, begun_passes)) in
+    let numbered : AllByRecursion (IsNumbered (passes_of c.worked-lock.result.lock)) members =
+    all_push (IsNumbered (passes_of c.worked-lock.result.lock)) (passes_in all.crew) k1
+    (subst (λ n. AllByRecursion (IsNumbered n) (passes_in all.crew)) same_passes all.numbered) mine in
+    let one : IsHistoryOf (length members) history all.crew (k1 ∷ []) =
+    c.share_of-share.ensures settings [] all.crew (k1 ∷ []) (λ k d less. absurd (omega (arith, less))) joined numbered (omega (arith, passes, member_count)) in
+    let history_of : IsHistoryOf (relaying.workers + 1) history all.crew (k1 ∷ []) = subst (λ n. IsHistoryOf n history all.crew (k1 ∷ [])) member_count one in
+    let ends = map (λ stint. stint.end) all.crew in
+    let old = c.args.net.now in
+    let n1 = c.worked-lock.new.net in
+    let n2 = c.shut.new.self in
+    let n3 = c.hang_up.new.self in
+    let fault = worse (crew_fault (verdict_of ends)) (end_fault after.report.end) in
+    let ruled : c.ruling.result ≡ fault = c.ruling.ensures ∙ ap (λ v. worse (crew_fault v) (end_fault after.report.end)) all.verdict_is in
+    let ending : OutputSeen = output_seen (g.W.Sink.taken c.closed.new.output) (g.W.Faulted.faults c.closed.new.output) in
+    let told : TellsEnd front (last_lines (revision (batches history)) c.closed.result.links after.report.rounds.items fault) fault before ending c.closed.result.status =
+    subst (λ f. TellsEnd front (last_lines (revision (batches history)) c.closed.result.links after.report.rounds.items f) f before ending c.closed.result.status) ruled
+    (subst (λ l. TellsEnd front (last_lines (revision (batches history)) l after.report.rounds.items c.ruling.result) c.ruling.result before ending c.closed.result.status) (sym c.closed.ensures.links)
+    (subst (λ rs. TellsEnd front (last_lines (revision (batches history)) c.worked-lock.result.links rs c.ruling.result) c.ruling.result before ending c.closed.result.status) c.as_slice.ensures.value
+    (c.closed.ensures.told before front wrote))) in
+    record {
+      history = history;
+      history_is = c.closed.ensures.history;
+      crew = all.crew;
+      roles = all.roles_are ∙ (e.roles ∙ sym (splat_is_map crew relaying.workers role.Listen crew_count));
+      links = c.closed.ensures.links ∙ all.links_are;
+      relay = record { pass = k1; link = link; report = after.report };
+      one = history_of;
+      begun = opens.begun;
+      input = opens.input;
+      relayed =
+          subst (λ (p : Pass). HasRelayed relaying.upstream relaying.rounds (start_of link) link.taken p k1 after.report)
+          (fresh_pass ∙ ap (λ n. fresh n settings []) (sym number)) w.1;
+      to_come =
+          subst (HaveLinks start.door_links) (sym all.coming_are)
+          (have_front start.door_links (map (λ w. coming w.door) crew) (coming r.2)
+          (subst (HaveLinks start.door_links)
+          (ap (map coming) e.doors ∙ (map-append coming (map (λ w. w.door) crew) (r.2 ∷ []) ∙ ap (λ l. l ++ coming r.2 ∷ []) (map-map coming (λ w. w.door) crew))) opens.links));
+      asked =
+          subst (λ a. Grows start.asked a (places_of relaying)) (sym (c.hang_up.ensures.asked_stays ∙ (c.shut.ensures.asked_stays ∙ c.worked-lock.ensures.asked))) opens.asked;
+      written =
+          linked_behind start.written (g.N.Net.written n2) (g.N.Net.written n3) (flat_map returns_of all.crew) link.taken link.faults
+          (shut_behind start.written (g.N.Net.written n1) (g.N.Net.written n2) (written after.door) (flat_map returns_of all.crew)
+          (subst (BeginsEmpty start.written) (sym w.3) last_door.unwritten) (all.written_grows opens.written) c.shut.ensures.written_grows)
+          c.hang_up.ensures.written_grows;
+      counts =
+          counts_all (has_end AcceptFault ends) (is_fault after.report.end) start.faults (g.N.Faulted.faults n1) (g.N.Faulted.faults n2) (g.N.Faulted.faults n3)
+          (g.N.L.Faulted.faults c.args.places.link) link.faults (subst (λ n. CountsShut n (g.N.Faulted.faults n1) ends) opens.faultless all.counts)
+          (c.shut.ensures.count.faultless (w.4 ∙ last_door.faultless)) opens.fresh w.2 c.hang_up.ensures.count;
+      told = told;
+      whole = λ success.
+          wholes_by history all.crew history_of.parts
+          (crew_done (verdict_of ends) (end_fault after.report.end) (end_none front (last_lines (revision (batches history)) c.closed.result.links after.report.rounds.items fault) fault before ending c.closed.result.status told success));
+    }

@@ -1,0 +1,6 @@
+pub mod Faults
+pub mod Lines
+pub mod Terms
+pub mod Places
+pub mod Begun
+pub mod Runs

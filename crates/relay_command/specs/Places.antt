@@ -1,0 +1,47 @@
+-- The link and the doors of a relay, and what opening them does to a net.
+use Rattle.std.specs.Prelude.{◌≡◌, ◌⊎◌, ◌≤◌, ◌+◌, ◌-◌, ℕ, List, [], ◌∷◌, take, length, false, Option, Some, IfSome}
+use Rattle.daap_outside.specs.Counts.{Rose}
+use Rattle.daap_outside.specs.Places.{Returned}
+use Rattle.daap_outside.specs.Told.{BeginsEmpty, Grows}
+use Rattle.command_core.specs.Seen.{NetSeen}
+use Rattle.command_core.specs.declared.fault.Fault.{Fault}
+use Rattle.command_core.specs.declared.fault.Fault.TheVariants as fault
+use Rattle.share_crew.specs.Doors.{HaveLinks}
+use Rattle.relay_command.specs.declared.fault.RelayFault.{RelayFault}
+use Rattle.relay_command.specs.declared.fault.RelayFault.TheVariants.{Network}
+use Rattle.relay_command.specs.declared.terms.Relaying.{Relaying}
+use Rattle.relay_command.specs.Terms.{places_of}
+
+-- the link was made and the doors were opened, one more than workers, with no fault
+pub record HasOpened (relaying : Relaying) (before after : NetSeen) (taken left : Option (List ℕ)) (faults : ℕ) (coming : List (Option (List (List ℕ)))) : Type 0 where
+  pub count : length coming ≡ relaying.workers + 1
+  pub asked : Grows before.asked after.asked (places_of relaying)
+  pub written : Grows before.written after.written []
+  pub links : HaveLinks before.door_links coming
+  pub begun : BeginsEmpty before.written taken
+  pub input : IfSome before.next_input (λ input. left ≡ Some input)
+  pub fresh : faults ≡ 0
+  pub faultless : after.faults ≡ before.faults
+
+-- a place failed, or memory was wanted
+abbrev pub StopsOpening : ℕ → ℕ → Fault RelayFault → Type 0
+StopsOpening before after stop = ((stop ≡ fault.Own Network) × Rose before after) ⊎ ((stop ≡ fault.Memory) × (after ≡ before))
+
+-- what a link that had taken nothing adds when it is hung up
+abbrev pub unused : List Returned
+unused = ([], false) ∷ []
+
+-- a place was not opened; a link that was made had taken nothing, and was hung up
+pub record FailsToOpen (relaying : Relaying) (before after : NetSeen) (stop : Fault RelayFault) : Type 0 where
+  -- the first was asked for, or both
+  pub count : ℕ
+  pub few : count ≤ 2
+  pub asked : Grows before.asked after.asked (take count (places_of relaying))
+  pub written : Grows before.written after.written (take (count - 1) unused)
+  pub stops : StopsOpening before.faults after.faults stop
+
+-- the link and the doors were given back unused
+pub record IsGivenBack (relaying : Relaying) (before after : NetSeen) : Type 0 where
+  pub asked : Grows before.asked after.asked (places_of relaying)
+  pub written : Grows before.written after.written unused
+  pub faultless : after.faults ≡ before.faults

@@ -1,0 +1,101 @@
+-- How a run of `relay` ends.
+use Rattle.std.specs.Prelude.{◌≡◌, ◌⊎◌, ◌+◌, ◌||◌, ℕ, List, [], ◌∷◌, ◌++◌, map, MatchBool, Option, Some, None, IfSome, is_none, nat_lt, option_map, if◌then◌else◌}
+use Rattle.std.specs.List.{flat_map, AllByRecursion}
+use Rattle.daap_outside.specs.Counts.{Rose}
+use Rattle.daap_outside.specs.Told.{BeginsEmpty, Grows, GrowsByTold}
+use Rattle.item_model.specs.declared.changes.Entry.{Entry}
+use Rattle.share_history.specs.Histories.{batches, revision}
+use Rattle.share_lock.specs.Known.{fresh}
+use Rattle.share_server.specs.Passes.{Pass}
+use Rattle.share_server.specs.declared.report.LinkReport.{LinkReport}
+use Rattle.share_workers.specs.declared.worker.WorkerEnd.TheVariants.{AcceptFault}
+use Rattle.command_core.specs.declared.fault.Fault.{Fault}
+use Rattle.command_core.specs.declared.fault.Fault.TheVariants.{Memory}
+use Rattle.command_core.specs.Answers.{Tells}
+use Rattle.command_core.specs.Faults.{fault_line, fault_status, memory_line}
+use Rattle.command_core.specs.Seen.{NetSeen, OutputSeen}
+use Rattle.link_commands.specs.Linked.{LinkSeen, start_of}
+use Rattle.share_crew.specs.declared.outcome.Outcome.{Outcome}
+use Rattle.share_crew.specs.Doors.{HaveLinks}
+use Rattle.share_crew.specs.Lines.{ended_line}
+use Rattle.share_crew.specs.Stints.{Stint, IsHistoryOf, IsWhole, returns_of}
+use Rattle.share_crew.specs.Verdicts.{has_end, verdict_of}
+use Rattle.relay_share.specs.Ends.{HasRelayed, is_fault}
+use Rattle.relay_share.specs.declared.report.Relayed.{Relayed}
+use Rattle.relay_share.specs.declared.report.RelayReport.{RelayReport}
+use Rattle.relay_command.specs.declared.fault.RelayFault.{RelayFault}
+use Rattle.relay_command.specs.declared.terms.Relaying.{Relaying}
+use Rattle.relay_command.specs.Begun.{NotAnnounced}
+use Rattle.relay_command.specs.Faults.{crew_fault, end_fault, relay_line, relay_status, worse}
+use Rattle.relay_command.specs.Lines.{relaying_line, round_lines}
+use Rattle.relay_command.specs.Places.{FailsToOpen, IsGivenBack}
+use Rattle.relay_command.specs.Terms.{places_of, roles_of, settings_of}
+
+-- ---- what is told at the end
+
+-- the lines of the rounds, and the last line where no fault stands in its place
+abbrev pub last_lines : (revision : ℕ) → List (List LinkReport) → List Relayed → Option (Fault RelayFault) → List ℕ
+last_lines revision links rounds fault = round_lines rounds ++ (if is_none fault then ended_line revision links else [])
+
+-- the line of a fault, or that of want of memory; or none
+abbrev pub TellsBehind : (text : List ℕ) → Option (Fault RelayFault) → OutputSeen → OutputSeen → ℕ → Type 0
+TellsBehind text None before after status = Tells 0 text before after status
+TellsBehind text (Some fault) before after status =
+    Tells (fault_status relay_status fault) (text ++ fault_line relay_line fault) before after status ⊎ Tells 9 (text ++ memory_line) before after status
+
+abbrev pub TellsRuling : Option (Fault RelayFault) → OutputSeen → OutputSeen → ℕ → Type 0
+TellsRuling fault before after status = TellsBehind [] fault before after status
+
+-- behind a front the lines and the fault were told, or there was no memory for the lines
+abbrev pub TellsEnd : (front lines : List ℕ) → Option (Fault RelayFault) → OutputSeen → OutputSeen → ℕ → Type 0
+TellsEnd front lines fault before after status =
+    TellsBehind (front ++ lines) fault before after status ⊎ TellsBehind front (worse fault (Some Memory)) before after status
+
+-- ---- the run
+
+-- the relay of a run: its pass at the end, its link, and its report
+pub record RelayStint : Type 0 where
+  pub pass : Pass
+  pub link : LinkSeen
+  pub report : RelayReport
+
+-- The share was served and its upstream was relayed: the stints of its workers, that of the relay, the history that they left, and
+-- what was told of them.
+pub record HasServed (relaying : Relaying) (front : List ℕ) (net net' : NetSeen) (output output' : OutputSeen) (left : Outcome) : Type 0 where
+  pub history : List Entry
+  pub history_is : left.history ≡ Some history
+  pub crew : List (Stint (settings_of relaying) [])
+  pub roles : map (λ stint. stint.role) crew ≡ roles_of relaying
+  pub links : left.links ≡ map (λ stint. stint.reports) crew
+  -- each saw a front of the history, and added its entries of its own number
+  pub relay : RelayStint
+  pub one : IsHistoryOf (relaying.workers + 1) history crew (relay.pass ∷ [])
+  -- the relay did its rounds over a new link
+  pub begun : BeginsEmpty net.written relay.link.begun
+  pub input : IfSome net.next_input (λ input. relay.link.left ≡ Some input)
+  pub relayed : HasRelayed relaying.upstream relaying.rounds (start_of relay.link) relay.link.taken (fresh relay.pass.number (settings_of relaying) []) relay.pass relay.report
+  -- each worker had a door, which was given back, and then the link was
+  pub to_come : HaveLinks net.door_links (map (λ stint. stint.to_come) crew)
+  pub asked : Grows net.asked net'.asked (places_of relaying)
+  pub written : GrowsByTold net.written net'.written (option_map (λ bytes. flat_map returns_of crew ++ (bytes, nat_lt 0 relay.link.faults) ∷ []) relay.link.taken)
+  pub counts : MatchBool (has_end AcceptFault (map (λ stint. stint.end) crew) || is_fault relay.report.end) (Rose net.faults net'.faults) (net'.faults ≡ net.faults)
+  pub told : TellsEnd front
+      (last_lines (revision (batches history)) left.links relay.report.rounds.items (worse (crew_fault (verdict_of (map (λ stint. stint.end) crew))) (end_fault relay.report.end)))
+      (worse (crew_fault (verdict_of (map (λ stint. stint.end) crew))) (end_fault relay.report.end)) output output' left.status
+  -- success says that all links were served, or a stop came
+  pub whole : left.status ≡ 0 → AllByRecursion (IsWhole history) crew
+
+-- no share came under a lock
+pub record HasNoShare (left : Outcome) : Type 0 where
+  pub history : left.history ≡ None
+  pub links : left.links ≡ []
+
+abbrev pub TellsStop : Fault RelayFault → OutputSeen → OutputSeen → ℕ → Type 0
+TellsStop stop before after status = TellsRuling (Some stop) before after status
+
+pub data RelayEnds (relaying : Relaying) (net net' : NetSeen) (output output' : OutputSeen) (left : Outcome) : Type 0 where
+  unopened : (stop : Fault RelayFault) → FailsToOpen relaying net net' stop → TellsStop stop output output' left.status → HasNoShare left
+      → RelayEnds relaying net net' output output' left
+  unannounced : NotAnnounced (relaying_line relaying.name) output output' left.status → IsGivenBack relaying net net' → HasNoShare left
+      → RelayEnds relaying net net' output output' left
+  served : HasServed relaying (relaying_line relaying.name) net net' output output' left → RelayEnds relaying net net' output output' left

@@ -1,0 +1,135 @@
+//! What stands behind the last round: the lines that tell what was relayed and served, and the status.
+
+ghost use Rattle.std.specs.Prelude.{◌≡◌, ◌<◌, ◌^◌, ◌++◌, ℕ, List, Some, map, IfOk, MatchResult};
+ghost use Rattle.command_core.specs.Seen.{OutputSeen, output_seen};
+ghost use Rattle.command_core.specs.Endings.{IsWritten};
+ghost use Rattle.command_core.specs.declared.fault.Fault.TheVariants.{Memory};
+ghost use Rattle.relay_command.specs.Faults.{worse};
+ghost use Rattle.share_history.specs.Histories.{batches, revision};
+ghost use Rattle.share_crew.specs.Lines.{ended_line, links_in, requests_in};
+ghost use Rattle.relay_command.specs.Lines.{round_line, round_lines};
+ghost use Rattle.relay_command.specs.Runs.{TellsBehind, TellsEnd, TellsRuling, last_lines};
+
+use crate::fault::{RelayFault, rank_of};
+use command_core::{Fault, refused};
+use daap_outside::{Sink, put_all};
+use fault_lines::push_number;
+use item_model::Entries;
+use relay_share::Relayed;
+use share_core::Share;
+use share_crew::{LinkReports, Outcome, ended_line_of};
+use share_server::LinkReport;
+use std::alloc::{AllocError, Global};
+
+/// Tells what was relayed and served, or the fault that ended it.
+pub(crate) fn closed<W: Sink>(
+    alloc: Global,
+    output: &mut W,
+    share: Share,
+    links: LinkReports,
+    rounds: &[Relayed],
+    fault: Option<Fault<RelayFault>>,
+) -> Outcome
+    requires links { links_in links < 2 ^ 64 }
+    requires requests { requests_in links < 2 ^ 64 }
+    ensures history { result.history ≡ Some share.history }
+    ensures links { result.links ≡ links }
+    ensures told { (start : OutputSeen) (front : List ℕ) → IsWritten start (output_seen (W.taken output.old) (W.faults output.old)) front
+        → TellsEnd front (last_lines (revision (batches share.history)) links rounds.now fault) fault start (output_seen (W.taken output.new) (W.faults output.new)) result.status }
+{
+    let lines = last_lines(alloc, share.revision(), links.as_slice(), rounds, &fault);
+    let status = told(alloc, output, lines, fault);
+    Outcome {
+        status,
+        history: Some(Entries::of(share.into_history())),
+        links,
+    }
+}
+
+// The lines of the rounds, and the last line where no fault stands in its place.
+fn last_lines(
+    alloc: Global,
+    revision: u32,
+    workers: &[Vec<LinkReport>],
+    rounds: &[Relayed],
+    fault: &Option<Fault<RelayFault>>,
+) -> Result<Vec<u8>, AllocError>
+    requires links { links_in (map (λ l. l.items) workers.now) < 2 ^ 64 }
+    requires requests { requests_in (map (λ l. l.items) workers.now) < 2 ^ 64 }
+    ensures { IfOk result (λ lines. lines.items ≡ last_lines revision (map (λ l. l.items) workers.now) rounds.now fault.now) }
+{
+    let mut lines = round_lines(alloc, rounds)?;
+    if fault.is_none() {
+        lines.extend_from_slice(ended_line_of(alloc, revision, workers)?.as_slice())?;
+    }
+    Ok(lines)
+}
+
+fn round_lines(alloc: Global, rounds: &[Relayed]) -> Result<Vec<u8>, AllocError>
+    ensures { IfOk result (λ lines. lines.items ≡ round_lines rounds.now) }
+{
+    let mut lines = Vec::new(alloc);
+    for round in rounds {
+        lines.extend_from_slice(round_line(alloc, round)?.as_slice())?;
+    }
+    Ok(lines)
+}
+
+fn round_line(alloc: Global, round: &Relayed) -> Result<Vec<u8>, AllocError>
+    ensures { IfOk result (λ line. line.items ≡ round_line round.now) }
+{
+    let kind: &[u8] = if round.delta {
+        b" delta puts "
+    } else {
+        b" full puts "
+    };
+    let mut line = Vec::new(alloc);
+    push_number(&mut line, b"upstream ", u64::from(round.upstream))?;
+    push_number(&mut line, kind, u64::from(round.puts))?;
+    push_number(&mut line, b" drops ", u64::from(round.drops))?;
+    push_number(&mut line, b" revision ", u64::from(round.revision))?;
+    line.push(b'\n')?;
+    Ok(line)
+}
+
+// Writes the lines, and behind them that of the fault.
+fn told<W: Sink>(
+    alloc: Global,
+    output: &mut W,
+    lines: Result<Vec<u8>, AllocError>,
+    fault: Option<Fault<RelayFault>>,
+) -> u8
+    ensures { (start : OutputSeen) (front : List ℕ) → IsWritten start (output_seen (W.taken output.old) (W.faults output.old)) front
+        → MatchResult lines
+        (λ text. TellsBehind (front ++ text.items) fault start (output_seen (W.taken output.new) (W.faults output.new)) result)
+        (λ _. TellsBehind front (worse fault (Some Memory)) start (output_seen (W.taken output.new) (W.faults output.new)) result) }
+{
+    match lines {
+        Ok(lines) => match put_all(output, lines.as_slice()) {
+            Ok(()) => ruled(alloc, output, fault),
+            Err(_) => 5,
+        },
+        Err(AllocError) => ruled(alloc, output, with_memory(fault)),
+    }
+}
+
+// Writes the line of a fault.
+fn ruled<W: Sink>(alloc: Global, output: &mut W, fault: Option<Fault<RelayFault>>) -> u8
+    ensures { TellsRuling fault (output_seen (W.taken output.old) (W.faults output.old)) (output_seen (W.taken output.new) (W.faults output.new)) result }
+{
+    match fault {
+        Some(fault) => refused(alloc, output, &fault).status,
+        None => 0,
+    }
+}
+
+// The fault where memory is wanted besides.
+fn with_memory(fault: Option<Fault<RelayFault>>) -> Option<Fault<RelayFault>>
+    ensures { result ≡ worse fault (Some Memory) }
+{
+    if rank_of(&Some(Fault::Memory)) <= rank_of(&fault) {
+        fault
+    } else {
+        Some(Fault::Memory)
+    }
+}

@@ -1,0 +1,124 @@
+//! Why a share is not relayed, or not further.
+
+ghost use Rattle.std.specs.Prelude.{◌≡◌, IfOk};
+ghost use Rattle.relay_command.specs.Faults.{relay_line, relay_status, net_fault, crew_fault, end_fault, rank_of, worse};
+
+use command_core::{Fault, Refusal};
+use daap_outside::NetError;
+use fault_lines::push_number;
+use link_commands::FollowFault;
+use relay_share::RelayEnd;
+use share_crew::Verdict;
+use std::alloc::{AllocError, Global};
+
+/// Why a share is not relayed, or not further. Want of memory is none of these.
+#[derive(Debug, Drop)]
+pub enum RelayFault {
+    /// A place was not reached or could not be listened at, or the link failed.
+    Network,
+    /// A worker served as much as it may.
+    Requests,
+    /// The relay's share has no room for a listing.
+    Library,
+    /// A row of a listing cannot be read.
+    Row { index: u64 },
+    /// The share that is followed answered otherwise than it should.
+    Peer(FollowFault),
+}
+
+impl Refusal for RelayFault {
+    ghost told_line = { relay_line };
+
+    ghost told_status = { relay_status };
+
+    fn line(&self, alloc: Global) -> Result<Vec<u8>, AllocError> {
+        match self {
+            RelayFault::Network => Vec::from_slice(alloc, b"network failed\n"),
+            RelayFault::Requests => Vec::from_slice(alloc, b"limit: requests\n"),
+            RelayFault::Library => Vec::from_slice(alloc, b"limit: library\n"),
+            RelayFault::Row { index } => row_line(alloc, *index),
+            RelayFault::Peer(fault) => fault.line(alloc),
+        }
+    }
+
+    fn status(&self) -> u8 {
+        match self {
+            RelayFault::Network => 6,
+            RelayFault::Requests | RelayFault::Library => 8,
+            RelayFault::Row { .. } => 7,
+            RelayFault::Peer(fault) => fault.status(),
+        }
+    }
+}
+
+fn row_line(alloc: Global, index: u64) -> Result<Vec<u8>, AllocError>
+    ensures { IfOk result (λ line. line.items ≡ relay_line (RelayFault.Row index)) }
+{
+    let mut line = Vec::new(alloc);
+    push_number(&mut line, b"peer: row ", index)?;
+    line.push(b'\n')?;
+    Ok(line)
+}
+
+/// What a place that was not opened is.
+pub(crate) fn net_fault(error: NetError) -> Fault<RelayFault>
+    ensures { result ≡ net_fault error }
+{
+    match error {
+        NetError::Failed => Fault::Own(RelayFault::Network),
+        NetError::Memory => Fault::Memory,
+    }
+}
+
+/// What is told of workers and a relay that have ended: what counts more, of two alike what the workers came to.
+pub(crate) fn ruling(verdict: Verdict, end: RelayEnd) -> Option<Fault<RelayFault>>
+    ensures { result ≡ worse (crew_fault verdict) (end_fault end) }
+{
+    let crew = crew_fault(verdict);
+    let relay = end_fault(end);
+    if rank_of(&relay) <= rank_of(&crew) {
+        crew
+    } else {
+        relay
+    }
+}
+
+// A crew that keeps nothing loses no edit.
+fn crew_fault(verdict: Verdict) -> Option<Fault<RelayFault>>
+    ensures { result ≡ crew_fault verdict }
+{
+    match verdict {
+        Verdict::Done => None,
+        Verdict::NetworkFailed | Verdict::FileFailed => Some(Fault::Own(RelayFault::Network)),
+        Verdict::OutOfMemory => Some(Fault::Memory),
+        Verdict::Exhausted => Some(Fault::Own(RelayFault::Requests)),
+    }
+}
+
+// No other pass stops a share that is relayed.
+fn end_fault(end: RelayEnd) -> Option<Fault<RelayFault>>
+    ensures { result ≡ end_fault end }
+{
+    match end {
+        RelayEnd::Done | RelayEnd::Stopped => None,
+        RelayEnd::Row { index } => Some(Fault::Own(RelayFault::Row { index })),
+        RelayEnd::Full => Some(Fault::Own(RelayFault::Library)),
+        RelayEnd::Memory => Some(Fault::Memory),
+        RelayEnd::Peer(error) => Some(Fault::Own(RelayFault::Peer(FollowFault::Link(error)))),
+    }
+}
+
+/// How much a fault counts: one of the net before want of memory, this before a limit, and this before a peer's.
+pub(crate) fn rank_of(fault: &Option<Fault<RelayFault>>) -> u8
+    ensures { result ≡ rank_of fault.now }
+{
+    match fault {
+        None => 0,
+        Some(fault) => match fault.status() {
+            6 => 4,
+            9 => 3,
+            8 => 2,
+            _ => 1,
+        },
+    }
+}

@@ -1,0 +1,119 @@
+//! What stands before the first link is served: the link to the share that is followed, the doors, and the share under its lock.
+
+ghost use Rattle.std.specs.Prelude.{◌≡◌, map, IfOk, IfErr, MatchResult};
+ghost use Rattle.command_core.specs.Seen.{net_seen, output_seen};
+ghost use Rattle.share_crew.specs.Begun.{HasRoom};
+ghost use Rattle.share_crew.specs.Doors.{AreNew};
+ghost use Rattle.relay_command.specs.Begun.{HasBegun, NotAnnounced};
+ghost use Rattle.relay_command.specs.Lines.{relaying_line};
+ghost use Rattle.relay_command.specs.Places.{HasOpened, FailsToOpen};
+ghost use Rattle.relay_command.specs.Terms.{MayRelay, empty_share};
+
+use crate::fault::{RelayFault, net_fault};
+use crate::terms::Relaying;
+use command_core::{Fault, out_of_memory};
+use daap_outside::{Failed, Net, Sink};
+use item_model::{Batch, Edits};
+use share_core::Share;
+use share_crew::{Begun, Room, announced};
+use std::alloc::{AllocError, Global};
+
+/// The link to the share that is followed, and the doors of the relay, before anything went over them.
+#[derive(Drop)]
+pub(crate) struct Places<K, D> {
+    pub(crate) link: K,
+    pub(crate) doors: Vec<D>,
+}
+
+/// Connects to the share that is followed, and then opens the place of the players. Where that is not opened, the link is hung up.
+pub(crate) fn opened<N: Net>(
+    net: &mut N,
+    relaying: &Relaying,
+) -> Result<Places<N::L, N::D>, Fault<RelayFault>>
+    requires { MayRelay relaying.now }
+    ensures opened { IfOk result (λ p. HasOpened relaying.now
+        (net_seen (N.asked net.old) (N.written net.old) (N.door_links net.old) (N.next_input net.old) (N.faults net.old))
+        (net_seen (N.asked net.new) (N.written net.new) (N.door_links net.new) (N.next_input net.new) (N.faults net.new))
+        (N.L.taken p.link) (N.L.left p.link) (N.L.faults p.link) (map N.D.coming p.doors.items)) }
+    ensures doors { IfOk result (λ p. AreNew N.D.written N.D.faults (N.written net.old) p.doors.items) }
+    ensures failed { IfErr result (λ stop. FailsToOpen relaying.now
+        (net_seen (N.asked net.old) (N.written net.old) (N.door_links net.old) (N.next_input net.old) (N.faults net.old))
+        (net_seen (N.asked net.new) (N.written net.new) (N.door_links net.new) (N.next_input net.new) (N.faults net.new))
+        stop) }
+{
+    let link = match net.connect(relaying.upstream.as_str()) {
+        Ok(link) => link,
+        Err(Failed) => return Err(Fault::Own(RelayFault::Network)),
+    };
+    match net.listen(relaying.listen.as_str(), relaying.workers + 1) {
+        Ok(doors) => Ok(Places { link, doors }),
+        Err(error) => {
+            net.hang_up(link);
+            Err(net_fault(error))
+        }
+    }
+}
+
+/// Opens an empty share, writes its line, and puts it under a lock. Where that fails, the line of the fault was written, and the
+/// status is answered that the program ends with.
+pub(crate) fn begin<W: Sink, D: Drop>(
+    alloc: Global,
+    relaying: &Relaying,
+    output: &mut W,
+) -> Result<Begun<D>, u8>
+    requires may { MayRelay relaying.now }
+    ensures { MatchResult result
+        (HasBegun relaying.now
+        (output_seen (W.taken output.old) (W.faults output.old))
+        (output_seen (W.taken output.new) (W.faults output.new)))
+        (NotAnnounced (relaying_line relaying.now.name)
+        (output_seen (W.taken output.old) (W.faults output.old))
+        (output_seen (W.taken output.new) (W.faults output.new))) }
+{
+    match prepare(alloc, relaying) {
+        Ok(Prepared { share, line, room }) => announced(
+            alloc,
+            output,
+            line.as_slice(),
+            share,
+            relaying.workers + 2,
+            room,
+        ),
+        Err(AllocError) => Err(out_of_memory(output, None).status),
+    }
+}
+
+// An empty share with the line that tells it, and the room for its workers.
+struct Prepared<D> {
+    share: Share,
+    line: Vec<u8>,
+    room: Room<D>,
+}
+
+fn prepare<D: Drop>(alloc: Global, relaying: &Relaying) -> Result<Prepared<D>, AllocError>
+    requires { MayRelay relaying.now }
+    ensures share { IfOk result (λ p. p.share ≡ empty_share relaying.now) }
+    ensures line { IfOk result (λ p. p.line.items ≡ relaying_line relaying.now.name) }
+    ensures room { IfOk result (λ p. HasRoom relaying.now.workers p.room) }
+{
+    let none = Batch {
+        edits: Edits::new(alloc),
+    };
+    let Ok(share) = Share::open(alloc, relaying.name.as_str(), relaying.keep, none) else {
+        return Err(AllocError);
+    };
+    Ok(Prepared {
+        share,
+        line: line_of(alloc, relaying)?,
+        room: Room::of(alloc, relaying.workers as usize)?,
+    })
+}
+
+fn line_of(alloc: Global, relaying: &Relaying) -> Result<Vec<u8>, AllocError>
+    ensures { IfOk result (λ line. line.items ≡ relaying_line relaying.now.name) }
+{
+    let mut line = Vec::from_slice(alloc, b"relaying ")?;
+    line.extend_from_slice(relaying.name.as_str().as_bytes())?;
+    line.push(b'\n')?;
+    Ok(line)
+}

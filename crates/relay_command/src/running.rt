@@ -1,0 +1,134 @@
+//! A relay's share from its first link to its last.
+
+ghost use Rattle.std.specs.Prelude.{◌≡◌, ◌≤◌, ◌+◌, [], ◌∷◌, ◌++◌, ℕ, List, map, length, All, vec_len, vec_capacity};
+ghost use Rattle.command_core.specs.Seen.{NetSeen, OutputSeen, net_seen, output_seen};
+ghost use Rattle.command_core.specs.Endings.{IsWritten};
+ghost use Rattle.share_lock.specs.Known.{fresh};
+ghost use Rattle.share_lock.specs.Passes.{lock_id, known, passes_of, IsReady};
+ghost use Rattle.share_crew.specs.Crews.{IsHired};
+ghost use Rattle.share_crew.specs.Doors.{AreNew};
+ghost use Rattle.relay_command.specs.Begun.{HasBegun};
+ghost use Rattle.relay_command.specs.Places.{HasOpened};
+ghost use Rattle.relay_command.specs.Runs.{HasServed};
+ghost use Rattle.relay_command.specs.Terms.{MayRelay};
+
+use crate::closing::closed;
+use crate::fault::ruling;
+use crate::opening::Places;
+use crate::relayer::Relayer;
+use crate::terms::Relaying;
+use daap_outside::{Net, Sink};
+use relay_share::{RelayEnd, RelayReport};
+use share_asks::Role;
+use share_core::Share;
+use share_crew::{Begun, Gathered, Outcome, Room, hire, share_of, worked};
+use share_lock::Pass;
+use std::alloc::Global;
+use std::sync::Wait;
+use std::thread::Threads;
+use std::time::Clock;
+
+/// Serves the players of a share that is under its lock and relays another share to it, until all have ended.
+pub(crate) fn relay_begun<W: Sink, N: Net, R: Threads + Wait + Clock + Sync>(
+    rt: &R,
+    alloc: Global,
+    relaying: &Relaying,
+    output: &mut W,
+    net: &mut N,
+    places: Places<N::L, N::D>,
+    begun: Begun<N::D>,
+) -> Outcome
+    requires may { MayRelay relaying.now }
+    requires ready { IsReady (lock_id begun.lock) begun.first }
+    requires no_crew { begun.room.crew.items ≡ [] }
+    requires no_links { begun.room.links.items ≡ [] }
+    requires doors { length places.doors.items ≡ relaying.now.workers + 1 }
+    requires crew { relaying.now.workers ≤ vec_capacity begun.room.crew }
+    requires links { relaying.now.workers ≤ vec_capacity begun.room.links }
+    ensures { (start : NetSeen) (before first : OutputSeen) (front : List ℕ) → HasBegun relaying.now before first begun
+        → HasOpened relaying.now start (net_seen (N.asked net.old) (N.written net.old) (N.door_links net.old) (N.next_input net.old) (N.faults net.old))
+        (N.L.taken places.link) (N.L.left places.link) (N.L.faults places.link) (map N.D.coming places.doors.items)
+        → AreNew N.D.written N.D.faults start.written places.doors.items
+        → IsWritten before (output_seen (W.taken output.old) (W.faults output.old)) front
+        → HasServed relaying.now front start
+        (net_seen (N.asked net.new) (N.written net.new) (N.door_links net.new) (N.next_input net.new) (N.faults net.new))
+        before (output_seen (W.taken output.new) (W.faults output.new)) result }
+{
+    let Places { link, doors } = places;
+    let (begun, pass, door) = staffed(rt, alloc, begun, doors);
+    let mut relayer = Relayer {
+        terms: relaying,
+        pass,
+        link,
+        door,
+        report: RelayReport {
+            rounds: Vec::new(alloc),
+            end: RelayEnd::Memory,
+        },
+    };
+    let Gathered {
+        lock,
+        mut first,
+        links,
+        verdict,
+    } = worked(rt, alloc, net, begun, &mut relayer);
+    let Relayer {
+        terms: _,
+        pass,
+        link,
+        door,
+        report: RelayReport { rounds, end },
+    } = relayer;
+    lock.join(&mut first, pass);
+    net.shut(door);
+    net.hang_up(link);
+    let share = share_of(rt, &lock, &mut first);
+    closed(
+        alloc,
+        output,
+        share,
+        links,
+        rounds.as_slice(),
+        ruling(verdict, end),
+    )
+}
+
+// Gives each door but the last its worker, and then splits off the relay's pass.
+fn staffed<D: Drop, R: Wait>(
+    rt: &R,
+    alloc: Global,
+    begun: Begun<D>,
+    doors: Vec<D>,
+) -> (Begun<D>, Pass<Share>, D)
+    requires ready { IsReady (lock_id begun.lock) begun.first }
+    requires empty { begun.room.crew.items ≡ [] }
+    requires some { 1 ≤ length doors.items }
+    requires room { length doors.items ≤ vec_capacity begun.room.crew + 1 }
+    ensures lock { lock_id result.0.lock ≡ lock_id begun.lock }
+    ensures ready { IsReady (lock_id result.0.lock) result.0.first }
+    ensures pass { known result.0.first ≡ known begun.first }
+    ensures hired { All (IsHired (lock_id result.0.lock) (known result.0.first)) result.0.room.crew.items }
+    ensures roles { map (λ w. w.role) result.0.room.crew.items ≡ map (λ w. Role.Listen) result.0.room.crew.items }
+    ensures doors { doors.items ≡ map (λ w. w.door) result.0.room.crew.items ++ result.2 ∷ [] }
+    ensures links { result.0.room.links ≡ begun.room.links }
+    ensures relay_ready { IsReady (lock_id result.0.lock) result.1 }
+    ensures relay_pass { known result.1 ≡ fresh (known result.1).number (known begun.first).settings (known begun.first).seen }
+    ensures relay_some { 1 ≤ (known result.1).number }
+    ensures relay_few { (known result.1).number + 1 ≤ passes_of begun.lock }
+{
+    let Begun {
+        lock,
+        mut first,
+        room: Room { mut crew, links },
+    } = begun;
+    let mut doors = doors;
+    let last = doors.pop().unwrap();
+    hire(rt, alloc, &lock, &mut first, doors, Role::Listen, &mut crew);
+    let pass = lock.split(rt, &mut first).unwrap();
+    let begun = Begun {
+        lock,
+        first,
+        room: Room { crew, links },
+    };
+    (begun, pass, last)
+}
