@@ -1,6 +1,6 @@
 //! `dmap_stream`: bytes with the events and the ends that they are known to have.
 
-ghost use Rattle.std.specs.Prelude.{◌≡◌, ◌≤◌, Some};
+ghost use Rattle.std.specs.Prelude.{◌≡◌, ◌<◌, ◌≤◌, ◌+◌, ◌^◌, IfOk, MatchResult, None, Some, length};
 ghost use Rattle.dmap_stream.specs.Reader.{taken};
 
 use crate::tables::standard;
@@ -9,7 +9,6 @@ use daap_outside::MemSink;
 use dmap_stream::{DmapReader, Event, Limits, StreamError, WriteError, read_tag, write_tag};
 use dmap_tags::{Code, Tag, Value, encode_into};
 use std::alloc::{AllocError, Global};
-use std::process::Abort;
 use std::test::Fail;
 
 /// What a reader returned, what it held at last, and the error that stopped it or that the end gave.
@@ -38,13 +37,30 @@ fn take_ready(reader: &mut DmapReader, events: &mut Vec<Event>) -> Result<(), Al
     Ok(())
 }
 
-/// A reader that an error stopped returns it at each call.
-fn stays_stopped(rt: &impl Abort, mut reader: DmapReader, error: &StreamError)
+/// A reader of the standard table.
+fn new_reader(alloc: Global) -> Result<DmapReader, AllocError>
+    ensures error { IfOk result (λ reader. reader.error ≡ None) }
+    ensures count { IfOk result (λ reader. taken reader ≡ 0) }
+{
+    DmapReader::new(alloc, &standard(alloc)?, limits())
+}
+
+/// Feeds a piece. Of what that promises a test owes the counts alone.
+fn fed(reader: &mut DmapReader, piece: &[u8]) -> Result<usize, StreamError>
+    requires { reader.old.error ≡ None → taken reader.old + length piece.now < 2 ^ 64 }
+    ensures error { MatchResult result (λ _. reader.new.error ≡ None) (λ e. reader.new.error ≡ Some e) }
+    ensures within { IfOk result (λ n. n ≤ length piece.now) }
+    ensures count { IfOk result (λ n. taken reader.new ≡ taken reader.old + n) }
+{
+    reader.feed(piece)
+}
+
+/// Whether a reader that an error stopped returns it at each call.
+fn stays_stopped(mut reader: DmapReader, error: &StreamError) -> bool
     requires { reader.error ≡ Some error.now }
 {
-    assert!(rt; reader.feed(b"mlog") == Err(error.copy()));
-    assert!(rt; reader.next().is_none());
-    assert!(rt; reader.finish() == Err(error.copy()));
+    let is_stopped = fed(&mut reader, b"mlog") == Err(error.copy()) && reader.next().is_none();
+    is_stopped && reader.finish() == Err(error.copy())
 }
 
 /// The length of the next piece if `left` of `all` bytes are left: `size` at most, and not past the cut.
@@ -56,46 +72,56 @@ fn piece_len(all: usize, left: usize, cut: usize, size: usize) -> usize
     most.min(size).min(left)
 }
 
+/// What a reader returned that an error stopped.
+fn stopped(reader: DmapReader, events: Vec<Event>, error: StreamError) -> Result<Reading, Fail>
+    requires { reader.error ≡ Some error }
+{
+    let held = reader.held();
+    if !stays_stopped(reader, &error) {
+        return Err(Fail::new("the reader goes on"));
+    }
+    let error = Some(error);
+    Ok(Reading {
+        events,
+        held,
+        error,
+    })
+}
+
+/// What a reader returned that was fed all.
+fn ended(reader: DmapReader, events: Vec<Event>) -> Reading {
+    let held = reader.held();
+    let error = reader.finish().err();
+    Reading {
+        events,
+        held,
+        error,
+    }
+}
+
 /// Reads bytes in pieces of `size` bytes at most, none of which goes past the cut.
-fn read(
-    rt: &impl Abort,
-    alloc: Global,
-    bytes: &[u8],
-    cut: usize,
-    size: usize,
-) -> Result<Reading, Fail> {
-    let mut reader = DmapReader::new(alloc, &standard(alloc)?, limits())?;
+fn read(alloc: Global, bytes: &[u8], cut: usize, size: usize) -> Result<Reading, Fail> {
+    let mut reader = new_reader(alloc)?;
     let mut events = Vec::new(alloc);
     let mut rest = bytes;
     for _ in 0..300 {
         let (piece, _) = rest.split_at(piece_len(bytes.len(), rest.len(), cut, size));
-        match reader.feed(piece) {
+        match fed(&mut reader, piece) {
             Ok(taken) => {
                 let (_, later) = rest.split_at(taken);
                 rest = later;
             }
             Err(error) => {
                 take_ready(&mut reader, &mut events)?;
-                let held = reader.held();
-                stays_stopped(rt, reader, &error);
-                let error = Some(error);
-                return Ok(Reading {
-                    events,
-                    held,
-                    error,
-                });
+                return stopped(reader, events, error);
             }
         }
         take_ready(&mut reader, &mut events)?;
     }
-    assert!(rt; rest.is_empty());
-    let held = reader.held();
-    let error = reader.finish().err();
-    Ok(Reading {
-        events,
-        held,
-        error,
-    })
+    if !rest.is_empty() {
+        return Err(Fail::new("the reader was not fed all"));
+    }
+    Ok(ended(reader, events))
 }
 
 #[derive(Clone, Copy, Debug, PartialEq, Eq)]
@@ -156,40 +182,32 @@ const WHOLE: [(&[u8], &[Step]); 5] = [
     (b"", &[]),
 ];
 
-/// Bytes in pieces of a size have these events, and end between two tags.
-fn has_steps(
-    rt: &impl Abort,
-    alloc: Global,
-    bytes: &[u8],
-    size: usize,
-    steps: &[Step],
-) -> Result<(), Fail> {
-    let reading = read(rt, alloc, bytes, 0, size)?;
-    assert!(rt; reading.error.is_none(), "{bytes:?}");
-    assert_eq!(rt; reading.events.len(), steps.len(), "{bytes:?}");
-    for (event, step) in reading.events.iter().zip(steps) {
-        assert!(rt; is_step(event, step), "{event:?}");
-    }
-    Ok(())
+/// Whether events are these.
+fn are_steps(events: &[Event], steps: &[Step]) -> bool {
+    events.len() == steps.len()
+        && events
+            .iter()
+            .zip(steps)
+            .all(|(event, step)| is_step(event, step))
 }
 
-fn have_steps(
-    rt: &impl Abort,
-    alloc: Global,
-    cases: &[(&[u8], &[Step])],
-    sizes: &[usize],
-) -> Result<(), Fail> {
-    for (bytes, steps) in cases {
-        for size in sizes {
-            has_steps(rt, alloc, *bytes, *size, *steps)?;
+/// Whether bytes in pieces of each size have these events, and end between two tags.
+fn have_steps(alloc: Global, bytes: &[u8], steps: &[Step], sizes: &[usize]) -> Result<bool, Fail> {
+    for size in sizes {
+        let reading = read(alloc, bytes, 0, *size)?;
+        if reading.error.is_some() || !are_steps(reading.events.as_slice(), steps) {
+            return Ok(false);
         }
     }
-    Ok(())
+    Ok(true)
 }
 
 #[test]
 fn events_come_in_order_however_the_bytes_are_cut(rt: HostRuntime) -> Result<(), Fail> {
-    have_steps(&rt, rt.alloc(), &WHOLE, &SIZES)
+    for (bytes, steps) in &WHOLE {
+        assert!(rt; have_steps(rt.alloc(), bytes, steps, &SIZES)?, "{bytes:?}");
+    }
+    Ok(())
 }
 
 /// Bytes with the number of events before their error, and the error. All but the last have it in their first tag.
@@ -226,25 +244,33 @@ fn shown(alloc: Global, error: &Option<StreamError>) -> Result<String, AllocErro
     format!(in alloc; "{error:?}")
 }
 
+/// Whether bytes in pieces of each size have so many events before this error.
 fn are_refused(
-    rt: &impl Abort,
     alloc: Global,
-    cases: &[(&[u8], usize, &str)],
+    bytes: &[u8],
+    events: usize,
+    error: &str,
     sizes: &[usize],
-) -> Result<(), Fail> {
-    for (bytes, events, error) in cases {
-        for size in sizes {
-            let reading = read(rt, alloc, *bytes, 0, *size)?;
-            assert_eq!(rt; reading.events.len(), *events);
-            assert_eq!(rt; shown(alloc, &reading.error)?.as_str(), *error);
+) -> Result<bool, Fail> {
+    for size in sizes {
+        let reading = read(alloc, bytes, 0, *size)?;
+        let told = shown(alloc, &reading.error)?;
+        if reading.events.len() != events || told.as_str() != error {
+            return Ok(false);
         }
     }
-    Ok(())
+    Ok(true)
 }
 
 #[test]
 fn the_first_error_is_returned_after_the_events_before_it(rt: HostRuntime) -> Result<(), Fail> {
-    are_refused(&rt, rt.alloc(), &BROKEN, &SIZES)
+    for (bytes, events, error) in &BROKEN {
+        assert!(rt;
+            are_refused(rt.alloc(), bytes, *events, error, &SIZES)?,
+            "{error}"
+        );
+    }
+    Ok(())
 }
 
 /// A list with a value of each kind, and values that are none of theirs.
@@ -258,24 +284,30 @@ fn transcript(alloc: Global, reading: &Reading) -> Result<String, AllocError> {
     format!(in alloc; "{events:?}")
 }
 
-/// Bytes that are cut anywhere have the events of the whole.
-fn reads_alike(rt: &impl Abort, alloc: Global, bytes: &[u8], events: usize) -> Result<(), Fail> {
-    let whole = read(rt, alloc, bytes, 0, 200)?;
-    assert!(rt; whole.error.is_none());
-    assert_eq!(rt; whole.events.len(), events);
-    let whole = transcript(alloc, &whole)?;
-    for cut in 1..bytes.len() {
-        let parted = read(rt, alloc, bytes, cut, 200)?;
-        assert!(rt; parted.error.is_none(), "cut at {cut}");
-        let parted = transcript(alloc, &parted)?;
-        assert!(rt; parted.as_str() == whole.as_str(), "cut at {cut}");
+/// The events of bytes that are whole, as they are shown, if they are so many.
+fn told(alloc: Global, bytes: &[u8], cut: usize, events: usize) -> Result<Option<String>, Fail> {
+    let reading = read(alloc, bytes, cut, 200)?;
+    if reading.error.is_some() || reading.events.len() != events {
+        return Ok(None);
     }
-    Ok(())
+    Ok(Some(transcript(alloc, &reading)?))
+}
+
+/// Whether bytes that are cut anywhere have the events of the whole.
+fn read_alike(alloc: Global, bytes: &[u8], events: usize) -> Result<bool, Fail> {
+    let whole = told(alloc, bytes, 0, events)?;
+    for cut in 1..bytes.len() {
+        if told(alloc, bytes, cut, events)? != whole {
+            return Ok(false);
+        }
+    }
+    Ok(whole.is_some())
 }
 
 #[test]
 fn a_tag_that_is_cut_reads_as_the_whole_one(rt: HostRuntime) -> Result<(), Fail> {
-    reads_alike(&rt, rt.alloc(), EACH_KIND, 15)
+    assert!(rt; read_alike(rt.alloc(), EACH_KIND, 15)?);
+    Ok(())
 }
 
 /// Bytes that end too early or are refused, with what is held of them, and the error.
@@ -298,25 +330,33 @@ const UNFINISHED: [(&[u8], u64, &str); 6] = [
 
 const SHORT_AND_LONG: [usize; 2] = [1, 100];
 
+/// Whether so many bytes are held when bytes in pieces of each size end with this error.
 fn are_held(
-    rt: &impl Abort,
     alloc: Global,
-    cases: &[(&[u8], u64, &str)],
+    bytes: &[u8],
+    held: u64,
+    error: &str,
     sizes: &[usize],
-) -> Result<(), Fail> {
-    for (bytes, held, error) in cases {
-        for size in sizes {
-            let reading = read(rt, alloc, *bytes, 0, *size)?;
-            assert_eq!(rt; reading.held, *held);
-            assert_eq!(rt; shown(alloc, &reading.error)?.as_str(), *error);
+) -> Result<bool, Fail> {
+    for size in sizes {
+        let reading = read(alloc, bytes, 0, *size)?;
+        let told = shown(alloc, &reading.error)?;
+        if reading.held != held || told.as_str() != error {
+            return Ok(false);
         }
     }
-    Ok(())
+    Ok(true)
 }
 
 #[test]
 fn what_is_held_came_since_the_head_of_a_leaf(rt: HostRuntime) -> Result<(), Fail> {
-    are_held(&rt, rt.alloc(), &UNFINISHED, &SHORT_AND_LONG)
+    for (bytes, held, error) in &UNFINISHED {
+        assert!(rt;
+            are_held(rt.alloc(), bytes, *held, error, &SHORT_AND_LONG)?,
+            "{error}"
+        );
+    }
+    Ok(())
 }
 
 fn is_status(event: &Option<Event>) -> bool {
@@ -332,24 +372,31 @@ fn is_status(event: &Option<Event>) -> bool {
     }
 }
 
-/// The status is ready with its last byte, and not before.
-fn comes_at_once(rt: &impl Abort, alloc: Global, cut: usize) -> Result<(), Fail>
+/// Whether a reader has no event before the last piece, and then a status and no more.
+fn is_ready_at(reader: &mut DmapReader, front: &[u8], back: &[u8]) -> bool
+    requires none { reader.old.error ≡ None }
+    requires count { taken reader.old + (length front.now + length back.now) < 2 ^ 64 }
+{
+    let begun = fed(reader, front) == Ok(front.len()) && reader.next().is_none();
+    begun
+        && fed(reader, back) == Ok(back.len())
+        && is_status(&reader.next())
+        && reader.next().is_none()
+}
+
+/// Whether the status is ready with its last byte, and not before.
+fn comes_at_once(alloc: Global, cut: usize) -> Result<bool, AllocError>
     requires { cut ≤ 12 }
 {
-    let mut reader = DmapReader::new(alloc, &standard(alloc)?, limits())?;
+    let mut reader = new_reader(alloc)?;
     let (front, back) = b"mstt\0\0\0\x04\0\0\0\xc8".split_at(cut);
-    assert_eq!(rt; reader.feed(front), Ok(cut));
-    assert!(rt; reader.next().is_none(), "cut at {cut}");
-    assert_eq!(rt; reader.feed(back), Ok(back.len()));
-    assert!(rt; is_status(&reader.next()), "cut at {cut}");
-    assert!(rt; reader.next().is_none());
-    Ok(())
+    Ok(is_ready_at(&mut reader, front, back))
 }
 
 #[test]
 fn a_leaf_comes_with_its_last_byte(rt: HostRuntime) -> Result<(), Fail> {
     for cut in 1..12 {
-        comes_at_once(&rt, rt.alloc(), cut)?;
+        assert!(rt; comes_at_once(rt.alloc(), cut)?, "cut at {cut}");
     }
     Ok(())
 }
@@ -387,19 +434,22 @@ const OPAQUE: [(&[u8], &[u8]); 4] = [
     (b"zzzz\0\0\0\x02\x01\x02", b"\x01\x02"),
 ];
 
-fn are_opaque(rt: &impl Abort, alloc: Global, cases: &[(&[u8], &[u8])]) -> Result<(), Fail> {
-    for (bytes, payload) in cases {
-        let reading = read(rt, alloc, *bytes, 0, 100)?;
-        assert_eq!(rt; first_opaque(&reading), Some(*payload));
-    }
-    Ok(())
+fn is_opaque(alloc: Global, bytes: &[u8], payload: &[u8]) -> Result<bool, Fail> {
+    let reading = read(alloc, bytes, 0, 100)?;
+    Ok(first_opaque(&reading) == Some(payload))
+}
+
+fn is_text(alloc: Global, bytes: &[u8], text: &str) -> Result<bool, Fail> {
+    let reading = read(alloc, bytes, 0, 100)?;
+    Ok(first_text(&reading) == Some(text))
 }
 
 #[test]
 fn a_payload_that_encodes_no_value_is_opaque(rt: HostRuntime) -> Result<(), Fail> {
-    are_opaque(&rt, rt.alloc(), &OPAQUE)?;
-    let reading = read(&rt, rt.alloc(), b"minm\0\0\0\0", 0, 100)?;
-    assert_eq!(rt; first_text(&reading), Some(""));
+    for (bytes, payload) in &OPAQUE {
+        assert!(rt; is_opaque(rt.alloc(), bytes, payload)?);
+    }
+    assert!(rt; is_text(rt.alloc(), b"minm\0\0\0\0", "")?);
     Ok(())
 }
 
@@ -413,21 +463,23 @@ fn nested(alloc: Global, levels: u8) -> Result<Vec<u8>, AllocError> {
     Ok(bytes)
 }
 
+/// Whether so many lists and one more byte behind them have so many events before this error.
+fn nests(
+    alloc: Global,
+    levels: u8,
+    behind: &[u8],
+    events: usize,
+    error: &str,
+) -> Result<bool, Fail> {
+    let mut bytes = nested(alloc, levels)?;
+    bytes.extend_from_slice(behind)?;
+    are_refused(alloc, bytes.as_slice(), events, error, &[100])
+}
+
 #[test]
 fn tags_nest_to_32_levels(rt: HostRuntime) -> Result<(), Fail> {
-    let alloc = rt.alloc();
-    let accepted = nested(alloc, 32)?;
-    let reading = read(&rt, alloc, accepted.as_slice(), 0, 100)?;
-    assert_eq!(rt; reading.events.len(), 64);
-    assert!(rt; reading.error.is_none());
-    let mut refused = nested(alloc, 33)?;
-    refused.push(0)?;
-    let reading = read(&rt, alloc, refused.as_slice(), 0, 100)?;
-    assert_eq!(rt; reading.events.len(), 32);
-    assert_eq!(rt;
-        shown(alloc, &reading.error)?.as_str(),
-        "Some(TooDeep { at: 256 })"
-    );
+    assert!(rt; nests(rt.alloc(), 32, b"", 64, "None")?);
+    assert!(rt; nests(rt.alloc(), 33, b"\0", 32, "Some(TooDeep { at: 256 })")?);
     Ok(())
 }
 
@@ -448,22 +500,26 @@ fn first_tag(alloc: Global, table: &CodeTable, bytes: &[u8]) -> Result<(Tag, usi
     read_tag(alloc, bytes, table, limits())
 }
 
-fn begin_with_tags(rt: &impl Abort, alloc: Global, cases: &[(&[u8], usize)]) -> Result<(), Fail> {
-    let table = standard(alloc)?;
-    for (bytes, len) in cases {
-        let (tag, read) = first_tag(alloc, &table, *bytes)?;
-        let mut encoding = Vec::new(alloc);
-        encode_into(&tag, &mut encoding)?;
-        assert_eq!(rt; read, *len);
-        assert_eq!(rt; encoding.len(), *len);
-        assert!(rt; bytes.starts_with(encoding.as_slice()));
-    }
-    Ok(())
+/// Whether bytes begin with a tag of this length, which is encoded as they are.
+fn begins_with_tag(
+    alloc: Global,
+    table: &CodeTable,
+    bytes: &[u8],
+    len: usize,
+) -> Result<bool, Fail> {
+    let (tag, read) = first_tag(alloc, table, bytes)?;
+    let mut encoding = Vec::new(alloc);
+    encode_into(&tag, &mut encoding)?;
+    Ok(read == len && encoding.len() == len && bytes.starts_with(encoding.as_slice()))
 }
 
 #[test]
 fn the_first_tag_is_read_whole(rt: HostRuntime) -> Result<(), Fail> {
-    begin_with_tags(&rt, rt.alloc(), &FIRST_TAGS)
+    let table = standard(rt.alloc())?;
+    for (bytes, len) in &FIRST_TAGS {
+        assert!(rt; begins_with_tag(rt.alloc(), &table, bytes, *len)?);
+    }
+    Ok(())
 }
 
 fn is_row_of_a(tag: &Tag) -> bool {
@@ -482,69 +538,71 @@ fn is_row_of_a(tag: &Tag) -> bool {
 #[test]
 fn a_list_is_read_with_its_members(rt: HostRuntime) -> Result<(), Fail> {
     let (tag, _) = first_tag(rt.alloc(), &standard(rt.alloc())?, ROW_OF_A)?;
-    assert!(rt; tag.code == Code(*b"mlit"));
-    assert!(rt; is_row_of_a(&tag));
+    assert!(rt; tag.code == Code(*b"mlit") && is_row_of_a(&tag));
     Ok(())
 }
 
-/// Why no tag is read, as it is shown.
-fn refusal(alloc: Global, table: &CodeTable, bytes: &[u8]) -> Result<String, AllocError> {
-    shown(alloc, &first_tag(alloc, table, bytes).err())
-}
-
-/// No tag is read from the bytes of these cases that have the error in their first tag.
-fn begin_with_none(
-    rt: &impl Abort,
+/// Whether no tag is read, for this reason, or one for none.
+fn refuses(
     alloc: Global,
     table: &CodeTable,
-    cases: &[(&[u8], usize, &str)],
-) -> Result<(), Fail> {
-    for (bytes, _, error) in cases.iter().take(8) {
-        assert_eq!(rt; refusal(alloc, table, *bytes)?.as_str(), *error);
-    }
-    Ok(())
+    bytes: &[u8],
+    error: &str,
+) -> Result<bool, AllocError> {
+    let told = shown(alloc, &first_tag(alloc, table, bytes).err())?;
+    Ok(told.as_str() == error)
 }
 
+/// The same of so many lists in one another.
+fn refuses_nested(
+    alloc: Global,
+    table: &CodeTable,
+    levels: u8,
+    error: &str,
+) -> Result<bool, AllocError> {
+    let bytes = nested(alloc, levels)?;
+    refuses(alloc, table, bytes.as_slice(), error)
+}
+
+// All but the last of the broken cases have their error in the first tag.
 #[test]
 fn a_malformed_tag_is_refused(rt: HostRuntime) -> Result<(), Fail> {
-    let alloc = rt.alloc();
-    let table = standard(alloc)?;
-    begin_with_none(&rt, alloc, &table, &BROKEN)?;
-    let none = refusal(alloc, &table, b"")?;
-    assert_eq!(rt; none.as_str(), "Some(Truncated { at: 0 })");
-    let accepted = nested(alloc, 32)?;
-    assert_eq!(rt;
-        refusal(alloc, &table, accepted.as_slice())?.as_str(),
-        "None"
-    );
-    let deep = nested(alloc, 33)?;
-    assert_eq!(rt;
-        refusal(alloc, &table, deep.as_slice())?.as_str(),
-        "Some(TooDeep { at: 256 })"
-    );
+    let table = standard(rt.alloc())?;
+    for (bytes, _, error) in BROKEN.iter().take(8) {
+        assert!(rt; refuses(rt.alloc(), &table, bytes, error)?, "{error}");
+    }
+    assert!(rt; refuses(rt.alloc(), &table, b"", "Some(Truncated { at: 0 })")?);
+    assert!(rt; refuses_nested(rt.alloc(), &table, 32, "None")?);
+    assert!(rt; refuses_nested(rt.alloc(), &table, 33, "Some(TooDeep { at: 256 })")?);
     Ok(())
 }
 
-/// Writes the tag to a sink, and returns what the sink took.
-fn written(
+/// Whether the tag is written to a sink so that it takes these bytes.
+fn writes(
     alloc: Global,
     tag: &Tag,
     failing: &[u64],
-) -> Result<(Result<(), WriteError>, Vec<u8>), AllocError> {
+    answer: Result<(), WriteError>,
+    bytes: &[u8],
+) -> Result<bool, AllocError> {
     let mut sink = MemSink::new(alloc, 100, 4, failing)?;
-    let result = write_tag(alloc, tag, &mut sink);
-    Ok((result, Vec::from_slice(alloc, sink.taken())?))
+    let is_so = write_tag(alloc, tag, &mut sink) == answer;
+    Ok(is_so && sink.taken() == bytes)
 }
 
 #[test]
 fn a_tag_is_written_as_it_was_read(rt: HostRuntime) -> Result<(), Fail> {
     let alloc = rt.alloc();
     let (tag, _) = first_tag(alloc, &standard(alloc)?, b"minm\0\0\0\x01\xff")?;
-    let (whole, bytes) = written(alloc, &tag, &[])?;
-    whole?;
-    assert_eq!(rt; bytes.as_slice(), b"minm\0\0\0\x01\xff".as_slice());
-    let (failed, bytes) = written(alloc, &tag, &[3])?;
-    assert!(rt; failed == Err(WriteError::Failed));
-    assert_eq!(rt; bytes.as_slice(), b"minm\0\0\0\x01".as_slice());
+    assert!(rt; writes(alloc, &tag, &[], Ok(()), b"minm\0\0\0\x01\xff")?);
+    assert!(rt;
+        writes(
+            alloc,
+            &tag,
+            &[3],
+            Err(WriteError::Failed),
+            b"minm\0\0\0\x01"
+        )?
+    );
     Ok(())
 }

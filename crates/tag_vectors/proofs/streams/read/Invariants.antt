@@ -3,4 +3,4 @@ use Rattle.dmap_stream.specs.Reader.{taken}
 use Rattle.tag_vectors.proofs.streams.read.Given as goal
 
 abbrev pub invariant-loop : goal.invariant-loop
-invariant-loop g l = (l.reader.error ≡ None) × (taken l.reader + length l.rest ≡ length l.bytes)
+invariant-loop l = (l.reader.error ≡ None) × (taken l.reader + length l.rest ≡ length l.bytes)
