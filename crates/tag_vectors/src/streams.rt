@@ -63,13 +63,21 @@ fn stays_stopped(mut reader: DmapReader, error: &StreamError) -> bool
     is_stopped && reader.finish() == Err(error.copy())
 }
 
-/// The length of the next piece if `left` of `all` bytes are left: `size` at most, and not past the cut.
+/// The length of the next piece by the cut, if `left` of `all` bytes are left: `size` at most, and not past the cut.
+fn len_up_to_cut(all: usize, left: usize, cut: usize, size: usize) -> usize {
+    let before_cut = cut.saturating_sub(all.saturating_sub(left));
+    if before_cut > 0 {
+        before_cut.min(size)
+    } else {
+        size
+    }
+}
+
+/// The length of the next piece, which is no more than is left.
 fn piece_len(all: usize, left: usize, cut: usize, size: usize) -> usize
     ensures { result ≤ left }
 {
-    let before_cut = cut.saturating_sub(all.saturating_sub(left));
-    let most = if before_cut > 0 { before_cut } else { size };
-    most.min(size).min(left)
+    len_up_to_cut(all, left, cut, size).min(left)
 }
 
 /// What a reader returned that an error stopped.
