@@ -1,34 +1,32 @@
 //! Refusals, each alone and each beside the next, and the mark that each kind of answer leaves to its session.
 
-use crate::shares::{Request, get, log_in, opened, respond};
-use std::alloc::Global;
-use std::process::Abort;
+use crate::shares::{Request, get, log_in, opened, replies, respond, shows};
+use share_core::Share;
+use std::alloc::{AllocError, Global};
 use std::test::Fail;
 
 /// No artists at revision 2, spelled by a program in another language.
-fn no_artists() -> &'static [u8] {
-    b"abro\0\0\0Amstt\0\0\0\x04\0\0\0\xc8muty\0\0\0\x01\0musr\0\0\0\x04\0\0\0\x02mtco\0\0\0\x04\0\0\0\0mrco\0\0\0\x04\0\0\0\0abar\0\0\0\0"
-}
+const NO_ARTISTS: &[u8] =
+    b"abro\0\0\0Amstt\0\0\0\x04\0\0\0\xc8muty\0\0\0\x01\0musr\0\0\0\x04\0\0\0\x02mtco\0\0\0\x04\0\0\0\0mrco\0\0\0\x04\0\0\0\0abar\0\0\0\0";
 
-/// Compares what requests are answered with, by status and line, where session 1 is live.
-fn refuses(
-    rt: &impl Abort,
-    alloc: Global,
-    rows: &[(Request, u16, &'static str)],
-) -> Result<(), Fail> {
+/// A request, and the status and the line that refuse it.
+type Refused = (Request, u16, &'static str);
+
+/// Whether requests are answered so where session 1 is live.
+fn refuses(alloc: Global, rows: &[Refused]) -> Result<bool, AllocError> {
     let mut share = opened(alloc, 16, "")?;
     log_in(alloc, &mut share, 1)?;
     for (request, status, line) in rows {
-        let response = respond(alloc, &mut share, *request)?;
-        assert_eq!(rt; response.status, *status);
-        assert_eq!(rt; response.body.as_slice(), line.as_bytes());
+        if !replies(alloc, &mut share, *request, *status, line.as_bytes())? {
+            return Ok(false);
+        }
     }
-    Ok(())
+    Ok(true)
 }
 
 /// Refusals in their order, each alone and with the next: of a path, a method, a parameter, the session, a container and
 /// records. Behind the stop there is one.
-const REFUSALS: [(Request, u16, &str); 15] = [
+const REFUSALS: [Refused; 15] = [
     (Request::Get("/nothing"), 404, ""),
     (Request::Get("/databases/2/items?session-id=1"), 404, ""),
     (Request::Get("/edit"), 404, ""),
@@ -68,11 +66,12 @@ const REFUSALS: [(Request, u16, &str); 15] = [
 
 #[test]
 fn the_first_refusal_is_told(rt: HostRuntime) -> Result<(), Fail> {
-    refuses(&rt, rt.alloc(), &REFUSALS)
+    assert!(rt; refuses(rt.alloc(), &REFUSALS)?);
+    Ok(())
 }
 
 /// Parameters in their order, each alone and with the next.
-const PARAMETERS: [(Request, u16, &str); 10] = [
+const PARAMETERS: [Refused; 10] = [
     (
         Request::Get("/update?session-id=x&revision-number=x"),
         400,
@@ -127,7 +126,8 @@ const PARAMETERS: [(Request, u16, &str); 10] = [
 
 #[test]
 fn the_first_bad_parameter_is_told(rt: HostRuntime) -> Result<(), Fail> {
-    refuses(&rt, rt.alloc(), &PARAMETERS)
+    assert!(rt; refuses(rt.alloc(), &PARAMETERS)?);
+    Ok(())
 }
 
 #[test]
@@ -135,14 +135,12 @@ fn a_query_is_not_read_beside_a_filter(rt: HostRuntime) -> Result<(), Fail> {
     let target = "/databases/1/browse/artists?session-id=1&query='a:1&filter='a:1'";
     let mut share = opened(rt.alloc(), 16, "")?;
     log_in(rt.alloc(), &mut share, 1)?;
-    let response = get(rt.alloc(), &mut share, target)?;
-    assert!(rt; response.status == 200);
-    assert!(rt; response.body.as_slice() == no_artists());
+    assert!(rt; shows(rt.alloc(), &mut share, target, NO_ARTISTS)?);
     Ok(())
 }
 
 /// So many names.
-fn names(alloc: Global, count: usize) -> Result<String, Fail> {
+fn names(alloc: Global, count: usize) -> Result<String, AllocError> {
     let mut names = String::new(alloc);
     for _ in 1..count {
         names.push_str("a,")?;
@@ -151,31 +149,34 @@ fn names(alloc: Global, count: usize) -> Result<String, Fail> {
     Ok(names)
 }
 
-/// Compares what a look at items is answered with that shows so many properties.
-fn shows(
-    rt: &impl Abort,
+/// Whether a look at items that shows so many properties, with more parameters beside, is answered so.
+fn answers(
     alloc: Global,
     count: usize,
     beside: &str,
     status: u16,
     line: &str,
-) -> Result<(), Fail> {
+) -> Result<bool, AllocError> {
     let meta = names(alloc, count)?;
     let target = format!(in alloc; "/databases/1/items?session-id=9&meta={meta}{beside}")?;
     let mut share = opened(alloc, 16, "")?;
     let response = get(alloc, &mut share, target.as_str())?;
-    assert_eq!(rt; response.status, status);
-    assert_eq!(rt; response.body.as_slice(), line.as_bytes());
-    Ok(())
+    Ok(response.status == status && response.body.as_slice() == line.as_bytes())
 }
+
+const MANY_NAMES: [(usize, &str, u16, &str); 4] = [
+    (256, "", 403, ""),
+    (257, "", 400, "parameter: meta\n"),
+    (257, "&delta=x", 400, "parameter: delta\n"),
+    (257, "&query='a;1'", 400, "parameter: meta\n"),
+];
 
 #[test]
 fn the_257th_name_is_refused(rt: HostRuntime) -> Result<(), Fail> {
-    let alloc = rt.alloc();
-    shows(&rt, alloc, 256, "", 403, "")?;
-    shows(&rt, alloc, 257, "", 400, "parameter: meta\n")?;
-    shows(&rt, alloc, 257, "&delta=x", 400, "parameter: delta\n")?;
-    shows(&rt, alloc, 257, "&query='a;1'", 400, "parameter: meta\n")
+    for (count, beside, status, line) in &MANY_NAMES {
+        assert!(rt; answers(rt.alloc(), *count, beside, *status, line)?);
+    }
+    Ok(())
 }
 
 const PUT: &str = "op,kind,id\nput,item,7\n";
@@ -222,13 +223,23 @@ const MARKS: [(Request, u16, u64); 22] = [
     (Request::Get("/databases?session-id=1"), 503, 7),
 ];
 
+/// Whether a request is answered with this status, and session 1 then has this mark.
+fn marks(
+    alloc: Global,
+    share: &mut Share,
+    request: Request,
+    status: u16,
+    mark: u64,
+) -> Result<bool, AllocError> {
+    let response = respond(alloc, share, request)?;
+    Ok(response.status == status && share.seen(1) == Some(mark))
+}
+
 #[test]
 fn an_answer_to_a_session_moves_its_mark(rt: HostRuntime) -> Result<(), Fail> {
     let mut share = opened(rt.alloc(), 16, "")?;
-    for (request, status, mark) in MARKS {
-        let response = respond(rt.alloc(), &mut share, request)?;
-        assert_eq!(rt; response.status, status);
-        assert_eq!(rt; share.seen(1), Some(mark));
+    for (request, status, mark) in &MARKS {
+        assert!(rt; marks(rt.alloc(), &mut share, *request, *status, *mark)?);
     }
     assert!(rt; share.seen(2).is_none());
     Ok(())

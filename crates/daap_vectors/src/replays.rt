@@ -1,7 +1,7 @@
 //! Whole replays, with every byte that they write. The bytes are those of a program of its own that answers requests by
 //! the profile's rules alone, and where the profile spells a body out, those of the profile.
 //!
-//! Known bytes stand in functions of their own: a proof of a test need not read them.
+//! Known bytes stand in constants: a proof of a test need not read them.
 
 ghost use Rattle.std.specs.Prelude.{◌≤◌};
 
@@ -9,7 +9,6 @@ use crate::shares::opened;
 use daap_outside::MemSink;
 use share_replay::{Script, replay};
 use std::alloc::{AllocError, Global};
-use std::process::Abort;
 use std::test::Fail;
 
 /// What is asked: a target, or that records be taken in.
@@ -363,22 +362,18 @@ const BROWSED: [Exchange; 8] = [
 ];
 
 /// Three connections wait, one of them closed, when the share is stopped.
-fn stop_of_many() -> &'static [u8] {
-    b"open 1 listen\nopen 2 edit\nopen 3 listen\nopen 4 listen\ntext 1 GET /login HTTP/1.1\\r\\n\\r\\nGET /update?session-id=1&revision-number=2 HTTP/1.1\\r\\n\\r\\n\ntext 3 GET /login HTTP/1.1\\r\\n\\r\\nGET /update?session-id=2&revision-number=2 HTTP/1.1\\r\\n\\r\\nGET /server-info HTTP/1.1\\r\\n\\r\\n\nclose 3\ntext 4 GET /login HTTP/1.1\\r\\n\\r\\nGET /update?session-id=3&revision-number=2 HTTP/1.1\\r\\n\\r\\n\ntext 2 POST /stop HTTP/1.1\\r\\n\\r\\n\n"
-}
+const STOP_OF_MANY: &[u8] =
+    b"open 1 listen\nopen 2 edit\nopen 3 listen\nopen 4 listen\ntext 1 GET /login HTTP/1.1\\r\\n\\r\\nGET /update?session-id=1&revision-number=2 HTTP/1.1\\r\\n\\r\\n\ntext 3 GET /login HTTP/1.1\\r\\n\\r\\nGET /update?session-id=2&revision-number=2 HTTP/1.1\\r\\n\\r\\nGET /server-info HTTP/1.1\\r\\n\\r\\n\nclose 3\ntext 4 GET /login HTTP/1.1\\r\\n\\r\\nGET /update?session-id=3&revision-number=2 HTTP/1.1\\r\\n\\r\\n\ntext 2 POST /stop HTTP/1.1\\r\\n\\r\\n\n";
 
-fn stop_of_many_output() -> &'static [u8] {
-    b"> 1 112\nHTTP/1.1 200 OK\r\nContent-Type: application/x-dmap-tagged\r\nContent-Length: 32\r\n\r\nmlog\0\0\0\x18mstt\0\0\0\x04\0\0\0\xc8mlid\0\0\0\x04\0\0\0\x01\n> 3 112\nHTTP/1.1 200 OK\r\nContent-Type: application/x-dmap-tagged\r\nContent-Length: 32\r\n\r\nmlog\0\0\0\x18mstt\0\0\0\x04\0\0\0\xc8mlid\0\0\0\x04\0\0\0\x02\n> 4 112\nHTTP/1.1 200 OK\r\nContent-Type: application/x-dmap-tagged\r\nContent-Length: 32\r\n\r\nmlog\0\0\0\x18mstt\0\0\0\x04\0\0\0\xc8mlid\0\0\0\x04\0\0\0\x03\n> 2 46\nHTTP/1.1 204 No Content\r\nConnection: close\r\n\r\n\n# 2 stopped\n> 1 74\nHTTP/1.1 503 Service Unavailable\r\nContent-Length: 0\r\nConnection: close\r\n\r\n\n# 1 stopped\n> 3 74\nHTTP/1.1 503 Service Unavailable\r\nContent-Length: 0\r\nConnection: close\r\n\r\n\n# 3 stopped\n> 4 74\nHTTP/1.1 503 Service Unavailable\r\nContent-Length: 0\r\nConnection: close\r\n\r\n\n# 4 stopped\n"
-}
+const STOP_OF_MANY_OUTPUT: &[u8] =
+    b"> 1 112\nHTTP/1.1 200 OK\r\nContent-Type: application/x-dmap-tagged\r\nContent-Length: 32\r\n\r\nmlog\0\0\0\x18mstt\0\0\0\x04\0\0\0\xc8mlid\0\0\0\x04\0\0\0\x01\n> 3 112\nHTTP/1.1 200 OK\r\nContent-Type: application/x-dmap-tagged\r\nContent-Length: 32\r\n\r\nmlog\0\0\0\x18mstt\0\0\0\x04\0\0\0\xc8mlid\0\0\0\x04\0\0\0\x02\n> 4 112\nHTTP/1.1 200 OK\r\nContent-Type: application/x-dmap-tagged\r\nContent-Length: 32\r\n\r\nmlog\0\0\0\x18mstt\0\0\0\x04\0\0\0\xc8mlid\0\0\0\x04\0\0\0\x03\n> 2 46\nHTTP/1.1 204 No Content\r\nConnection: close\r\n\r\n\n# 2 stopped\n> 1 74\nHTTP/1.1 503 Service Unavailable\r\nContent-Length: 0\r\nConnection: close\r\n\r\n\n# 1 stopped\n> 3 74\nHTTP/1.1 503 Service Unavailable\r\nContent-Length: 0\r\nConnection: close\r\n\r\n\n# 3 stopped\n> 4 74\nHTTP/1.1 503 Service Unavailable\r\nContent-Length: 0\r\nConnection: close\r\n\r\n\n# 4 stopped\n";
 
 /// Bytes that are no request wait behind an update, and those of another connection come after a stop.
-fn refusals_wait() -> &'static [u8] {
-    b"open 1 listen\nopen 2 edit\nopen 3 listen\nopen 4 listen\ntext 1 GET /login HTTP/1.1\\r\\n\\r\\nGET /update?session-id=1&revision-number=2 HTTP/1.1\\r\\n\\r\\nGET\\r\\n\\r\\n\ntext 3 GET /\ntext 2 POST /edit HTTP/1.1\\r\\nContent-Length: 38\\r\\n\\r\\nop,kind,id,dmap.itemname\\nput,item,7,A\\n\ntext 2 POST /stop HTTP/1.1\\r\\n\\r\\n\ntext 3 login\\r\\n\\r\\n\ntext 4 GET /login HTTP/1.1\\r\\n\\r\\n\n"
-}
+const REFUSALS_WAIT: &[u8] =
+    b"open 1 listen\nopen 2 edit\nopen 3 listen\nopen 4 listen\ntext 1 GET /login HTTP/1.1\\r\\n\\r\\nGET /update?session-id=1&revision-number=2 HTTP/1.1\\r\\n\\r\\nGET\\r\\n\\r\\n\ntext 3 GET /\ntext 2 POST /edit HTTP/1.1\\r\\nContent-Length: 38\\r\\n\\r\\nop,kind,id,dmap.itemname\\nput,item,7,A\\n\ntext 2 POST /stop HTTP/1.1\\r\\n\\r\\n\ntext 3 login\\r\\n\\r\\n\ntext 4 GET /login HTTP/1.1\\r\\n\\r\\n\n";
 
-fn refusals_wait_output() -> &'static [u8] {
-    b"> 1 112\nHTTP/1.1 200 OK\r\nContent-Type: application/x-dmap-tagged\r\nContent-Length: 32\r\n\r\nmlog\0\0\0\x18mstt\0\0\0\x04\0\0\0\xc8mlid\0\0\0\x04\0\0\0\x01\n> 2 112\nHTTP/1.1 200 OK\r\nContent-Type: application/x-dmap-tagged\r\nContent-Length: 32\r\n\r\nmupd\0\0\0\x18mstt\0\0\0\x04\0\0\0\xc8musr\0\0\0\x04\0\0\0\x03\n> 1 112\nHTTP/1.1 200 OK\r\nContent-Type: application/x-dmap-tagged\r\nContent-Length: 32\r\n\r\nmupd\0\0\0\x18mstt\0\0\0\x04\0\0\0\xc8musr\0\0\0\x04\0\0\0\x03\n> 1 66\nHTTP/1.1 400 Bad Request\r\nContent-Length: 0\r\nConnection: close\r\n\r\n\n# 1 refused 400\n> 2 46\nHTTP/1.1 204 No Content\r\nConnection: close\r\n\r\n\n# 2 stopped\n> 3 66\nHTTP/1.1 400 Bad Request\r\nContent-Length: 0\r\nConnection: close\r\n\r\n\n# 3 refused 400\n> 4 74\nHTTP/1.1 503 Service Unavailable\r\nContent-Length: 0\r\nConnection: close\r\n\r\n\n# 4 stopped\n"
-}
+const REFUSALS_WAIT_OUTPUT: &[u8] =
+    b"> 1 112\nHTTP/1.1 200 OK\r\nContent-Type: application/x-dmap-tagged\r\nContent-Length: 32\r\n\r\nmlog\0\0\0\x18mstt\0\0\0\x04\0\0\0\xc8mlid\0\0\0\x04\0\0\0\x01\n> 2 112\nHTTP/1.1 200 OK\r\nContent-Type: application/x-dmap-tagged\r\nContent-Length: 32\r\n\r\nmupd\0\0\0\x18mstt\0\0\0\x04\0\0\0\xc8musr\0\0\0\x04\0\0\0\x03\n> 1 112\nHTTP/1.1 200 OK\r\nContent-Type: application/x-dmap-tagged\r\nContent-Length: 32\r\n\r\nmupd\0\0\0\x18mstt\0\0\0\x04\0\0\0\xc8musr\0\0\0\x04\0\0\0\x03\n> 1 66\nHTTP/1.1 400 Bad Request\r\nContent-Length: 0\r\nConnection: close\r\n\r\n\n# 1 refused 400\n> 2 46\nHTTP/1.1 204 No Content\r\nConnection: close\r\n\r\n\n# 2 stopped\n> 3 66\nHTTP/1.1 400 Bad Request\r\nContent-Length: 0\r\nConnection: close\r\n\r\n\n# 3 refused 400\n> 4 74\nHTTP/1.1 503 Service Unavailable\r\nContent-Length: 0\r\nConnection: close\r\n\r\n\n# 4 stopped\n";
 
 /// Adds the line by which a request comes over connection 1.
 fn push_request(alloc: Global, script: &mut Vec<u8>, asks: Asks) -> Result<(), AllocError> {
@@ -428,19 +423,18 @@ fn push_reply(
     Ok(())
 }
 
+/// The bodies of a login and of an edit, but for the number that ends them, and the reply where nothing is.
+const LOGGED_IN: &[u8] = b"mlog\0\0\0\x18mstt\0\0\0\x04\0\0\0\xc8mlid\0\0\0\x04";
+
+const REVISED: &[u8] = b"mupd\0\0\0\x18mstt\0\0\0\x04\0\0\0\xc8musr\0\0\0\x04";
+
+const NOT_FOUND: &[u8] = b"HTTP/1.1 404 Not Found\r\nContent-Length: 0\r\n\r\n";
+
 fn bytes_of(alloc: Global, reply: Reply) -> Result<Vec<u8>, AllocError> {
     match reply {
         Reply::Tags(body) => tagged(alloc, body),
-        Reply::Session(id) => numbered(
-            alloc,
-            b"mlog\0\0\0\x18mstt\0\0\0\x04\0\0\0\xc8mlid\0\0\0\x04",
-            id,
-        ),
-        Reply::Revision(revision) => numbered(
-            alloc,
-            b"mupd\0\0\0\x18mstt\0\0\0\x04\0\0\0\xc8musr\0\0\0\x04",
-            revision,
-        ),
+        Reply::Session(id) => numbered(alloc, LOGGED_IN, id),
+        Reply::Revision(revision) => numbered(alloc, REVISED, revision),
         Reply::Line(line) => {
             let length = line.len() + 1;
             let text = format!(in alloc;
@@ -448,10 +442,7 @@ fn bytes_of(alloc: Global, reply: Reply) -> Result<Vec<u8>, AllocError> {
             )?;
             Vec::from_slice(alloc, text.as_bytes())
         }
-        Reply::Nowhere => Vec::from_slice(
-            alloc,
-            b"HTTP/1.1 404 Not Found\r\nContent-Length: 0\r\n\r\n",
-        ),
+        Reply::Nowhere => Vec::from_slice(alloc, NOT_FOUND),
     }
 }
 
@@ -479,32 +470,20 @@ fn read(alloc: Global, text: &[u8]) -> Result<Script, AllocError> {
     }
 }
 
-/// Checks all that a new share named `S` writes to a script.
-fn writes(
-    rt: &impl Abort,
-    alloc: Global,
-    keep: u32,
-    script: &[u8],
-    output: &[u8],
-) -> Result<(), AllocError>
+/// Whether a new share named `S` writes all this to a script.
+fn writes(alloc: Global, keep: u32, script: &[u8], output: &[u8]) -> Result<bool, AllocError>
     requires some { 1 ≤ keep }
     requires window { keep ≤ 65536 }
 {
     let script = read(alloc, script)?;
     let mut share = opened(alloc, keep, "")?;
     let mut sink = MemSink::new(alloc, output.len(), 65_536, &[])?;
-    assert!(rt; replay(alloc, &script, &mut share, &mut sink).is_ok());
-    assert!(rt; sink.taken() == output);
-    Ok(())
+    let is_played = replay(alloc, &script, &mut share, &mut sink).is_ok();
+    Ok(is_played && sink.taken() == output)
 }
 
-/// Plays requests on one connection, and checks each reply.
-fn exchanges(
-    rt: &impl Abort,
-    alloc: Global,
-    keep: u32,
-    table: &[Exchange],
-) -> Result<(), AllocError>
+/// Whether requests on one connection have these replies.
+fn exchanges(alloc: Global, keep: u32, table: &[Exchange]) -> Result<bool, AllocError>
     requires some { 1 ≤ keep }
     requires window { keep ≤ 65536 }
 {
@@ -515,69 +494,86 @@ fn exchanges(
         push_reply(alloc, &mut output, 1, *reply)?;
     }
     output.extend_from_slice(b"# 1 closed\n")?;
-    writes(rt, alloc, keep, script.as_slice(), output.as_slice())
+    writes(alloc, keep, script.as_slice(), output.as_slice())
 }
 
 #[test]
 fn requests_are_answered_in_turn(rt: HostRuntime) -> Result<(), Fail> {
     let alloc = rt.alloc();
-    exchanges(&rt, alloc, 256, &QUERIES)?;
-    exchanges(&rt, alloc, 256, &LEFT_THE_QUERY)?;
-    exchanges(&rt, alloc, 256, &PUT_AND_DROPPED)?;
-    exchanges(&rt, alloc, 256, &BASES_NOT_KEPT)?;
-    exchanges(&rt, alloc, 256, &RULE_PUT_AGAIN)?;
-    exchanges(&rt, alloc, 256, &PLAIN_LIST)?;
-    exchanges(&rt, alloc, 256, &REFUSED_BATCH)?;
-    exchanges(&rt, alloc, 256, &BROWSED)?;
-    exchanges(&rt, alloc, 1, &ONE_REVISION_KEPT)?;
+    assert!(rt; exchanges(alloc, 256, &QUERIES)?);
+    assert!(rt; exchanges(alloc, 256, &LEFT_THE_QUERY)?);
+    assert!(rt; exchanges(alloc, 256, &PUT_AND_DROPPED)?);
+    assert!(rt; exchanges(alloc, 256, &BASES_NOT_KEPT)?);
+    assert!(rt; exchanges(alloc, 256, &RULE_PUT_AGAIN)?);
+    assert!(rt; exchanges(alloc, 256, &PLAIN_LIST)?);
+    assert!(rt; exchanges(alloc, 256, &REFUSED_BATCH)?);
+    assert!(rt; exchanges(alloc, 256, &BROWSED)?);
+    assert!(rt; exchanges(alloc, 1, &ONE_REVISION_KEPT)?);
     Ok(())
 }
 
 #[test]
 fn held_updates_end_with_the_share(rt: HostRuntime) -> Result<(), Fail> {
     let alloc = rt.alloc();
-    writes(&rt, alloc, 256, stop_of_many(), stop_of_many_output())?;
-    writes(&rt, alloc, 256, refusals_wait(), refusals_wait_output())?;
+    assert!(rt; writes(alloc, 256, STOP_OF_MANY, STOP_OF_MANY_OUTPUT)?);
+    assert!(rt; writes(alloc, 256, REFUSALS_WAIT, REFUSALS_WAIT_OUTPUT)?);
     Ok(())
 }
 
-// An update of session 1 is held while 64 others log in, of which the first then waits as well.
-#[test]
-fn a_held_update_ends_with_its_session(rt: HostRuntime) -> Result<(), Fail> {
-    let alloc = rt.alloc();
-    let mut script = Vec::from_slice(
-        alloc,
-        b"open 1 listen\nopen 2 listen\ntext 1 GET /login HTTP/1.1\\r\\n\\r\\nGET /update?session-id=1&revision-number=2 HTTP/1.1\\r\\n\\r\\n\n",
-    )?;
+const TWO_PLAYERS: &[u8] =
+    b"open 1 listen\nopen 2 listen\ntext 1 GET /login HTTP/1.1\\r\\n\\r\\nGET /update?session-id=1&revision-number=2 HTTP/1.1\\r\\n\\r\\n\n";
+
+const ONE_LOGIN: &[u8] = b"text 2 GET /login HTTP/1.1\\r\\n\\r\\n\n";
+
+const LAST_UPDATE: &[u8] =
+    b"text 2 GET /update?session-id=2&revision-number=2 HTTP/1.1\\r\\n\\r\\n\n";
+
+const FIRST_ENDED: &[u8] =
+    b"> 1 45\nHTTP/1.1 403 Forbidden\r\nContent-Length: 0\r\n\r\n\n# 1 closed\n# 2 held\n";
+
+/// The script of one session whose update is held while 64 others log in, and what it writes.
+fn logins_behind_an_update(alloc: Global) -> Result<(Vec<u8>, Vec<u8>), AllocError> {
+    let mut script = Vec::from_slice(alloc, TWO_PLAYERS)?;
     let mut output = Vec::new(alloc);
     push_reply(alloc, &mut output, 1, Reply::Session(1))?;
     for id in 2..66 {
-        script.extend_from_slice(b"text 2 GET /login HTTP/1.1\\r\\n\\r\\n\n")?;
+        script.extend_from_slice(ONE_LOGIN)?;
         push_reply(alloc, &mut output, 2, Reply::Session(id))?;
     }
-    script.extend_from_slice(
-        b"text 2 GET /update?session-id=2&revision-number=2 HTTP/1.1\\r\\n\\r\\n\n",
-    )?;
-    output.extend_from_slice(
-        b"> 1 45\nHTTP/1.1 403 Forbidden\r\nContent-Length: 0\r\n\r\n\n# 1 closed\n# 2 held\n",
-    )?;
-    writes(&rt, alloc, 256, script.as_slice(), output.as_slice())?;
+    script.extend_from_slice(LAST_UPDATE)?;
+    output.extend_from_slice(FIRST_ENDED)?;
+    Ok((script, output))
+}
+
+// Of the 64 others the first then waits as well.
+#[test]
+fn a_held_update_ends_with_its_session(rt: HostRuntime) -> Result<(), Fail> {
+    let (script, output) = logins_behind_an_update(rt.alloc())?;
+    assert!(rt; writes(rt.alloc(), 256, script.as_slice(), output.as_slice())?);
     Ok(())
 }
 
-#[test]
-fn the_last_request_of_a_connection_ends_it(rt: HostRuntime) -> Result<(), Fail> {
-    let alloc = rt.alloc();
+const NOWHERE: &[u8] = b"> 1 45\nHTTP/1.1 404 Not Found\r\nContent-Length: 0\r\n\r\n\n";
+
+const LAST_NOWHERE: &[u8] =
+    b"> 1 64\nHTTP/1.1 404 Not Found\r\nContent-Length: 0\r\nConnection: close\r\n\r\n\n# 1 spent\n";
+
+/// The script of a connection with one request more than it may have, and what it writes.
+fn one_request_too_many(alloc: Global) -> Result<(Vec<u8>, Vec<u8>), AllocError> {
     let mut script = Vec::from_slice(alloc, b"open 1 listen\ntext 1 ")?;
     let mut output = Vec::new(alloc);
     for _ in 1..MOST_REQUESTS {
         script.extend_from_slice(b"GET / HTTP/1.1\\n\\n")?;
-        output.extend_from_slice(b"> 1 45\nHTTP/1.1 404 Not Found\r\nContent-Length: 0\r\n\r\n\n")?;
+        output.extend_from_slice(NOWHERE)?;
     }
     script.extend_from_slice(b"GET / HTTP/1.1\\n\\nGET / HTTP/1.1\\n\\n\n")?;
-    output.extend_from_slice(
-        b"> 1 64\nHTTP/1.1 404 Not Found\r\nContent-Length: 0\r\nConnection: close\r\n\r\n\n# 1 spent\n",
-    )?;
-    writes(&rt, alloc, 256, script.as_slice(), output.as_slice())?;
+    output.extend_from_slice(LAST_NOWHERE)?;
+    Ok((script, output))
+}
+
+#[test]
+fn the_last_request_of_a_connection_ends_it(rt: HostRuntime) -> Result<(), Fail> {
+    let (script, output) = one_request_too_many(rt.alloc())?;
+    assert!(rt; writes(rt.alloc(), 256, script.as_slice(), output.as_slice())?);
     Ok(())
 }

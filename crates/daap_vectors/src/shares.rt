@@ -14,9 +14,7 @@ use share_core::{Answer, OpenError, Share};
 use song_query::Steps;
 use std::alloc::{AllocError, Global};
 use std::marker::Brand;
-use std::process::Abort;
 use std::sync::ledger::{Blank, Ledger};
-use std::test::Fail;
 
 /// A request of a player, or what an editor posts.
 #[derive(Clone, Copy)]
@@ -87,19 +85,55 @@ pub(crate) fn respond(
     }
 }
 
-/// Compares what requests are answered with, by status and body.
+/// Whether a request is answered with this status and this body.
+pub(crate) fn replies(
+    alloc: Global,
+    share: &mut Share,
+    request: Request,
+    status: u16,
+    body: &[u8],
+) -> Result<bool, AllocError> {
+    let response = respond(alloc, share, request)?;
+    Ok(response.status == status && response.body.as_slice() == body)
+}
+
+/// Whether requests are answered so, one after the other.
 pub(crate) fn tells(
-    rt: &impl Abort,
     alloc: Global,
     share: &mut Share,
     rows: &[(Request, u16, &'static [u8])],
-) -> Result<(), Fail> {
+) -> Result<bool, AllocError> {
     for (request, status, body) in rows {
-        let response = respond(alloc, share, *request)?;
-        assert_eq!(rt; response.status, *status);
-        assert_eq!(rt; response.body.as_slice(), *body);
+        if !replies(alloc, share, *request, *status, body)? {
+            return Ok(false);
+        }
     }
-    Ok(())
+    Ok(true)
+}
+
+/// Whether a player gets this body for a target.
+pub(crate) fn shows(
+    alloc: Global,
+    share: &mut Share,
+    target: &str,
+    body: &[u8],
+) -> Result<bool, AllocError> {
+    let response = get(alloc, share, target)?;
+    Ok(response.status == 200 && response.body.as_slice() == body)
+}
+
+/// Whether each of these batches is taken.
+pub(crate) fn takes(
+    alloc: Global,
+    share: &mut Share,
+    batches: &[&'static str],
+) -> Result<bool, AllocError> {
+    for records in batches {
+        if post(alloc, share, "/edit", records)?.status != 200 {
+            return Ok(false);
+        }
+    }
+    Ok(true)
 }
 
 /// Logs in so many times.
