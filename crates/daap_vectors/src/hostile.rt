@@ -58,10 +58,12 @@ fn visit_in_pieces<'a>(role: Role, input: &'a [u8], piece: usize) -> Visit<'a>
     }
 }
 
-fn joined(alloc: Global, coming: Coming) -> Result<Vec<u8>, AllocError> {
+fn joined(alloc: Global, coming: &Coming) -> Result<Vec<u8>, AllocError> {
     let (front, again, times, back) = coming;
     let mut input = Vec::from_slice(alloc, front)?;
-    input.extend_from_slice(again.repeat(alloc, times)?.as_slice())?;
+    for _ in 0..*times {
+        input.extend_from_slice(again)?;
+    }
     input.extend_from_slice(back)?;
     Ok(input)
 }
@@ -152,6 +154,16 @@ fn last_words(end: LinkEnd) -> &'static [u8] {
     }
 }
 
+/// Whether a connection ended so, after so many requests.
+fn is_ended(report: &LinkReport, count: usize, end: LinkEnd) -> bool {
+    has_ended(report, end) && report.served.as_slice().len() == count
+}
+
+/// Whether what a connection took ends with the head of a refusal, if it ended with one.
+fn has_last_words(link: &MemLink, end: LinkEnd) -> bool {
+    link.taken().ends_with(last_words(end))
+}
+
 /// Whether a connection ends so, after so many requests, with the head of a refusal where it is one.
 fn ends<R: Wait + Clock>(
     rt: &R,
@@ -163,8 +175,7 @@ fn ends<R: Wait + Clock>(
     requires { 0 < visit.now.piece }
 {
     let (report, link) = tried(rt, alloc, visit)?;
-    let is_end = report.end == end && report.served.as_slice().len() == count;
-    Ok(is_end && link.taken().ends_with(last_words(end)))
+    Ok(is_ended(&report, count, end) && has_last_words(&link, end))
 }
 
 /// Whether bytes are refused with this status, as a whole and byte by byte.
@@ -192,7 +203,7 @@ fn what_is_no_request_is_refused(rt: HostRuntime) -> Result<(), Fail> {
 fn editor_ends<R: Wait + Clock>(
     rt: &R,
     alloc: Global,
-    coming: Coming,
+    coming: &Coming,
     count: usize,
     end: LinkEnd,
 ) -> Result<bool, AllocError> {
@@ -204,7 +215,7 @@ fn editor_ends<R: Wait + Clock>(
 #[test]
 fn each_connection_ends(rt: HostRuntime) -> Result<(), Fail> {
     for (coming, count, end) in &CONNECTIONS {
-        assert!(rt; editor_ends(&rt, rt.alloc(), *coming, *count, *end)?);
+        assert!(rt; editor_ends(&rt, rt.alloc(), coming, *count, *end)?);
     }
     Ok(())
 }
@@ -245,7 +256,7 @@ fn odd_requests_have_their_status(rt: HostRuntime) -> Result<(), Fail> {
 }
 
 /// A request for the items, with such parameters.
-fn listing(alloc: Global, parameters: Coming) -> Result<Vec<u8>, AllocError> {
+fn listing(alloc: Global, parameters: &Coming) -> Result<Vec<u8>, AllocError> {
     let parameters = joined(alloc, parameters)?;
     let mut request = Vec::from_slice(alloc, b"GET /databases/1/items?session-id=1&")?;
     request.extend_from_slice(parameters.as_slice())?;
@@ -262,6 +273,15 @@ fn edit(alloc: Global, records: &[u8]) -> Result<Vec<u8>, AllocError> {
     Ok(request)
 }
 
+/// A login, an item that is put, and a request behind.
+fn behind_an_item(alloc: Global, request: &[u8]) -> Result<Vec<u8>, AllocError> {
+    let item = edit(alloc, joined(alloc, &ITEM_7)?.as_slice())?;
+    let mut input = Vec::from_slice(alloc, LOGIN)?;
+    input.extend_from_slice(item.as_slice())?;
+    input.extend_from_slice(request)?;
+    Ok(input)
+}
+
 /// Whether the reply to a request ends so, behind a login and an item that is put.
 fn is_told<R: Wait + Clock>(
     rt: &R,
@@ -269,21 +289,17 @@ fn is_told<R: Wait + Clock>(
     request: &[u8],
     last: &[u8],
 ) -> Result<bool, AllocError> {
-    let item = joined(alloc, ITEM_7)?;
-    let mut input = Vec::from_slice(alloc, LOGIN)?;
-    input.extend_from_slice(edit(alloc, item.as_slice())?.as_slice())?;
-    input.extend_from_slice(request)?;
+    let input = behind_an_item(alloc, request)?;
     let editor = visit_in_pieces(Role::Edit, input.as_slice(), 4_096);
     let (report, link) = tried(rt, alloc, &editor)?;
-    let is_whole = report.end == LinkEnd::Closed && report.served.as_slice().len() == 3;
-    Ok(is_whole && link.taken().ends_with(last))
+    Ok(is_ended(&report, 3, LinkEnd::Closed) && link.taken().ends_with(last))
 }
 
 /// The same of a request for the items with such parameters.
 fn lists<R: Wait + Clock>(
     rt: &R,
     alloc: Global,
-    parameters: Coming,
+    parameters: &Coming,
     last: &[u8],
 ) -> Result<bool, AllocError> {
     let request = listing(alloc, parameters)?;
@@ -294,7 +310,7 @@ fn lists<R: Wait + Clock>(
 fn edits<R: Wait + Clock>(
     rt: &R,
     alloc: Global,
-    records: Coming,
+    records: &Coming,
     last: &[u8],
 ) -> Result<bool, AllocError> {
     let records = joined(alloc, records)?;
@@ -305,16 +321,18 @@ fn edits<R: Wait + Clock>(
 #[test]
 fn requests_have_limits(rt: HostRuntime) -> Result<(), Fail> {
     for (parameters, last) in &QUERIES {
-        assert!(rt; lists(&rt, rt.alloc(), *parameters, last)?);
+        assert!(rt; lists(&rt, rt.alloc(), parameters, last)?);
     }
     for (records, last) in &RECORDS {
-        assert!(rt; edits(&rt, rt.alloc(), *records, last)?);
+        assert!(rt; edits(&rt, rt.alloc(), records, last)?);
     }
     Ok(())
 }
 
 const LATE_SESSIONS: &[u8] =
     b"GET /databases?session-id=936 HTTP/1.1\r\n\r\nGET /databases?session-id=937 HTTP/1.1\r\n\r\n";
+
+const LOGINS: Coming = (LOGIN, LOGIN, 999, LATE_SESSIONS);
 
 /// Whether of 1,000 logins those from 937 on are live.
 fn are_last_live(report: &LinkReport) -> bool {
@@ -327,7 +345,7 @@ fn are_last_live(report: &LinkReport) -> bool {
 
 #[test]
 fn sessions_end_in_their_order(rt: HostRuntime) -> Result<(), Fail> {
-    let input = joined(rt.alloc(), (LOGIN, LOGIN, 999, LATE_SESSIONS))?;
+    let input = joined(rt.alloc(), &LOGINS)?;
     let player = visit_in_pieces(Role::Listen, input.as_slice(), 4_096);
     let (report, _) = tried(&rt, rt.alloc(), &player)?;
     assert!(rt; are_last_live(&report));
@@ -341,6 +359,10 @@ fn many_items(alloc: Global) -> Result<Vec<u8>, AllocError> {
         records.push_str(format!(in alloc; "put,item,{id}\n")?.as_str())?;
     }
     edit(alloc, records.as_bytes())
+}
+
+fn has_ended(report: &LinkReport, end: LinkEnd) -> bool {
+    report.end == end
 }
 
 /// What a connection takes that is served at a share, if it ends so.
@@ -357,8 +379,16 @@ fn taken<R: Wait + Clock>(
     ensures ready { IsReady (lock_id lock.now) pass.new }
 {
     let (report, link) = served(rt, alloc, lock, pass, visit)?;
-    Ok(if report.end == end { Some(link) } else { None })
+    Ok(if has_ended(&report, end) {
+        Some(link)
+    } else {
+        None
+    })
 }
+
+const LISTINGS: Coming = (LOGIN, LIST_ITEMS, 2, b"");
+
+const ONE_LISTING: Coming = (LOGIN, LIST_ITEMS_AGAIN, 1, b"");
 
 /// A player whose connection fails at that write while another lists the same items; gives both, if they end so.
 fn gone_away<R: Wait + Clock>(
@@ -370,13 +400,13 @@ fn gone_away<R: Wait + Clock>(
     let items = many_items(alloc)?;
     let editor = visit_in_pieces(Role::Edit, items.as_slice(), 4_096);
     served(rt, alloc, &lock, &mut pass, &editor)?;
-    let input = joined(alloc, (LOGIN, LIST_ITEMS, 2, b""))?;
+    let input = joined(alloc, &LISTINGS)?;
     let player = Visit {
         failing: &[failing],
         ..visit_in_pieces(Role::Listen, input.as_slice(), 4_096)
     };
     let gone = taken(rt, alloc, &lock, &mut pass, &player, LinkEnd::LinkFault)?;
-    let input = joined(alloc, (LOGIN, LIST_ITEMS_AGAIN, 1, b""))?;
+    let input = joined(alloc, &ONE_LISTING)?;
     let other = visit_in_pieces(Role::Listen, input.as_slice(), 4_096);
     let whole = taken(rt, alloc, &lock, &mut pass, &other, LinkEnd::Closed)?;
     Ok((gone, whole))
@@ -397,7 +427,11 @@ fn is_begun(gone: &[u8], whole: &[u8]) -> bool {
 
 /// Whether a player that goes away at that write has a part of the listing, and another all of it.
 fn harms_nobody<R: Wait + Clock>(rt: &R, alloc: Global, failing: u64) -> Result<bool, AllocError> {
-    let (Some(gone), Some(whole)) = gone_away(rt, alloc, failing)? else {
+    let (gone, whole) = gone_away(rt, alloc, failing)?;
+    let Some(gone) = gone else {
+        return Ok(false);
+    };
+    let Some(whole) = whole else {
         return Ok(false);
     };
     Ok(is_whole(whole.taken()) && is_begun(gone.taken(), whole.taken()))
@@ -411,42 +445,21 @@ fn who_goes_away_harms_nobody(rt: HostRuntime) -> Result<(), Fail> {
     Ok(())
 }
 
-/// A door at which one editor comes, who sends the same edit many times.
-fn editors_door(alloc: Global) -> Result<MemDoor, AllocError> {
-    let input = joined(alloc, (b"", PUT_7, MANY_EDITS, b""))?;
-    let editor = visit_in_pieces(Role::Edit, input.as_slice(), 50);
-    let mut door = MemDoor::new(alloc, &[], 1)?;
-    door.add(link(alloc, &editor)?)?;
-    Ok(door)
+const MANY_PUTS: Coming = (b"", PUT_7, MANY_EDITS, b"");
+
+/// The link of an editor who sends the same edit many times.
+fn editors_link(alloc: Global) -> Result<MemLink, AllocError>
+    ensures { IfOk result IsNew }
+{
+    let input = joined(alloc, &MANY_PUTS)?;
+    link(alloc, &visit_in_pieces(Role::Edit, input.as_slice(), 50))
 }
 
-/// One more worker, at that door.
-fn hire<R: Wait>(
-    rt: &R,
-    alloc: Global,
-    lock: &ShareLock<Share>,
-    first: &mut Pass<Share>,
-    door: MemDoor,
-    workers: &mut Vec<Worker<MemDoor>>,
-) -> Result<(), AllocError>
-    requires first { IsReady (lock_id lock.now) first.old }
-    requires ready { All (λ w. IsReady (lock_id lock.now) w.pass) workers.old.items }
-    requires running { All (λ w. w.end ≡ WorkerEnd.Running) workers.old.items }
-    requires unreported { All (λ w. w.reports.items ≡ []) workers.old.items }
-    ensures first { IsReady (lock_id lock.now) first.new }
-    ensures ready { OnOk result (All (λ w. IsReady (lock_id lock.now) w.pass) workers.new.items) }
-    ensures running { OnOk result (All (λ w. w.end ≡ WorkerEnd.Running) workers.new.items) }
-    ensures unreported { OnOk result (All (λ w. w.reports.items ≡ []) workers.new.items) }
-{
-    let pass = drawn(rt, lock, first);
-    workers.push(Worker {
-        pass,
-        door,
-        role: Role::Edit,
-        reports: Vec::new(alloc),
-        end: WorkerEnd::Running,
-    })?;
-    Ok(())
+/// A door at which one such editor comes.
+fn editors_door(alloc: Global) -> Result<MemDoor, AllocError> {
+    let mut door = MemDoor::new(alloc, &[], 1)?;
+    door.add(editors_link(alloc)?)?;
+    Ok(door)
 }
 
 /// A pass of its own, for a worker that has not begun.
@@ -458,29 +471,98 @@ fn drawn<R: Wait>(rt: &R, lock: &ShareLock<Share>, first: &mut Pass<Share>) -> P
     lock.split(rt, first).unwrap()
 }
 
+/// A worker at that door, which has not begun.
+fn editor<R: Wait>(
+    rt: &R,
+    alloc: Global,
+    lock: &ShareLock<Share>,
+    first: &mut Pass<Share>,
+    door: MemDoor,
+) -> Worker<MemDoor>
+    requires first { IsReady (lock_id lock.now) first.old }
+    ensures first { IsReady (lock_id lock.now) first.new }
+    ensures ready { IsReady (lock_id lock.now) result.pass }
+    ensures running { result.end ≡ WorkerEnd.Running }
+    ensures unreported { result.reports.items ≡ [] }
+{
+    Worker {
+        pass: drawn(rt, lock, first),
+        door,
+        role: Role::Edit,
+        reports: Vec::new(alloc),
+        end: WorkerEnd::Running,
+    }
+}
+
+/// One more worker, which has not begun.
+fn hire(
+    lock: &ShareLock<Share>,
+    worker: Worker<MemDoor>,
+    workers: &mut Vec<Worker<MemDoor>>,
+) -> Result<(), AllocError>
+    requires its_pass { IsReady (lock_id lock.now) worker.pass }
+    requires its_end { worker.end ≡ WorkerEnd.Running }
+    requires its_reports { worker.reports.items ≡ [] }
+    requires ready { All (λ w. IsReady (lock_id lock.now) w.pass) workers.old.items }
+    requires running { All (λ w. w.end ≡ WorkerEnd.Running) workers.old.items }
+    requires unreported { All (λ w. w.reports.items ≡ []) workers.old.items }
+    ensures ready { OnOk result (All (λ w. IsReady (lock_id lock.now) w.pass) workers.new.items) }
+    ensures running { OnOk result (All (λ w. w.end ≡ WorkerEnd.Running) workers.new.items) }
+    ensures unreported { OnOk result (All (λ w. w.reports.items ≡ []) workers.new.items) }
+{
+    workers.push(worker)?;
+    Ok(())
+}
+
+/// Two editors who have not begun.
+fn two_editors<R: Wait>(
+    rt: &R,
+    alloc: Global,
+    lock: &ShareLock<Share>,
+    first: &mut Pass<Share>,
+) -> Result<Vec<Worker<MemDoor>>, AllocError>
+    requires first { IsReady (lock_id lock.now) first.old }
+    ensures ready { IfOk result (λ v. All (λ w. IsReady (lock_id lock.now) w.pass) v.items) }
+    ensures running { IfOk result (λ v. All (λ w. w.end ≡ WorkerEnd.Running) v.items) }
+    ensures unreported { IfOk result (λ v. All (λ w. w.reports.items ≡ []) v.items) }
+{
+    let mut workers = Vec::new(alloc);
+    let one = editor(rt, alloc, lock, first, editors_door(alloc)?);
+    hire(lock, one, &mut workers)?;
+    let other = editor(rt, alloc, lock, first, editors_door(alloc)?);
+    hire(lock, other, &mut workers)?;
+    Ok(workers)
+}
+
+/// The points at which edits of the workers were added.
+fn added(alloc: Global, workers: &[Worker<MemDoor>]) -> Result<Vec<u64>, AllocError> {
+    let mut points = Vec::new(alloc);
+    for worker in workers {
+        for report in &worker.reports {
+            push_added(report, &mut points)?;
+        }
+    }
+    Ok(points)
+}
+
+fn push_added(report: &LinkReport, points: &mut Vec<u64>) -> Result<(), AllocError> {
+    for served in report.served.as_slice() {
+        if served.added && served.status == 200 {
+            points.push(served.point)?;
+        }
+    }
+    Ok(())
+}
+
 /// Two editors at once, each in a thread; gives the points at which their edits were added.
 fn added_by_two<R: Threads + Wait + Clock + Sync>(
     rt: &R,
     alloc: Global,
 ) -> Result<Vec<u64>, AllocError> {
     let (lock, mut first) = opened(alloc)?;
-    let mut workers = Vec::new(alloc);
-    let door = editors_door(alloc)?;
-    hire(rt, alloc, &lock, &mut first, door, &mut workers)?;
-    let door = editors_door(alloc)?;
-    hire(rt, alloc, &lock, &mut first, door, &mut workers)?;
+    let mut workers = two_editors(rt, alloc, &lock, &mut first)?;
     serve_all(rt, alloc, &lock, &Bell::new(), &mut workers);
-    let mut points = Vec::new(alloc);
-    for worker in &workers {
-        for report in &worker.reports {
-            for served in report.served.as_slice() {
-                if served.added && served.status == 200 {
-                    points.push(served.point)?;
-                }
-            }
-        }
-    }
-    Ok(points)
+    added(alloc, workers.as_slice())
 }
 
 #[test]
