@@ -33,8 +33,8 @@ is_stop_beside number e = is_stop e && not (maker e == number)
 abbrev pub stop_behind : ℕ → List Entry → List Entry
 stop_behind number h = if list_any (is_stop_beside number) h then [] else entry.Stop number ∷ []
 
--- where a pass that had made no stop asked for one, its entries are those before and that stop, which is left out exactly where
--- another pass's stop is in what it has seen
+-- A pass that had made no stop asks for one: its own entries are the earlier ones and then a stop. There is no such stop if the
+-- pass has seen one that another pass made.
 abbrev pub StopsComeLast : Type 0
 StopsComeLast =
     (k k' : Pass) (s : Served) → is_stopped (entries_of maker k.number k.seen) ≡ false → Serves k k' (stop_ask ∷ []) (s ∷ [])

@@ -9,9 +9,8 @@ use item_model::{Row, Target};
 use mirror_core::key_of;
 use std::alloc::{AllocError, Global};
 
-/// The row that the tag of a listed item tells. `None` if the tag is not a list that begins with a `miid` of at least 1. Of the
-/// members behind it those are read that are properties with a value of their kind and range, of two the first; others are
-/// skipped.
+/// Reads a row back from the tag of a listed item. Returns `None` if the first member is not the row's id, a `miid` of 1 or more.
+/// A property that comes twice has its first value. Members of other codes, and values of another kind or range, are ignored.
 #[tactic(auto, unfolding(crate::specs::ReadRows::row_of))]
 pub fn row_of(alloc: Global, tag: &Tag) -> Result<Option<Row>, AllocError>
     ensures { IfOk result (λ row. row ≡ row_of tag.now) }
