@@ -6,3 +6,4 @@ pub mod Asking
 pub mod Standing
 pub mod Meeting
 pub mod Unstopped
+pub mod FirstRound

@@ -4,6 +4,8 @@ use Rattle.std.specs.Prelude.{◌≡◌, ◌≤◌, ◌⊎◌, ℕ, List, [], �
 use Rattle.std.specs.Io.KnownBytes.{Appends}
 use Rattle.item_model.specs.declared.changes.Entry.{Entry}
 use Rattle.daap_outside.specs.Places.{Returned}
+use Rattle.item_model.specs.declared.query.Query.{Query}
+use Rattle.item_model.specs.declared.request.Meta.{Meta}
 use Rattle.share_asks.specs.declared.ask.Role.{Role}
 use Rattle.share_history.specs.Listings.{Listing}
 use Rattle.share_replies.specs.Settings.{Settings}
@@ -23,6 +25,7 @@ use Rattle.share_server.specs.Passes.{Pass}
 use Rattle.share_workers.specs.Works.{Works}
 use Rattle.followed_shares.specs.Laws.{last_revision, rows_at}
 use Rattle.followed_shares.specs.Whole.{IsWhole}
+use Rattle.served_mirrors.specs.Examples.{IsServedOnce, new_mirror}
 use Rattle.served_mirrors.specs.Links.{AnsweredAll, AreServedLinks, ServedLink}
 use Rattle.served_mirrors.specs.Mirrors.{CanBeAsked, HoldsTheShare}
 
@@ -74,3 +77,7 @@ FollowersAreNotStopped =
     (s : Settings) (by limit : ℕ) (role : Role) (h : List Entry) (input output : List ℕ)
     → (x : StopsFrom host m rounds Begun p taken e now) → Appends x.there.taken taken x.request → m.held.revision ≡ 0 → CanBeAsked host m → IsWhole h
     → p.taken ≡ Some [] → taken ≡ Some input → p.owed ≡ Some output → AnsweredAll s by limit role h input output → (e ≡ LinkFault) ⊎ (e ≡ Memory)
+
+-- every mirror of all items that can be asked is served to its end by some share
+abbrev pub MirrorsAreServed : Type 0
+MirrorsAreServed = (host : List ℕ) (s : Settings) (by : ℕ) (query : Option Query) (meta : Meta) → CanBeAsked host (new_mirror query meta) → IsServedOnce host (new_mirror query meta) s by

@@ -1,7 +1,7 @@
 //! What holds of all mirrors and of all shares that they follow. Each function does nothing; its contract is a fact that follows
 //! from the definitions.
 
-ghost use Rattle.served_mirrors.specs.Laws.{EndedLinksAreServed, FollowersAreNotStopped, FollowersHoldTheShare, StoppedMirrorsHoldTheShare, WalkersHoldTheShare, WorkersLinksAreServed};
+ghost use Rattle.served_mirrors.specs.Laws.{EndedLinksAreServed, FollowersAreNotStopped, FollowersHoldTheShare, MirrorsAreServed, StoppedMirrorsHoldTheShare, WalkersHoldTheShare, WorkersLinksAreServed};
 
 /// A mirror that followed a share to the end holds all rows that its query selects, at the revision of its last round. Each listing
 /// that it applied is the share's at a point of the one history, and these points never fall.
@@ -32,4 +32,9 @@ pub fn ended_links_are_served()
 /// So has each connection of a worker.
 pub fn workers_links_are_served()
     ensures { WorkersLinksAreServed }
+{}
+
+/// There is a share that serves a mirror of all items to its end, whatever it asks for.
+pub fn mirrors_are_served()
+    ensures { MirrorsAreServed }
 {}
