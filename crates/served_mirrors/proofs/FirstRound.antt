@@ -1,5 +1,5 @@
 -- A new share without edits serves a mirror of all items: it learns the table, logs in, reads one listing and logs out.
-use Rattle.std.proofs.Common.{◌≡◌, ◌≤◌, ◌+◌, ℕ, List, [], ◌∷◌, ◌++◌, length, true, false, Option, Some, None, refl, sym, inl, inr, append-nil, arith}
+use Rattle.std.proofs.Common.{◌≡◌, ◌≤◌, ◌+◌, ℕ, List, [], ◌∷◌, ◌++◌, length, true, false, Option, Some, None, refl, sym, ◌∙◌, inl, inr, append-nil, arith}
 use Rattle.dmap_tags.specs.Spelling.{spelling}
 use Rattle.dmap_tags.specs.Tree.{Tree}
 use Rattle.code_table.specs.Reply.{table_reply}
@@ -32,6 +32,8 @@ use Rattle.share_server.specs.Served.{AreServed}
 use Rattle.mirror_core.specs.Mirrored.{Mirrored}
 use Rattle.mirror_core.proofs.AfterFacts.{answer_is_listing}
 use Rattle.mirror_client.specs.Exchanges.{AreAnswered, Exchange, messages, requests}
+use Rattle.mirror_client.specs.Points.{nothing_read, place}
+use Rattle.mirror_client.specs.Runs.{Followed}
 use Rattle.mirror_client.specs.Stages.{Asking, Begun, Closed, Holding, Learned, Path}
 use Rattle.mirror_client.specs.Steps.{Known, TellsListing, all_applied, with_listings}
 use Rattle.followed_shares.specs.Whole.{IsWhole}
@@ -39,6 +41,7 @@ use Rattle.followed_shares.proofs.BodiesRead.{listing_body_read}
 use Rattle.followed_shares.proofs.FilterShown.{few, login_tag, standard_back, table_tag}
 use Rattle.followed_shares.proofs.HeadsRead.{empty_read, tag_read}
 use Rattle.served_mirrors.specs.Examples.{IsServedOnce, new_mirror}
+use Rattle.served_mirrors.specs.Links.{AnsweredAll, ServedLink}
 use Rattle.served_mirrors.specs.Laws.{MirrorsAreServed}
 use Rattle.served_mirrors.specs.Mirrors.{CanBeAsked}
 use Rattle.served_mirrors.proofs.Answering.{ReadsBack, open_ask}
@@ -208,48 +211,70 @@ path host s by query meta = (
 go_on : (by : ℕ) (query : Option Query) (meta : Meta) → GoOn 65536 (at_end by) 1 (all_asks query meta) all_served
 go_on by query meta = (refl, (refl, (refl, (refl, tt))))
 
+-- the responses are the messages that the client reads
+same_bytes : (host : List ℕ) (s : Settings) (by : ℕ) (query : Option Query) (meta : Meta)
+    → messages (all_exchanges host s by query meta) ≡ replies s 65536 (at_end by) (all_asks query meta) all_served
+same_bytes host s by query meta = refl
+
+served_once : (host : List ℕ) (s : Settings) (by : ℕ) (query : Option Query) (meta : Meta) (output : List ℕ) → output ≡ replies s 65536 (at_end by) (all_asks query meta) all_served
+    → IsReading Listen (text_of host query meta) (reading (all_asks query meta) [] None) → ServedLink s by 65536 Listen (at_end by) (text_of host query meta) output
+served_once host s by query meta output is read = record {
+  asks = all_asks query meta;
+  rest = [];
+  served = all_served;
+  end = closed;
+  joins = read.joins;
+  are_served = are_served s by query meta;
+  rises = (omega arith, (omega arith, (omega arith, (omega arith, omega arith))));
+  how = inr (record { goes_on = go_on by query meta; reads = read }, refl, is);
+}
+
+answered_once : (host : List ℕ) (s : Settings) (by : ℕ) (query : Option Query) (meta : Meta) (output : List ℕ) → output ≡ replies s 65536 (at_end by) (all_asks query meta) all_served
+    → IsReading Listen (text_of host query meta) (reading (all_asks query meta) [] None) → AnsweredAll s by 65536 Listen (at_end by) (text_of host query meta) output
+answered_once host s by query meta output is read = record {
+  asks = all_asks query meta;
+  served = all_served;
+  joins = read.joins;
+  are_served = are_served s by query meta;
+  rises = (omega arith, (omega arith, (omega arith, (omega arith, omega arith))));
+  granted = (inl refl, (inl refl, (inl refl, (inr refl, tt))));
+  written = is;
+}
+
+followed_once : (host : List ℕ) (s : Settings) (by : ℕ) (query : Option Query) (meta : Meta) (output : List ℕ) → output ≡ messages (all_exchanges host s by query meta)
+    → Followed host (new_mirror query meta) 1 (place (Some []) (Some output) nothing_read) (Some (text_of host query meta))
+    (all_applied (new_mirror query meta).held (first_listing s by query meta ∷ [])) (with_listings (new_mirror query meta) (first_listing s by query meta ∷ []))
+followed_once host s by query meta output is = record {
+  known = known;
+  listings = first_listing s by query meta ∷ [];
+  there = record { taken = Some (text_of host query meta); owed = Some []; used = 0 + length (messages (all_exchanges host s by query meta)) };
+  walks = record {
+    exchanges = all_exchanges host s by query meta;
+    path = path host s by query meta;
+    went = record {
+      written = refl;
+      answered = are_answered host s by query meta;
+      read = is ∙ sym (append-nil (messages (all_exchanges host s by query meta)));
+      counted = refl;
+    };
+  };
+  written = refl;
+  one_each = refl;
+  holds = refl;
+  told = refl;
+}
+
 pub mirrors_are_served : MirrorsAreServed
 mirrors_are_served host s by query meta can =
-    let output : List ℕ = messages (all_exchanges host s by query meta) in
     let read = text_read host query meta can in
     record {
       h = at_end by;
       input = text_of host query meta;
-      output = output;
+      output = messages (all_exchanges host s by query meta);
       applied = all_applied (new_mirror query meta).held (first_listing s by query meta ∷ []);
       now = with_listings (new_mirror query meta) (first_listing s by query meta ∷ []);
       whole = end_whole by;
-      served = record {
-        asks = all_asks query meta;
-        rest = [];
-        served = all_served;
-        end = closed;
-        joins = read.joins;
-        are_served = are_served s by query meta;
-        rises = (omega arith, (omega arith, (omega arith, (omega arith, omega arith))));
-        how = inr (record { goes_on = go_on by query meta; reads = read }, refl, refl);
-      };
-      answered = record {
-        asks = all_asks query meta;
-        served = all_served;
-        joins = read.joins;
-        are_served = are_served s by query meta;
-        rises = (omega arith, (omega arith, (omega arith, (omega arith, omega arith))));
-        granted = (inl refl, (inl refl, (inl refl, (inr refl, tt))));
-        written = refl;
-      };
-      followed = record {
-        known = known;
-        listings = first_listing s by query meta ∷ [];
-        there = record { taken = Some (text_of host query meta); owed = Some []; used = length output };
-        walks = record {
-          exchanges = all_exchanges host s by query meta;
-          path = path host s by query meta;
-          went = record { written = refl; answered = are_answered host s by query meta; read = sym (append-nil output); counted = refl };
-        };
-        written = refl;
-        one_each = refl;
-        holds = refl;
-        told = refl;
-      };
+      served = served_once host s by query meta (messages (all_exchanges host s by query meta)) (same_bytes host s by query meta) read;
+      answered = answered_once host s by query meta (messages (all_exchanges host s by query meta)) (same_bytes host s by query meta) read;
+      followed = followed_once host s by query meta (messages (all_exchanges host s by query meta)) refl;
     }

@@ -1,5 +1,6 @@
 -- What stands between a client that follows a listing and its server, in each of the client's stages.
-use Rattle.std.proofs.Common.{◌≡◌, ◌≤◌, ◌<◌, ◌^◌, ◌+◌, ◌==◌, ⊤, ℕ, List, [], ◌∷◌, ◌++◌, take, length, Bool, true, false, Option, Some, refl, sym, ap, ◌∙◌, subst, inl, inr, append_assoc, arith}
+use Rattle.std.proofs.Common.{◌≡◌, ◌≤◌, ◌<◌, ◌^◌, ◌+◌, ◌==◌, ℕ, List, [], ◌∷◌, ◌++◌, take, length, Bool, true, false, Option, Some, refl, sym, ap, ◌∙◌, subst, inl, inr, append_assoc, arith}
+use Rattle.std.specs.Prelude.{⊤}
 use Rattle.dmap_tags.specs.Codes.{code}
 use Rattle.dmap_tags.specs.Spelling.{spelling}
 use Rattle.dmap_tags.specs.Tree.{Tree}
@@ -94,7 +95,7 @@ module _ (host : List ℕ) (m : Mirrored) (rounds : ℕ) (s : Settings) (by limi
   }
 
   -- the revision that is held is one of 32 bits
-  base_word : IsWhole h → (low : ℕ) (k : Known) (ls : List Listing) → KnowsShare low k ls → IsWord (held_after m.held ls).revision
+  pub base_word : IsWhole h → (low : ℕ) (k : Known) (ls : List Listing) → KnowsShare low k ls → IsWord (held_after m.held ls).revision
   base_word whole low k ls knows =
       let before = knows.earlier in omega (arith, before, small_revision (take low h) (prefix_whole (take low h) h (prefix_taken low h) whole))
 
