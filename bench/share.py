@@ -57,13 +57,14 @@ class Link:
 
 
 class Share:
-    """A share of records, in a process of its own, which listens once this is made, at two ports if they are given."""
+    """A share of records, in a process of its own, which listens once this is made, at two ports if they are given. It runs
+    under the tool whose words stand `before` it, if there are any."""
 
-    def __init__(self, records, *words, ports=None, program=PROGRAM):
+    def __init__(self, records, *words, ports=None, program=PROGRAM, before=()):
         self.listen, self.edit = ports or free_ports(2)
         places = [f"127.0.0.1:{port}" for port in (self.listen, self.edit)]
         with open(records, "rb") as source:
-            self.process = subprocess.Popen([program, "serve", *places, *words], stdin=source, stdout=subprocess.PIPE)
+            self.process = subprocess.Popen([*before, program, "serve", *places, *words], stdin=source, stdout=subprocess.PIPE)
         atexit.register(self.process.kill)
         self.first = self.process.stdout.readline().decode()
 

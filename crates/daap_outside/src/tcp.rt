@@ -186,10 +186,13 @@ where
     ghost open_count = { λ net. net.open_count };
 
     fn listen(&mut self, place: &str, number: u32) -> Result<Vec<TcpDoor<R>>, NetError> {
+        let Some(open_count) = self.open_count.checked_add(u64::from(number)) else {
+            return Err(NetError::from(counted(&mut self.faults)));
+        };
         match self.opened(place, number) {
             Ok((doors, places)) => {
                 self.places = places;
-                self.open_count = self.open_count.saturating_add(u64::from(number));
+                self.open_count = open_count;
                 Ok(doors)
             }
             Err(NetError::Failed) => Err(NetError::from(counted(&mut self.faults))),
@@ -198,9 +201,12 @@ where
     }
 
     fn connect(&mut self, place: &str) -> Result<TcpLink<R>, Failed> {
+        let Some(open_count) = self.open_count.checked_add(1) else {
+            return Err(counted(&mut self.faults));
+        };
         match connected(&self.rt, place) {
             Ok(stream) => {
-                self.open_count = self.open_count.saturating_add(1);
+                self.open_count = open_count;
                 Ok(TcpLink::new(self.rt, stream, None))
             }
             Err(_) => Err(counted(&mut self.faults)),

@@ -1,17 +1,15 @@
 -- What a client reads where a share answers with a success.
 use Rattle.std.proofs.Common.{◌≡◌, ◌≤◌, ◌++◌, [], ℕ, List, Bool, ◌⊎◌, inl, inr, true, false, cond, ◌&&◌, ◌==◌, not, length, refl, sym, ap, ◌∙◌, subst, true≢false, Option, Some, None, Ok, Err}
-use Rattle.std.specs.Option.{option_or, option_map_or}
+use Rattle.std.specs.Option.{option_map_or}
 use Rattle.dmap_tags.specs.Spelling.{spelling}
 use Rattle.dmap_tags.specs.Tree.{Tree}
 use Rattle.item_model.specs.declared.changes.Entry.{Entry}
-use Rattle.share_history.specs.LastSaid.{only_if}
-use Rattle.share_history.specs.Sessions.{is_stopped}
-use Rattle.share_asks.specs.declared.ask.AskError.TheVariants.{Path, Method, Parameter, Query}
 use Rattle.share_asks.specs.declared.ask.Want.{Want}
 use Rattle.share_asks.specs.declared.ask.Want.TheVariants.{ServerInfo, Codes, Login, Logout, Update, Databases, Rows, Lists, Values, Edit, Stop, Bad}
 use Rattle.share_asks.specs.declared.form.BodyForm.TheVariants.{Dmap, NoBody}
 use Rattle.share_replies.specs.Settings.{Settings}
-use Rattle.share_replies.specs.Replies.{Answer, Body, Holds, Nothing, Replies, Reply, Tagged, answer_to, is_held, lacks_container, lacks_session, meets_limit, records_fault, refusal, reply_with, request_fault, success}
+use Rattle.share_replies.specs.Replies.{Answer, Body, Holds, Nothing, Replies, Reply, Tagged, answer_to, is_held, refusal, reply_with, success}
+use Rattle.share_replies.proofs.ReplyCases.{HaveRefusals, all_have, refusals_have}
 use Rattle.http_front.specs.ReplyHeads.{reply_head_text}
 use Rattle.http_heads.specs.declared.kind.Kind.TheVariants as kind
 use Rattle.http_heads.specs.Limits.{reply_limit}
@@ -28,64 +26,16 @@ use Rattle.followed_shares.proofs.HeadsRead.{empty_read, tag_read}
 pub is_bad : ℕ × Body → Bool
 is_bad told = not (told.0 == 200) && not (told.0 == 204)
 
-abbrev all_bad : Option (ℕ × Body) → Bool
-all_bad found = option_map_or (λ told. not (told.0 == 200) && not (told.0 == 204)) found true
-
-or_bad : (a b : Option (ℕ × Body)) → all_bad a ≡ true → all_bad b ≡ true → all_bad (option_or a b) ≡ true
-or_bad None b ha hb = hb
-or_bad (Some told) b ha hb = ha
-
-only_bad : (b : Bool) (told : ℕ × Body) → all_bad (Some told) ≡ true → all_bad (only_if b told) ≡ true
-only_bad true told h = h
-only_bad false told h = refl
-
-faulty_bad : (want : Want) → all_bad (request_fault want) ≡ true
-faulty_bad (Bad Path) = refl
-faulty_bad (Bad (Method allow)) = refl
-faulty_bad (Bad (Parameter name)) = refl
-faulty_bad (Bad (Query error)) = refl
-faulty_bad ServerInfo = refl
-faulty_bad Codes = refl
-faulty_bad Login = refl
-faulty_bad (Logout session) = refl
-faulty_bad (Update session number) = refl
-faulty_bad (Databases session) = refl
-faulty_bad (Rows session target look) = refl
-faulty_bad (Lists session) = refl
-faulty_bad (Values session browse query) = refl
-faulty_bad (Edit body) = refl
-faulty_bad Stop = refl
-
-records_bad : (want : Want) → all_bad (records_fault want) ≡ true
-records_bad (Edit (Err error)) = refl
-records_bad (Edit (Ok batch)) = refl
-records_bad ServerInfo = refl
-records_bad Codes = refl
-records_bad Login = refl
-records_bad (Logout session) = refl
-records_bad (Update session number) = refl
-records_bad (Databases session) = refl
-records_bad (Rows session target look) = refl
-records_bad (Lists session) = refl
-records_bad (Values session browse query) = refl
-records_bad Stop = refl
-records_bad (Bad fault) = refl
-
-refusal_bad : (h : List Entry) (want : Want) → all_bad (refusal h want) ≡ true
-refusal_bad h want =
-    or_bad (only_if (is_stopped h) (503, Nothing)) _ (only_bad (is_stopped h) (503, Nothing) refl)
-    (or_bad (request_fault want) _ (faulty_bad want)
-    (or_bad (only_if (lacks_session h want) (403, Nothing)) _ (only_bad (lacks_session h want) (403, Nothing) refl)
-    (or_bad (only_if (lacks_container h want) (404, Nothing)) _ (only_bad (lacks_container h want) (404, Nothing) refl)
-    (or_bad (records_fault want) _ (records_bad want)
-    (or_bad (only_if (meets_limit h want) (507, Nothing)) None (only_bad (meets_limit h want) (507, Nothing) refl) refl)))))
+bad_refusals : HaveRefusals is_bad
+unfolding is_bad
+bad_refusals = record { line = λ text. refl; session = refl; place = refl; method = λ allow. refl; stopped = refl; limit = refl }
 
 told_in : Answer → ℕ × Body → ℕ × Body
 told_in (Replies reply) other = (reply.status, reply.body)
 told_in Holds other = other
 
 by_found : (h : List Entry) (want : Want) (found : Option (ℕ × Body)) (held : Bool) (told : ℕ × Body) (reply : Reply)
-    → option_map_or (reply_with h want) found (cond held Holds (reply_with h want told)) ≡ Replies reply → all_bad found ≡ true
+    → option_map_or (reply_with h want) found (cond held Holds (reply_with h want told)) ≡ Replies reply → all_have is_bad found ≡ true
     → is_bad (reply.status, reply.body) ≡ false → (reply.status, reply.body) ≡ told
 unfolding told_in is_bad
 by_found h want (Some t) held told reply is bad good =
@@ -96,7 +46,7 @@ by_found h want None false told reply is bad good = sym (ap (λ (a : Answer). to
 
 success_is : (s : Settings) (h : List Entry) (want : Want) (reply : Reply) → answer_to s h want ≡ Replies reply → is_bad (reply.status, reply.body) ≡ false
     → (reply.status, reply.body) ≡ success s h want
-success_is s h want reply is good = by_found h want (refusal h want) (is_held h want) (success s h want) reply is (refusal_bad h want) good
+success_is s h want reply is good = by_found h want (refusal h want) (is_held h want) (success s h want) reply is (refusals_have is_bad h want bad_refusals) good
 
 due_good : (want : Want) (status : ℕ) (body : Body) → status ≡ due_status want → is_bad (status, body) ≡ false
 unfolding is_bad

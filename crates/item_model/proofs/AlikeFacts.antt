@@ -85,7 +85,8 @@ tags_alike p v w =
 
 -- ---- codes
 
-code_back : (p : Property) → property_coded (property_code p) ≡ Some p
+-- the code of a property names it
+pub code_back : (p : Property) → property_coded (property_code p) ≡ Some p
 unfolding property_coded
 code_back Minm = refl
 code_back Mikd = refl
@@ -115,19 +116,17 @@ code_back Asda = refl
 code_back Asdm = refl
 
 -- no two properties have one code
-one_coded : (p q : Property) → is_code (property_code p) (property_code q) ≡ true → Some p ≡ Some q
-one_coded p q h = sym (code_back p) ∙ ap property_coded (one_code (property_code p) (property_code q) h) ∙ code_back q
-
-abbrev value_in : List (Property × PropValue) → Option Property → Option PropValue
-value_in item None = None
-value_in item (Some p) = value_of p item
+pub one_coded : (p q : Property) → is_code (property_code p) (property_code q) ≡ true → p ≡ q
+one_coded p q h =
+    let found : Some p ≡ Some q = sym (code_back p) ∙ ap property_coded (one_code (property_code p) (property_code q) h) ∙ code_back q in
+    cc
 
 -- a property that an item has differs by its code from one that the item lacks
 other_code : (p q : Property) (w : PropValue) (item : List (Property × PropValue)) → value_of p item ≡ None → value_of q item ≡ Some w
     → is_code (property_code p) (property_code q) ≡ false
 other_code p q w item lacks has =
     false_from_ne_true (is_code (property_code p) (property_code q))
-    (λ h. true≢false (ap is_some (sym has ∙ sym (ap (value_in item) (one_coded p q h)) ∙ lacks)))
+    (λ h. true≢false (ap is_some (sym has ∙ sym (ap (λ r. value_of r item) (one_coded p q h)) ∙ lacks)))
 
 code_swapped : (c d : Four) → is_code d c ≡ true → is_code c d ≡ true
 code_swapped c d h = subst (λ e. is_code c e ≡ true) (sym (one_code d c h)) (code_itself c)

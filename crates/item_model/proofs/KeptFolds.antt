@@ -7,8 +7,9 @@ use Rattle.item_model.specs.declared.item.PropValue.TheVariants.{Text}
 use Rattle.item_model.specs.declared.folds.Sought.TheVariants.{Text as SoughtText}
 use Rattle.item_model.specs.Properties.{rank_of, is_same}
 use Rattle.item_model.specs.Items.{value_of, with_value}
-use Rattle.item_model.specs.Folding.{lowered}
-use Rattle.item_model.specs.Folds.{kept_for, Serves, ServesIfAny, AreFolds, IsSoughtIfAny}
+use Rattle.item_model.specs.Folding.{lowered, IsSearchedFor}
+use Rattle.item_model.specs.Folds.{kept_for, IsKeptFor, Serves, ServesIfAny, AreFolds, IsSoughtIfAny}
+use Rattle.item_model.proofs.FoldLaws.{lowered_folded}
 
 abbrev Kept : Type 0
 Kept = Property × List ℕ
@@ -85,7 +86,11 @@ pub folds_at : (p : Property) (es : List Entry) (folds : List Kept) → AreFolds
 unfolding AreFolds
 folds_at p es folds h = h p
 
--- the text's own or what is kept for it is searched for it
+-- what is kept for a text, or the text itself where nothing is, is searched for it
+kept_searched : (text : List ℕ) (kept : Option (List ℕ)) → IsKeptFor text kept → IsSearchedFor text (unwrap_or kept text)
+kept_searched text None h = h
+kept_searched text (Some fold) h = ap lowered h ∙ lowered_folded text
+
 pub sought_text : (o : Option PropValue) (kept : Option (List ℕ)) (text : List ℕ) (s : Bor (List ℕ)) → o ≡ Some (Text text) → s.now ≡ unwrap_or kept text → ServesIfAny kept o → IsSoughtIfAny o (Some (SoughtText s))
 sought_text o kept text s e k h =
-    subst (λ x. IsSoughtIfAny x (Some (SoughtText s))) (sym e) (ap lowered k ∙ subst (ServesIfAny kept) e h)
+    subst (λ x. IsSoughtIfAny x (Some (SoughtText s))) (sym e) (ap lowered k ∙ kept_searched text kept (subst (ServesIfAny kept) e h))

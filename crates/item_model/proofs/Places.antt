@@ -72,7 +72,7 @@ texts_step : (p : Property) (v : PropValue) (e : Entry) (es with : List Entry) (
     → AreTexts (cond b (e ∷ with) (cond s ((p, v) ∷ es) ((p, v) ∷ e ∷ es)))
 texts_step p v e es with true s new old others rest = (old, rest)
 texts_step p v e es with false true new old others rest = (new, others)
-texts_step p v e es with false false new old others rest = (new, old, others)
+texts_step p v e es with false false new old others rest = (new, (old, others))
 
 -- a text that is UTF-8 leaves all texts UTF-8
 pub stay_texts : (p : Property) (v : PropValue) (es : List Entry) → IsText v → AreTexts es → AreTexts (with_value p v es)

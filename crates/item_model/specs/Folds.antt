@@ -1,5 +1,5 @@
 -- The folded texts that an item keeps beside its values, and what a condition is handed of an item.
-use Rattle.std.specs.Prelude.{◌≡◌, ℕ, List, [], ◌∷◌, Option, Some, None, unwrap_or, ⊤, if◌then◌else◌}
+use Rattle.std.specs.Prelude.{◌≡◌, ℕ, List, [], ◌∷◌, Option, Some, None, ⊤, if◌then◌else◌}
 use Rattle.item_model.specs.declared.property.Property.{Property}
 use Rattle.item_model.specs.declared.item.PropValue.{PropValue}
 use Rattle.item_model.specs.declared.item.PropValue.TheVariants.{Number, Text}
@@ -7,17 +7,21 @@ use Rattle.item_model.specs.declared.folds.Sought.{Sought}
 use Rattle.item_model.specs.declared.folds.Sought.TheVariants.{Number as SoughtNumber, Text as SoughtText}
 use Rattle.item_model.specs.Properties.{is_same}
 use Rattle.item_model.specs.Items.{value_of}
-use Rattle.item_model.specs.Folding.{IsSearchedFor}
+use Rattle.item_model.specs.Folding.{folded, IsSearchedFor}
 
 -- the text that is kept for a property
 abbrev pub kept_for : Property → List (Property × List ℕ) → Option (List ℕ)
 kept_for p [] = None
 kept_for p (f ∷ folds) = if is_same f.0 p then Some f.1 else kept_for p folds
 
--- what is kept for a text is searched in its place; where nothing is kept the text serves itself
+-- what is kept for a text is the text folded, and nothing is kept only where its ASCII letters lowered are that
+abbrev pub IsKeptFor : List ℕ → Option (List ℕ) → Type 0
+IsKeptFor text None = IsSearchedFor text text
+IsKeptFor text (Some fold) = fold ≡ folded text
+
 abbrev pub Serves : Option (List ℕ) → PropValue → Type 0
 Serves kept (Number n) = ⊤
-Serves kept (Text text) = IsSearchedFor text (unwrap_or kept text)
+Serves kept (Text text) = IsKeptFor text kept
 
 abbrev pub ServesIfAny : Option (List ℕ) → Option PropValue → Type 0
 ServesIfAny kept None = ⊤

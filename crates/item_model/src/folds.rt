@@ -1,10 +1,10 @@
 //! Folded texts, which conditions compare.
 
-ghost use Rattle.std.specs.Prelude.{◌≡◌, ◌<◌, ℕ, Option, None, Some, map, filter, not, if◌then◌else◌, OnOk, OnErr, IfOk, option_copied, unwrap_or, string_bytes, vec_len, vec_capacity, ◌≤◌};
+ghost use Rattle.std.specs.Prelude.{◌≡◌, ◌<◌, ℕ, Option, None, Some, map, filter, not, if◌then◌else◌, OnOk, OnErr, IfOk, option_copied, string_bytes, vec_len, vec_capacity, ◌≤◌};
 ghost use Rattle.item_model.specs.declared.property.Property.{Property};
 ghost use Rattle.item_model.specs.Properties.{is_same};
-ghost use Rattle.item_model.specs.Folding.{folded, IsSearchedFor};
-ghost use Rattle.item_model.specs.Folds.{kept_for};
+ghost use Rattle.item_model.specs.Folding.{folded};
+ghost use Rattle.item_model.specs.Folds.{kept_for, IsKeptFor};
 
 use crate::property::Property;
 use caseless::default_case_fold_str;
@@ -32,7 +32,7 @@ pub fn folded(alloc: Global, text: &str) -> Result<String, AllocError>
 
 // What is kept beside the text to be searched: nothing where lowering the text's own ASCII letters folds it.
 pub(crate) fn fold_of(alloc: Global, text: &str) -> Result<Option<Text>, AllocError>
-    ensures { IfOk result (λ kept. IsSearchedFor text.now (unwrap_or kept text.now)) }
+    ensures { IfOk result (IsKeptFor text.now) }
 {
     if text.is_ascii() {
         return Ok(None);

@@ -2,7 +2,7 @@
 
 ghost use Rattle.std.specs.Prelude.{◌≡◌, ◌↔◌, ◌<◌, [], OnOk, OnErr, IfOk, IfSome, MatchResult, option_copied, nat_lt, true, false, vec_len, vec_capacity};
 ghost use Rattle.item_model.specs.Items.{is_item, is_value_of, numbers_of, is_text_of, value_of, with_value, AreTexts, IsText, Replaces, ComesIn};
-ghost use Rattle.item_model.specs.Folds.{Serves, IsSoughtIfAny};
+ghost use Rattle.item_model.specs.Folds.{Serves, ServesIfAny, IsSoughtIfAny};
 
 use crate::folds::{Sought, find_fold, fold_copies, fold_of, keep};
 use crate::property::Property;
@@ -167,6 +167,17 @@ impl Item {
         }
     }
 
+    /// The property's text folded, where the item keeps that beside the text: not where lowering the text's own ASCII
+    /// letters folds it. Without memory.
+    pub fn kept_fold(&self, property: Property) -> Option<&str>
+        ensures { ServesIfAny (option_copied result) (value_of property self.now) }
+    {
+        match find_fold(self.folds.as_slice(), property) {
+            Some(fold) => Some(fold.as_str()),
+            None => None,
+        }
+    }
+
     /// Sets the property. After an `Err` the item is as before.
     pub fn put(&mut self, property: Property, value: PropValue) -> Result<(), ItemError>
         ensures put { OnOk result (self.new ≡ with_value property value self.old) }
@@ -190,6 +201,14 @@ impl Item {
         ensures texts { AreTexts self.now }
     {
         let _ = &self.entries;
+    }
+
+    /// Lets go of room for further properties, without memory.
+    pub(crate) fn shrink(&mut self)
+        ensures { self.new ≡ self.old }
+    {
+        self.entries.shrink_to_fit();
+        self.folds.shrink_to_fit();
     }
 
     /// An item of its own with the same properties.

@@ -24,10 +24,11 @@ impl Model for SharedRow {
 }
 
 impl SharedRow {
-    /// The row's first owner.
-    pub fn new(alloc: Global, row: Row) -> Result<SharedRow, AllocError>
+    /// The row's first owner. Its item lets go of the room that it does not need, since no shared row changes.
+    pub fn new(alloc: Global, mut row: Row) -> Result<SharedRow, AllocError>
         ensures { IfOk result (λ shared. shared ≡ row) }
     {
+        row.item.shrink();
         match Arc::new(alloc, row) {
             Ok(row) => Ok(SharedRow { row }),
             Err(_) => Err(AllocError),

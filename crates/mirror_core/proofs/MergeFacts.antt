@@ -4,15 +4,13 @@ use Rattle.std.specs.Ordering.{match_ordering, ordering_reverse}
 use Rattle.std.specs.Cmp.{nat_cmp_total}
 use Rattle.std.specs.List.{AllByRecursion}
 use Rattle.std.specs.Map.{keys_of}
-use Rattle.std.specs.BTreeMap.{is_at}
-use Rattle.std.proofs.lemmas.Cmp.{eq_by_cmp_equiv}
 use Rattle.std.proofs.lemmas.Map.Lookups.{exact_unsigned}
 use Rattle.std.proofs.lemmas.Map.{lookup-none}
-use Rattle.std.proofs.lemmas.Map.Keys.{sorted_tail, sorted_head, IsDistinct-from_sorted}
-use Rattle.std.proofs.lemmas.Map.Entries.{none_below_head, none_past_head}
+use Rattle.std.proofs.lemmas.Map.Keys.{sorted_tail, sorted_head}
+use Rattle.std.proofs.lemmas.Map.Entries.{none_below_head}
 use Rattle.dmap_tags.specs.Tree.{Tree}
 use Rattle.share_history.specs.Keyed.{at, put_in, taken_out, IsAscending}
-use Rattle.share_history.proofs.KeyedFacts.{same_pairs, same_key, at-put, ascending-put, at-out, ascending-out, sorted-ascending, ascending-puts, ascending-outs}
+use Rattle.share_history.proofs.KeyedFacts.{past_head, same_pairs, same_key, at-put, ascending-put, at-out, ascending-out, sorted-ascending, ascending-puts, ascending-outs}
 use Rattle.mirror_core.specs.Changes.{Change, with_gone, with_row, changes_of, put_change, changed, past_row, merged, next_order, with_next}
 
 -- ---- one step of the merge
@@ -59,9 +57,6 @@ at-make q (key, Some tag) rows s = at-put q (key, tag) rows
 below_none : {X : Type 0} (q : ℕ) (e : ℕ × X) (es : List (ℕ × X)) → IsAscending (e ∷ es) → nat_cmp q e.0 ≡ Less → at q (e ∷ es) ≡ None
 below_none q e es s p = lookup-none _ (e ∷ es) (none_below_head nat_cmp_total q e es s p)
 
-past_key : {X : Type 0} (q : ℕ) (e : ℕ × X) (es : List (ℕ × X)) → IsAscending (e ∷ es) → is_eq (nat_cmp q e.0) ≡ true → at q es ≡ None
-past_key q e es s t = lookup-none (is_at (nat_cmp q)) es (none_past_head (eq_by_cmp_equiv nat_cmp_total) q e es (IsDistinct-from_sorted nat_cmp _ s) t)
-
 one_made : {X : Type 0} (b : Bool) (said : Option X) (later : Option (Option X)) (old : Option X) → (b ≡ true → later ≡ None)
     → unwrap_or later (cond b said old) ≡ unwrap_or (cond b (Some said) later) old
 one_made true said later old h = ap (λ l. unwrap_or l said) (h refl)
@@ -72,7 +67,7 @@ at-made q rows [] s t = refl
 at-made q rows (c ∷ cs) s t =
     at-made q (make rows c) cs (ascending-make c rows s) (sorted_tail nat_cmp c.0 (keys_of cs) t)
     ∙ ap (unwrap_or (at q cs)) (at-make q c rows s)
-    ∙ one_made (is_eq (nat_cmp q c.0)) c.1 (at q cs) (at q rows) (past_key q c cs t)
+    ∙ one_made (is_eq (nat_cmp q c.0)) c.1 (at q cs) (at q rows) (past_head q c cs t)
 
 -- the head stays where all changes are of higher keys
 make_behind : (row : ℕ × Tree) (c : Change) (rows : List (ℕ × Tree)) → nat_cmp c.0 row.0 ≡ Greater → make (row ∷ rows) c ≡ row ∷ make rows c

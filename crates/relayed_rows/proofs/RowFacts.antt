@@ -12,9 +12,8 @@ use Rattle.dmap_tags.specs.declared.tree.Value.{Value}
 use Rattle.dmap_tags.specs.declared.tree.Value.TheVariants.{List as Members}
 use Rattle.dmap_tags.specs.declared.kinds.Kind.{Kind}
 use Rattle.dmap_tags.specs.declared.kinds.Kind.TheVariants.{U8, I8, U16, I16, U32, I32, U64, I64, Text, Date, Version, List as Lists, Opaque}
-use Rattle.dmap_tags.proofs.SameFacts.{one_code, code_itself, one_tag, tag_itself}
+use Rattle.dmap_tags.proofs.SameFacts.{code_itself, one_tag, tag_itself}
 use Rattle.item_model.specs.declared.property.Property.{Property}
-use Rattle.item_model.specs.declared.property.Property.TheVariants.{Minm, Mikd, Mper, Asar, Asal, Asaa, Asgn, Ascp, Ascm, Agrp, Asfm, Asyr, Astn, Astc, Asdn, Asdc, Asbr, Asbt, Astm, Assr, Assz, Asur, Asco, Aemk, Asda, Asdm}
 use Rattle.item_model.specs.declared.item.PropValue.{PropValue}
 use Rattle.item_model.specs.declared.item.PropValue.TheVariants.{Number, Text as Words}
 use Rattle.item_model.specs.declared.item.Row.{Row}
@@ -23,6 +22,7 @@ use Rattle.item_model.specs.Items.{is_of_kind, is_value_of, is_item, rises_from,
 use Rattle.item_model.specs.Projection.{value_leaf, property_tag, shown, projection}
 use Rattle.item_model.specs.Properties.{all_properties, property_code, property_coded, property_kind, rank_of, is_same}
 use Rattle.item_model.specs.Valid.{is_id}
+use Rattle.item_model.proofs.AlikeFacts.{code_back, one_coded}
 use Rattle.item_model.proofs.Places.{value_fits}
 use Rattle.item_model.proofs.Ranks.{same_property}
 use Rattle.item_model.specs.declared.request.Target.TheVariants.{Items}
@@ -39,41 +39,7 @@ use Rattle.relayed_rows.proofs.ItemFacts.{own_entry, picked, ranks_from, all_ran
 abbrev Entries : Type 0
 Entries = List (Property × PropValue)
 
--- ---- codes
-
-code_back : (p : Property) → property_coded (property_code p) ≡ Some p
-unfolding property_coded
-code_back Minm = refl
-code_back Mikd = refl
-code_back Mper = refl
-code_back Asar = refl
-code_back Asal = refl
-code_back Asaa = refl
-code_back Asgn = refl
-code_back Ascp = refl
-code_back Ascm = refl
-code_back Agrp = refl
-code_back Asfm = refl
-code_back Asyr = refl
-code_back Astn = refl
-code_back Astc = refl
-code_back Asdn = refl
-code_back Asdc = refl
-code_back Asbr = refl
-code_back Asbt = refl
-code_back Astm = refl
-code_back Assr = refl
-code_back Assz = refl
-code_back Asur = refl
-code_back Asco = refl
-code_back Aemk = refl
-code_back Asda = refl
-code_back Asdm = refl
-
-one_coded : (p q : Property) → is_code (property_code p) (property_code q) ≡ true → p ≡ q
-one_coded p q h =
-    let found : Some p ≡ Some q = sym (code_back p) ∙ ap property_coded (one_code (property_code p) (property_code q) h) ∙ code_back q in
-    cc
+-- ---- properties
 
 -- a property that is found in a list is in it
 found_among : (t : Property → Bool) (p : Property) (qs : List Property) → find t qs ≡ Some p → list_any (λ q. is_same q p) qs ≡ true

@@ -5,7 +5,9 @@ ghost use Rattle.listing_plan.specs.Plans.{IsWritable};
 ghost use Rattle.share_asks.specs.Valid.{IsValidWant};
 
 use crate::wants::{Step, all_songs, put_again, rename, want};
-use anyhow::{bail, ensure};
+use anyhow::{Context, bail, ensure};
+use daap_outside::{MemSink, Sink};
+use listing_plan::Plan;
 use share_asks::{Ask, Role, Want};
 use share_core::{Answer, Reply, Share};
 use song_query::Steps;
@@ -61,9 +63,21 @@ fn asked<L: Ledger>(
         let wanted = want(alloc, step, songs, session, share.revision(), number)?;
         let reply = told(share, wanted, steps)?;
         ensure!(reply.said.status == 200, "refused");
-        bytes = bytes.saturating_add(reply.said.plan.body_len());
+        bytes = bytes.saturating_add(match step {
+            Step::Tenth => written(alloc, &reply.said.plan)?,
+            _ => reply.said.plan.body_len(),
+        });
     }
     Ok(bytes)
+}
+
+/// Writes a body, and returns how many bytes it has.
+fn written(alloc: Global, plan: &Plan) -> anyhow::Result<u64>
+    requires { IsWritable plan.now }
+{
+    let mut sink = MemSink::new(alloc, plan.body_len() as usize, usize::MAX, &[])?;
+    plan.write(&mut sink).ok().context("sink")?;
+    Ok(sink.taken().len() as u64)
 }
 
 /// The reply to a want.

@@ -13,13 +13,15 @@ use std::env;
 /// How many songs there are if no word says it.
 const SONGS: u32 = 1000;
 
-const STEPS: [(&str, Step); 6] = [
+const STEPS: [(&str, Step); 8] = [
     ("edit", Step::Edit),
     ("login", Step::Login),
     ("update", Step::Update),
     ("delta", Step::Delta),
     ("changes", Step::Changes),
     ("query", Step::Query),
+    ("full", Step::Full),
+    ("tenth", Step::Tenth),
 ];
 
 fn step_named(word: &str) -> Option<Step> {

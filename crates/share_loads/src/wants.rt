@@ -17,6 +17,9 @@ const SONGS_EACH: u32 = 10;
 /// How many songs are given another name.
 const RENAMED: u32 = 10;
 
+/// The range `0-9`.
+const FIRST_TEN: Range = Range::Span { from: 0, to: 9 };
+
 /// What is wanted over and over.
 #[derive(Clone, Copy)]
 pub enum Step {
@@ -31,6 +34,10 @@ pub enum Step {
     Changes,
     /// The ten songs of an artist.
     Query,
+    /// All songs.
+    Full,
+    /// The first ten songs.
+    Tenth,
 }
 
 /// What a session wants of a share of `songs` songs, by a number, where the library has a revision.
@@ -51,12 +58,14 @@ pub fn want(
             session,
             revision: 1,
         }),
-        Step::Delta => Ok(rows(session, None, revision)),
-        Step::Changes => Ok(rows(session, None, revision.saturating_sub(1))),
+        Step::Delta => Ok(rows(session, None, revision, Range::All)),
+        Step::Changes => Ok(rows(session, None, revision.saturating_sub(1), Range::All)),
+        Step::Full => Ok(rows(session, None, 0, Range::All)),
+        Step::Tenth => Ok(rows(session, None, 0, FIRST_TEN)),
         Step::Query => {
             let artist = number % (songs / SONGS_EACH).max(1);
             let text = format!(in alloc; "'daap.songartist:Artist {artist}'")?;
-            Ok(rows(session, Some(read(alloc, text.as_str())?), 0))
+            Ok(rows(session, Some(read(alloc, text.as_str())?), 0, Range::All))
         }
     }
 }
@@ -80,7 +89,7 @@ pub fn rename(alloc: Global, songs: u32) -> anyhow::Result<Want>
     })
 }
 
-fn rows(session: u32, query: Option<Query>, base: u32) -> Want
+fn rows(session: u32, query: Option<Query>, base: u32, range: Range) -> Want
     requires { MayAsk query }
     ensures { IsValidWant result }
 {
@@ -91,7 +100,7 @@ fn rows(session: u32, query: Option<Query>, base: u32) -> Want
             query,
             meta: Meta::Default,
             base,
-            range: Range::All,
+            range,
         },
     }
 }

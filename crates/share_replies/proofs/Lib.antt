@@ -1,1 +1,2 @@
+pub mod ReplyCases
 pub mod ReplyFacts

@@ -4,105 +4,18 @@ use Rattle.std.specs.Option.{option_or, option_map_or}
 use Rattle.item_model.specs.declared.changes.Entry.{Entry}
 use Rattle.share_history.specs.LastSaid.{only_if}
 use Rattle.share_history.specs.Sessions.{is_live, is_stop, is_stopped}
-use Rattle.share_asks.specs.declared.ask.AskError.TheVariants.{Path, Method, Parameter, Query}
 use Rattle.share_asks.specs.declared.ask.Want.{Want}
 use Rattle.share_asks.specs.declared.ask.Want.TheVariants.{ServerInfo, Codes, Login, Logout, Update, Databases, Rows, Lists, Values, Edit, Stop, Bad}
 use Rattle.share_replies.specs.Settings.{Settings}
 use Rattle.share_replies.specs.Replies.{Body, Nothing, Answer, Replies, Holds, needed, request_fault, lacks_session, lacks_container, records_fault, meets_limit, first_of, refusal, success, is_held, session_of, reply_with}
 use Rattle.share_replies.specs.Added.{made_by}
+use Rattle.share_replies.proofs.ReplyCases.{replies_have}
 use Rattle.share_replies.specs.Laws.{NoReplyIsAFailure, StoppedSharesRefuse, OthersAreForbidden, EntriesAreTheAskers, ReadersChangeNothing, HeldWantsAddNothing, SmallBodiesByTheByte, maker, is_edit, is_change}
 
 -- ---- no status is 500
 
-is_other : ℕ × Body → Bool
+abbrev is_other : ℕ × Body → Bool
 is_other told = not (told.0 == 500)
-
--- where something is told, it is not 500
-abbrev all_other : Option (ℕ × Body) → Bool
-all_other found = option_map_or (λ told. not (told.0 == 500)) found true
-
-or_other : (a b : Option (ℕ × Body)) → all_other a ≡ true → all_other b ≡ true → all_other (option_or a b) ≡ true
-or_other None b ha hb = hb
-or_other (Some told) b ha hb = ha
-
-only_other : (b : Bool) (told : ℕ × Body) → all_other (Some told) ≡ true → all_other (only_if b told) ≡ true
-only_other true told h = h
-only_other false told h = refl
-
-faulty_other : (want : Want) → all_other (request_fault want) ≡ true
-faulty_other (Bad Path) = refl
-faulty_other (Bad (Method allow)) = refl
-faulty_other (Bad (Parameter name)) = refl
-faulty_other (Bad (Query error)) = refl
-faulty_other ServerInfo = refl
-faulty_other Codes = refl
-faulty_other Login = refl
-faulty_other (Logout session) = refl
-faulty_other (Update session number) = refl
-faulty_other (Databases session) = refl
-faulty_other (Rows session target look) = refl
-faulty_other (Lists session) = refl
-faulty_other (Values session browse query) = refl
-faulty_other (Edit body) = refl
-faulty_other Stop = refl
-
-records_other : (want : Want) → all_other (records_fault want) ≡ true
-records_other (Edit (Err error)) = refl
-records_other (Edit (Ok batch)) = refl
-records_other ServerInfo = refl
-records_other Codes = refl
-records_other Login = refl
-records_other (Logout session) = refl
-records_other (Update session number) = refl
-records_other (Databases session) = refl
-records_other (Rows session target look) = refl
-records_other (Lists session) = refl
-records_other (Values session browse query) = refl
-records_other Stop = refl
-records_other (Bad fault) = refl
-
-refusal_other : (h : List Entry) (want : Want) → all_other (refusal h want) ≡ true
-refusal_other h want =
-    or_other (only_if (is_stopped h) (503, Nothing)) _ (only_other (is_stopped h) (503, Nothing) refl)
-    (or_other (request_fault want) _ (faulty_other want)
-    (or_other (only_if (lacks_session h want) (403, Nothing)) _ (only_other (lacks_session h want) (403, Nothing) refl)
-    (or_other (only_if (lacks_container h want) (404, Nothing)) _ (only_other (lacks_container h want) (404, Nothing) refl)
-    (or_other (records_fault want) _ (records_other want)
-    (or_other (only_if (meets_limit h want) (507, Nothing)) None (only_other (meets_limit h want) (507, Nothing) refl) refl)))))
-
-success_other : (s : Settings) (h : List Entry) (want : Want) → all_other (Some (success s h want)) ≡ true
-success_other s h ServerInfo = refl
-success_other s h Codes = refl
-success_other s h Login = refl
-success_other s h (Logout session) = refl
-success_other s h (Update session number) = refl
-success_other s h (Databases session) = refl
-success_other s h (Rows session target look) = refl
-success_other s h (Lists session) = refl
-success_other s h (Values session browse query) = refl
-success_other s h (Edit (Ok [])) = refl
-success_other s h (Edit (Ok (e ∷ es))) = refl
-success_other s h (Edit (Err error)) = refl
-success_other s h Stop = refl
-success_other s h (Bad Path) = refl
-success_other s h (Bad (Method allow)) = refl
-success_other s h (Bad (Parameter name)) = refl
-success_other s h (Bad (Query error)) = refl
-
--- an answer that replies has a status that is not 500
-abbrev other_answer : Answer → Bool
-other_answer (Replies reply) = not (reply.status == 500)
-other_answer Holds = true
-
-held_other : (b : Bool) (told : ℕ × Body) (h : List Entry) (want : Want) → all_other (Some told) ≡ true
-    → other_answer (cond b Holds (reply_with h want told)) ≡ true
-held_other true told h want is = refl
-held_other false told h want is = is
-
-answer_other : (found : Option (ℕ × Body)) (rest : Answer) (h : List Entry) (want : Want) → all_other found ≡ true → other_answer rest ≡ true
-    → other_answer (option_map_or (reply_with h want) found rest) ≡ true
-answer_other None rest h want f r = r
-answer_other (Some told) rest h want f r = f
 
 not_is : (b : Bool) → not b ≡ true → b ≡ false
 not_is true h = absurd (true≢false (sym h))
@@ -111,9 +24,9 @@ not_is false h = refl
 pub no_reply_is_a_failure : NoReplyIsAFailure
 no_reply_is_a_failure s h want reply is =
     not_is (reply.status == 500)
-    (sym (ap other_answer is)
-    ∙ answer_other (refusal h want) (cond (is_held h want) Holds (reply_with h want (success s h want))) h want (refusal_other h want)
-    (held_other (is_held h want) (success s h want) h want (success_other s h want)))
+    (replies_have is_other s h want reply
+    (record { line = λ text. refl; session = refl; place = refl; method = λ allow. refl; stopped = refl; limit = refl })
+    (record { tag = λ tag. refl; nothing = refl }) is)
 
 -- ---- a share that was stopped
 

@@ -21,7 +21,7 @@ use std::collections::VecDeque;
 use std::mem;
 
 /// A net whose doors and links were put there. Each is given once, in order, whatever the place.
-/// Where too few are left, the call fails.
+/// Where too few are left, or more would be open than `u64` counts, the call fails.
 ///
 /// It tells the places asked for and the links given back for as long as it has room for them.
 /// Some of its calls of `listen` and `connect` may be set to fail; the first has the number 1.
@@ -190,7 +190,7 @@ impl Net for MemNet {
         ensures first { IfOk result (λ ds. doors_of self.old ≡ ds.items ++ doors_of self.new) }
         ensures failed { OnErr result (doors_of self.new ≡ doors_of self.old) }
         ensures fails { IsErrOf result NetError.Failed
-            ↔ (Contains (failing_calls self.old) (next_call self.old) ⊎ (length (doors_of self.old) < number)) }
+            ↔ (Contains (failing_calls self.old) (next_call self.old) ⊎ (length (doors_of self.old) < number) ⊎ (2 ^ 64 ≤ open_of self.old + number)) }
         ensures asks { Grows (asked_of self.old) (asked_of self.new) ((place.now, number) ∷ []) }
         ensures told { asked_of self.new ≡ with_place (asked_of self.old) (asked_room self.old) place.now number }
         ensures asked_room { asked_room self.old ≤ asked_room self.new + 1 }
@@ -205,8 +205,11 @@ impl Net for MemNet {
         if self.doors.len() < number as usize {
             return Err(NetError::from(counted(&mut self.faults)));
         }
+        let Some(open_count) = self.open_count.checked_add(u64::from(number)) else {
+            return Err(NetError::from(counted(&mut self.faults)));
+        };
         let later = self.doors.split_off(number as usize)?;
-        self.open_count = self.open_count.saturating_add(u64::from(number));
+        self.open_count = open_count;
         Ok(mem::replace(&mut self.doors, later))
     }
 
@@ -218,7 +221,7 @@ impl Net for MemNet {
         ensures first { IfOk result (λ link. links_of self.old ≡ link ∷ links_of self.new) }
         ensures failed { OnErr result (links_of self.new ≡ links_of self.old) }
         ensures fails { IsErr result
-            ↔ (Contains (failing_calls self.old) (next_call self.old) ⊎ (links_of self.old ≡ [])) }
+            ↔ (Contains (failing_calls self.old) (next_call self.old) ⊎ (links_of self.old ≡ []) ⊎ (2 ^ 64 ≤ open_of self.old + 1)) }
         ensures asks { Grows (asked_of self.old) (asked_of self.new) ((place.now, 0) ∷ []) }
         ensures told { asked_of self.new ≡ with_place (asked_of self.old) (asked_room self.old) place.now 0 }
         ensures asked_room { asked_room self.old ≤ asked_room self.new + 1 }
@@ -230,9 +233,12 @@ impl Net for MemNet {
         ensures count { CountsFaults self.old.faults self.new.faults result }
     {
         self.ask(place, 0)?;
+        let Some(open_count) = self.open_count.checked_add(1) else {
+            return Err(counted(&mut self.faults));
+        };
         match self.links.pop_front() {
             Some(link) => {
-                self.open_count = self.open_count.saturating_add(1);
+                self.open_count = open_count;
                 Ok(link)
             }
             None => Err(counted(&mut self.faults)),

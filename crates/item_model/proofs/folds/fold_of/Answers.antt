@@ -1,4 +1,4 @@
-use Rattle.std.proofs.Common.{◌≡◌, IsAscii, sym, ap, ◌∙◌, rules}
+use Rattle.std.proofs.Common.{◌≡◌, IsAscii, sym, ◌∙◌, rules}
 use Rattle.item_model.specs.Folding.{folded, lowered}
 use Rattle.item_model.proofs.FoldLaws.{folded_ascii, lowered_folded}
 use Rattle.item_model.proofs.folds.fold_of.Goals as goal
@@ -12,9 +12,3 @@ returns-then-eq_ignore_ascii_case c =
     let text = c.args.text.now in
     let same : lowered (folded text) ≡ lowered text = search rules in
     sym same ∙ lowered_folded text
-
-pub returns : goal.returns
-returns c =
-    let text = c.args.text.now in
-    let kept : c.in_ok-of.field-0 ≡ folded text = search rules in
-    ap lowered kept ∙ lowered_folded text
