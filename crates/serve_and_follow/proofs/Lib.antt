@@ -1,0 +1,2 @@
+pub mod AskedMirrors
+pub mod Runs
