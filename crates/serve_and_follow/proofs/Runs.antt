@@ -11,7 +11,7 @@ use Rattle.mirror_core.specs.Mirrored.{Mirrored}
 use Rattle.share_crew.specs.Stints.{IsPart, Stint}
 use Rattle.mirror_client.specs.Stages.{listings_in}
 use Rattle.followed_shares.specs.Laws.{last_revision, rows_at}
-use Rattle.followed_shares.specs.Whole.{IsWhole}
+use Rattle.share_history.specs.Whole.{IsWhole}
 use Rattle.followed_shares.proofs.WholeFacts.{point_whole}
 use Rattle.served_mirrors.specs.Links.{AreServedLinks, ServedLink}
 use Rattle.served_mirrors.specs.Mirrors.{HoldsTheShare}

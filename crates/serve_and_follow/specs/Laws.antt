@@ -9,7 +9,7 @@ use Rattle.mirror_client.specs.declared.refusal.FollowError.{FollowError}
 use Rattle.mirror_client.specs.Stages.{listings_in}
 use Rattle.command_core.specs.Seen.{Seen, Told}
 use Rattle.followed_shares.specs.Laws.{last_revision, rows_at}
-use Rattle.followed_shares.specs.Whole.{IsWhole}
+use Rattle.share_history.specs.Whole.{IsWhole}
 use Rattle.served_mirrors.specs.Mirrors.{CanBeAsked, HoldsTheShare}
 use Rattle.link_commands.specs.FollowShare.{IsFollowDone, StopsFollowing}
 use Rattle.link_commands.specs.Looks.{AsksMirror}
