@@ -12,7 +12,7 @@ use Rattle.share_crew.specs.Stints.{IsPart, Stint}
 use Rattle.mirror_client.specs.Stages.{listings_in}
 use Rattle.followed_shares.specs.Laws.{last_revision, rows_at}
 use Rattle.share_history.specs.Whole.{IsWhole}
-use Rattle.followed_shares.proofs.WholeFacts.{point_whole}
+use Rattle.share_history.proofs.WholeFacts.{point_whole}
 use Rattle.served_mirrors.specs.Links.{AreServedLinks, ServedLink}
 use Rattle.served_mirrors.specs.Mirrors.{HoldsTheShare}
 use Rattle.served_mirrors.proofs.Meeting.{followers_hold_the_share, stopped_mirrors_hold_the_share}

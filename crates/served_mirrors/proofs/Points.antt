@@ -14,7 +14,7 @@ use Rattle.share_server.specs.Served.{answered_on}
 use Rattle.mirror_client.specs.Laws.{AreAnswers, NeverFall, last_point}
 use Rattle.followed_shares.specs.Served.{Rise, first_of}
 use Rattle.share_history.specs.Whole.{IsWhole}
-use Rattle.followed_shares.proofs.WholeFacts.{point_whole}
+use Rattle.share_history.proofs.WholeFacts.{point_whole}
 
 -- ---- histories that begin others
 
