@@ -7,8 +7,6 @@ use Rattle.dmap_tags.specs.declared.kinds.Kind.TheVariants as kind
 use Rattle.item_model.specs.Items.{is_value_of}
 use Rattle.item_model.specs.Limits.{text_limit}
 use Rattle.item_model.specs.Properties.{property_kind}
-use Rattle.item_model.specs.declared.changes.Edit.{Edit}
-use Rattle.item_model.specs.declared.item.PropValue.{PropValue}
 use Rattle.item_model.specs.declared.item.PropValue.TheVariants as value
 use Rattle.item_model.specs.declared.property.Property.{Property}
 use Rattle.item_model.specs.declared.query.Query.{Query}
@@ -21,7 +19,7 @@ use Rattle.records_import.specs.Limits.{most_records}
 use Rattle.records_import.specs.Number.{cell_number}
 use Rattle.records_import.specs.Records.{BatchReads, FurtherAnswer, IsLeftmost, OfLength, RecordsAnswer, UnderHeader, WithAction, WithId, WithinBatch, action_of, or_fault}
 use Rattle.records_import.specs.Table.{Cells}
-use Rattle.records_import.specs.Values.{FlawBy, ReadFlaw, RuleFlaw, TextFlaw, UsedFlaw, by_kind, flaw_of, id_from, id_in, is_empty, needed_id, number_from, property_flaw, property_in, text_in}
+use Rattle.records_import.specs.Values.{FlawBy, ReadFlaw, RuleFlaw, TextFlaw, UsedFlaw, by_kind, flaw_of, id_from, id_in, needed_id, number_from, property_flaw, text_in}
 use Rattle.records_import.specs.declared.action.Action.{Action}
 use Rattle.records_import.specs.declared.header.Column.{Column}
 use Rattle.records_import.specs.declared.header.Column.TheVariants as holds

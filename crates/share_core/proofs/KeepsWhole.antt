@@ -1,19 +1,18 @@
 -- What an answer adds keeps a whole history whole: a login, or a batch, is added only where no limit stands against it.
-use Rattle.std.proofs.Common.{◌≡◌, ℕ, Bool, true, false, cond, not, List, [], ◌∷◌, ◌++◌, Option, Some, None, is_some, Ok, Err, refl, sym, ap, ◌∙◌, subst, append-nil, append_assoc, true≢false}
+use Rattle.std.proofs.Common.{◌≡◌, ℕ, Bool, true, false, cond, not, List, [], ◌∷◌, ◌++◌, Option, Some, None, is_some, Ok, Err, refl, sym, subst, append-nil, append_assoc, true≢false}
 use Rattle.std.specs.Option.{option_or, option_to_list}
-use Rattle.item_model.specs.declared.changes.Edit.{Edit}
 use Rattle.item_model.specs.declared.changes.Entry.{Entry}
 use Rattle.item_model.specs.declared.changes.Entry.TheVariants as entry
 use Rattle.share_history.specs.LastSaid.{only_if}
 use Rattle.share_history.specs.Limits.{has_place, takes_batch}
 use Rattle.share_history.specs.Sessions.{is_stopped, next_session}
-use Rattle.share_history.specs.Whole.{AreWhole, IsWhole}
+use Rattle.share_history.specs.Whole.{IsWhole}
 use Rattle.share_history.proofs.WholeFacts.{whole_batch, whole_login, whole_logout, whole_stop}
 use Rattle.share_asks.specs.declared.ask.Want.{Want}
 use Rattle.share_asks.specs.declared.ask.Want.TheVariants.{ServerInfo, Codes, Login, Logout, Update, Databases, Rows, Lists, Values, Edit as Change, Stop, Bad}
 use Rattle.share_replies.specs.Added.{adds, made_by}
 use Rattle.share_replies.specs.Replies.{Body, Nothing, lacks_container, lacks_session, meets_limit, records_fault, refusal, request_fault}
-use Rattle.share_core.specs.Laws.{AnswersKeepWhole, AreAdded, BringsWhole, IsAdded}
+use Rattle.share_core.specs.Laws.{AnswersKeepWhole, BringsWhole, IsAdded}
 
 -- ---- what is granted meets no limit
 
