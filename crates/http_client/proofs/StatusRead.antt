@@ -51,11 +51,14 @@ written p d s u c t l a e body others = simp append_assoc
 read : (b v d r e s body more : List ℕ) → (((b ++ v ++ d ++ r ++ e ++ s) ++ []) ++ body) ++ more ≡ b ++ (v ++ (d ++ (r ++ (e ++ (s ++ (body ++ more))))))
 read b v d r e s body more = simp append_assoc
 
+first_byte : (b c : ℕ) (xs ys : List ℕ) → b ∷ xs ≡ c ∷ ys → b ≡ c
+first_byte b c xs ys same = cc
+
 -- no empty line stands before it
-no_blank : (ends : List LineEnd) (xs ys : List ℕ) → 72 ∷ xs ≡ print_blank ends ++ ys → 72 ∷ xs ≡ ys
+no_blank : (ends : List LineEnd) (xs ys : List ℕ) → print_blank ends ++ ys ≡ 72 ∷ xs → ys ≡ 72 ∷ xs
 no_blank [] xs ys same = same
-no_blank (crlf ∷ ends) xs ys same = let first : 72 ≡ 13 = cc in absurd (omega (arith, first))
-no_blank (lf ∷ ends) xs ys same = let first : 72 ≡ 10 = cc in absurd (omega (arith, first))
+no_blank (crlf ∷ ends) xs ys same = absurd (omega (arith, first_byte 13 72 _ _ same))
+no_blank (lf ∷ ends) xs ys same = absurd (omega (arith, first_byte 10 72 _ _ same))
 
 -- ---- the status
 
@@ -72,6 +75,6 @@ text_status status form len last body others more m answer reason (is, (h, (head
     (last_field last) body others) ∙ same ∙ ap (λ (text : List ℕ). (text ++ m.body) ++ more) head.1
     ∙ read (print_blank h.blank) (print_version h.minor) (32 ∷ h.digits) (print_reason h.reason) (print_end h.line_end) (print_section h.fields h.last) m.body more in
     let rest : decimal status ++ behind ≡ h.digits ++ after =
-    ap (drop 9) (no_blank h.blank (drop 1 (codes "HTTP/1.1 " ++ (decimal status ++ behind))) (print_version h.minor ++ ((32 ∷ h.digits) ++ after)) both) in
+    ap (drop 9) (sym (no_blank h.blank (drop 1 (codes "HTTP/1.1 " ++ (decimal status ++ behind))) (print_version h.minor ++ ((32 ∷ h.digits) ++ after)) (sym both))) in
     let digits = same_fronts (decimal status) h.digits behind after (has.three ∙ sym head.0.digits.0) rest in
     code ∙ ap (digits_value 10) (sym digits.0) ∙ has.value

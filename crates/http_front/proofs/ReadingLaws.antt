@@ -255,7 +255,7 @@ first_ask role text more ask a asks rest is j = by_first is.joins.requests is.jo
         let once = message_once Request m n more (flat_map print_message ns ++ rest) h.0.1.0 k.0.1.0
         (sym (ap (λ b. b ++ more) (e ∙ append-nil (print_message m ++ []) ∙ append-nil (print_message m))) ∙ f
         ∙ append_assoc (print_message n) (flat_map print_message ns) rest) in
-        (one_ask role m a ask h.0 (subst (λ (x : Message). Spells role x a) (sym once.0) k.0), record { requests = ns; spell = k.1; joined = once.1 })
+        (one_ask role m a ask (subst (λ (x : Message). Spells role x a) (sym once.0) k.0) h.0, record { requests = ns; spell = k.1; joined = once.1 })
 
 unwaited : (fed : List ℕ) (handed : List Ask) (r : Reader) (ready : Option Ask) → r.ready ≡ ready → IsReading r.role fed (reading (handed ++ option_to_list ready) r.kept None)
     → (rest : List ℕ) × Joins r.role fed handed rest

@@ -69,7 +69,7 @@ login_back r host is =
 pub rows_back : (r : Role) (host : List ℕ) (m : Mirrored) (session base : ℕ) → CanBeAsked host m → IsWord session → IsWord base
     → ReadsBack r host (want.Rows session m.target (mirror_look m.query m.meta base))
 rows_back r host m session base can a b =
-    requests_read_back (open_ask r (want.Rows session m.target (mirror_look m.query m.meta base))) host can.proper (a, (can.list, (b, tt))) can.text tt
+    requests_read_back (open_ask r (want.Rows session m.target (mirror_look m.query m.meta base))) host can.proper (a, can.list, b, tt) can.text tt
     (record { host_is = can.host_is; stays = refl; taken = taken_rows r session m.target m.query m.meta base; small = (can.short, can.named) })
 
 pub update_back : (r : Role) (host : List ℕ) (session base : ℕ) → IsHost host → IsWord session → IsWord base → ReadsBack r host (want.Update session base)
