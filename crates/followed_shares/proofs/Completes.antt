@@ -43,7 +43,7 @@ use Rattle.mirror_client.proofs.StageFacts.{held_more}
 use Rattle.mirror_client.proofs.TellingFacts.{tags_once}
 use Rattle.followed_shares.specs.Laws.{ServedRunsGoOn}
 use Rattle.followed_shares.specs.Served.{Rise, Round, Serves, ServesRounds, ServesRun, asked_behind, points_of}
-use Rattle.followed_shares.specs.Whole.{IsWhole}
+use Rattle.share_history.specs.Whole.{IsWhole}
 use Rattle.followed_shares.proofs.BodiesRead.{listing_body_read}
 use Rattle.followed_shares.proofs.FilterShown.{each_whole, few, learned, left_owed, listing_is, login_tag, owed_split, revision_tag, split_on, standard_back, table_tag}
 use Rattle.followed_shares.proofs.Successes.{Begins, answer_is, empty_served, tag_served}

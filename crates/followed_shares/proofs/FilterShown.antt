@@ -50,10 +50,10 @@ use Rattle.mirror_client.proofs.ServedFacts.{followers_hold_what_the_share_has}
 use Rattle.mirror_client.proofs.TellingFacts.{tags_once}
 use Rattle.followed_shares.specs.Laws.{FollowersHoldTheRows, last_revision, rows_at}
 use Rattle.followed_shares.specs.Served.{Rise, Round, ServesRounds, ServesRun, first_of, points_of}
-use Rattle.followed_shares.specs.Whole.{IsWhole}
+use Rattle.share_history.specs.Whole.{IsWhole}
 use Rattle.followed_shares.proofs.BodiesRead.{listing_body_read, small_revision}
 use Rattle.followed_shares.proofs.Successes.{answer_is, empty_served, tag_served}
-use Rattle.followed_shares.proofs.WholeFacts.{point_whole}
+use Rattle.share_history.proofs.WholeFacts.{point_whole}
 
 -- ---- points
 

@@ -5,6 +5,7 @@ use Rattle.daap_outside.specs.Counts.{Rose}
 use Rattle.daap_outside.specs.Told.{BeginsEmpty, Grows, GrowsByTold}
 use Rattle.item_model.specs.declared.changes.Entry.{Entry}
 use Rattle.share_history.specs.Histories.{batches, revision}
+use Rattle.share_history.specs.Whole as histories
 use Rattle.share_lock.specs.Known.{fresh}
 use Rattle.share_server.specs.Passes.{Pass}
 use Rattle.share_server.specs.declared.report.LinkReport.{LinkReport}
@@ -64,6 +65,7 @@ pub record RelayStint : Type 0 where
 pub record HasServed (relaying : Relaying) (front : List ℕ) (net net' : NetSeen) (output output' : OutputSeen) (left : Outcome) : Type 0 where
   pub history : List Entry
   pub history_is : left.history ≡ Some history
+  pub whole_history : histories.IsWhole history
   pub crew : List (Stint (settings_of relaying) [])
   pub roles : map (λ stint. stint.role) crew ≡ roles_of relaying
   pub links : left.links ≡ map (λ stint. stint.reports) crew

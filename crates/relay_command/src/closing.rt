@@ -6,6 +6,7 @@ ghost use Rattle.command_core.specs.Endings.{IsWritten};
 ghost use Rattle.command_core.specs.declared.fault.Fault.TheVariants.{Memory};
 ghost use Rattle.relay_command.specs.Faults.{worse};
 ghost use Rattle.share_history.specs.Histories.{batches, revision};
+ghost use Rattle.share_history.specs.Whole.{IsWhole};
 ghost use Rattle.share_crew.specs.Lines.{ended_line, links_in, requests_in};
 ghost use Rattle.relay_command.specs.Lines.{round_line, round_lines};
 ghost use Rattle.relay_command.specs.Runs.{TellsBehind, TellsEnd, TellsRuling, last_lines};
@@ -33,6 +34,7 @@ pub(crate) fn closed<W: Sink>(
     requires links { links_in links < 2 ^ 64 }
     requires requests { requests_in links < 2 ^ 64 }
     ensures history { result.history ≡ Some share.history }
+    ensures whole { IsWhole share.history }
     ensures links { result.links ≡ links }
     ensures told { (start : OutputSeen) (front : List ℕ) → IsWritten start (output_seen (W.taken output.old) (W.faults output.old)) front
         → TellsEnd front (last_lines (revision (batches share.history)) links rounds.now fault) fault start (output_seen (W.taken output.new) (W.faults output.new)) result.status }

@@ -11,8 +11,8 @@ use Rattle.mirror_core.specs.Mirrored.{Mirrored}
 use Rattle.share_crew.specs.Stints.{IsPart, Stint}
 use Rattle.mirror_client.specs.Stages.{listings_in}
 use Rattle.followed_shares.specs.Laws.{last_revision, rows_at}
-use Rattle.followed_shares.specs.Whole.{IsWhole}
-use Rattle.followed_shares.proofs.WholeFacts.{point_whole}
+use Rattle.share_history.specs.Whole.{IsWhole}
+use Rattle.share_history.proofs.WholeFacts.{point_whole}
 use Rattle.served_mirrors.specs.Links.{AreServedLinks, ServedLink}
 use Rattle.served_mirrors.specs.Mirrors.{HoldsTheShare}
 use Rattle.served_mirrors.proofs.Meeting.{followers_hold_the_share, stopped_mirrors_hold_the_share}
@@ -55,13 +55,13 @@ module _ {settings : Settings} {opening : List Entry} (crew : List (Stint settin
   part history parts = each_at (IsPart history) crew meets.worker meets.stint parts meets.is_stint
 
 pub runs_meet : RunsMeet
-runs_meet serving opened told left host rounds query meta target before after output served done meets host_is list text whole =
+runs_meet serving opened told left host rounds query meta target before after output served done meets host_is list text =
     let here : IsPart served.history meets.stint = part served.crew done.link meets served.history served.one.parts in
     let link = served_link served.crew done.link meets in
     let can = asked_mirrors_can_be_asked query meta target done.m host done.for.asks host_is list text in
     let both = followers_hold_the_share host done.m rounds (start_of done.link) done.link.taken done.applied done.now (settings_of serving) meets.stint.pass.number link.0
     meets.stint.role meets.stint.pass.seen here.later meets.input meets.returned.0 done.followed.followed done.followed.some (ap (λ (k : Mirrored). k.held.revision) done.for.asks.is) can
-    (point_whole meets.stint.pass.seen here.later (subst IsWhole here.begins whole)) meets.begun meets.sent (owed_is done.link meets.returned.0 meets.owed) link.1 in (
+    (point_whole meets.stint.pass.seen here.later (subst IsWhole here.begins served.whole_history)) meets.begun meets.sent (owed_is done.link meets.returned.0 meets.owed) link.1 in (
       done.written
           ∙ ap (λ (rows : List (ℕ × Tree)). round_lines done.applied ++ shown_rows rows)
           (both.1 ∙ ap (λ (h : List Entry). rows_at h done.m.target done.m.query done.m.meta (last_revision done.applied)) (sym here.begins)),
@@ -69,11 +69,11 @@ runs_meet serving opened told left host rounds query meta target before after ou
     )
 
 pub stopped_runs_meet : StoppedRunsMeet
-stopped_runs_meet serving opened told left host rounds query meta target before after e front served x meets host_is list text whole =
+stopped_runs_meet serving opened told left host rounds query meta target before after e front served x meets host_is list text =
     let here : IsPart served.history meets.stint = part served.crew x.link meets served.history served.one.parts in
     let link = served_link served.crew x.link meets in
     let can = asked_mirrors_can_be_asked query meta target x.m host x.for.asks host_is list text in
     subst (λ (h : List Entry). HoldsTheShare (settings_of serving) h x.m (listings_in x.stops.stops.stage) x.stops.now) (sym here.begins)
     (stopped_mirrors_hold_the_share host x.m rounds (start_of x.link) x.link.taken e x.stops.now (settings_of serving) meets.stint.pass.number link.0
     meets.stint.role meets.stint.pass.seen here.later meets.input meets.returned.0 x.stops.stops (ap (λ (k : Mirrored). k.held.revision) x.for.asks.is) can
-    (point_whole meets.stint.pass.seen here.later (subst IsWhole here.begins whole)) meets.begun meets.sent (owed_is x.link meets.returned.0 meets.owed) link.1)
+    (point_whole meets.stint.pass.seen here.later (subst IsWhole here.begins served.whole_history)) meets.begun meets.sent (owed_is x.link meets.returned.0 meets.owed) link.1)

@@ -9,7 +9,6 @@ use Rattle.mirror_client.specs.declared.refusal.FollowError.{FollowError}
 use Rattle.mirror_client.specs.Stages.{listings_in}
 use Rattle.command_core.specs.Seen.{Seen, Told}
 use Rattle.followed_shares.specs.Laws.{last_revision, rows_at}
-use Rattle.followed_shares.specs.Whole.{IsWhole}
 use Rattle.served_mirrors.specs.Mirrors.{CanBeAsked, HoldsTheShare}
 use Rattle.link_commands.specs.FollowShare.{IsFollowDone, StopsFollowing}
 use Rattle.link_commands.specs.Looks.{AsksMirror}
@@ -39,7 +38,7 @@ abbrev pub RunsMeet : Type 0
 RunsMeet =
     (serving : Serving) (opened : List Entry) (told : Told) (left : Left) (host : List ℕ) (rounds : ℕ) (query meta : Option (List ℕ)) (target : Target) (before after : Seen) (output : List ℕ)
     → (served : HasRun serving opened told left) → (done : IsFollowDone host rounds query meta target before after output) → MeetsCrew served.crew done.link
-    → IsHost host → HasListNumber target → IsText done.m.query → IsWhole served.history
+    → IsHost host → HasListNumber target → IsText done.m.query
     → (output ≡ round_lines done.applied ++ shown_rows (rows_at served.history done.m.target done.m.query done.m.meta (last_revision done.applied)))
     × HoldsTheShare (settings_of serving) served.history done.m done.followed.followed.listings done.now
 
@@ -49,5 +48,5 @@ StoppedRunsMeet =
     (serving : Serving) (opened : List Entry) (told : Told) (left : Left) (host : List ℕ) (rounds : ℕ) (query meta : Option (List ℕ)) (target : Target) (before after : Seen)
     (e : FollowError) (front : List ℕ)
     → (served : HasRun serving opened told left) → (x : StopsFollowing host rounds query meta target before after e front) → MeetsCrew served.crew x.link
-    → IsHost host → HasListNumber target → IsText x.m.query → IsWhole served.history
+    → IsHost host → HasListNumber target → IsText x.m.query
     → HoldsTheShare (settings_of serving) served.history x.m (listings_in x.stops.stops.stage) x.stops.now

@@ -8,6 +8,7 @@ use Rattle.item_model.specs.declared.changes.Entry.{Entry}
 use Rattle.share_asks.specs.declared.ask.Role.{Role}
 use Rattle.share_asks.specs.declared.ask.Role.TheVariants as role
 use Rattle.share_history.specs.Histories.{batches, revision}
+use Rattle.share_history.specs.Whole.{IsWhole}
 use Rattle.share_server.specs.declared.report.LinkReport.{LinkReport}
 use Rattle.share_server.specs.Passes.{Pass}
 use Rattle.command_core.specs.Seen.{NetSeen, OutputSeen}
@@ -46,11 +47,12 @@ pub has_served : {D : Type 0} (serving : Serving) (opened : List Entry) (kept : 
     → (g : HasGathered (settings_of serving) opened (count + 1) roles come start.written mid.written now.written mid.faults now.faults k links verdict)
     → IsHistoryOf (workers_of serving) history g.crew [] → kept history (has_end FileFault (map (λ (s : Stint (settings_of serving) opened). s.end) g.crew))
     → roles ≡ map (λ (d : D). role.Listen) listen ++ map (λ (d : D). role.Edit) edit → come ≡ map coming (listen ++ edit) → now.asked ≡ mid.asked
-    → left.history ≡ Some history → left.links ≡ links → TellsEnd front (ended_line (revision (batches history)) links) verdict before after left.status
+    → left.history ≡ Some history → IsWhole history → left.links ≡ links → TellsEnd front (ended_line (revision (batches history)) links) verdict before after left.status
     → HasServed serving opened kept front start now before after left
-has_served serving opened kept front start mid now before after left coming listen edit count roles come k history links verdict opens g one kept_so roles_is come_is asked history_is links_is told = record {
+has_served serving opened kept front start mid now before after left coming listen edit count roles come k history links verdict opens g one kept_so roles_is come_is asked history_is whole_history links_is told = record {
   history = history;
   history_is = history_is;
+  whole_history = whole_history;
   crew = g.crew;
   roles = g.roles_are ∙ (roles_is ∙ roles_are serving listen edit opens.listening opens.editing);
   links = links_is ∙ g.links_are;

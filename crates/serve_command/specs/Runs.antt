@@ -5,6 +5,7 @@ use Rattle.item_model.specs.declared.changes.Edit.{Edit}
 use Rattle.item_model.specs.declared.changes.Entry.{Entry}
 use Rattle.daap_outside.specs.Told.{Grows}
 use Rattle.share_history.specs.Histories.{batches, revision}
+use Rattle.share_history.specs.Whole as histories
 use Rattle.share_server.specs.declared.report.LinkReport.{LinkReport}
 use Rattle.share_workers.specs.declared.worker.WorkerEnd.TheVariants.{FileFault as lost_edit}
 use Rattle.kept_library.specs.declared.fault.FileFault.{FileFault}
@@ -77,6 +78,7 @@ TellsEnd front ended verdict before after status =
 pub record HasServed (serving : Serving) (opened : List Entry) (kept : List Entry → Bool → Type 0) (front : List ℕ) (net net' : NetSeen) (output output' : OutputSeen) (left : Left) : Type 0 where
   pub history : List Entry
   pub history_is : left.history ≡ Some history
+  pub whole_history : histories.IsWhole history
   -- a stint for each worker, in order
   pub crew : List (Stint (settings_of serving) opened)
   pub roles : map (λ stint. stint.role) crew ≡ roles_of serving

@@ -5,6 +5,7 @@ ghost use Rattle.command_core.specs.Seen.{OutputSeen, output_seen};
 ghost use Rattle.command_core.specs.Endings.{IsWritten};
 ghost use Rattle.command_core.specs.Answers.{Tells};
 ghost use Rattle.share_history.specs.Histories.{batches, revision};
+ghost use Rattle.share_history.specs.Whole.{IsWhole};
 ghost use Rattle.share_crew.specs.Lines.{ended_line, links_in, requests_in};
 ghost use Rattle.share_crew.specs.Verdicts.{verdict_line, verdict_status, with_memory};
 ghost use Rattle.serve_command.specs.Runs.{TellsEnd};
@@ -26,6 +27,7 @@ pub(crate) fn closed<W: Sink>(
     requires links { links_in links < 2 ^ 64 }
     requires requests { requests_in links < 2 ^ 64 }
     ensures history { result.history ≡ Some share.history }
+    ensures whole { IsWhole share.history }
     ensures links { result.links ≡ links }
     ensures told { (start : OutputSeen) (front : List ℕ) → IsWritten start (output_seen (W.taken output.old) (W.faults output.old)) front
         → TellsEnd front (ended_line (revision (batches share.history)) links) verdict start (output_seen (W.taken output.new) (W.faults output.new)) result.status }

@@ -24,7 +24,7 @@ use Rattle.share_server.specs.Passes.{Rises}
 use Rattle.share_server.specs.Replies.{answer_bytes, due, replies_from}
 use Rattle.share_server.specs.Served.{AreServed, IsGivenUp, IsReplied, IsServed, answered_on, at_point}
 use Rattle.followed_shares.specs.Served.{Serves, due_status}
-use Rattle.followed_shares.specs.Whole.{IsWhole}
+use Rattle.share_history.specs.Whole.{IsWhole}
 use Rattle.followed_shares.proofs.Successes.{Begins, answer_is}
 use Rattle.served_mirrors.proofs.Points.{IsPrefix, answered_between, prefix_both, prefix_taken, prefix_whole}
 use Rattle.served_mirrors.proofs.Sends.{IsComplete, IsGranted, Left}

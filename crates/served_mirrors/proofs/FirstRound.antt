@@ -36,7 +36,7 @@ use Rattle.mirror_client.specs.Points.{nothing_read, place}
 use Rattle.mirror_client.specs.Runs.{Followed}
 use Rattle.mirror_client.specs.Stages.{Asking, Begun, Closed, Holding, Learned, Path}
 use Rattle.mirror_client.specs.Steps.{Known, TellsListing, all_applied, with_listings}
-use Rattle.followed_shares.specs.Whole.{IsWhole}
+use Rattle.share_history.specs.Whole.{IsWhole}
 use Rattle.followed_shares.proofs.BodiesRead.{listing_body_read}
 use Rattle.followed_shares.proofs.FilterShown.{few, login_tag, standard_back, table_tag}
 use Rattle.followed_shares.proofs.HeadsRead.{empty_read, tag_read}

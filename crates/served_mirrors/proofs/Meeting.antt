@@ -21,7 +21,7 @@ use Rattle.mirror_client.specs.declared.refusal.FollowError.{FollowError}
 use Rattle.mirror_client.proofs.FilterFacts.{followers_hold_the_filter}
 use Rattle.followed_shares.specs.Laws.{last_revision, rows_at}
 use Rattle.followed_shares.specs.Served.{Rise}
-use Rattle.followed_shares.specs.Whole.{IsWhole}
+use Rattle.share_history.specs.Whole.{IsWhole}
 use Rattle.followed_shares.proofs.FilterShown.{held_last, owed_split, point_batches}
 use Rattle.served_mirrors.specs.Laws.{FollowersHoldTheShare, StoppedMirrorsHoldTheShare, WalkersHoldTheShare}
 use Rattle.served_mirrors.specs.Links.{ServedLink}

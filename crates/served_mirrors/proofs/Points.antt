@@ -13,8 +13,8 @@ use Rattle.share_history.proofs.EditFacts.{batches-append}
 use Rattle.share_server.specs.Served.{answered_on}
 use Rattle.mirror_client.specs.Laws.{AreAnswers, NeverFall, last_point}
 use Rattle.followed_shares.specs.Served.{Rise, first_of}
-use Rattle.followed_shares.specs.Whole.{IsWhole}
-use Rattle.followed_shares.proofs.WholeFacts.{point_whole}
+use Rattle.share_history.specs.Whole.{IsWhole}
+use Rattle.share_history.proofs.WholeFacts.{point_whole}
 
 -- ---- histories that begin others
 

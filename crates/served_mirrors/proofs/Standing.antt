@@ -31,7 +31,7 @@ use Rattle.mirror_client.specs.Tellings.{TellsNumber}
 use Rattle.mirror_client.proofs.ServedFacts.{told_listing}
 use Rattle.mirror_client.proofs.StageFacts.{held_more}
 use Rattle.followed_shares.specs.Served.{Rise, due_status}
-use Rattle.followed_shares.specs.Whole.{IsWhole}
+use Rattle.share_history.specs.Whole.{IsWhole}
 use Rattle.followed_shares.proofs.BodiesRead.{listing_body_read, small_revision}
 use Rattle.followed_shares.proofs.FilterShown.{learned, split_on, tells}
 use Rattle.served_mirrors.specs.Mirrors.{CanBeAsked}

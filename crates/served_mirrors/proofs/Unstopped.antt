@@ -38,7 +38,7 @@ use Rattle.mirror_client.specs.Steps.{Known, UndueEnd, UndueListing, UndueTable,
 use Rattle.mirror_client.specs.Stopping.{Stops}
 use Rattle.mirror_client.specs.Tellings.{UndueNumber}
 use Rattle.followed_shares.specs.Served.{Serves, due_status}
-use Rattle.followed_shares.specs.Whole.{IsWhole}
+use Rattle.share_history.specs.Whole.{IsWhole}
 use Rattle.followed_shares.proofs.Completes.{IsOutside, end_due, listing_due, number_due, stops_outside, table_due}
 use Rattle.followed_shares.proofs.FilterShown.{left_owed, login_tag, owed_split, revision_tag}
 use Rattle.followed_shares.proofs.Successes.{Begins, good_status, success_is}

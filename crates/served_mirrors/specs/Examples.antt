@@ -10,7 +10,7 @@ use Rattle.mirror_core.specs.declared.mirror.Applied.{Applied}
 use Rattle.mirror_core.specs.Mirrored.{Mirrored}
 use Rattle.mirror_client.specs.Points.{nothing_read, place}
 use Rattle.mirror_client.specs.Runs.{Followed}
-use Rattle.followed_shares.specs.Whole.{IsWhole}
+use Rattle.share_history.specs.Whole.{IsWhole}
 use Rattle.served_mirrors.specs.Links.{AnsweredAll, ServedLink}
 
 -- a mirror of all items that holds nothing yet

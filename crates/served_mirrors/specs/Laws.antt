@@ -24,7 +24,7 @@ use Rattle.share_server.specs.Links.{LinkEnded}
 use Rattle.share_server.specs.Passes.{Pass}
 use Rattle.share_workers.specs.Works.{Works}
 use Rattle.followed_shares.specs.Laws.{last_revision, rows_at}
-use Rattle.followed_shares.specs.Whole.{IsWhole}
+use Rattle.share_history.specs.Whole.{IsWhole}
 use Rattle.served_mirrors.specs.Examples.{IsServedOnce, new_mirror}
 use Rattle.served_mirrors.specs.Links.{AnsweredAll, AreServedLinks, ServedLink}
 use Rattle.served_mirrors.specs.Mirrors.{CanBeAsked, HoldsTheShare}

@@ -91,6 +91,7 @@ returns g c = λ start before first front begun opens new wrote.
     record {
       history = history;
       history_is = c.closed.ensures.history;
+      whole_history = c.closed.ensures.whole;
       crew = all.crew;
       roles = all.roles_are ∙ (e.roles ∙ sym (splat_is_map crew relaying.workers role.Listen crew_count));
       links = c.closed.ensures.links ∙ all.links_are;

@@ -130,5 +130,5 @@ returns g c = λ serving opened start before front begun first opens new_listen 
     (crew_keeps written faults history all.crew c.keep_beside.new.crew.items c.keep_beside.new.worker (workers_of serving) serving.workers serving.editors (known r.1.pass)
     (g.K.Keeps.keeps c.args.keeper) (g.K.Keeps.keeps c.keep_beside.new.keeper) (g.K.Keeps.is_lost c.keep_beside.new.keeper) (g.K.Keeps.faults c.args.keeper) (g.K.Keeps.faults c.keep_beside.new.keeper)
     (subst (λ l. AllZip (IsOf written faults) all.crew l) c.push_reserved.ensures.items both.1) c.keep_beside.ensures.whole (all.roles_are ∙ (staff.roles_are ∙ roles_are serving listen edit opens.listening opens.editing)) first one seen c.keep_beside.ensures.keeping)
-    staff.roles_are (sym (map-map coming (λ w. w.door) crew) ∙ ap (map coming) staff.doors_are) c.gather-lock.ensures.asked c.closed.ensures.history c.closed.ensures.links
+    staff.roles_are (sym (map-map coming (λ w. w.door) crew) ∙ ap (map coming) staff.doors_are) c.gather-lock.ensures.asked c.closed.ensures.history c.closed.ensures.whole c.closed.ensures.links
     (c.closed.ensures.told before front wrote)
