@@ -58,6 +58,6 @@ pub runs_show_what_they_read : RunsShowWhatTheyRead
 runs_show_what_they_read relaying front net net' output output' left first middle rest r is =
     let x = relays_leave_steps relaying.upstream relaying.rounds _ r.relay.link.taken _ r.relay.pass r.relay.report refl r.relayed in (
       x,
-      relays_show_what_they_read relaying.upstream relaying.rounds _ r.relay.pass r.history first middle rest x r.one.other_parts.0.own
+      relays_show_what_they_read relaying.upstream relaying.rounds _ r.relay.link.taken r.relay.pass r.history first middle rest x r.one.other_parts.0.own
       (relay_edits_alone (relaying.workers + 1) r.history r.crew r.relay.pass (are_players relaying.workers r.crew r.roles) r.one) is,
     )

@@ -18,5 +18,5 @@ abbrev pub RunsShowWhatTheyRead : Type 0
 RunsShowWhatTheyRead =
     (relaying : Relaying) (front : List ℕ) (net net' : NetSeen) (output output' : OutputSeen) (left : Outcome) (first middle rest : List Entry)
     → (r : HasServed relaying front net net' output output' left) → r.history ≡ first ++ (middle ++ rest)
-    → (x : LeavesSteps relaying.upstream relaying.rounds (start_of r.relay.link) r.relay.pass) × (s : StandsAt ([] ∷ relay_of (listings_in x.stage)) first)
+    → (x : LeavesSteps relaying.upstream relaying.rounds (start_of r.relay.link) r.relay.link.taken r.relay.pass) × (s : StandsAt ([] ∷ relay_of (listings_in x.stage)) first)
     × StandsAt (library (all_edits first) ∷ s.ahead) (first ++ middle)
