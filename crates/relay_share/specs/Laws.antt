@@ -1,5 +1,6 @@
 -- What follows from the definitions: the entries of a relay's pass.
 use Rattle.std.specs.Prelude.{◌≡◌, ℕ, List, [], ◌∷◌, ◌++◌, length, Bool, true, false, ◌&&◌, ◌==◌, not, map, Option, None, if◌then◌else◌}
+use Rattle.std.specs.Io.KnownBytes.{Appends}
 use Rattle.std.specs.List.{AllByRecursion, list_any}
 use Rattle.item_model.specs.declared.changes.Edit.{Edit}
 use Rattle.item_model.specs.declared.changes.Entry.{Entry}
@@ -52,11 +53,13 @@ StopsComeLast =
     → entries_of maker k.number k'.seen ≡ entries_of maker k.number k.seen ++ stop_behind k.number k'.seen
 
 -- What a relay leaves. Its entries are the steps between the libraries that the listings left which it read on its link, from nothing
--- on, and behind them the stop
-pub record LeavesSteps (host : List ℕ) (rounds : ℕ) (p : Point) (k : Pass) : Type 0 where
+-- on, and behind them the stop. What stands on its link are the requests of these listings, and at most a part of more behind them
+pub record LeavesSteps (host : List ℕ) (rounds : ℕ) (p : Point) (taken : Option (List ℕ)) (k : Pass) : Type 0 where
   pub stage : Stage
   pub there : Point
   pub walks : Walks host followed rounds Begun p stage there
+  pub part : List ℕ
+  pub written : Appends there.taken taken part
   pub libraries : AllByRecursion IsLibrary (relay_of (listings_in stage))
   pub entries : entries_of maker k.number k.seen ≡ edits_by k.number (steps_between [] (relay_of (listings_in stage))) ++ stop_behind k.number k.seen
 
@@ -64,7 +67,7 @@ pub record LeavesSteps (host : List ℕ) (rounds : ℕ) (p : Point) (k : Pass) :
 abbrev pub RelaysLeaveSteps : Type 0
 RelaysLeaveSteps =
     (host : List ℕ) (rounds : ℕ) (p : Point) (taken : Option (List ℕ)) (k k' : Pass) (report : RelayReport) → k.seen ≡ []
-    → HasRelayed host rounds p taken k k' report → LeavesSteps host rounds p k'
+    → HasRelayed host rounds p taken k k' report → LeavesSteps host rounds p taken k'
 
 -- only the pass of this number made edits
 abbrev pub EditsAlone : ℕ → List Entry → Type 0
@@ -74,7 +77,7 @@ EditsAlone number h = AllByRecursion (λ e. is_edit e ≡ true → maker e ≡ n
 -- and at a later point it is that one or one that the relay read later
 abbrev pub RelaysShowWhatTheyRead : Type 0
 RelaysShowWhatTheyRead =
-    (host : List ℕ) (rounds : ℕ) (p : Point) (k : Pass) (h front middle rest : List Entry) → (r : LeavesSteps host rounds p k)
+    (host : List ℕ) (rounds : ℕ) (p : Point) (taken : Option (List ℕ)) (k : Pass) (h front middle rest : List Entry) → (r : LeavesSteps host rounds p taken k)
     → entries_of maker k.number h ≡ entries_of maker k.number k.seen → EditsAlone k.number h → h ≡ front ++ (middle ++ rest)
     → (s : StandsAt ([] ∷ relay_of (listings_in r.stage)) front) × StandsAt (library (all_edits front) ∷ s.ahead) (front ++ middle)
 

@@ -1,2 +1,3 @@
 pub mod AskedMirrors
 pub mod Runs
+pub mod Relays

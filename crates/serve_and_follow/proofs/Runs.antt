@@ -43,7 +43,7 @@ link_at s by role h (i ∷ inputs) (r ∷ returns) (suc n) input returned links 
 
 -- the connection where they meet was served by its worker, over what this had seen by its end
 module _ {settings : Settings} {opening : List Entry} (crew : List (Stint settings opening)) (link : LinkSeen) (meets : MeetsCrew crew link) where
-  served_link : (limit : ℕ) × ServedLink settings meets.stint.pass.number limit meets.stint.role meets.stint.pass.seen meets.input meets.returned.0
+  pub served_link : (limit : ℕ) × ServedLink settings meets.stint.pass.number limit meets.stint.role meets.stint.pass.seen meets.input meets.returned.0
   served_link =
       let stint = meets.stint in
       link_at settings stint.pass.number stint.role stint.pass.seen stint.served.works.inputs stint.served.works.returns meets.number meets.input meets.returned
@@ -51,7 +51,7 @@ module _ {settings : Settings} {opening : List Entry} (crew : List (Stint settin
       meets.came meets.given
 
   -- what the worker had seen begins the history
-  part : (history : List Entry) → AllByRecursion (IsPart history) crew → IsPart history meets.stint
+  pub part : (history : List Entry) → AllByRecursion (IsPart history) crew → IsPart history meets.stint
   part history parts = each_at (IsPart history) crew meets.worker meets.stint parts meets.is_stint
 
 pub runs_meet : RunsMeet

@@ -1,5 +1,5 @@
 -- What a run of `follow` shows of a share that a run of `serve` served.
-use Rattle.std.specs.Prelude.{◌≡◌, ℕ, List, ◌++◌, Option}
+use Rattle.std.specs.Prelude.{◌≡◌, ℕ, List, [], ◌∷◌, ◌++◌, map, Option}
 use Rattle.item_model.specs.declared.changes.Entry.{Entry}
 use Rattle.item_model.specs.declared.request.Target.{Target}
 use Rattle.http_client.specs.Requests.{HasListNumber, IsHost}
@@ -7,7 +7,14 @@ use Rattle.http_client.specs.Targets.{IsText}
 use Rattle.mirror_core.specs.Mirrored.{Mirrored}
 use Rattle.mirror_client.specs.declared.refusal.FollowError.{FollowError}
 use Rattle.mirror_client.specs.Stages.{listings_in}
-use Rattle.command_core.specs.Seen.{Seen, Told}
+use Rattle.command_core.specs.Seen.{NetSeen, OutputSeen, Seen, Told}
+use Rattle.share_history.specs.Histories.{all_edits}
+use Rattle.share_history.specs.Rows.{library}
+use Rattle.relayed_rows.specs.Relays.{StandsAt}
+use Rattle.share_crew.specs.declared.outcome.Outcome.{Outcome}
+use Rattle.relay_command.specs.Runs as relay
+use Rattle.relay_command.specs.declared.terms.Relaying.{Relaying}
+use Rattle.followed_shares.specs.Served.{Rise}
 use Rattle.followed_shares.specs.Laws.{last_revision, rows_at}
 use Rattle.served_mirrors.specs.Mirrors.{CanBeAsked, HoldsTheShare}
 use Rattle.link_commands.specs.FollowShare.{IsFollowDone, StopsFollowing}
@@ -50,3 +57,14 @@ StoppedRunsMeet =
     → (served : HasRun serving opened told left) → (x : StopsFollowing host rounds query meta target before after e front) → MeetsCrew served.crew x.link
     → IsHost host → HasListNumber target → IsText x.m.query
     → HoldsTheShare (settings_of serving) served.history x.m (listings_in x.stops.stops.stage) x.stops.now
+
+-- If a relay read on a connection to the share, then its own library is at each point of the history that it left one that the share had,
+-- or the empty one. At a later point it is that one, or one that the share had later
+abbrev pub RelaysMeet : Type 0
+RelaysMeet =
+    (serving : Serving) (opened : List Entry) (told : Told) (left : Left) (relaying : Relaying) (front : List ℕ) (net net' : NetSeen) (output output' : OutputSeen) (out : Outcome)
+    (first middle rest : List Entry)
+    → (served : HasRun serving opened told left) → (r : relay.HasServed relaying front net net' output output' out) → MeetsCrew served.crew r.relay.link
+    → IsHost relaying.upstream → r.history ≡ first ++ (middle ++ rest)
+    → (points : List (List Entry)) × Rise points served.history × (s : StandsAt ([] ∷ map (λ h. library (all_edits h)) points) first)
+    × StandsAt (library (all_edits first) ∷ s.ahead) (first ++ middle)

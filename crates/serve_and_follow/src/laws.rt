@@ -1,6 +1,6 @@
 //! What holds of all runs of both commands. Each function does nothing; its contract is a fact that follows from the definitions.
 
-ghost use Rattle.serve_and_follow.specs.Laws.{AskedMirrorsCanBeAsked, RunsMeet, StoppedRunsMeet};
+ghost use Rattle.serve_and_follow.specs.Laws.{AskedMirrorsCanBeAsked, RelaysMeet, RunsMeet, StoppedRunsMeet};
 
 /// A mirror that arguments ask for writes requests that a server reads as they were meant.
 pub fn asked_mirrors_can_be_asked()
@@ -15,4 +15,9 @@ pub fn runs_meet()
 /// A run of `follow` that stopped holds what the share had at the last listing that was applied.
 pub fn stopped_runs_meet()
     ensures { StoppedRunsMeet }
+{}
+
+/// What the players of a relay can see is what the share had that the relay reads, and never goes back.
+pub fn relays_meet()
+    ensures { RelaysMeet }
 {}

@@ -1,5 +1,5 @@
 -- What a mirror read on a connection is what its server wrote there, so that it holds what the share has.
-use Rattle.std.proofs.Common.{◌≡◌, ◌≤◌, ◌+◌, ℕ, List, [], ◌∷◌, ◌++◌, take, length, false, Option, Some, None, refl, sym, ap, ◌∙◌, subst, inl, inr, append_assoc, append-nil, arith}
+use Rattle.std.proofs.Common.{◌≡◌, ◌≤◌, ◌+◌, ℕ, List, [], ◌∷◌, ◌++◌, take, length, false, Option, Some, None, refl, sym, ap, ◌∙◌, subst, append_assoc, append-nil, arith}
 use Rattle.std.specs.Io.KnownBytes.{Appends}
 use Rattle.item_model.specs.declared.changes.Edit.{Edit}
 use Rattle.item_model.specs.declared.changes.Entry.{Entry}
@@ -16,9 +16,9 @@ use Rattle.mirror_client.specs.Laws.{AreAnswers, last_point}
 use Rattle.mirror_client.specs.Points.{Point}
 use Rattle.mirror_client.specs.Stages.{Begun, Closed, Stage, UndueIn, Walks, listings_in}
 use Rattle.mirror_client.specs.Steps.{all_applied, held_after, with_listings}
-use Rattle.mirror_client.specs.Stopping.{Stops}
 use Rattle.mirror_client.specs.declared.refusal.FollowError.{FollowError}
 use Rattle.mirror_client.proofs.FilterFacts.{followers_hold_the_filter}
+use Rattle.mirror_client.proofs.StageFacts.{part_written}
 use Rattle.followed_shares.specs.Laws.{last_revision, rows_at}
 use Rattle.followed_shares.specs.Served.{Rise}
 use Rattle.share_history.specs.Whole.{IsWhole}
@@ -82,12 +82,6 @@ walkers_hold_the_share host m rounds p t there s by limit role h later sent part
     let same = all_written p.taken there.taken (requests w.exchanges) sent nothing is w.went.written in
     walked host m rounds s by limit role h later p t there part output (with_listings m (listings_in t)) w zero can whole owed
     (subst (λ (bs : List ℕ). ServedLink s by limit role h (bs ++ part) output) same served) refl
-
--- what a client wrote that stopped is its requests and a part of the next one
-part_written : (request : List ℕ) (Undue : ℕ → Reply → FollowError → Type 0) (p : Point) (taken : Option (List ℕ)) (e : FollowError) → Stops request Undue p taken e → (part : List ℕ) × Appends p.taken taken part
-part_written request Undue p taken e (inl s) = (take s.written.0 request, s.written.2)
-part_written request Undue p taken e (inr a) =
-    (requests (a.exchange ∷ []), subst (λ (o : Option (List ℕ)). Appends p.taken o (requests (a.exchange ∷ []))) a.written a.went.written)
 
 pub stopped_mirrors_hold_the_share : StoppedMirrorsHoldTheShare
 stopped_mirrors_hold_the_share host m rounds p taken e now s by limit role h later input output x zero can whole nothing is owed served =
