@@ -45,6 +45,7 @@ pub fn obeyed_over_net<R: Threads + Wait + Clock + Sync, I: Source, W: Sink, F: 
         (output_seen (W.taken output.new) (W.faults output.new)))
         result }
     ensures files { leaves_files (Some (OverNet command)) ≡ true → files.new ≡ files.old }
+    ensures open_stays { N.open_count net.new ≡ N.open_count net.old }
 {
     match command {
         NetCommand::Serve(words) => {

@@ -45,6 +45,8 @@ ends_so serving opened kept kept' net net' output output' left so (announced run
   written = run.written;
   counts = run.counts;
   kept_so = so run.history _ run.kept_so;
+  at_line = run.at_line;
+  line_written = run.line_written;
   told = run.told;
   whole = run.whole;
 })

@@ -42,7 +42,7 @@ returns-in-Edit-clause-answered g c =
     subst (λ (asked : NetCommand). IsRunOverNet asked told c.unlinked.result) (sym c.in-Edit.is) (
       c.unlinked.ensures.unlinked,
       subst (λ (ended : CoreOutcome). IsLinkAnswered (edit_meaning words.place words.stop) told ended) (sym c.unlinked.ensures.ended)
-          (subst (λ (place : List ℕ). IsLinkAnswered (edit_meaning place words.stop) told c.edit_share-ended.result) c.as_str.ensures (c.edit_share-ended.ensures files)),
+          (subst (λ (place : List ℕ). IsLinkAnswered (edit_meaning place words.stop) told c.edit_share-ended.result) c.as_str.ensures (c.edit_share-ended.ensures.answered files)),
     )
 
 pub returns-in-Follow-clause-answered : goal.returns-in-Follow-clause-answered
@@ -63,7 +63,7 @@ returns-in-Follow-clause-answered g c =
           (subst (λ (t : Target). IsLinkAnswered (follow_meaning c.as_str-in-Follow.result.now words.rounds words.query words.meta t) told c.follow_share-ended.result) c.target_of.ensures
           (subst (λ (m : Option (List ℕ)). IsLinkAnswered (follow_meaning c.as_str-in-Follow.result.now words.rounds words.query m c.target_of.result) told c.follow_share-ended.result) c.as_ref-in-Follow.ensures.value
           (subst (λ (q : Option (List ℕ)). IsLinkAnswered (follow_meaning c.as_str-in-Follow.result.now words.rounds q meta c.target_of.result) told c.follow_share-ended.result) c.as_ref.ensures.value
-          (c.follow_share-ended.ensures files (input_seen (g.I.Source.left c.args.input.now) (g.I.Faulted.faults c.args.input.now))))))),
+          (c.follow_share-ended.ensures.answered files (input_seen (g.I.Source.left c.args.input.now) (g.I.Faulted.faults c.args.input.now))))))),
     )
 
 pub returns-in-Relay-clause-answered : goal.returns-in-Relay-clause-answered
