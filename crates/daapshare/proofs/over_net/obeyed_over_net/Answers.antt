@@ -79,5 +79,5 @@ returns-in-Relay-clause-answered g c =
       unread = record { left = refl; faults = refl };
       files = refl;
       ends = subst (λ (left : CrewOutcome). RelayEnds (relaying_of c.in-Relay.words) before after output output' left) (sym c.linked-in-Relay.ensures.crew)
-          (subst (λ (relaying : Relaying). RelayEnds relaying before after output output' c.relay.result) c.relaying_of.ensures.asked c.relay.ensures);
+          (subst (λ (relaying : Relaying). RelayEnds relaying before after output output' c.relay.result) c.relaying_of.ensures.asked c.relay.ensures.ends);
     })
