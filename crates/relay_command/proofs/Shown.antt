@@ -1,5 +1,5 @@
 -- What the players of a relay can see.
-use Rattle.std.proofs.Common.{◌≡◌, ◌⊎◌, ◌+◌, ◌≤◌, ℕ, suc, List, [], ◌∷◌, ◌++◌, get_or, length, map, replicate, true, refl, sym, subst, ap, ◌∙◌, inl, inr, arith, append-nil}
+use Rattle.std.proofs.Common.{◌≡◌, ◌⊎◌, ◌+◌, ◌≤◌, ℕ, zero, suc, List, [], ◌∷◌, ◌++◌, get_or, length, map, replicate, true, refl, sym, subst, ap, ◌∙◌, inl, inr, arith, append-nil}
 use Rattle.std.proofs.lemmas.List.Elements.{All-nil}
 use Rattle.std.specs.List.{AllByRecursion}
 use Rattle.std.specs.Prelude.{All, Contains}
@@ -16,10 +16,15 @@ use Rattle.relay_share.specs.Laws.{EditsAlone, LeavesSteps}
 use Rattle.relay_share.proofs.LeftFacts.{relays_leave_steps, relays_show_what_they_read}
 use Rattle.relay_command.specs.Laws.{RunsShowWhatTheyRead}
 
+-- edits at each place are of this number
+each_alone : (number : ℕ) (h : List Entry) → ((i : ℕ) (d : Entry) → suc i ≤ length h → is_edit (get_or h i d) ≡ true → maker (get_or h i d) ≡ number) → EditsAlone number h
+each_alone number [] each = tt
+each_alone number (e ∷ h) each = (each 0 e (omega arith), each_alone number h (λ i d less. each (suc i) d (omega (arith, less))))
+
 module _ {settings : Settings} where
   are_players : (n : ℕ) (crew : List (Stint settings [])) → map (λ stint. stint.role) crew ≡ replicate n role.Listen → ArePlayers crew
   are_players n [] are = tt
-  are_players 0 (s ∷ crew) are = absurd (cc)
+  are_players zero (s ∷ crew) are = absurd (cc)
   are_players (suc n) (s ∷ crew) are =
       let one : s.role ≡ role.Listen = cc in
       let more : map (λ stint. stint.role) crew ≡ replicate n role.Listen = cc in
@@ -38,10 +43,6 @@ module _ {settings : Settings} where
       at (inl same) = same
       at (inr none) = let h = none.1 in absurd (omega arith)
 
-  each_alone : (number : ℕ) (h : List Entry) → ((i : ℕ) (d : Entry) → suc i ≤ length h → is_edit (get_or h i d) ≡ true → maker (get_or h i d) ≡ number) → EditsAlone number h
-  each_alone number [] each = tt
-  each_alone number (e ∷ h) each = (each 0 e (omega arith), each_alone number h (λ i d less. each (suc i) d (omega (arith, less))))
-
   relay_edits_alone : (passes : ℕ) (history : List Entry) (crew : List (Stint settings [])) (relay : Pass) → ArePlayers crew → IsHistoryOf passes history crew (relay ∷ [])
       → EditsAlone relay.number history
   relay_edits_alone passes history crew relay are one =
@@ -56,8 +57,7 @@ module _ {settings : Settings} where
 
 pub runs_show_what_they_read : RunsShowWhatTheyRead
 runs_show_what_they_read relaying front net net' output output' left first middle rest r is =
-    let x = relays_leave_steps relaying.upstream relaying.rounds _ r.relay.link.taken _ r.relay.pass r.relay.report refl r.relayed in (
-      x,
-      relays_show_what_they_read relaying.upstream relaying.rounds _ r.relay.link.taken r.relay.pass r.history first middle rest x r.one.other_parts.0.own
-      (relay_edits_alone (relaying.workers + 1) r.history r.crew r.relay.pass (are_players relaying.workers r.crew r.roles) r.one) is,
-    )
+    let x = relays_leave_steps relaying.upstream relaying.rounds _ r.relay.link.taken _ r.relay.pass r.relay.report refl r.relayed in
+    let shown = relays_show_what_they_read relaying.upstream relaying.rounds _ r.relay.link.taken r.relay.pass r.history first middle rest x r.one.other_parts.0.own
+    (relay_edits_alone (relaying.workers + 1) r.history r.crew r.relay.pass (are_players relaying.workers r.crew r.roles) r.one) is in
+    (x, shown.0, shown.1)

@@ -36,6 +36,7 @@ ends_so serving opened kept kept' net net' output output' left so (not_announced
 ends_so serving opened kept kept' net net' output output' left so (announced run) = announced (record {
   history = run.history;
   history_is = run.history_is;
+  whole_history = run.whole_history;
   crew = run.crew;
   roles = run.roles;
   links = run.links;
