@@ -1,0 +1,5 @@
+mod Lines
+mod Ways
+mod FromPlaces
+mod Heads
+mod Walked
