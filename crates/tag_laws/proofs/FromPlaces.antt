@@ -1,5 +1,5 @@
 -- The first fault from a place on, by that of the next place.
-use Rattle.std.proofs.Common.{◌≡◌, ℕ, ◌≤◌, List, [], ◌∷◌, refl, sym, subst}
+use Rattle.std.proofs.Common.{ℕ, ◌≤◌, List, [], ◌∷◌, refl, sym, subst}
 use Rattle.code_table.specs.declared.row.CodeRow.{CodeRow}
 use Rattle.dmap_stream.specs.declared.refusal.StreamError.{StreamError}
 use Rattle.dmap_stream.specs.Walk.{Ending, between, inside, broken}

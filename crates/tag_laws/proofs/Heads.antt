@@ -1,5 +1,5 @@
 -- What the head at a place shows: its fault, or that the place has none.
-use Rattle.std.proofs.Common.{◌≡◌, ◌≢◌, ℕ, ◌+◌, ◌<◌, ◌≤◌, List, [], ◌∷◌, length, Bool, true, false, ◌&&◌, nat_lt, nat_le, if◌then◌else◌, Option, Some, None, refl, sym, ap, ◌∙◌, arith}
+use Rattle.std.proofs.Common.{◌≡◌, ℕ, ◌+◌, ◌≤◌, List, [], ◌∷◌, length, Bool, true, false, ◌&&◌, nat_lt, nat_le, if◌then◌else◌, Option, Some, None, refl, sym, ap, ◌∙◌, arith}
 use Rattle.std.proofs.lemmas.Bool.{lt-ltb, ltb-true, ltb-false, leb-true, leb-false, and_parts, and_from}
 use Rattle.dmap_stream.specs.declared.containers.Container.{Container}
 use Rattle.dmap_stream.specs.declared.refusal.StreamError.{StreamError}
@@ -67,7 +67,7 @@ sound_head : (limit : ℕ) (bytes : List ℕ) (p : Place) → HasHead bytes p �
     → nat_le 32 (length p.around) ≡ false → passes (p.at + 8 + length_at bytes p) p.around ≡ false → NoFaultAt limit bytes p
 sound_head limit bytes p head small shallow within (TooLarge at) h =
     let bad : true ≡ false =
-        sym (and_from (is_empty p.around) (nat_lt limit (length_at bytes p)) (ap is_empty h.2) (lt-ltb limit (length_at bytes p) h.3)) ∙ small in
+    sym (and_from (is_empty p.around) (nat_lt limit (length_at bytes p)) (ap is_empty h.2) (lt-ltb limit (length_at bytes p) h.3)) ∙ small in
     absurd (cc)
 sound_head limit bytes p head small shallow within (TooDeep at) h = let deep = h.2 in let less = leb-false 32 (length p.around) shallow in omega arith
 sound_head limit bytes p head small shallow within (Overrun at c) h = passes_not (p.at + 8 + length_at bytes p) p.around within h.4

@@ -1,12 +1,11 @@
 -- The first lines of a text are the beginning of its further lines, so a text stops at one line.
 use Rattle.std.proofs.Common.{◌≡◌, ◌≢◌, ℕ, zero, suc, ◌+◌, ◌<◌, ◌≤◌, List, [], ◌∷◌, ◌++◌, Bool, true, false, ◌==◌, ◌||◌, nat_lt, nat_le, if◌then◌else◌, refl, sym, ap, subst, ◌∙◌, arith, append_assoc, append-nil}
 use Rattle.std.proofs.lemmas.Bool.{ltb-true, ltb-false, leb-true, leb-false}
-use Rattle.dmap_tags.specs.Tree.{Tree}
 use Rattle.code_table.specs.declared.row.CodeRow.{CodeRow}
 use Rattle.dmap_show.specs.Readable.{Shows}
 use Rattle.dmap_show.specs.declared.reading.ShowError.{ShowError}
 use Rattle.dmap_show.specs.declared.reading.ShowError.TheVariants.{Line, Memory}
-use Rattle.dmap_show.specs.TextLines.{before, behind, has, first_line, behind_lines, first_lines, StopsBehind, Explains}
+use Rattle.dmap_show.specs.TextLines.{behind, has, first_line, behind_lines, first_lines, StopsBehind, Explains}
 
 -- the first lines begin what is further lines
 abbrev pub Begins : List ℕ → List ℕ → Type 0

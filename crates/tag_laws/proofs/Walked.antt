@@ -1,8 +1,8 @@
 -- The walk ends at the first place with a fault.
-use Rattle.std.proofs.Common.{◌≡◌, ◌≢◌, inl, inr, ℕ, zero, suc, ◌+◌, ◌-◌, ◌<◌, ◌≤◌, List, [], ◌∷◌, length, take, drop, Bool, true, false, ◌&&◌, ◌==◌, nat_lt, if◌then◌else◌, Option, Some, None, refl, sym, ap, subst, ◌∙◌, arith}
+use Rattle.std.proofs.Common.{◌≡◌, ◌≢◌, inl, inr, ℕ, zero, suc, ◌+◌, ◌<◌, ◌≤◌, List, [], ◌∷◌, length, take, drop, Bool, true, false, ◌&&◌, ◌==◌, nat_lt, if◌then◌else◌, Option, Some, None, refl, sym, ap, subst, ◌∙◌, arith}
 use Rattle.std.proofs.lemmas.Bool.{ltb-true, ltb-false, eqb-true}
 use Rattle.std.proofs.lemmas.List.{length-drop, drop-drop}
-use Rattle.dmap_tags.specs.Codes.{Four, code_of}
+use Rattle.dmap_tags.specs.Codes.{Four}
 use Rattle.dmap_tags.specs.Kinds.{is_list}
 use Rattle.dmap_tags.specs.Typed.{leaf_at, value_of}
 use Rattle.code_table.specs.declared.row.CodeRow.{CodeRow}
@@ -12,9 +12,9 @@ use Rattle.dmap_stream.specs.declared.event.Event.TheVariants.{Open, Leaf}
 use Rattle.dmap_stream.specs.declared.refusal.StreamError.{StreamError}
 use Rattle.dmap_stream.specs.declared.refusal.StreamError.TheVariants.{ShortHead, Memory}
 use Rattle.dmap_stream.specs.Reader.{Reader, Tells, TellsAs}
-use Rattle.dmap_stream.specs.Walk.{Walk, Ending, between, inside, broken, ends, behind, is_empty, open_after, is_short, passes, fault_at, told_length, container, Onward, at_payload, at_body, unless_fault, behind_head, at_head, at_place, walk, walk_from, walk_of}
-use Rattle.tag_laws.specs.Places.{Place, place, start, code_at, length_at, kind_at, HasHead, IsOpen, EntersList, PassesValue, Next, IsPlace}
-use Rattle.tag_laws.specs.Faults.{HasFault, IsFirstFault, HasNoFault}
+use Rattle.dmap_stream.specs.Walk.{Walk, Ending, between, inside, broken, ends, behind, is_empty, open_after, is_short, passes, fault_at, container, Onward, at_payload, at_body, unless_fault, behind_head, at_head, at_place, walk, walk_from, walk_of}
+use Rattle.tag_laws.specs.Places.{Place, place, start, code_at, length_at, kind_at, HasHead, IsOpen, Next}
+use Rattle.tag_laws.specs.Faults.{IsFirstFault, HasNoFault}
 use Rattle.tag_laws.proofs.Ways.{remain, one_first_fault}
 use Rattle.tag_laws.proofs.FromPlaces.{NoFaultAt, NoneFrom, FirstFrom, TellsFrom, first_here, none_behind, tells_on}
 use Rattle.tag_laws.proofs.Heads.{Nested, IsHeadFault, short_is, room, nested_within, no_head, head_fault}
@@ -41,8 +41,10 @@ value_tells rows limit bytes n f later p none head within value less nested = by
   where
     len : ℕ
     len = length_at bytes p
+
     payload : List ℕ
     payload = drop 8 (drop p.at bytes)
+
     by : (b : Bool) → nat_lt (length payload) len ≡ b
         → TellsFrom rows limit bytes p (if b then ends inside else behind (Leaf (code_at bytes p) (value_of (leaf_at (kind_at rows bytes p) (take len payload))) p.at ∷ []) (f (p.at + 8 + len) p.around (drop len payload))).ending
     by true few = none_behind rows limit bytes p none last
@@ -68,12 +70,16 @@ body_tells rows limit bytes n f later p none head within less nested = by (is_li
   where
     code : Four
     code = code_at bytes p
+
     len : ℕ
     len = length_at bytes p
+
     payload : List ℕ
     payload = drop 8 (drop p.at bytes)
+
     inner : List Container
     inner = container code p.at len ∷ p.around
+
     by : (b : Bool) → is_list (kind_at rows bytes p) ≡ b
         → TellsFrom rows limit bytes p (if b then behind (Open code len p.at ∷ []) (f (p.at + 8) inner payload) else at_payload f p.at p.around code (kind_at rows bytes p) len payload).ending
     by true list =
@@ -106,6 +112,7 @@ head_tells rows limit bytes n f later p reached less nested going short = by (na
       where
         none : HasHead bytes p → ⊥
         none head = let there = head.whole in let below = ltb-true (length (drop p.at bytes)) 8 few in omega (arith, length-drop p.at bytes)
+
         last : (q : Place) → Next rows bytes p q → ⊥
         last q (inl e) = none e.head
         last q (inr e) = none e.head
@@ -125,6 +132,7 @@ place_tells rows limit bytes n f later at around reached less nested = by (is_sh
   where
     p : Place
     p = place at (open_after at around)
+
     by : (b : Bool) → is_short at (open_after at around) ≡ b
         → TellsFrom rows limit bytes p (if b then ends (broken (ShortHead at)) else at_head f rows limit at (open_after at around) (drop at bytes)).ending
     by true short = first_here rows limit bytes p (ShortHead at) (refl, short_is at (open_after at around) short)
@@ -184,5 +192,5 @@ never_broken false e h = absurd (cc)
 
 pub unrefused : (fed : List ℕ) (handed : List Event) (r : Reader) → Tells fed handed r → r.error ≡ None → HasNoFault r.rows r.limit fed
 unrefused fed handed r h is =
-    let as : TellsAs fed handed r None = subst (TellsAs fed handed r) is h in
-    unbroken r.rows r.limit fed (λ e broke. never_broken _ e (sym (ap (λ (w : Walk). w.ending) as) ∙ broke))
+    let all : TellsAs fed handed r None = subst (TellsAs fed handed r) is h in
+    unbroken r.rows r.limit fed (λ e broke. never_broken _ e (sym (ap (λ (w : Walk). w.ending) all) ∙ broke))

@@ -1,15 +1,13 @@
 -- A place has one next place, which is further on; an offset has one place; and a place has one fault.
-use Rattle.std.proofs.Common.{◌≡◌, ◌≢◌, ◌⊎◌, inl, inr, ℕ, ◌+◌, ◌<◌, ◌≤◌, List, [], ◌∷◌, ◌++◌, length, drop, Bool, true, false, ◌==◌, if◌then◌else◌, refl, sym, ap, subst, ◌∙◌, arith}
+use Rattle.std.proofs.Common.{◌≡◌, inl, inr, ℕ, ◌+◌, ◌<◌, ◌≤◌, List, [], ◌∷◌, ◌++◌, length, Bool, true, false, ◌==◌, if◌then◌else◌, refl, sym, ap, subst, ◌∙◌, arith}
 use Rattle.std.specs.List.{AllByRecursion}
 use Rattle.std.proofs.lemmas.Bool.{eq-eqb, ne_eqb, eqb-true, eqb-false, cond-true, cond-false}
-use Rattle.dmap_tags.specs.Codes.{Four}
-use Rattle.dmap_tags.specs.Kinds.{is_list}
 use Rattle.code_table.specs.declared.row.CodeRow.{CodeRow}
 use Rattle.dmap_stream.specs.declared.containers.Container.{Container}
 use Rattle.dmap_stream.specs.declared.refusal.StreamError.{StreamError}
 use Rattle.dmap_stream.specs.declared.refusal.StreamError.TheVariants.{TooLarge, TooDeep, Overrun, ShortHead, Truncated, Memory}
 use Rattle.dmap_stream.specs.Walk.{open_after, container}
-use Rattle.tag_laws.specs.Places.{Place, place, start, code_at, length_at, kind_at, HasRoom, HasHead, IsOpen, Remain, EntersList, PassesValue, Next, Leads, IsPlace}
+use Rattle.tag_laws.specs.Places.{Place, place, start, code_at, length_at, HasRoom, IsOpen, Remain, EntersList, PassesValue, Next, Leads, IsPlace}
 use Rattle.tag_laws.specs.Faults.{IsShort, Passes, HasFault, IsFirstFault}
 
 open_stays : (at : ℕ) (left : List Container) → IsOpen at left → open_after at left ≡ left
