@@ -35,7 +35,7 @@ none_at mark text true later h = absurd (cc)
 none_at mark text false later h = later h
 
 -- behind a last line without a line feed there is nothing
-none_behind : (mark : ℕ) (text : List ℕ) → has mark text ≡ false → behind mark text ≡ []
+pub none_behind : (mark : ℕ) (text : List ℕ) → has mark text ≡ false → behind mark text ≡ []
 none_behind mark [] h = refl
 none_behind mark (b ∷ text) h = none_at mark text (b == mark) (none_behind mark text) h
 

@@ -1,7 +1,8 @@
 //! What holds of all bytes and texts. Each function does nothing; its contract is a fact that follows from the
 //! definitions.
 
-ghost use Rattle.std.specs.Prelude.{◌≡◌, ◌≢◌, ℕ, List, Some, None};
+ghost use Rattle.std.specs.Prelude.{◌≡◌, ◌≢◌, ◌⊎◌, ℕ, List, Some, None};
+ghost use Rattle.dmap_tags.specs.Tree.{Tree};
 ghost use Rattle.code_table.specs.declared.row.CodeRow.{CodeRow};
 ghost use Rattle.dmap_stream.specs.declared.event.Event.{Event};
 ghost use Rattle.dmap_stream.specs.declared.refusal.StreamError.{StreamError};
@@ -10,6 +11,7 @@ ghost use Rattle.dmap_stream.specs.Walk.{broken, walk_of};
 ghost use Rattle.dmap_stream.specs.Reader.{Reader, Tells};
 ghost use Rattle.dmap_show.specs.declared.reading.ShowError.{ShowError};
 ghost use Rattle.dmap_show.specs.declared.reading.ShowError.TheVariants as show;
+ghost use Rattle.dmap_show.specs.Readable.{Shows};
 ghost use Rattle.dmap_show.specs.TextLines.{StopsBehind, Explains};
 ghost use Rattle.tag_laws.specs.Places.{Place, IsPlace};
 ghost use Rattle.tag_laws.specs.Faults.{HasFault, IsFirstFault, HasNoFault};
@@ -56,4 +58,10 @@ pub fn a_text_stops_at_one_line()
         → StopsBehind rows text m → StopsBehind rows text n → m ≡ n }
     ensures cause { (rows : List CodeRow) (text : List ℕ) (e f : ShowError) → Explains rows text e → Explains rows text f
         → e ≢ show.Memory → f ≢ show.Memory → e ≡ f }
+{}
+
+/// Each text shows tags or stops at a line.
+pub fn each_text_shows_tags_or_stops()
+    ensures { (rows : List CodeRow) (text : List ℕ)
+        → ((ts : List Tree) × Shows rows text ts) ⊎ ((n : ℕ) × StopsBehind rows text n) }
 {}
