@@ -1,6 +1,6 @@
 -- No line feed stands inside the line of a tag.
-use Rattle.std.proofs.Common.{◌≡◌, ℕ, zero, suc, ◌/◌, ◌%◌, ◌<◌, ◌≤◌, ◌^◌, true, false, ◌||◌, ◌==◌, nat_lt, nat_le, List, [], ◌∷◌, ◌++◌, flat_map, decimal, inl, inr, refl, ap, arith}
-use Rattle.std.proofs.lemmas.Bool.{true≢false, eqb-true, leb-true, ltb-false, and_parts, or_from, or_parts, cases_Bool, ne_eqb, eq-eqb}
+use Rattle.std.proofs.Common.{◌≡◌, ℕ, zero, suc, ◌/◌, ◌%◌, ◌<◌, ◌≤◌, ◌^◌, true, false, ◌||◌, ◌==◌, nat_lt, nat_le, List, [], ◌∷◌, ◌++◌, flat_map, decimal, inl, inr, refl, arith}
+use Rattle.std.proofs.lemmas.Bool.{true≢false, leb-true, ltb-false, and_parts, or_from, or_parts, cases_Bool, ne_eqb, eq-eqb}
 use Rattle.std.proofs.lemmas.Fmt.{decimal_is_IsNumeral}
 use Rattle.std.proofs.lemmas.Str.Parse.{digit_from_value}
 use Rattle.std.specs.Char.{digit_char, is_ascii_graphic}
