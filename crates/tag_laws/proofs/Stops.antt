@@ -53,8 +53,7 @@ behind_less mark b text = by (b == mark) (behind_shorter mark text)
 whole_lines : (n : ℕ) (text : List ℕ) → has 10 (behind_lines n text) ≡ true → IsWhole (first_lines (suc n) text)
 whole_lines n text there =
     let rest = behind_lines n text in
-    inr
-    (
+    inr (
       first_lines n text ++ before 10 rest,
       ap (λ l. first_lines n text ++ l) (cond-true (has 10 rest) (before 10 rest ++ 10 ∷ []) rest there) ∙ sym (append_assoc (first_lines n text) (before 10 rest) (10 ∷ [])),
     )
