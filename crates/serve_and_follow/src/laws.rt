@@ -1,4 +1,5 @@
-//! What holds of all runs of both commands. Each function does nothing; its contract is a fact that follows from the definitions.
+//! What holds of all runs of `serve` with `follow` or `relay`. Each function does nothing; its contract is a fact that follows
+//! from the definitions.
 
 ghost use Rattle.serve_and_follow.specs.Laws.{AskedMirrorsCanBeAsked, RelaysMeet, RunsMeet, StoppedRunsMeet};
 

@@ -19,7 +19,8 @@ pub fn walkers_hold_the_share()
     ensures { WalkersHoldTheShare }
 {}
 
-/// A mirror whose requests were all answered with success goes on.
+/// A mirror whose requests were all answered with success is stopped only by a failed call on its connection or a failed
+/// allocation.
 pub fn followers_are_not_stopped()
     ensures { FollowersAreNotStopped }
 {}
