@@ -157,15 +157,21 @@ number_tag v small = record { spelled = refl; accepted = refl; proper = (omega a
 pub revision_tag : (h : List Entry) → IsWhole h → IsTag standard_rows (spelling (revision_body (revision (batches h)))) (revision_body (revision (batches h)))
 revision_tag h whole = number_tag (revision (batches h)) (small_revision h whole)
 
--- the listing that was taken in tells the revision of the share that answered
+-- the listing that was taken in is that of the share that answered
+pub listing_same : (keep : ℕ) (rows : List CodeRow) (m : Mirrored) (answer : Reply) (l : Listing) (h : List Entry) → TellsListing rows m answer l
+    → Tells rows answer (listing_body keep h m.target (mirror_look m.query m.meta m.held.revision))
+    → l ≡ listing keep (batches h) m.target (mirror_look m.query m.meta m.held.revision)
+listing_same keep rows m answer l h t share =
+    let body : Tree = listing_body keep h m.target (mirror_look m.query m.meta m.held.revision) in
+    let same : t.tag ≡ body = tags_once rows answer.1 t.tag body t.told.1 share.1 in
+    listings_are_one m.target m.held.revision l (listing keep (batches h) m.target (mirror_look m.query m.meta m.held.revision)) body
+    (subst (λ (tag : Tree). IsListing m.target m.held.revision l tag) same t.is) (answer_is_listing keep (batches h) m.target m.query m.meta m.held.revision)
+
+-- so it tells the revision of that share
 pub listing_is : (keep : ℕ) (rows : List CodeRow) (m : Mirrored) (answer : Reply) (l : Listing) (h : List Entry) → TellsListing rows m answer l
     → Tells rows answer (listing_body keep h m.target (mirror_look m.query m.meta m.held.revision)) → l.revision ≡ revision (batches h)
 listing_is keep rows m answer l h t share =
-    let body : Tree = listing_body keep h m.target (mirror_look m.query m.meta m.held.revision) in
-    let same : t.tag ≡ body = tags_once rows answer.1 t.tag body t.told.1 share.1 in
-    ap (λ (x : Listing). x.revision)
-    (listings_are_one m.target m.held.revision l (listing keep (batches h) m.target (mirror_look m.query m.meta m.held.revision)) body
-    (subst (λ (tag : Tree). IsListing m.target m.held.revision l tag) same t.is) (answer_is_listing keep (batches h) m.target m.query m.meta m.held.revision))
+    ap (λ (x : Listing). x.revision) (listing_same keep rows m answer l h t share)
     ∙ listing_revision keep (batches h) m.target (mirror_look m.query m.meta m.held.revision)
 
 -- ---- rounds

@@ -1,5 +1,5 @@
 -- What success says of the workers.
-use Rattle.std.proofs.Common.{◌≡◌, ℕ, List, [], Bool, true, false, cond, true≢false, nat_le, Option, None, Some, refl, sym, ap, ◌∙◌, inl, inr, arith}
+use Rattle.std.proofs.Common.{◌≡◌, ◌==◌, ℕ, List, [], Bool, true, false, cond, nat_le, Option, None, Some, refl, sym, ap, ◌∙◌, inl, inr, arith}
 use Rattle.std.proofs.lemmas.Bool.{le-leb}
 use Rattle.command_core.specs.declared.fault.Fault.{Fault}
 use Rattle.command_core.specs.declared.fault.Fault.TheVariants as fault
@@ -52,6 +52,21 @@ first_none (Some f) (Some g) is = absurd (by_rank (nat_le (rank_of (Some g)) (ra
     by_rank : (b : Bool) → cond b (Some f) (Some g) ≡ None → ⊥
     by_rank true is = cc
     by_rank false is = cc
+
+ranked : (network memory limit : Bool) → nat_le (cond network 4 (cond memory 3 (cond limit 2 1))) 0 ≡ false
+ranked true memory limit = refl
+ranked false true limit = refl
+ranked false false true = refl
+ranked false false false = refl
+
+-- and so is the other
+pub other_none : (one other : Option (Fault RelayFault)) → worse one other ≡ None → other ≡ None
+other_none None None is = refl
+other_none None (Some f) is =
+    let status : ℕ = fault_status relay_status f in
+    let none : Some f ≡ None = sym (ap (λ (b : Bool). cond b None (Some f)) (ranked (status == 6) (status == 9) (status == 8))) ∙ is in
+    absurd (cc)
+other_none (Some f) other is = let none : Some f ≡ None = first_none (Some f) other is in absurd (cc)
 
 pub end_none : (lines : List ℕ) (f : Option (Fault RelayFault)) (before after : OutputSeen) (status : ℕ) → TellsEnd lines f before after status → status ≡ 0 → f ≡ None
 end_none lines f before after status (inl h) zero = behind_none lines f before after status h zero

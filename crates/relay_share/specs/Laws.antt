@@ -25,6 +25,7 @@ use Rattle.relay_share.specs.Asks.{stop_ask}
 use Rattle.relay_share.specs.Ends.{HasRelayed, Relays}
 use Rattle.relay_share.specs.Rounds.{followed}
 use Rattle.relay_share.specs.declared.report.Relayed.{Relayed}
+use Rattle.relay_share.specs.declared.report.RelayEnd.TheVariants.{Stopped}
 use Rattle.relay_share.specs.declared.report.RelayReport.{RelayReport}
 
 abbrev pub edits_by : ℕ → List (List Edit) → List Entry
@@ -68,6 +69,12 @@ abbrev pub RelaysLeaveSteps : Type 0
 RelaysLeaveSteps =
     (host : List ℕ) (rounds : ℕ) (p : Point) (taken : Option (List ℕ)) (k k' : Pass) (report : RelayReport) → k.seen ≡ []
     → HasRelayed host rounds p taken k k' report → LeavesSteps host rounds p taken k'
+
+-- A relay that ended `Stopped` saw a stop that another pass made
+abbrev pub StoppedRelaysSawAStop : Type 0
+StoppedRelaysSawAStop =
+    (host : List ℕ) (rounds : ℕ) (p : Point) (taken : Option (List ℕ)) (k k' : Pass) (report : RelayReport) → k.seen ≡ []
+    → HasRelayed host rounds p taken k k' report → report.end ≡ Stopped → list_any (is_stop_beside k'.number) k'.seen ≡ true
 
 -- only the pass of this number made edits
 abbrev pub EditsAlone : ℕ → List Entry → Type 0

@@ -1,6 +1,6 @@
 //! What holds of all relays. Each function does nothing; its contract is a fact that follows from the definitions.
 
-ghost use Rattle.relay_share.specs.Laws.{LibrariesAreTheShares, RelaysLeaveSteps, RelaysMakeSteps, RelaysShowWhatTheyRead, StopsComeLast};
+ghost use Rattle.relay_share.specs.Laws.{LibrariesAreTheShares, RelaysLeaveSteps, RelaysMakeSteps, RelaysShowWhatTheyRead, StoppedRelaysSawAStop, StopsComeLast};
 
 /// The entries of a relay's pass are the steps between the libraries that its listings left.
 pub fn relays_make_steps()
@@ -15,6 +15,11 @@ pub fn stops_come_last()
 /// However a relay ended, its entries are these steps and the stop behind them.
 pub fn relays_leave_steps()
     ensures { RelaysLeaveSteps }
+{}
+
+/// A relay that ended `Stopped` saw a stop that another pass made.
+pub fn stopped_relays_saw_a_stop()
+    ensures { StoppedRelaysSawAStop }
 {}
 
 /// If only the relay edits its share, then the share's library is at each point one that the relay read, or the empty one, and never
