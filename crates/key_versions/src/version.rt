@@ -1,4 +1,3 @@
-
 /// A value, or `None`, from a revision on.
 #[derive(Debug, Drop)]
 pub struct Version<T> {

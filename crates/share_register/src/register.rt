@@ -1,4 +1,3 @@
-
 ghost use Rattle.std.specs.Prelude.{◌≡◌, ◌≤◌, ◌<◌, ◌+◌, ◌++◌, ◌∷◌, [], ℕ, true, false, length, count_by, is_some, IfOk, IfSome, IfErr, OnOk, OnErr, IsOk, slice_get, option_copied};
 ghost use Rattle.share_history.specs.Histories.{all_edits, batches, opening, revision};
 ghost use Rattle.share_history.specs.Keyed.{at};
