@@ -188,7 +188,7 @@ pops_more n ids i id old mid new some lt is p here others = record {
     neither true b h = absurd (true≢false h)
     neither false b h = refl
 
--- where there is no next list
+-- for the case of no next list
 pub none_of : (o : Option ℕ) (P : Type 0) → ((x : ℕ) → o ≡ Some x → ⊥) → IfNone o P → P
 none_of None P none h = h
 none_of (Some x) P none h = absurd (none x refl)

@@ -31,7 +31,7 @@ found_any p (x ∷ es) (suc i) e lt is h = later (p x) (found_any p es i e (omeg
 pub not_any : (p : Edit → Bool) (es : List Edit) (i : ℕ) (e : Edit) → i < length es → e ≡ get_or es i e → list_any p es ≡ false → p e ≡ false
 not_any p es i e lt is h = ⊎_elim (λ yes. absurd (true≢false (sym (found_any p es i e lt is yes) ∙ h))) (λ no. no) (cases_Bool (p e))
 
--- ---- what is kept
+-- ---- what edits leave
 
 pub keeps_same : (n c : ℕ) (batch : List Edit) (a b : Option Kept) → b ≡ a → Keeps n c batch a b
 keeps_same n c batch a b same = record {

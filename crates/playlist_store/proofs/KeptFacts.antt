@@ -1,4 +1,4 @@
--- Lists in a map, of which some are changed in their place.
+-- Lists in a map, of which some change in their newest version.
 use Rattle.std.proofs.Common.{◌≡◌, ◌≤◌, ◌<◌, ℕ, cond, ◌==◌, List, [], ◌∷◌, Option, Some, None, refl, sym, ap, subst, ◌∙◌, ⊎_elim, eqb-true, arith}
 use Rattle.std.specs.Prelude.{nat_le}
 use Rattle.std.specs.List.{find}
@@ -9,7 +9,7 @@ use Rattle.playlist_store.specs.declared.kept.KeptList.{KeptList}
 use Rattle.playlist_store.specs.Lists.{Lists, top, list_in, since_of}
 use Rattle.playlist_store.specs.Changes.{InPlace, ChangesOne, Everywhere, now_of, found_of}
 
--- ---- changes in place
+-- ---- changes in the newest version
 
 pub in_place_refl : (R : Kept → Kept → Type 0) → ((k : Kept) → R k k) → (x : Option KeptList) → InPlace R x x
 in_place_refl R same None = refl
@@ -21,7 +21,7 @@ in_place_then join (Some l) None z p q = absurd p
 in_place_then join (Some l) (Some m) None p q = absurd q
 in_place_then join (Some l) (Some m) (Some n) p q = (q.0 ∙ p.0, join l.now m.now n.now p.1 q.1)
 
--- the same where the first change is none
+-- the same if the first change is empty
 pub in_place_from : (R : Kept → Kept → Type 0) (x y z : Option KeptList) → y ≡ x → InPlace R y z → InPlace R x z
 in_place_from R x y z same p = subst (λ w. InPlace R w z) same p
 
@@ -33,7 +33,7 @@ in_place_as also None y p = p
 in_place_as also (Some l) None p = absurd p
 in_place_as also (Some l) (Some m) p = (p.0, also l.now m.now p.1)
 
--- what is changed of one list is changed of each, where it may be left
+-- a change of one list is a change of every list, if a list may also stay
 pub one_of_all : {R : Kept → Kept → Type 0} → ((k : Kept) → R k k) → (c : ℕ) (old new : Lists) → ChangesOne c R old new → Everywhere R old new
 one_of_all {R} same c old new h q =
     ⊎_elim

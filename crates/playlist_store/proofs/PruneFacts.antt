@@ -120,7 +120,7 @@ removal_prunes low before id old new le gone out = record {
 
 -- ---- pairs
 
--- a pair is let go only where no version of the member has the item
+-- a pair is removed only if no version of the member has the item
 pub pair_stays : (members : Held ℕ) (item key k other base : ℕ) (has was now : Bool) → ((b : ℕ) → value_at members key b ≡ Some item → has ≡ true) → has ≡ false
     → (is_eq (near_cmp (item, key) (other, k)) ≡ false → now ≡ was) → value_at members k base ≡ Some other → was ≡ true → now ≡ true
 pair_stays members item key k other base has was now holds none left stands noted =

@@ -1,4 +1,4 @@
--- What a store that stands for some batches answers.
+-- What a store that represents some batches returns.
 use Rattle.std.proofs.Common.{◌≡◌, ◌≤◌, ◌<◌, ◌-◌, ◌+◌, ◌^◌, ◌==◌, ◌&&◌, ◌||◌, not, ℕ, Bool, true, false, cond, List, [], ◌∷◌, ◌++◌, length, drop, filter, fold, map, flat_map, Option, Some, None, is_some, refl, sym, ap, subst, ◌∙◌, ⊎_elim, true≢false, arith, nat_cmp, Ok, Err}
 use Rattle.std.specs.Prelude.{Result, IfOk, nat_le, nat_lt}
 use Rattle.std.specs.Option.{option_map, option_and_then}
@@ -61,19 +61,19 @@ module _ {bs : List (List Edit)} {s : Store} (h : StandsFor bs s) where
       ltb-false s.revision (since_of (top s.lists c))
       (sym (h.now.since c s.revision low_reached) ∙ ap (list_any (names_list c)) (nothing_later bs s.revision (omega (arith, h.revision))))
 
-  -- what stands under a key now
+  -- the item under a key at present
   pub stands_now : (c key base : ℕ) → s.revision ≤ base → member_in (top s.lists c) key base ≡ standing (list_at (edits bs) c) (edits bs) c key
   stands_now c key base le =
       h.now.members c key base (omega (arith, le, low_reached)) (omega (arith, le, since_past c)) (and-false (nat_lt (revision bs) base))
       ∙ ap (λ cs. standing (list_at (edits bs) c) (edits cs) c key) (up_to-all bs base (omega (arith, le, h.revision)))
 
-  -- and what stood there at a base since which the list was not put
+  -- and the one at a base after the list's last put
   pub stood_then : (c key base : ℕ) → s.low ≤ base → since_of (top s.lists c) ≤ base → base ≤ s.revision
       → member_in (top s.lists c) key base ≡ standing (list_at (edits bs) c) (edits (up_to bs base)) c key
   stood_then c key base from since to =
       h.now.members c key base from since (and-false (nat_lt (revision bs) base))
 
--- the newest value is the one that stands at some revision, and at each above it
+-- the newest value is the one at some revision, and at each later one
 newest_seen : {T : Type 0} (vs : List (Version T)) → (from : ℕ) × ((base : ℕ) → from ≤ base → value_in vs base ≡ newest_value vs)
 newest_seen [] = (0, λ base le. refl)
 newest_seen (v ∷ vs) = (v.revision, λ base le. ap (option_and_then (λ w. w.value)) (found_first v vs base le))
@@ -151,7 +151,7 @@ count_same more count quiet is bs h =
     is bs h ∙ sym (counted_ids (edits bs) (keys_of (lists (edits bs))) refl) ∙ ap length (sym (same_ids (keys_of (lists (edits bs))) more quiet) ∙ list_ids_after (edits bs) more)
     ∙ counted_ids (edits bs ++ more) (keys_of (lists (edits bs ++ more))) refl
 
--- ---- kept bases
+-- ---- bases in the delta window
 
 kept_test : (a b c d e : Bool) → (a ≡ true → b ≡ true → c ≡ true → d ≡ e) → (a && (b && (c && d))) ≡ (a && (b && (c && e)))
 kept_test true true true d e h = h refl refl refl
@@ -183,7 +183,7 @@ kept_is {s} {now} same r c base since is tested bs h =
     ∙ ap (λ v. nat_le first_revision base && (nat_le base s.revision && (nat_le s.revision (base + s.keep) && ((c == base_list) || nat_le v base)))) is
     ∙ kept_told (subst (StandsFor bs) (sym same) h) c base ∙ ap (λ t. is_kept t.keep bs (Container c) base) same
 
--- what a kept base says
+-- what follows from a base in the delta window
 pub kept_parts : {bs : List (List Edit)} {s : Store} → StandsFor bs s → (c base : ℕ) → (c == base_list) ≡ false → is_kept s.keep bs (Container c) base ≡ true
     → (s.low ≤ base) × ((since_of (top s.lists c) ≤ base) × (base ≤ s.revision))
 kept_parts {bs} {s} h c base other kept =

@@ -64,7 +64,7 @@ same_head n picks value k none = record {
   members = λ key base. sym (ap (λ b. cond (b && nat_le n base) (value key) (value_at k.members key base)) (none key));
 }
 
--- where a batch names no item and puts no rule, there is nothing to look at
+-- if a batch names no item and puts no rule, there is nothing to evaluate
 unlooked : (n : ℕ) (es : List Edit) (list : Option Playlist) (member : ℕ → Option ℕ) (named rule : Bool) (old : Option Kept) (x : Option KeptList) → rule ≡ false → since_of old < n
     → TellsOne n list member named rule old (now_of x) → InPlace (TestsRule n es []) x x
 unlooked n es list member named rule old None no_rule early t = refl
@@ -93,7 +93,7 @@ pub no_length : {A : Type 0} (xs : List A) → (length xs == 0) ≡ true → xs 
 no_length [] h = refl
 no_length (x ∷ xs) h = absurd (let e : length (x ∷ xs) ≡ 0 = eqb-true (length (x ∷ xs)) 0 h in omega (arith, e))
 
--- a batch whose rules were looked at
+-- a batch whose rules were evaluated
 pub all_taken : {E : Type 0} (r : Result ⊤ E) (P : List (List Edit) → Type 0) (n : ℕ) (batch : List Edit) (ids : List ℕ) (old mid new : Lists) → ids ≡ named_items batch
     → ((es : List Edit) → Tells n es [] old old → Tells n (es ++ batch) batch old mid)
     → OnOk r ((bs : List (List Edit)) → P bs → Everywhere (TestsRule n (edits bs) ids) mid new)

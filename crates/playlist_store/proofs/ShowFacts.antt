@@ -1,4 +1,4 @@
--- What is shown of batches where what is read changes its place.
+-- What is shown of batches if other versions are read.
 use Rattle.std.proofs.Common.{◌≡◌, ◌≤◌, ◌-◌, ℕ, Bool, true, false, ◌&&◌, List, [], ◌∷◌, ◌++◌, drop, Option, Some, None, min, refl, sym, ap, subst, ◌∙◌, ⊎_elim, true≢false, arith}
 use Rattle.std.specs.Prelude.{nat_lt}
 use Rattle.std.specs.Option.{option_map}
@@ -34,7 +34,7 @@ up_to_least bs base v le =
     (λ above. up_to-all bs (min base v) (omega (arith, le, le-min {k = v} {a = base} {b = v} above (omega arith))) ∙ sym (up_to-all bs base (omega (arith, le, above))))
     (cases_lt base v)
 
--- ---- what stands in a list of a kind
+-- ---- the items under the keys of each kind of list
 
 pub plain_is : (l : Option Playlist) → is_plain (option_map head_of l) ≡ true → (name : List ℕ) × (l ≡ Some (Plain name))
 plain_is None h = absurd (true≢false (sym h))
@@ -50,7 +50,7 @@ no_head (Some l) h = absurd (cc)
 
 -- ---- readings
 
--- where a value that is read now was read before
+-- from which earlier value a value is read
 pub record Source (bs : List (List Edit)) (more : List Edit) (low c key base : ℕ) (new old : Option Kept) : Type 0 where
   pub from : ℕ
   pub same : member_in new key base ≡ member_in old key from
@@ -59,7 +59,7 @@ pub record Source (bs : List (List Edit)) (more : List Edit) (low c key base : �
   pub left : (nat_lt (revision bs) from && list_any (names_key (head_in old) c key) more) ≡ false
   pub until : up_to bs from ≡ up_to bs base
 
--- what is read in another place shows the same batches
+-- other versions with the same reads show the same batches
 pub shows_moved : (bs : List (List Edit)) (more more' : List Edit) (low : ℕ) (read read' : ℕ → Option Kept) → Shows bs more low read
     → ((c : ℕ) → head_in (read' c) ≡ head_in (read c)) → ((c : ℕ) → since_of (read' c) ≡ since_of (read c))
     → ((c item key : ℕ) → near_in (read c) item key ≡ true → near_in (read' c) item key ≡ true)

@@ -1,4 +1,4 @@
--- What is told of each list, edit by edit.
+-- What each list is, edit by edit.
 use Rattle.std.proofs.Common.{◌≡◌, ◌≤◌, ◌<◌, ◌+◌, ℕ, Bool, true, false, cond, ◌||◌, ◌&&◌, ◌==◌, List, [], ◌∷◌, ◌++◌, length, take, get_or, append_assoc, Option, Some, None, unwrap_or, refl, sym, ap, subst, ◌∙◌, ⊎_elim, true≢false, eqb-true, Ok, Err}
 use Rattle.std.specs.Prelude.{Result, OnOk, nat_le, ⊤}
 use Rattle.std.specs.Option.{option_map}
@@ -23,7 +23,7 @@ use Rattle.playlist_store.proofs.KeptFacts.{on_top}
 
 -- ---- one list
 
--- what is told stays told of what is the same
+-- equal lists and versions agree alike
 tells_same : (n : ℕ) (l l' : Option Playlist) (m m' : ℕ → Option ℕ) (named named' rule rule' : Bool) (old a b : Option Kept)
     → l' ≡ l → ((k : ℕ) → m' k ≡ m k) → named' ≡ named → (rule ≡ true → rule' ≡ true) → b ≡ a
     → TellsOne n l m named rule old a → TellsOne n l' m' named' rule' old b
@@ -99,7 +99,7 @@ tells_set n l m m' named rule old key item a b says s h = record {
     other : (k base : ℕ) → is_plain b.head ≡ false → value_at b.members k base ≡ value_at a.members k base
     other k base p = s.sets.members k base ∙ unchosen (is_plain a.head) (key == k) (nat_le n base) item (value_at a.members k base) (was p)
 
--- members are told of plain lists alone
+-- only playlists have members to set
 tells_unset : (n : ℕ) (l : Option Playlist) (m m' : ℕ → Option ℕ) (named rule : Bool) (old : Option Kept) → TellsOne n l m named rule old None → TellsOne n l m' named rule old None
 tells_unset n l m m' named rule old h = record {
   heads = h.heads;

@@ -1,4 +1,4 @@
--- A batch that is taken in, one of which a part is taken in and back, and the last that is taken back.
+-- A batch that is applied, one of which a part is applied and reverted, and the last one when it is reverted.
 use Rattle.std.proofs.Common.{◌≡◌, ◌≤◌, ◌<◌, ◌+◌, ◌-◌, ◌⊎◌, inl, inr, ℕ, Bool, true, false, cond, ◌||◌, ◌&&◌, ◌==◌, List, [], ◌∷◌, ◌++◌, length, drop, map, Option, Some, None, is_some, min, refl, sym, ap, subst, ◌∙◌, ⊎_elim, true≢false, arith}
 use Rattle.std.specs.Prelude.{nat_lt}
 use Rattle.std.specs.List.{list_any}
@@ -181,7 +181,7 @@ undone bs batch s n named new h can last lists taken =
       until = refl;
     }
 
--- ---- a part that is taken in and back
+-- ---- a part that is applied and reverted
 
 -- what is read is what was, or what was before the revision
 pub record Undone (n : ℕ) (old new : Option Kept) : Type 0 where
@@ -212,7 +212,7 @@ module _ (n : ℕ) (batch : List Edit) (old new : Lists) (step : StepsBack n bat
   back_top : (c : ℕ) → Restored n (picked c batch (head_in (list_in step.mid c (n - 1)))) (list_in step.mid c (n - 1)) (top new c)
   back_top c = restored_top n batch step.mid new step.back some c (early c)
 
-  -- what edits kept, and what was then taken back
+  -- what edits left, and what was then reverted
   undone_by : (c : ℕ) (a b d : Option Kept) → Keeps n c batch a b → Restored n (picked c batch (head_in b)) b d → Undone n a d
   undone_by c a b d k r = record {
     head = r.head ∙ k.head;
@@ -316,7 +316,7 @@ not_applied {s} same n batch named new next lists step =
     subst (λ old. IsUnchanged old (record { keep = s.keep; revision = s.revision; low = s.low; can_undo = s.can_undo; named = named; lists = new }))
     same (left_alone s n batch named new (next ∙ ap (λ t. t.revision + 1) (sym same)) lists step)
 
--- ---- a batch that is taken in
+-- ---- a batch that is applied
 
 pub applied : (bs : List (List Edit)) (batch : List Edit) (s : Store) (n low : ℕ) (named : List Names) (mid new : Lists)
     → StandsFor bs s → AreValid batch → n ≡ s.revision + 1 → low ≡ floor_of s.keep s.revision

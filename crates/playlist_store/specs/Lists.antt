@@ -1,5 +1,5 @@
--- The lists of a store, under each id what it was from each of its puts and drops on, the newest first, and what is read
--- of one of these.
+-- The lists of a store: under each id the version since each put or drop, newest first, and what is read of a
+-- version.
 use Rattle.std.specs.Prelude.{ℕ, List, ◌∷◌, Bool, false, Option, None, Some, is_some, nat_le, if◌then◌else◌}
 use Rattle.std.specs.declared.cmp.Ordering.{Ordering}
 use Rattle.std.specs.Ordering.{ordering_then, nat_cmp}
@@ -16,15 +16,15 @@ use Rattle.playlist_store.specs.declared.kept.KeptList.{KeptList}
 abbrev pub Lists : Type 0
 Lists = List (ℕ × KeptList)
 
--- the newest of a list
+-- the newest version of a list
 abbrev pub top : Lists → ℕ → Option Kept
 top lists c = option_map (λ list. list.now) (at c lists)
 
--- what a list was at a revision
+-- the version of a list at a revision
 abbrev pub list_in : Lists → ℕ → ℕ → Option Kept
 list_in lists c v = option_and_then (λ list. find (λ kept. nat_le kept.since v) (list.now ∷ list.older.items)) (at c lists)
 
--- what it is; nothing where it was dropped
+-- its head; `None` if it was dropped
 abbrev pub head_in : Option Kept → Option ListHead
 head_in kept = option_and_then (λ k. k.head) kept
 
@@ -32,16 +32,16 @@ head_in kept = option_and_then (λ k. k.head) kept
 abbrev pub since_of : Option Kept → ℕ
 since_of kept = option_map_or (λ k. k.since) kept 0
 
--- the item that stands under a key at a revision
+-- the item under a key at a revision
 abbrev pub member_in : Option Kept → ℕ → ℕ → Option ℕ
 member_in None key base = None
 member_in (Some k) key base = value_at k.members key base
 
--- pairs in the order of the item, and then of the member
+-- pairs are ordered by item, then by member
 abbrev pub near_cmp : ℕ × ℕ → ℕ × ℕ → Ordering
 near_cmp a b = ordering_then (nat_cmp a.0 b.0) (nat_cmp a.1 b.1)
 
--- whether a member is noted beside an item
+-- whether the index has the member under the item
 abbrev pub near_in : Option Kept → ℕ → ℕ → Bool
 near_in None item key = false
 near_in (Some k) item key = list_any (is_at (near_cmp (item, key))) k.near.keys
@@ -50,8 +50,8 @@ abbrev pub has_rule : Option ListHead → Bool
 has_rule None = false
 has_rule (Some head) = is_some head.rule
 
--- whether an edit may change what stands under a key: of a plain list a put or drop of the member, of a rule list one of
--- the item
+-- whether an edit may change the item under a key: in a playlist a put or drop of the member, in a smart playlist one
+-- of the item
 abbrev pub names_key : Option ListHead → ℕ → ℕ → Edit → Bool
 names_key None c key edit = false
 names_key (Some head) c key edit = if is_some head.rule then names_item key edit else names_member c key edit

@@ -1,4 +1,4 @@
-//! A batch that is taken back, whole or as far as it was taken in.
+//! Reverts a batch, whole or as far as it was applied.
 
 ghost use Rattle.std.specs.Prelude.{◌≡◌, ◌≤◌};
 ghost use Rattle.playlist_store.specs.Changes.{ChangesOne, Everywhere, ReturnsAt, ReturnsKey, ReturnsMembers, ReturnsItems, TakesBack};
@@ -37,7 +37,7 @@ fn back_member(lists: &mut Lists, id: u32, key: u32, revision: u32)
     }
 }
 
-// Takes items back in the lists that have a rule.
+// Reverts the members of smart playlists that are among `items`.
 fn back_items(lists: &mut Lists, items: &[u32], revision: u32)
     ensures { 1 ≤ revision → Everywhere (ReturnsItems revision items.now) lists.old.entries lists.new.entries }
 {

@@ -1,4 +1,4 @@
-//! Heads of lists, and lists that begin.
+//! Heads of lists, and new lists.
 
 ghost use Rattle.std.specs.Prelude.{◌≡◌, [], Some, None, IfOk};
 ghost use Rattle.playlist_store.specs.Lists.{has_rule};
@@ -37,7 +37,7 @@ pub(crate) fn ruled_head(name: &Text, rule: &Query) -> Result<ListHead, AllocErr
     }
 }
 
-// A list that begins with a revision, without members; with no head it ends with it.
+// Returns a list without members as it is from `since` on; without a head it is a dropped one.
 pub(crate) fn fresh(alloc: Global, since: u32, head: Option<ListHead>) -> Kept
     ensures since { result.since ≡ since }
     ensures head { result.head ≡ head }

@@ -1,4 +1,4 @@
-//! Lists under their ids: a list that is put or dropped, and one that is taken back.
+//! Lists by id: putting, dropping and reverting one.
 
 ghost use Rattle.std.specs.Prelude.{◌≡◌, ◌≤◌, ◌<◌, ◌==◌, ℕ, true, false, None, OnOk, OnErr, if◌then◌else◌};
 ghost use Rattle.key_versions.specs.Held.{at};
@@ -11,7 +11,7 @@ use std::mem;
 
 pub(crate) type Lists = BTreeMap<u32, KeptList>;
 
-// Makes this the newest of a list, in the place of one of its revision.
+// Makes `kept` the newest version of list `id`; it replaces one of the same revision.
 pub(crate) fn put(alloc: Global, lists: &mut Lists, id: u32, kept: Kept) -> Result<(), AllocError>
     ensures { Puts id kept result lists.old.entries lists.new.entries }
 {
@@ -53,7 +53,7 @@ fn put_first(alloc: Global, lists: &mut Lists, id: u32, kept: Kept) -> Result<()
     }
 }
 
-// Takes out what lists were from a revision on.
+// Removes the versions of lists from `revision` on.
 pub(crate) fn pop_all(lists: &mut Lists, ids: &[u32], revision: u32)
     ensures { 1 ≤ revision → Pops revision ids.now lists.old.entries lists.new.entries }
 {
@@ -81,7 +81,7 @@ fn pop_at(lists: &mut Lists, id: u32, revision: u32) -> bool
     }
 }
 
-// Tells whether nothing is left.
+// Returns whether no version is left.
 fn step_back(list: &mut KeptList, revision: u32) -> bool
     ensures gone { result ≡ true → (v : ℕ) → v < revision → found_in list.old v ≡ None }
     ensures left { result ≡ false → (v : ℕ) → v < revision → found_in list.new v ≡ found_in list.old v }

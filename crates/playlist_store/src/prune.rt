@@ -1,4 +1,4 @@
-//! What no revision that is kept can see is let go.
+//! Removing versions that no revision in the window can read.
 
 ghost use Rattle.std.specs.Prelude.{◌≡◌, ◌≤◌, ◌-◌, ◌==◌, ◌∷◌, ℕ, None, Some, true, false, drop, take, nat_le, if◌then◌else◌};
 ghost use Rattle.std.specs.List.{find, list_any};
@@ -15,8 +15,8 @@ use key_versions::{Versions, next_key};
 use std::alloc::Global;
 use std::collections::{BTreeSet, VecDeque};
 
-// Takes out what nobody can ask for from a floor on, if the last batch may still be taken back to the revision `before`,
-// and the names of the batches that made the floor and those between a low revision and it.
+// Removes versions that are read at no revision from `floor` on, if the last batch may still be reverted to revision
+// `before`. Also removes what the batches from `low` to `floor` name.
 pub(crate) fn prune_to(
     alloc: Global,
     lists: &mut Lists,
@@ -34,7 +34,7 @@ pub(crate) fn prune_to(
     }
 }
 
-// What the lists of the last two batches were is asked for at no revision below `before`.
+// Removes versions of the lists in the last two batches that are read at no revision from `before` on.
 fn forget_last(alloc: Global, lists: &mut Lists, named: &VecDeque<Named>, before: u32)
     ensures { (floor : ℕ) → floor ≤ before → PrunesAll floor before lists.old.entries lists.new.entries }
 {
@@ -104,7 +104,7 @@ fn prune_named(lists: &mut Lists, names: &Named, floor: u32)
     prune_items(lists, names.items.as_slice(), floor);
 }
 
-// Lists that were dropped by a floor leave nothing.
+// Removes lists that were dropped at `floor` or before.
 fn drop_all(lists: &mut Lists, ids: &[u32], floor: u32)
     ensures { (before : ℕ) → floor ≤ before → PrunesAll floor before lists.old.entries lists.new.entries }
 {
@@ -182,7 +182,7 @@ fn prune_keys(kept: &mut Kept, keys: &[u32], floor: u32)
     }
 }
 
-// A pair is let go with the last of its versions.
+// Removes a key's versions before `floor`, and each pair whose item no version has any more.
 fn prune_key(kept: &mut Kept, key: u32, floor: u32)
     ensures { PrunesKept floor kept.old kept.new }
 {

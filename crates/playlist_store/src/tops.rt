@@ -1,4 +1,4 @@
-//! A list as it is now, by its id.
+//! The newest version of a list, by id.
 
 ghost use Rattle.std.specs.Prelude.{◌≡◌, option_copied};
 ghost use Rattle.playlist_store.specs.Lists.{top, head_in, since_of, member_in};
@@ -25,7 +25,7 @@ pub(crate) fn head(lists: &BTreeMap<u32, KeptList>, list: u32) -> Option<&ListHe
     }
 }
 
-// The revision of its last put or drop.
+// Returns the revision of the list's last put or drop.
 pub(crate) fn since(lists: &BTreeMap<u32, KeptList>, list: u32) -> u32
     ensures { result ≡ since_of (top lists.now.entries list) }
 {
@@ -35,7 +35,7 @@ pub(crate) fn since(lists: &BTreeMap<u32, KeptList>, list: u32) -> u32
     }
 }
 
-// The item that stood under a key at a revision.
+// Returns the item under `key` at revision `base`.
 pub(crate) fn member(lists: &BTreeMap<u32, KeptList>, list: u32, key: u32, base: u32) -> Option<u32>
     ensures { result ≡ member_in (top lists.now.entries list) key base }
 {

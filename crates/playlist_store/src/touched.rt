@@ -1,4 +1,4 @@
-//! The keys of a plain list that batches touch.
+//! The keys of a playlist that batches touch.
 
 ghost use Rattle.std.specs.Prelude.{◌≡◌, ◌==◌, ◌&&◌, ◌||◌, ℕ, Bool, drop, IfOk, OnOk};
 ghost use Rattle.std.specs.Ordering.{nat_cmp};
@@ -33,7 +33,7 @@ fn put_if(keys: &mut BTreeSet<u32>, key: u32, is_asked: bool) -> Result<(), Allo
     Ok(())
 }
 
-// Puts those of some members that are of a list.
+// Adds the keys of those members that are in `list`.
 fn put_members(
     keys: &mut BTreeSet<u32>,
     list: u32,
@@ -47,7 +47,7 @@ fn put_members(
     Ok(())
 }
 
-// Puts the members of a list that have an item.
+// Adds the keys of the members that have `item`.
 fn put_item(keys: &mut BTreeSet<u32>, kept: &Kept, item: u32) -> Result<(), AllocError>
     ensures { OnOk result ((q : ℕ) → is_key q keys.new.keys ≡ (is_key q keys.old.keys || is_item_of kept.now q item)) }
 {
@@ -93,7 +93,7 @@ fn keys_of(alloc: Global, set: &BTreeSet<u32>) -> Result<Vec<u32>, AllocError>
     Ok(keys)
 }
 
-// The keys that batches touch, but the first ones, ascending.
+// Returns the keys that the batches after the first `passed` touch, ascending.
 pub(crate) fn touched(
     alloc: Global,
     list: u32,
