@@ -23,7 +23,7 @@ same_asks period last count idle =
 more_asks : (period last count : ℕ) → is_due period last (count + 1) ≡ true → asks period last (count + 1) ≡ asks period last count ++ (count + 1) ∷ []
 more_asks period last count due = asks_more period last count ∙ ap (λ b. asks period last count ++ cond b ((count + 1) ∷ []) []) due
 
--- after a batch at which it is not due
+-- after a batch without a request
 pub not_due : (plan : Rehearsal) (n : ℕ) (f : Follower) → Follows plan n f → is_due f.period plan.batches (n + 1) ≡ false → Follows plan (n + 1) f
 not_due plan n f h idle =
     let same : asks f.period plan.batches n ≡ asks f.period plan.batches (n + 1) = sym (same_asks f.period plan.batches n idle) in
@@ -40,7 +40,7 @@ not_due plan n f h idle =
 pub may_ask : (plan : Rehearsal) (n : ℕ) (f : Follower) → Follows plan n f → MayAsk (take (n + 1) (batches_of plan)) f.mirror
 may_ask plan n f h = record { target = h.target; meta = h.meta; base = base_not_later f.period plan.batches n (batches_of plan) f.mirror.query f.mirror.held h.held }
 
--- after a batch at which it asked
+-- after a batch with a request
 pub was_due : (plan : Rehearsal) (n : ℕ) (f g : Follower) (store : Store) (is_delta : Bool) → Follows plan n f → IsAt plan (n + 1) store → is_due f.period plan.batches (n + 1) ≡ true
     → g.mirror ≡ record {
       target = f.mirror.target;

@@ -1,4 +1,4 @@
--- What a mirror holds after some of the batches, where it asked after those of certain numbers.
+-- What a mirror holds after some of the batches, if it requested after those with given numbers.
 use Rattle.std.specs.Prelude.{◌≡◌, ◌≤◌, ℕ, ◌+◌, List, [], Option, take, fold}
 use Rattle.item_model.specs.declared.changes.Edit.{Edit}
 use Rattle.item_model.specs.declared.query.Query.{Query}
@@ -15,16 +15,16 @@ use Rattle.rehearsal.specs.Shares.{IsShare}
 abbrev pub nothing_held : Held
 nothing_held = record { revision = 0; rows = [] }
 
--- what it had to hold at the last ask
+-- what it should hold after the last request
 abbrev pub held_after : List (List Edit) → Option Query → List ℕ → Held
 held_after bs query ns = fold (λ _ n. mirrored (take n bs) Items query Default) nothing_held ns
 
--- the store is that of a plan's share after so many batches
+-- the store is that of the plan's share after `count` batches
 pub record IsAt (plan : Rehearsal) (count : ℕ) (store : Store) : Type 0 where
   pub share : IsShare (take count (batches_of plan)) store
   pub keep : store.keep ≡ plan.keep
 
--- a mirror of items that asked as it was due after so many batches, and was counted
+-- a mirror of items that made its requests up to batch `count`, with their counts
 pub record Follows (plan : Rehearsal) (count : ℕ) (f : Follower) : Type 0 where
   pub period : 1 ≤ f.period
   pub target : f.mirror.target ≡ Items
@@ -34,7 +34,7 @@ pub record Follows (plan : Rehearsal) (count : ℕ) (f : Follower) : Type 0 wher
   pub full : f.full ≡ fulls plan.keep (batches_of plan) (asks f.period plan.batches count)
   pub few : f.full + f.delta ≤ count
 
--- which mirror it is: how often it asks, and for which rows
+-- which of the mirrors it is: its period and its query
 pub record IsMirror (often : ℕ) (asked : Option Query) (f : Follower) : Type 0 where
   pub period : f.period ≡ often
   pub query : f.mirror.query ≡ asked

@@ -1,4 +1,4 @@
-//! One ask of a mirror: the store answers its look, and it takes the answer in.
+//! One request of a mirror: the store's listing for its look, applied to the mirror.
 
 ghost use Rattle.std.specs.Prelude.{◌≡◌, ◌≤◌, List, IfOk};
 ghost use Rattle.code_table.specs.Standard.{standard_rows};
@@ -22,7 +22,7 @@ use mirror_core::{Mirror, MirrorError};
 use share_listings::items_listing;
 use std::alloc::{AllocError, Global};
 
-// Lets a mirror ask the store, and tells whether it was answered with a delta.
+// Brings a mirror up to date with the store. Returns whether the response was a delta.
 pub(crate) fn answered(
     alloc: Global,
     table: &CodeTable,
@@ -46,7 +46,7 @@ pub(crate) fn answered(
     take(mirror, &body)
 }
 
-// The answer to a look, as it comes to a mirror.
+// Returns the body of the response to a look, as the mirror reads it.
 fn body_for(
     alloc: Global,
     table: &CodeTable,
@@ -63,7 +63,7 @@ fn body_for(
     carried(alloc, table, &plan)
 }
 
-// The mirror takes in a body that is a listing and not an older one, and tells whether it was a delta.
+// Applies a body that is a listing and not an older one. Returns whether it was a delta.
 fn take(mirror: &mut Mirror, body: &Tag) -> Result<bool, AllocError>
     requires { (l : Listing) × IsListing mirror.old.target mirror.old.held.revision l body.now × (mirror.old.held.revision ≤ l.revision) }
     ensures delta { IfOk result (λ is_delta. (l : Listing) → IsListing mirror.old.target mirror.old.held.revision l body.now → is_delta ≡ l.is_delta) }

@@ -16,7 +16,7 @@ use item_store::ItemStore;
 use mirror_core::Mirror;
 use std::alloc::{AllocError, Global};
 
-/// A mirror of items with the period of its asks, and how they were answered so far.
+/// A mirror of items with the period of its requests, and how many of them got a full listing or a delta.
 #[derive(Debug, Drop)]
 pub(crate) struct Follower {
     mirror: Mirror,
@@ -46,7 +46,7 @@ impl Follower {
         }
     }
 
-    // After a batch, behind n others, it asks if it is due.
+    // Lets the mirror request after batch `n + 1`, if its period divides that number or the batch is the last.
     pub(crate) fn after_batch(
         &mut self,
         alloc: Global,

@@ -49,7 +49,7 @@ impl Run {
         })
     }
 
-    // All batches of the plan, and their summary.
+    // Runs all batches of the plan and returns their summary.
     pub(crate) fn play(
         &mut self,
         alloc: Global,
@@ -70,14 +70,14 @@ impl Run {
         self.summary(alloc, plan)
     }
 
-    // The history as it is by now.
+    // Returns the history so far.
     pub(crate) fn into_history(self) -> Entries
         ensures { result ≡ self.log.entries }
     {
         Entries::of(self.log.into_entries())
     }
 
-    // The next batch, behind n others.
+    // Runs the next batch, after `n` others.
     fn step(
         &mut self,
         alloc: Global,
@@ -135,7 +135,7 @@ impl Run {
         self.third.after_batch(alloc, table, &self.store, plan, n)
     }
 
-    // The summary after the last batch.
+    // Returns the summary after the last batch.
     fn summary(&self, alloc: Global, plan: &Rehearsal) -> Result<Vec<u8>, AllocError>
         requires range { AreInRange plan.now }
         requires stands { Stands plan.now plan.now.batches self.now }
