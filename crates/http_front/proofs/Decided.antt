@@ -1,4 +1,4 @@
--- Every request asks something, and so all bytes have a reading.
+-- Every request has an operation, and so all bytes have a reading.
 use Rattle.std.proofs.Common.{◌≡◌, ◌≢◌, ◌⊎◌, ℕ, List, [], ◌∷◌, Bool, true, false, All, Option, Some, None, Result, Ok, Err, refl, ap, inl, inr}
 use Rattle.std.specs.Prelude.{codes}
 use Rattle.std.specs.List.{AllZip}

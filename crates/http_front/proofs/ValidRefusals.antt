@@ -1,4 +1,4 @@
--- Why records are refused is valid: nothing in it is want of memory.
+-- The errors of records are valid: none is an allocation failure.
 use Rattle.std.proofs.Common.{◌≡◌, ℕ, suc, ◌+◌, List, [], ◌∷◌, ◌++◌, length, drop, get_or, Bool, true, false, ◌==◌, nat_lt, Option, Some, None, Result, Ok, Err, IfErr, inl, inr, sym, ap, subst}
 use Rattle.std.specs.Prelude.{codes, if◌then◌else◌, nat_le, ◌&&◌, ◌^◌, ⊤}
 use Rattle.std.specs.Str.{bytes_eq, is_utf8}

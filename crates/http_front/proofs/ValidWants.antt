@@ -1,4 +1,5 @@
--- What a request asks for is valid and readable: queries are proper, edits are ones that records give, and no error is want of memory.
+-- The operation of a request is valid and readable: queries are proper, edits are ones that records give, and no
+-- error is an allocation failure.
 use Rattle.std.proofs.Common.{◌≡◌, ℕ, List, Bool, true, false, Option, Some, None, Result, Ok, Err, inl, inr, sym, subst}
 use Rattle.std.specs.Prelude.{codes}
 use Rattle.std.specs.Str.{bytes_eq}

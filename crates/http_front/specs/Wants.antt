@@ -1,5 +1,5 @@
--- What a request asks for. What follows a parameter is looked at only where that is good, so the order in which
--- parameters are refused is the order in which they stand here.
+-- The operation of a request. A parameter is checked only if those before it are good, so they are refused in the
+-- order of this page.
 use Rattle.std.specs.Prelude.{◌≡◌, ◌≢◌, ◌⊎◌, ℕ, List, codes, Bool, true, false, Option, Some, None, Result, Ok, Err}
 use Rattle.std.specs.Str.{bytes_eq}
 use Rattle.item_model.specs.declared.changes.Edit.{Edit as OneEdit}
@@ -27,7 +27,7 @@ use Rattle.http_front.specs.Routes.{place_of, verb_of, verb_text}
 use Rattle.http_front.specs.declared.routes.Place.{Place}
 use Rattle.http_front.specs.declared.routes.Place.TheVariants as place
 
--- a number that is refused ends it, and else the rest says what is wanted
+-- a malformed number is the error; otherwise `Then` defines the operation
 abbrev pub NumberThen : List ℕ → Option ℕ → (ℕ → Want → Type 0) → Want → Type 0
 NumberThen name None Then want = want ≡ Bad (fault.Parameter name)
 NumberThen name (Some n) Then want = Then n want
@@ -43,7 +43,7 @@ abbrev pub RangeThen : Option Range → (Range → Want → Type 0) → Want →
 RangeThen None Then want = want ≡ Bad (fault.Parameter (codes "index"))
 RangeThen (Some range) Then want = Then range want
 
--- the same of a text that is a query, if there is one
+-- the same for a query, if there is a text
 abbrev pub QueryThen : Option (List ℕ) → (Option Query → Want → Type 0) → Want → Type 0
 QueryThen None Then want = Then None want
 QueryThen (Some text) Then want =
@@ -63,12 +63,12 @@ DatabasesWant query = WithNumber (codes "session-id") query (λ session want. wa
 abbrev pub ListsWant : List ℕ → Want → Type 0
 ListsWant query = WithNumber (codes "session-id") query (λ session want. want ≡ Lists session)
 
--- the rows of a look that are in the range
+-- the rows of a look in the range
 abbrev pub RowsInRange : List ℕ → ℕ → Target → Look → Want → Type 0
 RowsInRange query session target look =
     RangeThen (range_in (told (codes "index") query)) (λ range want. want ≡ Rows session target (record look { range = range }))
 
--- of which the query holds
+-- the rows of a look that match the query
 abbrev pub AskedRows : List ℕ → ℕ → Target → Look → Want → Type 0
 AskedRows query session target look =
     QueryThen (told (codes "query") query) (λ asked. RowsInRange query session target (record look { query = asked }))
@@ -79,7 +79,7 @@ RowsWant target query = WithNumber (codes "session-id") query (λ session.
     MetaThen (meta_in (told (codes "meta") query)) (λ meta.
     AskedRows query session target (record { query = None; meta = meta; base = base; range = All }))))
 
--- the text by which values are browsed: the filter where there is one, and else the query
+-- the text that selects values: the filter if it is present, otherwise the query
 abbrev pub filter_or : Option (List ℕ) → Option (List ℕ) → Option (List ℕ)
 filter_or None query = query
 filter_or (Some filter) query = Some filter
@@ -93,7 +93,7 @@ abbrev pub BodyReads : List ℕ → Result (List OneEdit) RecordError → Type 0
 BodyReads body (Ok edits) = BatchReads (table_of body) (Ok edits)
 BodyReads body (Err error) = (error ≢ record_fault.Memory) × BatchReads (table_of body) (Err error)
 
--- what a request with the right method asks for at a place
+-- the operation of a request to a resource with the right method
 abbrev pub PlaceWant : Place → List ℕ → List ℕ → Want → Type 0
 PlaceWant place.ServerInfo query body want = want ≡ ServerInfo
 PlaceWant place.Codes query body want = want ≡ Codes
@@ -111,7 +111,7 @@ abbrev pub WithMethod : Bool → Place → List ℕ → List ℕ → Want → Ty
 WithMethod true p query body want = PlaceWant p query body want
 WithMethod false p query body want = want ≡ Bad (fault.Method (verb_of p))
 
--- the path is judged first, then the method, then the parameters
+-- the path is checked first, then the method, then the parameters
 abbrev pub AtPlace : Option Place → List ℕ → List ℕ → List ℕ → Want → Type 0
 AtPlace None method query body want = want ≡ Bad fault.Path
 AtPlace (Some p) method query body want = WithMethod (bytes_eq method (verb_text (verb_of p))) p query body want

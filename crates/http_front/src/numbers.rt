@@ -7,10 +7,10 @@ use crate::cuts::cut;
 use item_model::Range;
 use records_import::read_number;
 
-/// The digits of a number at most.
+/// The most digits of a number.
 const DIGITS: usize = 10;
 
-/// A number of 1 to 10 digits that 32 bits hold.
+/// Returns the number that 1 to 10 digits write, if it fits 32 bits.
 #[tactic(auto, unfolding(crate::specs::Numbers::small_number))]
 pub fn small_number(text: &[u8]) -> Option<u32>
     ensures { result ≡ small_number text.now }
@@ -21,7 +21,7 @@ pub fn small_number(text: &[u8]) -> Option<u32>
     }
 }
 
-/// One place, a part between two, or the last rows.
+/// Returns the range: one row, a span of rows, or the last rows.
 pub fn range_of(text: &[u8]) -> Option<Range>
     ensures { result ≡ range_of text.now }
 {

@@ -1,4 +1,4 @@
-//! Parameters by their names.
+//! Parameters by name.
 
 ghost use Rattle.std.specs.Prelude.{◌≡◌, ◌≢◌, List, ℕ, codes, Some, None, Ok, Err, IfOk, string_bytes, option_map, MatchOption};
 ghost use Rattle.std.specs.Str.{bytes_eq};
@@ -16,7 +16,7 @@ use item_model::{Meta, MetaError, Query, QueryError, Range};
 use share_asks::AskError;
 use std::alloc::{AllocError, Global};
 
-/// What ends the reading of parameters.
+/// Errors of parameters.
 #[derive(Debug, Drop)]
 pub enum Flaw {
     Bad(AskError),
@@ -33,7 +33,7 @@ impl From<AllocError> for Flaw {
     }
 }
 
-/// The number under a name, 0 where there is none.
+/// Returns the number of a parameter, or 0 if it is absent.
 pub fn number(alloc: Global, query: &[u8], name: &str) -> Result<u32, Flaw>
     ensures { ReadsAs name.now (number_in (told name.now query.now)) result }
 {
@@ -71,7 +71,7 @@ pub fn range(alloc: Global, query: &[u8]) -> Result<Range, Flaw>
     }
 }
 
-/// The query that a text is, if there is one.
+/// Returns the query in a text, or `None` without a text.
 pub fn query_in(alloc: Global, text: Option<&str>) -> Result<Option<Query>, Flaw>
     ensures { ReadsQuery (option_map (λ t. t.now) text.entry) result }
 {
@@ -85,7 +85,7 @@ pub fn query_in(alloc: Global, text: Option<&str>) -> Result<Option<Query>, Flaw
     }
 }
 
-/// The value under a name, unless it is empty.
+/// Returns the value of the first parameter called `name`, unless it is empty.
 #[tactic(auto, unfolding(crate::specs::Parameters::told))]
 pub fn told(alloc: Global, query: &[u8], name: &str) -> Result<Option<String>, AllocError>
     ensures { IfOk result (λ text. option_map string_bytes text ≡ told name.now query.now) }
@@ -124,7 +124,7 @@ fn text_of(alloc: Global, raw: &[u8]) -> Result<String, AllocError>
     text.into_owned(alloc)
 }
 
-// The flaw of a parameter.
+// Returns the error for the parameter called `name`.
 fn bad(alloc: Global, name: &str) -> Flaw
     ensures { ReadsAs {A = ℕ} name.now None (Err result) }
 {

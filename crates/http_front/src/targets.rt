@@ -5,7 +5,7 @@ ghost use Rattle.http_front.specs.Targets.{from_slash, local_part, path_of, quer
 
 use crate::cuts::cut;
 
-/// The path of a target, and what stands behind its question mark.
+/// Returns the path of a target, and the bytes after its question mark.
 pub fn path_and_query(target: &[u8]) -> (&[u8], &[u8])
     ensures path { result.0.now ≡ path_of (local_part target.now) }
     ensures query { result.1.now ≡ query_of (local_part target.now) }
@@ -14,7 +14,7 @@ pub fn path_and_query(target: &[u8]) -> (&[u8], &[u8])
     (path, query.unwrap_or(b""))
 }
 
-// A target without a scheme and a host.
+// Returns a target without its scheme and host.
 fn local_part(target: &[u8]) -> &[u8]
     ensures { result.now ≡ local_part target.now }
 {
