@@ -1,4 +1,4 @@
--- The parameters of a form that was written are told back.
+-- The parameters of a written form read back.
 use Rattle.std.proofs.Common.{◌≡◌, ◌≢◌, ◌<◌, ◌+◌, ◌/◌, nat_lt, ⊎_elim, ◌∷◌, ◌++◌, [], ℕ, List, Bool, cond, Option, Some, None, true, false, refl, ap, ◌∙◌, subst, map, All, IsUtf8, arith, append-nil}
 use Rattle.std.specs.List.{find}
 use Rattle.std.specs.Prelude.{option_map}
@@ -81,7 +81,7 @@ texts_stay (p ∷ pairs) h =
     let rest = texts_stay pairs (All-tail IsTextPair p pairs h) in
     λ i. (utf8_lossy-IsUtf8 p.0 first.name i, utf8_lossy-IsUtf8 p.1 first.value i) ∷ rest i
 
--- what a form tells is what was written
+-- a form has the values that were written
 pub told_written : (name : List ℕ) (pairs : List (List ℕ × List ℕ)) → All IsTextPair pairs → All IsBytePair pairs → told name (extend_pairs [] pairs) ≡ unless_empty (named_in name pairs)
 unfolding told
 told_written name pairs texts bytes =
@@ -137,7 +137,7 @@ written_texts ((name, Some value) ∷ more) h =
 text_pair_bytes : (p : List ℕ × List ℕ) → IsTextPair p → IsBytePair p
 text_pair_bytes p h = (text_bytes p.0 h.name, text_bytes p.1 h.value)
 
--- a parameter is told as it was written
+-- a parameter has the value that was written
 pub told_back : (name : List ℕ) (ps : Parameters) → AreTexts ps → told name (with_parameters [] ps) ≡ unless_empty (value_under name ps)
 told_back name ps h =
     let texts = written_texts ps h in

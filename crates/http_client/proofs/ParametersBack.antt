@@ -1,4 +1,4 @@
--- The parameters of a want are told as they were written, are texts, and are not long.
+-- The parameters of an operation read back as written, are texts, and are not long.
 use Rattle.std.proofs.Common.{◌≡◌, ◌≢◌, ◌≤◌, ◌<◌, ◌+◌, ◌*◌, ◌∷◌, ◌++◌, ◌==◌, [], ℕ, List, Bool, cond, nat_le, Option, Some, None, true, false, refl, sym, ap, ◌∙◌, subst, length, All, IsUtf8, inl, inr, arith, length-append}
 use Rattle.std.specs.Prelude.{⊤, codes, decimal, option_map, option_and_then}
 use Rattle.std.specs.List.{after_first, before_first, list_all}
@@ -116,7 +116,7 @@ pub query_kept : (asked : Option Query) → MayAsk asked → unless_empty (query
 query_kept None h = refl
 query_kept (Some q) h = kept_text (printed (tree_of q)) (query_some (tree_of q) h)
 
--- ---- places
+-- ---- positions
 
 abbrev NoHyphen : ℕ → Type 0
 NoHyphen b = b ≢ 45

@@ -1,4 +1,4 @@
--- What is written piece by piece is the text of the pieces.
+-- Text that is written part by part is the parts joined.
 use Rattle.std.proofs.Common.{◌≡◌, ℕ, List, [], ◌++◌, Result, Ok, Err, cond, ap, ◌∙◌, append_assoc}
 use Rattle.std.specs.Prelude.{OnOk}
 use Rattle.std.specs.Result.{is_ok}
@@ -7,7 +7,7 @@ pub on_ok : {T E : Type 0} {P Q : Type 0} (r : Result T E) → (P → Q) → OnO
 on_ok (Ok v) f h = f h
 on_ok (Err e) f h = tt
 
--- a call that changes nothing where it fails
+-- for a call that changes nothing when it fails
 pub kept_ok : {T E : Type 0} (r : Result T E) (new a b : List ℕ) → new ≡ cond (is_ok r) a b → OnOk r (new ≡ a)
 kept_ok (Ok v) new a b e = e
 kept_ok (Err x) new a b e = tt

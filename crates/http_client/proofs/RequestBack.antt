@@ -1,4 +1,4 @@
--- The text of a request is a message that spells its ask.
+-- The text of a request is a message that is this request.
 use Rattle.std.proofs.Common.{◌≡◌, ◌≤◌, ◌<◌, ◌^◌, ◌∷◌, ◌++◌, [], ℕ, List, Option, Some, None, Result, Ok, Err, true, refl, sym, ap, ◌∙◌, subst, length, arith, append_assoc, append-nil}
 use Rattle.std.specs.Prelude.{codes, IfOk, OnOk}
 use Rattle.std.specs.List.{list_all}
@@ -199,7 +199,7 @@ request_read ask host text is may numbers utf8 read sent =
 pub requests_read_back : RequestsReadBack
 requests_read_back ask host may numbers utf8 read sent = request_read ask host (request_text ask.want host) refl may numbers utf8 read sent
 
--- three facts of a call's answer give a fourth
+-- from three facts of a call's result follows a fourth
 pub if_all : {T E : Type 0} {P Q : T → Type 0} {A B : Type 0} (r : Result T E) → ((v : T) → P v → A → B → Q v) → IfOk r P → OnOk r A → OnOk r B → IfOk r Q
 if_all (Ok v) f p a b = f v p a b
 if_all (Err e) f p a b = tt

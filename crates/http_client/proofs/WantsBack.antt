@@ -1,4 +1,4 @@
--- What a client's request asks for is what was wanted.
+-- The request that a client writes reads back.
 use Rattle.std.proofs.Common.{◌≡◌, ℕ, List, Bool, Option, Some, None, Result, Ok, Err, true, refl, sym, ap, ◌∙◌, subst, inl}
 use Rattle.std.specs.Prelude.{codes, decimal}
 use Rattle.std.specs.Str.{bytes_eq}
@@ -55,7 +55,7 @@ or_none : (o : Option (List ℕ)) → or_else o None ≡ o
 or_none None = refl
 or_none (Some v) = refl
 
--- ---- each want
+-- ---- each operation
 
 session_under : (want : Want) (session : ℕ) → AreTexts (parameters_of want) → value_under (codes "session-id") (parameters_of want) ≡ Some (decimal session) → IsWord session
     → number_in (told (codes "session-id") (form_text want)) ≡ Some session

@@ -1,4 +1,4 @@
-//! HTTP/1.x from a client's side: the text of a request, and a reader of replies, however their bytes are cut.
+//! HTTP/1.x for a client: the bytes of a request, and a reader of replies, however their bytes are split.
 #![tactic(auto)]
 
 pub mod laws;

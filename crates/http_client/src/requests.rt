@@ -15,7 +15,8 @@ use records_import::write_batch;
 use share_asks::{Ask, Verb, Want};
 use std::alloc::{AllocError, Global};
 
-/// The bytes that ask this of a host, which a reader of the ask's role reads as the ask.
+/// Returns the bytes of a request to `host`, which a reader of the request's role reads as `ask`.
+/// Returns `AllocError` if allocation fails.
 pub fn request(alloc: Global, ask: &Ask, host: &str) -> Result<Bytes, AllocError>
     requires { CanSend ask.now.want }
     ensures text { IfOk result (λ b. b ≡ request_text ask.now.want host.now) }
@@ -44,7 +45,7 @@ fn text_of(alloc: Global, want: &Want, host: &str) -> Result<Bytes, AllocError>
     Ok(Bytes::from(text))
 }
 
-// The numbers of a want are those of their types.
+// States that the numbers of `want` are in the ranges of their types. Does nothing when it runs.
 fn know_numbers(want: &Want)
     ensures { HasNumbers want.now }
 {
@@ -204,7 +205,7 @@ fn values_path(browse: Browse) -> &'static str
     }
 }
 
-// A method that sends a body tells its length.
+// A method that sends a body states its length.
 fn push_length(text: &mut Vec<u8>, verb: Verb, len: usize) -> Result<(), AllocError>
     ensures { OnOk result (text.new.items ≡ text.old.items ++ length_line verb len) }
 {
