@@ -15,7 +15,7 @@ use records_import::write_batch;
 use share_asks::{Ask, Verb, Want};
 use std::alloc::{AllocError, Global};
 
-/// Returns the bytes of a request to `host`, which a reader of the request's role reads as `ask`.
+/// Returns the bytes of the request `ask` to `host`. Within the limits of a reader they read back as `ask`.
 /// Returns `AllocError` if allocation fails.
 pub fn request(alloc: Global, ask: &Ask, host: &str) -> Result<Bytes, AllocError>
     requires { CanSend ask.now.want }

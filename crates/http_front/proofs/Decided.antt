@@ -130,7 +130,7 @@ at_place_for : (o : Option Place) (method query body : List ℕ) → HasWant (At
 at_place_for None method query body = (Bad fault.Path, refl)
 at_place_for (Some p) method query body = method_for (bytes_eq method (verb_text (verb_of p))) p query body
 
--- a request is an ask
+-- every request is some `Ask`
 pub spelled_for : (role : Role) (m : Message) → IsMessage Request m → (ask : Ask) × Spells role m ask
 spelled_for role m whole =
     let answer = whole.tells.1 in

@@ -18,7 +18,7 @@ use Rattle.http_front.specs.Readings.{Reading, reading, Joins, FaultIs, IsReadin
 use Rattle.http_front.specs.Readers.{Reader, HasRead, ReadAs}
 use Rattle.http_front.proofs.OneAsk.{one_ask}
 
--- ---- requests and their asks
+-- ---- messages and their requests
 
 pub messages_of : (role : Role) (ms : List Message) (asks : List Ask) → AllZip (Spells role) ms asks → All (IsMessage Request) ms
 messages_of role [] asks h = All-nil (IsMessage Request)

@@ -59,8 +59,8 @@ impl Gatherer {
         }
     }
 
-    /// Takes bytes of `piece` up to the end of the message, or all of them, and returns how many. After an error only
-    /// `refused_len` and `clear` have a meaning.
+    /// Takes bytes of `piece` up to the end of the message, or all of them, and returns how many. After an error
+    /// only the buffered bytes are specified: `refused_len` counts them, and `clear` discards them.
     /// Returns an error if no message can begin with the bytes so far, and `Memory` if allocation fails.
     pub fn take(&mut self, piece: &[u8]) -> Result<usize, HeadError>
         requires at { IsAt self.old }

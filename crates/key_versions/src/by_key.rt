@@ -93,7 +93,7 @@ fn put_first<T: Drop>(
     }
 }
 
-// Makes `version` the newest of `key`, where it replaces one of the same revision. Returns whether the key had a
+// Makes `version` the newest of `key`; it replaces one of the same revision. Returns whether the key had a
 // value. For a key without versions, storing `None` is a no-op.
 pub(crate) fn put_value<T: Drop>(
     alloc: Global,

@@ -1,4 +1,4 @@
--- The laws of listings: a tag is one listing at most, or stuck at one place.
+-- The laws of listings: a tag is one listing at most, or stuck at one index.
 use Rattle.std.proofs.Common.{◌≡◌, ℕ, ◌+◌, ◌<◌, ◌≤◌, Bool, true, false, cond, List, [], ◌∷◌, ◌++◌, map, take, drop, length, refl, sym, ap, ◌∙◌, subst, inl, inr, ◌⊎◌, ⊎_elim, Option, Some, None, unwrap_or, append_assoc, append-nil, take-append-drop, arith}
 use Rattle.std.specs.List.{All}
 use Rattle.std.proofs.lemmas.Bool.{cases_order}

@@ -1,4 +1,4 @@
--- What reading a body finds: the listing that it is, or the place at which it is none.
+-- Reading a body returns the listing that it is, or the index at which it is stuck.
 use Rattle.std.proofs.Common.{◌≡◌, ℕ, suc, ◌+◌, ◌<◌, ◌==◌, Bool, true, false, cond, not, ◌&&◌, ◌||◌, nat_lt, List, [], ◌∷◌, ◌++◌, map, filter, take, drop, length, refl, sym, ap, ◌∙◌, subst, true≢false, inl, inr, Option, Some, None, is_some, unwrap_or, option_map, option_and_then, Result, Ok, Err, append-nil, append_assoc, add-one, length-append, eqb-true, lt-ltb, ltb-true, arith}
 use Rattle.std.specs.Option.{option_map_or}
 use Rattle.std.specs.List.{All}

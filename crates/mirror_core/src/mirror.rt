@@ -61,7 +61,7 @@ pub struct Applied {
 #[derive(Debug, Drop, PartialEq, Eq, Error)]
 pub enum MirrorError {
     /// The tag is not a listing of the mirror's target. `index` is that of the first member that cannot continue one,
-    /// counted from 0, or `None` if the tag itself has another code or no members.
+    /// counted from 0, or `None` for another tag.
     #[error("the tag is no listing that the mirror takes")]
     NotListing { index: Option<u64> },
     /// The listing is older than the mirror.

@@ -22,7 +22,7 @@ use Rattle.playlist_store.specs.Lists.{Lists, top, list_in, head_in, since_of, m
 abbrev pub found_in : KeptList → ℕ → Option Kept
 found_in list v = find (λ kept. nat_le kept.since v) (list.now ∷ list.older.items)
 
--- whether a member is among some, each given with its list
+-- whether a member of a list is among some (list, member) pairs
 abbrev pub is_member_among : ℕ → ℕ → List (ℕ × ℕ) → Bool
 is_member_among c key members = list_any (λ m. (m.0 == c) && (m.1 == key)) members
 

@@ -16,7 +16,7 @@ use std::alloc::Global;
 use std::collections::{BTreeSet, VecDeque};
 
 // Removes versions that are read at no revision from `floor` on, if the last batch may still be reverted to revision
-// `before`. Also removes what the batches from `low` to `floor` name.
+// `before`. Also removes the names of the batches up to `floor`.
 pub(crate) fn prune_to(
     alloc: Global,
     lists: &mut Lists,

@@ -1,4 +1,4 @@
--- Valid wants: those that the bytes of a request may give. Queries are proper, edits are ones that records may give,
+-- Valid operations: those that may be read from bytes. Queries are proper, edits are ones that records may give,
 -- and no error is an allocation failure, which is not an answer to a request.
 use Rattle.std.specs.Prelude.{◌≢◌, ⊤, Option, Some, None, Ok, Err}
 use Rattle.item_model.specs.Proper.{IsProper}

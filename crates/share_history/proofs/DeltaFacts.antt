@@ -46,7 +46,7 @@ none_shown show (Some x) = refl
 pub at-shown_rows : (es : List Edit) (t : Target) (q : Option Query) (meta : Meta) (k : ℕ) → at k (shown_rows t meta (rows es t q)) ≡ option_map (shown_at t meta k) (row_at es t q k)
 at-shown_rows es t q meta k = at-shown t meta k (rows es t q) ∙ ap (option_map (shown_at t meta k)) (at-rows es t q k)
 
--- no edit after a kept base puts or drops the list
+-- no edit after a base in the delta window puts or drops the list
 pub kept_left : (keep : ℕ) (bs : List (List Edit)) (t : Target) (base : ℕ) → is_kept keep bs t base ≡ true → is_left t (later bs base) ≡ true
 kept_left keep bs t base h =
     let near : Bool = nat_le (revision bs) (base + keep) in

@@ -1,5 +1,5 @@
--- The body of a listing as DAAP sends it: the status, the kind of update, the revision, the number of rows, the
--- number of listed rows, the rows, and in a delta the deleted keys.
+-- The body of a listing as DAAP sends it: status, kind of update, revision, number of rows, number of listed
+-- rows, the rows, and in a delta the deleted keys.
 use Rattle.std.specs.Prelude.{ℕ, List, [], ◌∷◌, ◌++◌, Bool, length, map, if◌then◌else◌}
 use Rattle.dmap_tags.specs.Codes.{Four, code}
 use Rattle.dmap_tags.specs.Tree.{Tree, leaf, list, trees_of, U8, U32}

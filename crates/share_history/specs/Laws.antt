@@ -127,8 +127,8 @@ tells_its_rows _ = false
 abbrev pub BodiesTellTheirRows : Type 0
 BodiesTellTheirRows = (target : Target) (l : Listing) → tells_its_rows (body_tree target l) ≡ true
 
--- a mirror that held the share's rows at its base holds the share's present rows after the response, inside the delta
--- window or not
+-- a mirror that held the share's rows at its base holds the share's present rows after the response, whether or not the
+-- base is in the delta window
 abbrev pub MirrorsFollow : Type 0
 MirrorsFollow =
     (keep : ℕ) (bs : List (List Edit)) (target : Target) (query : Option Query) (meta : Meta) (base : ℕ)
