@@ -8,7 +8,7 @@ use Rattle.mirror_client.specs.declared.refusal.FollowError.{FollowError}
 use Rattle.mirror_client.specs.declared.refusal.FollowError.TheVariants.{BadReply, Memory}
 use Rattle.mirror_client.specs.Points.{ReadAhead}
 
--- It was fed the bytes that it keeps, which are no complete response.
+-- It was fed the bytes that it keeps, which are not a complete response.
 pub record IsBegun (r : Reader) : Type 0 where
   pub ready : r.ready ≡ None
   pub fine : r.error ≡ None

@@ -53,7 +53,7 @@ UndueTable used answer (Codes error) = (tag : Tree) × Tells standard_rows answe
 UndueTable used answer LinkFault = ⊥
 UndueTable used answer Memory = ⊤
 
--- Why a tag is no table.
+-- Why a tag is not a table.
 abbrev pub IsUntold : Tree → FollowError → Type 0
 IsUntold tag (Refused status) = ⊥
 IsUntold tag (BadReply at) = ⊥

@@ -117,7 +117,7 @@ impl Follower {
     ///
     /// # Errors
     ///
-    /// Returns `Refused`, `BadReply` or `Ended` if the peer's answer is no tag, `LinkFault` if the connection fails,
+    /// Returns `Refused`, `BadReply` or `Ended` if the peer's answer is not a tag, `LinkFault` if the connection fails,
     /// and `Memory`.
     #[tactic(auto, using(crate::proofs::ExchangeFacts::unwritten))]
     pub fn body<K: Link>(

@@ -33,7 +33,7 @@ pub record EndsBehind (limit : ℕ) (h : List Entry) (asks : List Ask) (served :
 abbrev pub GoOnToLast : ℕ → List Entry → List Ask → List Served → Type 0
 GoOnToLast limit h asks served = GoOn limit h 1 asks served ⊎ ((parts : Parts asks served) × GoOn limit h 1 parts.earlier_asks parts.earlier)
 
--- All requests in the bytes were served, the connection stayed open, and `rest` is no complete request.
+-- All requests in the bytes were served, the connection stayed open, and `rest` is not a complete request.
 pub record Idles (role : Role) (bytes : List ℕ) (limit : ℕ) (h : List Entry) (asks : List Ask) (served : List Served) (rest : List ℕ) (fault : Option HeadError) : Type 0 where
   pub goes_on : GoOn limit h 1 asks served
   pub reads : IsReading role bytes (reading asks rest fault)

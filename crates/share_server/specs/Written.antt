@@ -56,6 +56,6 @@ abbrev pub CountsMaybe : (before now : ℕ) → Option LinkEnd → Type 0
 CountsMaybe before now None = now ≡ before
 CountsMaybe before now (Some end) = CountsEnd before now end
 
--- An end that is no failure.
+-- An end that is not a failure.
 abbrev pub IsCalm : Option LinkEnd → Type 0
 IsCalm due = (n : ℕ) → CountsMaybe n n due
