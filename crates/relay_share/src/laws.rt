@@ -17,8 +17,8 @@ pub fn relays_leave_steps()
     ensures { RelaysLeaveSteps }
 {}
 
-/// If only the relay edits its share, then the share's library is at each history length one that the relay read, or
-/// the empty one, and never returns to an earlier one.
+/// If only the relay edits its share, the share's library is at each history length one that the relay read, or the
+/// empty one. At a later length it is that one, or one that the relay read later.
 pub fn relays_show_what_they_read()
     ensures { RelaysShowWhatTheyRead }
 {}
