@@ -1,4 +1,4 @@
--- What is written piece by piece is the text of the pieces.
+-- What is written part by part is the text of the parts.
 use Rattle.std.proofs.Common.{◌≡◌, ℕ, List, ◌++◌, Option, inl, subst, ap, ◌∙◌, append_assoc}
 use Rattle.std.specs.Prelude.{Result, Ok, Err, OnOk}
 use Rattle.http_client.specs.Replies.{Reply}

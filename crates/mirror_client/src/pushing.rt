@@ -1,4 +1,4 @@
-//! Pushing an edit or a stop to a share.
+//! Pushes an edit or a stop to a share.
 
 ghost use Rattle.std.specs.Prelude.{◌≡◌, ◌++◌, Some, None, option_copied, IfOk, IfErr, OnOk, MatchResult};
 ghost use Rattle.code_table.specs.Standard.{standard_rows};
@@ -18,19 +18,19 @@ use dmap_tags::{Bytes, Code};
 use itoa::Buffer;
 use std::alloc::{AllocError, Global};
 
-/// What a share made of an edit or a stop.
+/// The outcome of an edit or a stop.
 #[derive(Debug, Drop)]
 pub enum Pushed {
-    /// The edit was taken in, and made this revision.
+    /// The edit was applied, and made this revision.
     Revision(u32),
     /// The edit had no records.
     Unchanged,
     Stopped,
-    /// Nothing was changed. `text` is what the share says of it: for records that it doesn't take, which one.
+    /// Nothing was changed. `text` is the share's reason: for records that it refuses, which one.
     Refused { status: u16, text: Bytes },
 }
 
-/// Sends records as an edit, or a stop where there is no body. The records are sent as they are.
+/// Sends records as an edit, unchanged; a stop if there is no body.
 pub fn push_link<K: Link>(
     alloc: Global,
     link: &mut K,
@@ -93,7 +93,7 @@ fn push_stop<K: Link>(alloc: Global, link: &mut K, host: &str) -> Result<Pushed,
     }
 }
 
-// What the answer to an edit is, which ends at the byte `used`.
+// Returns the outcome of an edit by its answer, which ends at byte `used`.
 fn edited(
     alloc: Global,
     table: &CodeTable,
@@ -111,7 +111,7 @@ fn edited(
     }
 }
 
-// The revision that a success tells.
+// Returns the revision in a success.
 fn revised(alloc: Global, table: &CodeTable, used: u64, text: &Bytes) -> Result<Pushed, FollowError>
     requires { table.now ≡ standard_rows }
     ensures { MatchResult result (λ pushed. IsEdited (200, text.now) pushed) (λ e. UndueEdit used (200, text.now) e) }
@@ -122,7 +122,7 @@ fn revised(alloc: Global, table: &CodeTable, used: u64, text: &Bytes) -> Result<
     }
 }
 
-// What the answer to a stop is.
+// Returns the outcome of a stop by its answer.
 fn stopped(status: u16, text: Bytes) -> Pushed
     ensures { IsStopped (status, text) result }
 {
@@ -152,7 +152,7 @@ fn stop_text(alloc: Global, host: &str) -> Result<Vec<u8>, AllocError>
     Ok(text)
 }
 
-// The fields, an empty line, and the body.
+// Appends the fields, an empty line, and the body.
 fn push_rest(text: &mut Vec<u8>, host: &str, body: &[u8]) -> Result<(), AllocError>
     ensures { OnOk result (text.new.items ≡ text.old.items ++ push_rest host.now body.now) }
 {

@@ -27,7 +27,7 @@ use song_query::Steps;
 use std::alloc::{AllocError, Global};
 use std::sync::ledger::Ledger;
 
-/// The ids of the items that may meet a query, where the index tells them.
+/// Returns the ids of the items that may match the query, if the index can narrow them.
 pub(crate) fn candidates(
     stores: &Stores,
     query: Option<&Query>,
@@ -50,7 +50,7 @@ fn slice_of(ids: &Option<Vec<u32>>) -> Option<&[u32]>
     }
 }
 
-/// The rows of a target that a look asks for, if the target is there.
+/// Returns the rows of `target` that `look` selects, or 404 if the target does not exist.
 pub(crate) fn rows<L: Ledger>(
     alloc: Global,
     stores: &Stores,

@@ -1,4 +1,4 @@
-//! The steps of a pass at the lock's table.
+//! The steps of a handle at the lock's table.
 ghost use Rattle.std.specs.Prelude.{◌≡◌, ℕ, ◌+◌, ◌<◌, ◌≤◌, true, false, [], ◌∷◌, All, Contains, length};
 ghost use Rattle.share_lock.specs.Histories.{Adds, Continues};
 ghost use Rattle.share_lock.specs.Plays.{having_seen, holding};
@@ -20,14 +20,14 @@ const LENGTH: usize = 2;
 
 const NAMED: usize = 3;
 
-/// The words at the start, for a history of this length.
+/// Returns the words at the start, for a history of this length.
 pub(crate) fn words(length: u64) -> [u64; 4]
     ensures { result ≡ 0 ∷ 0 ∷ length ∷ 1 ∷ [] }
 {
     [0, 0, length, 1]
 }
 
-/// Draws a ticket. Where none is left it waits for ever.
+/// Draws a ticket. Waits forever if none is left.
 pub(crate) fn draw<S: Recorded, R: Wait>(
     rt: &R,
     table: &Shared<Option<S>, View<S::Entry, S::Settings>, Key<S>, Law>,
@@ -49,7 +49,7 @@ pub(crate) fn draw<S: Recorded, R: Wait>(
     unreachable!()
 }
 
-/// Waits until the ticket is served, and takes the state.
+/// Waits until `ticket` is served, and takes the state.
 pub(crate) fn enter<S: Recorded, R: Wait>(
     rt: &R,
     table: &Shared<Option<S>, View<S::Entry, S::Settings>, Key<S>, Law>,
@@ -69,7 +69,7 @@ pub(crate) fn enter<S: Recorded, R: Wait>(
         if table.load::<Enter>(seat, SERVING) == ticket {
             return table.exchange(seat, 0, None).unwrap();
         }
-        // Who draws a ticket is through the gate alone, so this is not reached.
+        // Only the thread inside the gate draws a ticket, so this is not reached.
         thread::yield_now();
     }
     unreachable!()
@@ -97,7 +97,7 @@ pub(crate) fn leave<S: Recorded>(
     table.fetch_add::<Leave>(seat, SERVING, 1);
 }
 
-/// Draws a number. Where all are drawn it waits for ever.
+/// Draws a number. Waits forever if all are drawn.
 pub(crate) fn name<S: Recorded, R: Wait>(
     rt: &R,
     table: &Shared<Option<S>, View<S::Entry, S::Settings>, Key<S>, Law>,

@@ -1,4 +1,4 @@
-//! Opening, splitting, turns and joins.
+//! Opens, splits, joins, and takes turns.
 ghost use Rattle.std.specs.Prelude.{◌≡◌, ◌≤◌, ◌<◌, ◌++◌, true, false, [], ◌∷◌, length, All, Contains, IfOk, IsOk};
 ghost use Rattle.share_lock.specs.Histories.{entries_of, Adds, AddsOwn, AreApart, Continues};
 ghost use Rattle.share_lock.specs.Known.{numbers_of, fresh, after_turn, after_join};
@@ -15,7 +15,8 @@ use std::snapshot::Snapshot;
 use std::sync::Wait;
 
 impl<S: Recorded + Drop> ShareLock<S> {
-    /// Puts the state under a lock, for so many passes, the first of which is given. The state is dropped where there is no memory.
+    /// Puts the state under a lock for `passes` handles, and returns the first one. Drops the state if an allocation
+    /// fails.
     pub fn open(alloc: Global, state: S, passes: u32) -> Result<(ShareLock<S>, Pass<S>), AllocError>
         requires passes { 1 ≤ passes }
         requires opening { All (λ e. S.by e ≡ 0) (S.entries state) }
@@ -49,7 +50,8 @@ impl<S: Recorded + Drop> ShareLock<S> {
 }
 
 impl<S: Recorded> ShareLock<S> {
-    /// A pass with a number of its own, that has seen what this one has. Where all numbers were drawn it waits for ever.
+    /// Returns a handle with its own number, which has seen what this one has. Waits forever if all numbers were
+    /// drawn.
     pub fn split<R: Wait>(&self, rt: &R, pass: &mut Pass<S>) -> Result<Pass<S>, AllocError>
         requires ready { IsReady (lock_id self.now) pass.old }
         ensures same { IsReady (lock_id self.now) pass.new × (known pass.new ≡ known pass.old) }
@@ -71,7 +73,7 @@ impl<S: Recorded> ShareLock<S> {
     }
 
     #[tactic(auto, using(crate::proofs::Moves::in_front))]
-    /// Waits for a turn, asleep, and gives the state. After `end` it waits for ever.
+    /// Waits asleep for a turn, and returns the state. Waits forever after `end`.
     pub fn take<'a, R: Wait>(&self, rt: &R, pass: &'a mut Pass<S>) -> Turn<'a, S>
         requires ready { IsReady (lock_id self.now) pass.old }
         ensures same { result.pass.ghost_name ≡ pass.entry.ghost_name }
@@ -91,7 +93,7 @@ impl<S: Recorded> ShareLock<S> {
     }
 
     #[tactic(auto, using(crate::proofs::Fronts::adds_own))]
-    /// Gives the state back. The pass has then seen its whole history.
+    /// Ends a turn: returns the state to the lock. The handle has then seen its whole history.
     pub fn give(&self, turn: Turn<'_, S>)
         requires inside { IsInside (lock_id self.now) turn.pass.now }
         requires settings { S.settings turn.state ≡ (known turn.pass.now).settings }
@@ -118,7 +120,7 @@ impl<S: Recorded> ShareLock<S> {
         state
     }
 
-    /// Takes in another pass of the lock.
+    /// Joins `other`, another handle of the lock, to `pass`.
     pub fn join(&self, pass: &mut Pass<S>, other: Pass<S>)
         requires ready { IsReady (lock_id self.now) pass.old }
         requires other { IsReady (lock_id self.now) other }
@@ -142,14 +144,14 @@ impl<S: Recorded> ShareLock<S> {
 }
 
 impl<S: Recorded> Pass<S> {
-    /// The number that its entries are made under.
+    /// Returns the number under which its entries are made.
     pub fn number(&self) -> u32
         ensures { result ≡ (known self.now).number }
     {
         self.number
     }
 
-    /// The length of the history that it has seen.
+    /// Returns the length of the history that it has seen.
     pub fn seen(&self) -> u64
         ensures { result ≡ length (known self.now).seen }
     {

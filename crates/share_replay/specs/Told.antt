@@ -1,4 +1,4 @@
--- What is to be told on a connection, as the code has it.
+-- The next output on a connection, as the code has it.
 use Rattle.std.specs.Prelude.{◌≡◌, ◌<◌, ℕ, Bool, Some, None}
 use Rattle.http_front.specs.ReplyHeads.{HasReason}
 use Rattle.http_heads.specs.declared.refusal.HeadError.{HeadError}
@@ -12,7 +12,7 @@ use Rattle.share_replay.specs.Turns.{due_on, most_requests}
 use Rattle.share_replay.specs.declared.asking.Told.{Told}
 use Rattle.share_replay.specs.declared.asking.Told.TheVariants.{Reply, Refusal, Nothing}
 
--- a reply to the next ask is due
+-- The reply to the next request.
 pub record IsDueReply (old new : Shared) (number : ℕ) (c : Connection) (said : Said) (close : Bool) : Type 0 where
   pub ask : Ask
   pub asked : asked_on c ≡ Some ask
@@ -20,7 +20,7 @@ pub record IsDueReply (old new : Shared) (number : ℕ) (c : Connection) (said :
   pub closes : close ≡ ask.close
   pub says : IsReplied old new number ask.want said
 
--- a refusal is
+-- A refusal.
 pub record IsDueRefusal (old new : Shared) (c : Connection) (status : ℕ) : Type 0 where
   pub error : HeadError
   pub asked : asked_on c ≡ None
@@ -30,7 +30,7 @@ pub record IsDueRefusal (old new : Shared) (c : Connection) (status : ℕ) : Typ
   pub reason : HasReason status
   pub stays : new ≡ old
 
--- nothing is
+-- Nothing.
 pub record IsNotDue (old new : Shared) (c : Connection) : Type 0 where
   pub none : due_on old.settings old.history c ≡ None
   pub stays : new ≡ old

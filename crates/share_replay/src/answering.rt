@@ -1,4 +1,4 @@
-//! One answer on one connection.
+//! Gives one answer on one connection.
 
 ghost use Rattle.std.specs.Prelude.{◌≡◌, ◌<◌, List, true, false, None, is_some, IfOk, OnOk, OnErr, MatchResult};
 ghost use Rattle.std.specs.Io.KnownBytes.{Appends};
@@ -23,7 +23,7 @@ use share_asks::BodyForm;
 use share_core::{Said, Share};
 use std::alloc::{AllocError, Global};
 
-/// Answers what is due on the connection of a number, and tells whether anything was.
+/// Gives the next answer on connection `number`, if there is one. Returns whether there was.
 pub(crate) fn answer_on<W: Sink>(
     alloc: Global,
     number: u32,
@@ -49,7 +49,7 @@ pub(crate) fn answer_on<W: Sink>(
     }
 }
 
-// Writes a reply to the next request, and how the connection ends behind it, if it does. Answers that it did.
+// Writes a reply to the next request, and how the connection ends after it, if it ends. Returns `true`.
 fn reply_on<W: Sink>(
     alloc: Global,
     number: u32,
@@ -92,7 +92,7 @@ fn reply_on<W: Sink>(
     }
 }
 
-// Writes that what came is refused, and that the connection ends. Answers that it did.
+// Writes the refusal, and that the connection ends. Returns `true`.
 fn refuse_on<W: Sink>(
     alloc: Global,
     number: u32,

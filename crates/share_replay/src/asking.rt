@@ -1,4 +1,4 @@
-//! What is due on a connection.
+//! The next answer on a connection.
 
 ghost use Rattle.std.specs.Prelude.{◌≡◌, ◌<◌, IfOk, OnErr};
 ghost use Rattle.share_asks.specs.Valid.{IsValidWant};
@@ -14,17 +14,17 @@ use std::alloc::AllocError;
 use std::marker::Brand;
 use std::sync::ledger::{Blank, Ledger};
 
-/// What is to be told on a connection.
+/// The next output on a connection.
 #[derive(Drop)]
 pub(crate) enum Told {
-    /// The reply to its next request, behind which the connection ends where the request asks for it.
+    /// The reply to its next request. If `close`, the connection ends after it.
     Reply { said: Said, close: bool },
-    /// That what came is refused, by a status.
+    /// The refusal of its bytes, with its status.
     Refusal { status: u16 },
     Nothing,
 }
 
-/// What is to be told on the connection of a number. The share answers its next request.
+/// Returns the next output on connection `number`. The share answers its next request.
 pub(crate) fn told_on(
     number: u32,
     connection: &Connection,
@@ -51,7 +51,7 @@ pub(crate) fn told_on(
     }
 }
 
-// What the share says to an ask of the connection of a number; `None` where the ask is held.
+// Returns the share's response to a request of connection `number`; `None` if the update is pending.
 fn said_to(share: &mut Share, number: u32, ask: &Ask) -> Result<Option<Said>, AllocError>
     requires valid { IsValidWant ask.now.want }
     ensures said { IfOk result (IsSaidTo share.old share.new number ask.now.want) }

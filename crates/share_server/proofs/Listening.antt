@@ -1,4 +1,4 @@
--- A player's requests ask for no change, whatever their bytes; so what they add edits and stops nothing.
+-- A player's requests are no changes, whatever their bytes; so what they add edits and stops nothing.
 use Rattle.std.proofs.Common.{◌≡◌, ℕ, List, [], ◌∷◌, ◌++◌, refl, ap, ◌∙◌, inl, inr, codes, Bool, true, false, cond, ◌||◌, ◌==◌, MatchBool, Option, Some, None}
 use Rattle.std.specs.List.{AllZip, list_any}
 use Rattle.std.specs.Option.{option_and_then, option_to_list}
@@ -31,9 +31,9 @@ use Rattle.share_server.specs.declared.report.Served.{Served}
 use Rattle.share_server.specs.Served.{at_point, answered_on, added_part, IsGivenUp, IsReplied, IsServed, AreServed, added_entries}
 use Rattle.share_server.specs.Laws.{PlayersChangeNothing}
 
--- ---- what a player asks for
+-- ---- the operations of a player
 
--- whatever fits is no change
+-- every one is no change
 abbrev IsQuiet : (Want → Type 0) → Type 0
 IsQuiet P = (w : Want) → P w → is_change w ≡ false
 
@@ -70,7 +70,7 @@ quiet_rows target query =
     quiet_query (told (codes "query") query) _ (λ asked.
     quiet_range (range_in (told (codes "index") query)) _ (λ range. quiet_is _ refl)))))
 
--- a place that is neither that of edits nor that of the stop
+-- a resource that is neither that of edits nor that of the stop
 abbrev is_listening : Place → Bool
 is_listening place.Edit = false
 is_listening place.Stop = false
@@ -97,7 +97,7 @@ quiet_method : (right : Bool) (p : Place) (query body : List ℕ) → is_listeni
 quiet_method true p query body at w is = quiet_place p query body at w is
 quiet_method false p query body at w is = ap is_change is
 
--- where a place is found, it is one for players
+-- if a resource is found, it is one for players
 abbrev AllListening : Option Place → Type 0
 AllListening None = Unit {0}
 AllListening (Some p) = is_listening p ≡ true
@@ -178,7 +178,7 @@ quiet_all settings by h (m ∷ ms) (ask ∷ asks) (s ∷ served) spell are =
 pub players_change_nothing : PlayersChangeNothing
 players_change_nothing input asks rest settings by h served joins are = quiet_all settings by h joins.requests asks served joins.spell are
 
--- nor does the last of a player's asks ask for a change
+-- nor is the last of a player's requests a change
 pub last_is_quiet : (input : List ℕ) (asks : List Ask) (ask : Ask) (rest : List ℕ) → Joins Listen input (asks ++ ask ∷ []) rest → is_change ask.want ≡ false
 last_is_quiet input asks ask rest joins = by_messages joins.requests asks joins.spell
   where

@@ -1,4 +1,4 @@
--- What one turn at a share tells of a request, and what its pass has then served.
+-- What one turn at a share reports of a request, and what its handle has then served.
 use Rattle.std.proofs.Common.{◌≡◌, ◌≤◌, ◌<◌, ℕ, ◌+◌, ◌-◌, zero, suc, List, [], ◌∷◌, ◌++◌, length, take, drop, Bool, true, false, cond, ◌==◌, true≢false, is_some, Option, Some, None, MatchBool, refl, sym, ap, ◌∙◌, subst, inl, arith, append_assoc, append-nil, length-append, eq-eqb}
 use Rattle.std.proofs.Math.Seq.{take-length, take-append_seam, drop-append_seam}
 use Rattle.std.specs.Option.{option_to_list}
@@ -54,9 +54,9 @@ parts h (Some e) =
       part = ap (λ n. drop n (h ++ e ∷ [])) len ∙ drop-append_seam h (e ∷ []);
     }
 
--- ---- what a pass serves in a turn that left this history
+-- ---- what a handle serves in a turn that left this history
 
--- nothing of its own is later than what it had seen
+-- none of its own entries is later than what it had seen
 pub own_stays : (k : Pass) (h : List Entry) → Continues maker (numbers_of k) k.seen h → entries_of maker k.number h ≡ entries_of maker k.number k.seen
 own_stays k h on = on.own k.number (0, omega arith, refl)
 
@@ -69,7 +69,7 @@ serves_nothing k h on =
       own = own_stays k h on ∙ sym (append-nil (entries_of maker k.number k.seen));
     }
 
--- one request, at the end of the history, behind what was added for it
+-- one request, at the end of the history, after what was added for it
 record Shows (k : Pass) (h new : List Entry) (want : Want) (s : Served) : Type 0 where
   point : s.point ≡ length (h ++ new)
   served : IsServed k.settings k.number (h ++ new) want s
@@ -79,7 +79,7 @@ record Shows (k : Pass) (h new : List Entry) (want : Want) (s : Served) : Type 0
   late : 0 < s.session → is_live (answered_on s.added (at_point (h ++ new) s)) s.session ≡ true
       → length (until_login s.session (answered_on s.added (at_point (h ++ new) s))) ≤ s.seen
 
--- a point lies behind what was seen, and behind what was added
+-- a length is at or after what was seen and then what was added
 rises_by : (a b c d e : ℕ) → a ≤ b → c ≤ d → e ≡ b + d → a + c ≤ e
 rises_by a b c d e le le' is = omega arith
 
@@ -221,7 +221,7 @@ module _ (k : Pass) (h : List Entry) (ask : Ask) (reply : replies.Reply) (mark :
     said = says;
   }
 
--- ---- the answer to what was asked
+-- ---- the answer to the request
 
 all_made : (by : ℕ) (new : Option Entry) → ((e : Entry) → new ≡ Some e → maker e ≡ by) → All (λ e. maker e ≡ by) (option_to_list new)
 all_made by None own i d less = absurd (omega (arith, less))
@@ -256,7 +256,7 @@ pub record Asked (old new : Shared) (by : ℕ) (want : Want) (result : Result An
   pub revised_is : revised ≡ revision (batches new.history)
   pub end_is : end ≡ length new.history
 
--- want of memory for a want that is free shows that the share was stopped
+-- an allocation that fails for an operation that does not allocate shows that the share was stopped
 free_failed : (error : AllocError) (stopped free : Bool) → (stopped ≡ false → free ≡ true → IsOk {T = Answer} (Err error)) → free ≡ true → stopped ≡ true
 free_failed error true free ok wanted = refl
 free_failed error false free ok wanted = absurd (true≢false (sym (ok refl wanted)))
@@ -308,7 +308,7 @@ added_at old new by want (Ok (answer.Wait now point)) stopped revised end is sam
     held_adds old new by want now point (answer_to old.settings old.history want) is.told is.share
 added_at old new by want (Err error) stopped revised end is same = ap (λ (s : Shared). s.history) same
 
--- the pass has then seen what the answer left
+-- the handle has then seen what the answer left
 pub turned : (k k' : Pass) (h : List Entry) (ask : Ask) (look : Look) → k' ≡ after_turn k h → IsLooked k (after_turn k h) ask look → IsLooked k k' ask look
 turned k k' h ask look left is = subst (λ now. IsLooked k now ask look) (sym left) is
 

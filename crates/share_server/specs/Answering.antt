@@ -1,4 +1,4 @@
--- What is said to a request that was served, and by which turns; or that its edit was added and lost.
+-- What is written for a request that was served, and in which turns; or that its edit was added and lost.
 use Rattle.std.specs.Prelude.{◌≡◌, List, [], ◌∷◌, ◌++◌, length, Bool, true, false, Option, Some, None, Result, Ok, Err, ℕ}
 use Rattle.std.specs.declared.alloc.AllocError.{AllocError}
 use Rattle.daap_outside.specs.Counts.{Rose}
@@ -34,25 +34,25 @@ use Rattle.share_server.specs.declared.turns.outcome.Unanswered.TheVariants.{Gon
 use Rattle.share_server.specs.declared.turns.outcome.Look.{Look}
 use Rattle.share_server.specs.declared.turns.outcome.Look.TheVariants as look
 
--- nothing is said where there was no memory for an answer; what is said can be written, and makes the bytes of the request,
--- by the history at its point
+-- If allocating the answer failed, the status is 500. Otherwise the answer can be written, and its bytes are those of
+-- the request on the history `p`.
 abbrev pub Says : Settings → List Entry → Ask → Served → Option Said → Type 0
 Says settings p ask s None = s.status ≡ 500
 Says settings p ask s (Some said) =
     HasReason said.status × IsWritable said.plan
     × ((last : Bool) → with_head said.status said.form (plan_bytes said.plan) last ≡ served_bytes settings p ask s last)
 
--- a pass served the request, in the last of its turns
+-- The handle served the request, in the last of its turns.
 pub record IsAnswered (k k' : Pass) (ask : Ask) (a : Answered) : Type 0 where
   pub serves : Serves k k' (ask ∷ []) (a.served ∷ [])
   pub latest : a.served.point ≡ length k'.seen
   pub stopped : a.stopped ≡ is_stopped (at_point k'.seen a.served)
   pub revised : a.revision ≡ revision (batches (at_point k'.seen a.served))
-  -- a logout and the stop want no memory
+  -- a logout and the stop do not allocate
   pub free : is_free ask.want ≡ true → a.served.status ≡ 500 → is_stopped k'.seen ≡ true
   pub said : Says k.settings (at_point k'.seen a.served) ask a.served a.said
 
--- the edit that the request asks for was added and lost, and nothing was served
+-- The edit of the request was added and lost, and nothing was served.
 pub record IsLost (k k' : Pass) (ask : Ask) : Type 0 where
   pub batch : List Edit
   pub asks_it : ask.want ≡ want.Edit (Ok batch)
@@ -60,7 +60,7 @@ pub record IsLost (k k' : Pass) (ask : Ask) : Type 0 where
   pub serves : ServesBut k k' [] [] lost
   pub made : Unacknowledged k k' [] batch lost
 
--- the request was served; or its peer went while it was held, or its edit was lost, and nothing was served
+-- The request was served. Or nothing was: its peer left while it was pending, or its edit was lost.
 abbrev pub IsOutcome : Pass → Pass → Ask → Result Answered Unanswered → Type 0
 IsOutcome k k' ask (Ok a) = IsAnswered k k' ask a
 IsOutcome k k' ask (Err Gone) = Serves k k' [] []
@@ -71,13 +71,13 @@ loses (Ok a) = false
 loses (Err Gone) = false
 loses (Err Lost) = true
 
--- the link's count rose exactly where its peer went
+-- The connection's error counter increased exactly if its peer left.
 abbrev pub CountsOutcome : ℕ → ℕ → Result Answered Unanswered → Type 0
 CountsOutcome before now (Ok a) = now ≡ before
 CountsOutcome before now (Err Gone) = Rose before now
 CountsOutcome before now (Err Lost) = now ≡ before
 
--- in one turn the pass served the request, or nothing, or lost its edit
+-- In one turn the handle served the request, or nothing, or lost its edit.
 abbrev pub IsLooked : Pass → Pass → Ask → Look → Type 0
 IsLooked k k' ask (look.Answered a) = IsAnswered k k' ask a
 IsLooked k k' ask (look.Held point) = Serves k k' [] [] × (point ≡ length k'.seen)
@@ -88,23 +88,23 @@ loses_in (look.Answered a) = false
 loses_in (look.Held point) = false
 loses_in (look.Lost point) = true
 
--- the answer added an entry
+-- Whether the answer added an entry.
 abbrev pub has_added : Look → Bool
 has_added (look.Answered a) = a.served.added
 has_added (look.Held point) = false
 has_added (look.Lost point) = false
 
--- the history has one entry more, which the want adds, or is as it was
+-- The operation added one entry to the history, or left it as it was.
 abbrev pub HasAdded : Bool → List Entry → ℕ → Want → List Entry → Type 0
 HasAdded false h by want h' = h' ≡ h
 HasAdded true h by want h' = (e : Entry) × (adds h by want ≡ Some e) × (h' ≡ h ++ e ∷ [])
 
--- a share that a turn of the pass found
+-- A share that a turn of the handle finds.
 pub record Finds (k : Pass) (share : Shared) : Type 0 where
   pub settings : share.settings ≡ k.settings
   pub history : Continues maker (numbers_of k) k.seen share.history
 
--- what is told of an answer, or of want of memory, at the end of the history
+-- The report of a reply, or of an answer that failed to allocate at the end of the history.
 abbrev pub served_of : Reply → Served
 served_of r = record { session = r.session; seen = r.seen; point = r.point; status = r.said.status; added = r.added }
 

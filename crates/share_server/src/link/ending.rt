@@ -1,4 +1,4 @@
-//! How a connection ends that cannot go on.
+//! Ends of a connection that cannot continue.
 
 ghost use Rattle.std.specs.Prelude.{◌≡◌, ◌≢◌, false};
 ghost use Rattle.share_server.specs.Losses.{is_loss};
@@ -11,7 +11,7 @@ use http_heads::HeadError;
 use reply_bytes::{ReplyError, status_of, write_failure, write_refusal};
 use std::alloc::Global;
 
-/// Ends a connection for want of memory, of which it is told. It takes none.
+/// Ends a connection after a failed allocation, and writes the 500. Does not allocate.
 pub(crate) fn given_up<K: Link>(link: &mut K) -> LinkEnd
     ensures told { IsGivenUp (K.taken link.old) (K.taken link.new) result }
     ensures beside { K.beside_taken link.new ≡ K.beside_taken link.old }
@@ -24,7 +24,7 @@ pub(crate) fn given_up<K: Link>(link: &mut K) -> LinkEnd
     }
 }
 
-/// Ends a connection whose bytes gave this error.
+/// Ends a connection whose bytes made the reader return `error`.
 pub(crate) fn unread<K: Link>(alloc: Global, link: &mut K, error: HeadError) -> LinkEnd
     ensures memory { error ≡ HeadError.Memory → IsGivenUp (K.taken link.old) (K.taken link.new) result }
     ensures refused { error ≢ HeadError.Memory → IsRefused error (K.taken link.old) (K.taken link.new) result }
@@ -40,7 +40,7 @@ pub(crate) fn unread<K: Link>(alloc: Global, link: &mut K, error: HeadError) -> 
     }
 }
 
-// The bytes are no request, and no further ones mend that.
+// Writes the refusal: the bytes cannot be continued to a request.
 fn refused<K: Link>(alloc: Global, link: &mut K, error: &HeadError) -> LinkEnd
     ensures refused { IsRefused error.now (K.taken link.old) (K.taken link.new) result }
     ensures beside { K.beside_taken link.new ≡ K.beside_taken link.old }

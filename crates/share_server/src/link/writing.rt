@@ -1,4 +1,4 @@
-//! The writing of one reply.
+//! Writes one reply.
 
 ghost use Rattle.std.specs.Prelude.{◌≡◌, Some, false, is_some};
 ghost use Rattle.http_front.specs.ReplyHeads.{HasReason};
@@ -17,8 +17,8 @@ use share_asks::BodyForm;
 use share_core::Said;
 use std::alloc::Global;
 
-/// Writes the reply to a request that added an entry or did not. Behind it the end comes that is due, if one is, and
-/// its head says so.
+/// Writes the reply to a request; `added` says whether the request added an entry. The connection ends with `due`
+/// after the reply, if given, and the head says so. Returns the end, if the connection ends.
 pub(crate) fn reply<K: Link>(
     alloc: Global,
     link: &mut K,
@@ -79,7 +79,7 @@ fn whole<K: Link>(
     }
 }
 
-// There was no memory for the head of a reply. Who was answered by an entry more is not told otherwise.
+// Allocating the head failed. Never writes a 500 if the request added an entry.
 fn unwritten<K: Link>(link: &mut K, added: bool) -> LinkEnd
     ensures written { (bytes : _) (due : _) → WasWritten bytes added due (K.taken link.old) (K.taken link.new) (Some result) }
     ensures beside { K.beside_taken link.new ≡ K.beside_taken link.old }

@@ -1,4 +1,4 @@
-//! What is asked of the share in a turn, and kept in it.
+//! Answers a request within a turn, and keeps its edit.
 
 ghost use Rattle.std.specs.Prelude.{◌≡◌, ◌<◌, ◌++◌, ◌∷◌, [], false};
 ghost use Rattle.item_model.specs.declared.changes.Entry.TheVariants as entry;
@@ -19,8 +19,8 @@ use song_query::Steps;
 use std::alloc::AllocError;
 use std::sync::ledger::{Blank, Ledger};
 
-/// Asks the share, for the pass of a number that found it so. An edit that was added is kept before anyone sees it;
-/// where it is lost, the share is stopped behind it. Looks of queries at items are not counted.
+/// Answers the request for handle `by`. An edit that was added is kept before anyone sees it; if it is lost, the
+/// share is stopped after it. Evaluations of queries are not counted.
 pub(crate) fn asked<L: Ledger, F: Keeps>(
     blank: Blank,
     share: &mut Share,
@@ -55,7 +55,7 @@ pub(crate) fn asked<L: Ledger, F: Keeps>(
     Look::Lost { point: share.len() }
 }
 
-// What the share answers.
+// Answers the request.
 fn told<L: Ledger>(share: &mut Share, by: u32, ask: &Ask, steps: &mut Steps<L>) -> Look
     requires valid { IsValidWant ask.now.want }
     ensures grows { Grows share.old by share.new }
@@ -70,7 +70,7 @@ fn told<L: Ledger>(share: &mut Share, by: u32, ask: &Ask, steps: &mut Steps<L>) 
     look_of(answer, stopped, revision, end)
 }
 
-// Stops the share, for which there is always room.
+// Stops the share, which always has capacity for it.
 fn stop<L: Ledger>(share: &mut Share, by: u32, steps: &mut Steps<L>)
     requires going { is_stopped share.old.history ≡ false }
     ensures settings { share.new.settings ≡ share.old.settings }
@@ -84,7 +84,7 @@ fn stop<L: Ledger>(share: &mut Share, by: u32, steps: &mut Steps<L>)
     let _ = share.answer(by, &ask, steps);
 }
 
-/// What is told of an answer, or of want of memory at the end of the history, where the share has this revision.
+/// Returns the outcome of a turn: the reply, or a 500 at history length `end`. `revision` is the share's.
 pub(crate) fn look_of(
     answer: Result<Answer, AllocError>,
     stopped: bool,

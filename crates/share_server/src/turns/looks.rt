@@ -1,4 +1,4 @@
-//! One turn at the share.
+//! One turn of a request.
 
 ghost use Rattle.std.specs.Prelude.{◌≡◌, false, IfOk, OnErr, []};
 ghost use Rattle.http_front.specs.Readable.{IsReadableWant};
@@ -21,8 +21,8 @@ use std::marker::Brand;
 use std::sync::Wait;
 use std::sync::ledger::Blank;
 
-/// Takes a turn for a request. An edit is made ready to be kept before it; where there is no memory for that, the turn
-/// only looks.
+/// Takes a turn for a request. The keeper makes an edit ready before it. If that fails to allocate, the turn only
+/// reads the history.
 pub(crate) fn turn<F: Keeps, R: Wait>(
     rt: &R,
     alloc: Global,
@@ -45,7 +45,7 @@ pub(crate) fn turn<F: Keeps, R: Wait>(
     }
 }
 
-// What the keeper makes ready for a want: an edit, where it has one.
+// Returns what the keeper makes ready for the edits of an operation, if it has any.
 fn ready_for<F: Keeps>(
     alloc: Global,
     keeper: &F,
@@ -65,7 +65,7 @@ fn ready_for<F: Keeps>(
     Ok(Some(ready))
 }
 
-// Takes a turn, and gives it back before anything is written.
+// Takes a turn, and ends it before anything is written.
 fn looked<F: Keeps, R: Wait>(
     rt: &R,
     lock: &ShareLock<Share>,
@@ -89,7 +89,7 @@ fn looked<F: Keeps, R: Wait>(
     look
 }
 
-// A turn in which nothing is asked, since there was no memory: the request is told so.
+// A turn that answers a request with 500, because an allocation failed before.
 fn passed_over<R: Wait>(rt: &R, lock: &ShareLock<Share>, pass: &mut Pass<Share>) -> Look
     requires ready { IsReady (lock_id lock.now) pass.old }
     ensures ready { IsReady (lock_id lock.now) pass.new }

@@ -1,4 +1,4 @@
--- What the share answers, and leaves, is what the turn tells.
+-- What the share answers, and leaves, is the report of the turn.
 use Rattle.std.proofs.Common.{refl, sym, subst}
 use Rattle.share_history.specs.Sessions.{is_stopped}
 use Rattle.share_lock.specs.Known.{after_turn}

@@ -15,7 +15,7 @@ use Rattle.share_server.proofs.Requests.{gone, sayable, unkept, unserved}
 use Rattle.share_server.proofs.Waiting.{keeping_yet}
 use Rattle.share_server.proofs.link.exchanging.exchange.Goals as goal
 
--- there was no room for the report
+-- reserving capacity for the report failed
 pub returns-then-is_err-clause-exchanges : goal.returns-then-is_err-clause-exchanges
 returns-then-is_err-clause-exchanges g c = λ k taken asks goes.
     subst
@@ -24,7 +24,7 @@ returns-then-is_err-clause-exchanges g c = λ k taken asks goes.
     (unserved c.args.service.now.limit k (known c.args.pass.now) taken (g.K.Sink.taken c.args.link.now) (g.K.Sink.taken c.given_up.new.link) asks c.args.ask.now
     c.args.served.now.items c.given_up.result goes c.given_up.ensures.told)
 
--- what is said of an answer can be written
+-- the answer can be written
 pub tell-requires-clause-sayable : goal.tell-requires-clause-sayable
 tell-requires-clause-sayable g c = sayable (known c.args.pass.now).settings (at_point (known c.answer_request.new.pass).seen c.in-Ok.answered.served) c.args.ask.now c.in-Ok.answered.served
     c.in-Ok.answered.said c.in-Ok.ensures.outcome.said

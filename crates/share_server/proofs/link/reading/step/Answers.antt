@@ -18,7 +18,7 @@ returns-in_default-clause-steps g c = λ role bytes k taken midway.
     c.args.serving.now.reader c.feed.new.self c.next.new.self c.args.serving.now.served.items c.next.result midway c.in-Ok.ensures.role c.in-Ok.ensures.error
     c.in-Ok.ensures.read c.next.ensures.result c.next.ensures.rest c.next.ensures.read c.in_default.is
 
--- the connection goes on behind a request
+-- the connection stays open after a request
 pub returns-in-None-clause-steps : goal.returns-in-None-clause-steps
 returns-in-None-clause-steps g c = λ role bytes k taken midway.
     took_one role bytes c.args.piece.now c.in-Ok.taken c.args.service.now.limit k (known c.args.pass.now) taken (g.K.Sink.taken c.args.link.now)

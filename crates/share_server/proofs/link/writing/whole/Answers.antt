@@ -5,7 +5,7 @@ use Rattle.reply_bytes.specs.declared.writing.ReplyError.TheVariants.{Memory}
 use Rattle.share_server.specs.Written.{WasWritten, CountsMaybe}
 use Rattle.share_server.proofs.link.writing.whole.Goals as goal
 
--- the end that is due is no failure
+-- the end after the reply is not a failure
 pub returns-in-Ok-clause-count : goal.returns-in-Ok-clause-count
 returns-in-Ok-clause-count g c =
     subst (λ (n : ℕ). CountsMaybe (g.K.Faulted.faults c.args.link.now) n c.args.due) (sym c.in-Ok.ensures.count)

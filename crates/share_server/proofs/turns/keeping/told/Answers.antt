@@ -1,4 +1,4 @@
--- What the share answers, and leaves, is what one turn tells.
+-- What the share answers, and leaves, is the report of one turn.
 use Rattle.std.proofs.Common.{◌∙◌, ap, sym, subst}
 use Rattle.share_lock.specs.Known.{after_turn}
 use Rattle.share_server.specs.Answering.{IsLooked, HasAdded, has_added, loses_in}

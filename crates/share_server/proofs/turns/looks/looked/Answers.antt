@@ -1,4 +1,4 @@
--- The pass found the share by its turn, and has then seen what the answer left.
+-- The handle found the share in its turn, and has then seen what the answer left.
 use Rattle.std.proofs.Common.{rules, ◌≡◌, sym, subst}
 use Rattle.share_lock.specs.Passes.{known}
 use Rattle.share_server.specs.Answering.{Finds, loses_in}
