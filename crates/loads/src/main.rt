@@ -85,7 +85,10 @@ fn print_all(rt: &HostRuntime) -> anyhow::Result<()> {
         println!(rt; "{name} {}", store::taken(rt.alloc(), step, store::FEW)?)?;
     }
     for (name, step) in share::STEPS {
-        println!(rt; "{name} {}", share::body_bytes(rt.alloc(), share::few(step))?)?;
+        println!(rt;
+            "{name} {}",
+            share::body_bytes(rt.alloc(), share::few(step))?
+        )?;
     }
     Ok(())
 }
