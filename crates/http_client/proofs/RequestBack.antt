@@ -21,7 +21,7 @@ use Rattle.share_asks.specs.declared.ask.Verb.TheVariants as verb
 use Rattle.share_asks.specs.declared.ask.Want.{Want}
 use Rattle.share_asks.specs.declared.ask.Want.TheVariants.{ServerInfo, Codes, Login, Logout, Update, Databases, Rows, Lists, Values, Edit, Stop, Bad}
 use Rattle.http_client.specs.Laws.{RequestsReadBack}
-use Rattle.http_client.specs.Requests.{CanSend, HasNumbers, IsRead, IsSent, IsSmall, length_line, request_line, request_text, sent_body, verb_for}
+use Rattle.http_client.specs.Requests.{CanSend, HasNumbers, IsRead, IsSent, IsSmall, length_line, message_text, request_line, request_text, sent_body, verb_for}
 use Rattle.http_client.specs.Targets.{IsTextOf, target_of}
 use Rattle.http_client.proofs.HeadsBack.{AreParts, few_fields, head_framed, head_is, head_short, head_text, is_shown, length_text, length_told, line_count, printed_head, sent_head, sent_method, sent_target, stays_open, told_len}
 use Rattle.http_client.proofs.ParametersBack.{cost_of, texts_of}
@@ -54,9 +54,9 @@ behind_head : (a b c d e f : List ℕ) → (a ++ (b ++ (c ++ (d ++ e)))) ++ f �
 behind_head a b c d e f = simp append_assoc
 
 text_is : (want : Want) (host : List ℕ) → request_text want host ≡ print_message (message_for want host)
-unfolding request_text
+unfolding request_text, message_text
 text_is want host =
-    let a = request_line want in
+    let a = request_line (verb_for want) (target_of want) in
     let b = field (codes "Host") host in
     let c = field (codes "Client-DAAP-Version") (codes "3.0") in
     ap (λ d. a ++ (b ++ (c ++ (d ++ (codes "\r\n" ++ sent_body want))))) (length_same (verb_for want) (length (sent_body want)))

@@ -38,18 +38,25 @@ unfoldable pub sent_body : Want → List ℕ
 sent_body (Edit (Ok batch)) = table_text (written_rows batch)
 sent_body want = []
 
-abbrev pub request_line : Want → List ℕ
-request_line want = ended (verb_text (verb_for want) ++ (codes " " ++ (target_of want ++ codes " HTTP/1.1")))
+abbrev pub request_line : Verb → List ℕ → List ℕ
+request_line verb target = ended (verb_text verb ++ (codes " " ++ (target ++ codes " HTTP/1.1")))
 
 -- a method that sends a body states its length
 abbrev pub length_line : Verb → ℕ → List ℕ
 length_line verb.Get len = []
 length_line verb.Post len = field (codes "Content-Length") (decimal len)
 
+-- the fields, an empty line and the body
+abbrev pub fields_and_body : Verb → List ℕ → List ℕ → List ℕ
+fields_and_body verb host body =
+    field (codes "Host") host ++ (field (codes "Client-DAAP-Version") (codes "3.0") ++ (length_line verb (length body) ++ (codes "\r\n" ++ body)))
+
+-- a client's request for a target, with a body if the method has one
+unfoldable pub message_text : Verb → List ℕ → List ℕ → List ℕ → List ℕ
+message_text verb target host body = request_line verb target ++ fields_and_body verb host body
+
 unfoldable pub request_text : Want → List ℕ → List ℕ
-request_text want host =
-    request_line want ++ (field (codes "Host") host ++ (field (codes "Client-DAAP-Version") (codes "3.0")
-    ++ (length_line (verb_for want) (length (sent_body want)) ++ (codes "\r\n" ++ sent_body want))))
+request_text want host = message_text (verb_for want) (target_of want) host (sent_body want)
 
 -- operations that can be written: their queries have a text, and their edits are those of some records
 abbrev pub CanSend : Want → Type 0

@@ -9,4 +9,4 @@ mod requests;
 
 pub use reader::ReplyReader;
 pub use refusal::ReplyError;
-pub use requests::request;
+pub use requests::{post, request};

@@ -1,36 +1,28 @@
 -- An edit or a stop that is pushed to a share: its request, which carries the given bytes unchanged, and the outcome
 -- by the answer.
-use Rattle.std.specs.Prelude.{◌≡◌, ◌≢◌, ⊤, ℕ, List, [], ◌++◌, length, codes, decimal, Option, Some, None}
+use Rattle.std.specs.Prelude.{◌≡◌, ◌≢◌, ⊤, ℕ, List, [], codes, Option, Some, None}
 use Rattle.dmap_tags.specs.Codes.{code}
 use Rattle.code_table.specs.Standard.{standard_rows}
+use Rattle.share_asks.specs.declared.ask.Verb.TheVariants.{Post}
 use Rattle.http_client.specs.Replies.{Reply}
+use Rattle.http_client.specs.Requests.{message_text}
 use Rattle.mirror_client.specs.declared.pushing.Pushed.{Pushed}
 use Rattle.mirror_client.specs.declared.pushing.Pushed.TheVariants as pushed
 use Rattle.mirror_client.specs.declared.refusal.FollowError.{FollowError}
 use Rattle.mirror_client.specs.declared.refusal.FollowError.TheVariants.{Refused, BadReply, Ended, Listing, Codes, LinkFault, Memory}
 use Rattle.mirror_client.specs.Tellings.{HasNoNumber, IsBadBody, TellsNumber}
 
-abbrev pub line : List ℕ → List ℕ
-line text = text ++ codes "\r\n"
-
 -- An edit has a body, a stop has none.
-abbrev pub push_target : Option (List ℕ) → List ℕ
-push_target (Some body) = codes "/edit HTTP/1.1"
-push_target None = codes "/stop HTTP/1.1"
+abbrev pub push_path : Option (List ℕ) → List ℕ
+push_path (Some body) = codes "/edit"
+push_path None = codes "/stop"
 
 abbrev pub push_body : Option (List ℕ) → List ℕ
 push_body (Some body) = body
 push_body None = []
 
--- The fields, then an empty line and the body.
-abbrev pub push_fields : List ℕ → ℕ → List ℕ
-push_fields host len = line (codes "Host: " ++ host) ++ (line (codes "Client-DAAP-Version: " ++ codes "3.0") ++ line (codes "Content-Length: " ++ decimal len))
-
-abbrev pub push_rest : List ℕ → List ℕ → List ℕ
-push_rest host body = push_fields host (length body) ++ (codes "\r\n" ++ body)
-
 unfoldable pub push_text : Option (List ℕ) → List ℕ → List ℕ
-push_text body host = line (codes "POST " ++ push_target body) ++ push_rest host (push_body body)
+push_text body host = message_text Post (push_path body) host (push_body body)
 
 -- The status and the text of the answer.
 abbrev pub IsAsTold : Reply → ℕ → List ℕ → Type 0

@@ -1,11 +1,11 @@
 //! Pushes an edit or a stop to a share.
 
-ghost use Rattle.std.specs.Prelude.{◌≡◌, ◌++◌, Some, None, option_copied, IfOk, IfErr, OnOk, MatchResult};
+ghost use Rattle.std.specs.Prelude.{◌≡◌, Some, None, option_copied, IfOk, IfErr, MatchResult};
 ghost use Rattle.code_table.specs.Standard.{standard_rows};
 ghost use Rattle.http_client.specs.Replies.{Reply};
 ghost use Rattle.mirror_client.specs.Exchanges.{Exchanged};
 ghost use Rattle.mirror_client.specs.Points.{Point, nothing_read, place};
-ghost use Rattle.mirror_client.specs.Pushes.{IsEdited, IsPushed, IsStopped, UndueEdit, UnduePush, line, push_fields, push_rest, push_text};
+ghost use Rattle.mirror_client.specs.Pushes.{IsEdited, IsPushed, IsStopped, UndueEdit, UnduePush, push_text};
 ghost use Rattle.mirror_client.specs.Stopping.{CountsFault, Stops};
 
 use crate::exchanging::exchange;
@@ -15,8 +15,8 @@ use crate::refusal::FollowError;
 use code_table::CodeTable;
 use daap_outside::Link;
 use dmap_tags::{Bytes, Code};
-use itoa::Buffer;
-use std::alloc::{AllocError, Global};
+use http_client::post;
+use std::alloc::Global;
 
 /// The outcome of an edit or a stop.
 #[derive(Debug, Drop)]
@@ -50,7 +50,7 @@ pub fn push_link<K: Link>(
     }
 }
 
-#[tactic(auto, using(crate::proofs::ExchangeFacts::unwritten))]
+#[tactic(auto, using(crate::proofs::ExchangeFacts::unwritten), unfolding(crate::specs::Pushes::push_text))]
 fn push_edit<K: Link>(
     alloc: Global,
     link: &mut K,
@@ -64,7 +64,7 @@ fn push_edit<K: Link>(
         (place (K.taken link.old) (K.left link.old) nothing_read) (K.taken link.new) e) }
     ensures count { MatchResult result (λ _. K.faults link.new ≡ K.faults link.old) (λ e. CountsFault (K.faults link.old) (K.faults link.new) e) }
 {
-    let request = edit_text(alloc, host, records)?;
+    let request = post(alloc, "/edit", host, records)?;
     let table = CodeTable::standard(alloc)?;
     let mut incoming = Incoming::new(alloc);
     match exchange(alloc, link, &mut incoming, request.as_slice()) {
@@ -76,7 +76,7 @@ fn push_edit<K: Link>(
     }
 }
 
-#[tactic(auto, using(crate::proofs::ExchangeFacts::unwritten))]
+#[tactic(auto, using(crate::proofs::ExchangeFacts::unwritten), unfolding(crate::specs::Pushes::push_text))]
 fn push_stop<K: Link>(alloc: Global, link: &mut K, host: &str) -> Result<Pushed, FollowError>
     ensures pushed { IfOk result (λ pushed. (answer : Reply) × (there : Point)
         × Exchanged (push_text None host.now) (place (K.taken link.old) (K.left link.old) nothing_read) there answer
@@ -85,7 +85,7 @@ fn push_stop<K: Link>(alloc: Global, link: &mut K, host: &str) -> Result<Pushed,
         (place (K.taken link.old) (K.left link.old) nothing_read) (K.taken link.new) e) }
     ensures count { MatchResult result (λ _. K.faults link.new ≡ K.faults link.old) (λ e. CountsFault (K.faults link.old) (K.faults link.new) e) }
 {
-    let request = stop_text(alloc, host)?;
+    let request = post(alloc, "/stop", host, b"")?;
     let mut incoming = Incoming::new(alloc);
     match exchange(alloc, link, &mut incoming, request.as_slice()) {
         Ok((status, text)) => Ok(stopped(status, text)),
@@ -130,53 +130,4 @@ fn stopped(status: u16, text: Bytes) -> Pushed
         204 => Pushed::Stopped,
         _ => Pushed::Refused { status, text },
     }
-}
-
-#[tactic(auto, unfolding(crate::specs::Pushes::push_text))]
-fn edit_text(alloc: Global, host: &str, records: &[u8]) -> Result<Vec<u8>, AllocError>
-    ensures { IfOk result (λ text. text.items ≡ push_text (Some records.now) host.now) }
-{
-    let mut text = Vec::new(alloc);
-    push_line(&mut text, b"POST ", b"/edit HTTP/1.1")?;
-    push_rest(&mut text, host, records)?;
-    Ok(text)
-}
-
-#[tactic(auto, unfolding(crate::specs::Pushes::push_text))]
-fn stop_text(alloc: Global, host: &str) -> Result<Vec<u8>, AllocError>
-    ensures { IfOk result (λ text. text.items ≡ push_text None host.now) }
-{
-    let mut text = Vec::new(alloc);
-    push_line(&mut text, b"POST ", b"/stop HTTP/1.1")?;
-    push_rest(&mut text, host, b"")?;
-    Ok(text)
-}
-
-// Appends the fields, an empty line, and the body.
-fn push_rest(text: &mut Vec<u8>, host: &str, body: &[u8]) -> Result<(), AllocError>
-    ensures { OnOk result (text.new.items ≡ text.old.items ++ push_rest host.now body.now) }
-{
-    push_fields(text, host, body.len())?;
-    text.extend_from_slice(b"\r\n")?;
-    text.extend_from_slice(body)
-}
-
-fn push_fields(text: &mut Vec<u8>, host: &str, len: usize) -> Result<(), AllocError>
-    ensures { OnOk result (text.new.items ≡ text.old.items ++ push_fields host.now len) }
-{
-    push_line(text, b"Host: ", host.as_bytes())?;
-    push_line(text, b"Client-DAAP-Version: ", b"3.0")?;
-    push_line(
-        text,
-        b"Content-Length: ",
-        Buffer::new().format(len).as_bytes(),
-    )
-}
-
-fn push_line(text: &mut Vec<u8>, name: &[u8], value: &[u8]) -> Result<(), AllocError>
-    ensures { OnOk result (text.new.items ≡ text.old.items ++ line (name.now ++ value.now)) }
-{
-    text.extend_from_slice(name)?;
-    text.extend_from_slice(value)?;
-    text.extend_from_slice(b"\r\n")
 }
