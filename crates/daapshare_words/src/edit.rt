@@ -13,8 +13,7 @@ use std::alloc::Global;
 
 pub const USAGE: &str = "edit PLACE [--stop]";
 
-/// The arguments of `edit`: the address, of 1 to 255 bytes, where a share listens for editors, and whether to `stop`
-/// it.
+/// The arguments of `edit`: a share's address for editors, of 1 to 255 bytes, and whether to `stop` the share.
 #[derive(Debug, Drop)]
 pub struct EditWords {
     pub place: Text,
