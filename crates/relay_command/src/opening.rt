@@ -58,8 +58,12 @@ pub(crate) fn opened<N: Net>(
     }
 }
 
-/// Opens an empty share, writes its line, and puts it under a lock. If that fails, returns the status that the program
-/// ends with; the line of the error was then written.
+/// Opens an empty share, writes its line, and puts it under a lock.
+///
+/// # Errors
+///
+/// Returns the status that the program ends with: 5 if the output failed, and 9 if an allocation failed and the line of
+/// that was written.
 pub(crate) fn begin<W: Sink, D: Drop>(
     alloc: Global,
     relaying: &Relaying,

@@ -18,8 +18,12 @@ use share_core::Share;
 use share_crew::{Begun, Room, announced};
 use std::alloc::{AllocError, Global};
 
-/// Writes the first line of `share`, and puts it under a lock. If that fails, returns the status that the program ends
-/// with; the line of the error was then written.
+/// Writes the first line of `share`, and puts it under a lock.
+///
+/// # Errors
+///
+/// Returns the status that the program ends with: 5 if the output failed, and 9 if an allocation failed and the line of
+/// that was written.
 pub(crate) fn begin<W: Sink, D: Drop>(
     alloc: Global,
     serving: &Serving,

@@ -47,8 +47,8 @@ impl<D: Drop> Room<D> {
 ///
 /// # Errors
 ///
-/// Returns the status that the program ends with: 5 if the output failed, and 9 if an allocation failed; the line of
-/// that was then written.
+/// Returns the status that the program ends with: 5 if the output failed, and 9 if an allocation failed and the line of
+/// that was written.
 pub fn announced<W: Sink, D: Drop>(
     alloc: Global,
     output: &mut W,
