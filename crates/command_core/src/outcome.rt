@@ -1,4 +1,4 @@
-//! What is written at the end of a command, and what the run leaves.
+//! What a command writes at its end, and what the run leaves.
 
 ghost use Rattle.std.specs.Prelude.{◌≡◌, None, MatchResult};
 ghost use Rattle.command_core.specs.Seen.{output_seen};
@@ -9,14 +9,14 @@ use daap_outside::{Sink, put_all};
 use item_model::Entries;
 use std::alloc::Global;
 
-/// What a run leaves: the status of the program, and the history of the share, where one was opened.
+/// What a run leaves: the status of the program, and the history of the share, if it opened one.
 #[derive(Debug, Drop)]
 pub struct Outcome {
     pub status: u8,
     pub history: Option<Entries>,
 }
 
-/// Writes what a command answered that opens no share, or the line of its fault.
+/// Writes the result of a command that opens no share, or the line of its error.
 pub fn written<W: Sink, E: Refusal + Drop>(
     alloc: Global,
     output: &mut W,
@@ -38,7 +38,7 @@ pub fn written<W: Sink, E: Refusal + Drop>(
     }
 }
 
-/// Writes the output of a command that was done.
+/// Writes the output of a command that succeeded.
 pub fn done<W: Sink>(output: &mut W, bytes: &[u8], history: Option<Entries>) -> Outcome
     ensures { TellsDone history bytes.now
         (output_seen (W.taken output.old) (W.faults output.old))
@@ -51,7 +51,7 @@ pub fn done<W: Sink>(output: &mut W, bytes: &[u8], history: Option<Entries>) -> 
     }
 }
 
-/// Writes the line of a fault of a command that opened no share.
+/// Writes the line of an error of a command that opened no share, or that of out of memory if an allocation fails.
 pub fn refused<W: Sink, E: Refusal>(alloc: Global, output: &mut W, fault: &Fault<E>) -> Outcome
     ensures { TellsFault E.told_line E.told_status fault.now
         (output_seen (W.taken output.old) (W.faults output.old))
@@ -67,7 +67,7 @@ pub fn refused<W: Sink, E: Refusal>(alloc: Global, output: &mut W, fault: &Fault
     }
 }
 
-/// Writes the line of want of memory, which takes none.
+/// Writes the line of out of memory. Does not allocate.
 pub fn out_of_memory<W: Sink>(output: &mut W, history: Option<Entries>) -> Outcome
     ensures { TellsMemory history
         (output_seen (W.taken output.old) (W.faults output.old))
@@ -80,7 +80,7 @@ pub fn out_of_memory<W: Sink>(output: &mut W, history: Option<Entries>) -> Outco
     }
 }
 
-/// Writes bytes, and answers the status that is wanted, or that of an output that failed.
+/// Writes `bytes`. Returns `status`, or 5 if the output failed.
 fn told<W: Sink>(output: &mut W, bytes: &[u8], status: u8) -> u8
     ensures { Tells status bytes.now
         (output_seen (W.taken output.old) (W.faults output.old))

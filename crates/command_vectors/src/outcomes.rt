@@ -1,4 +1,4 @@
-//! `command_core`: what is written of answers and of faults.
+//! `command_core`: what is written of results and of errors.
 
 use command_core::{Fault, Outcome, Refusal, out_of_memory, refused, written};
 use daap_outside::MemSink;
@@ -6,7 +6,7 @@ use std::alloc::{AllocError, Global};
 use std::process::Abort;
 use std::test::Fail;
 
-/// A fault that has a line of its own.
+/// An error with its own line.
 #[derive(Debug, Drop)]
 struct Torn;
 
@@ -26,7 +26,7 @@ impl Refusal for Torn {
     }
 }
 
-/// The outcome has the status, and the output these bytes.
+/// Checks the status of the outcome, and that the output is `line`.
 fn is_told(
     rt: &impl Abort,
     outcome: &Outcome,

@@ -1,4 +1,4 @@
-//! What commands do that wait for nobody: a function for each, and one that has them all.
+//! Runs the commands over standard input and output: one function for all, and one for each.
 
 ghost use Rattle.std.specs.Prelude.{◌≡◌};
 ghost use Rattle.command_core.specs.Seen.{Around, input_seen, output_seen, told_beside};
@@ -20,7 +20,7 @@ use share_commands::{list_share, rehearse_share, replay_script};
 use std::alloc::Global;
 use tag_commands::{check_tags, learn_codes, list_codes, read_shown, show_tags};
 
-/// Does what a command asks for that waits for nobody.
+/// Runs a command over standard input and output.
 pub fn obeyed<I: Source, W: Sink>(
     alloc: Global,
     command: &LocalCommand,
@@ -47,7 +47,7 @@ pub fn obeyed<I: Source, W: Sink>(
     }
 }
 
-/// Lists a share's rows.
+/// Runs `list`.
 fn listed<I: Source, W: Sink>(
     alloc: Global,
     words: &ListWords,
@@ -72,7 +72,7 @@ fn listed<I: Source, W: Sink>(
     )
 }
 
-/// Shows tags, or reads what shows them.
+/// Runs `show`, or `show --back`.
 fn shown<I: Source, W: Sink>(alloc: Global, back: bool, input: &mut I, output: &mut W) -> Outcome
     ensures { (around : Around) → IsAnswered (shows back)
         (told_beside around
@@ -88,7 +88,7 @@ fn shown<I: Source, W: Sink>(alloc: Global, back: bool, input: &mut I, output: &
     }
 }
 
-/// Lists the content codes of the table, or of a reply.
+/// Runs `codes`, or `codes --learn`.
 fn told_codes<I: Source, W: Sink>(
     alloc: Global,
     learn: bool,
@@ -109,7 +109,7 @@ fn told_codes<I: Source, W: Sink>(
     }
 }
 
-/// Plays a script.
+/// Runs `replay`.
 fn replayed<I: Source, W: Sink>(
     alloc: Global,
     words: &ReplayWords,
@@ -128,7 +128,7 @@ fn replayed<I: Source, W: Sink>(
     replay_script(alloc, words.keep, words.name.as_str(), input, output)
 }
 
-/// Rehearses a share.
+/// Runs `rehearse`.
 fn rehearsed<I: Source, W: Sink>(
     alloc: Global,
     words: &RehearseWords,
@@ -154,7 +154,7 @@ fn rehearsed<I: Source, W: Sink>(
     )
 }
 
-/// Shows tags as JSON, or reads what shows them so.
+/// Runs `json`, or `json --back`.
 fn told_json<I: Source, W: Sink>(
     alloc: Global,
     back: bool,
@@ -175,7 +175,7 @@ fn told_json<I: Source, W: Sink>(
     }
 }
 
-/// What is listed: all items, or the rows of a container.
+/// Returns what is listed: all items, or the rows of a container.
 pub fn target_of(list: Option<u32>) -> Target
     ensures { result ≡ target_of list }
 {

@@ -1,5 +1,5 @@
 //! `daapshare`: a server and a mirror client for a shared music catalogue over DAAP.
-//! `run` ends as the meaning of its words' command says (`specs/Table.antt`), whatever input and output it is given.
+//! `run` ends as the specification of its arguments' command says (`specs/Table.antt`), over any input and output.
 #![tactic(auto)]
 
 pub mod laws;
@@ -26,7 +26,7 @@ use std::thread::Threads;
 use std::time::Clock;
 use std::{env, io};
 
-/// The words after the program's name. One that is not UTF-8 is an error.
+/// Returns the arguments after the program's name. One that is not UTF-8 is an error.
 fn words_of(rt: &HostRuntime) -> io::Result<Vec<String>> {
     let mut words = Vec::new(rt.alloc());
     for word in env::args(rt)?.skip(1) {
@@ -35,7 +35,7 @@ fn words_of(rt: &HostRuntime) -> io::Result<Vec<String>> {
     Ok(words)
 }
 
-/// The same words, borrowed.
+/// Returns the arguments, borrowed.
 fn texts_of(alloc: Global, words: &[String]) -> io::Result<Vec<&str>> {
     let mut texts = Vec::new(alloc);
     for word in words {

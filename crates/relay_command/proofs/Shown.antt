@@ -16,7 +16,7 @@ use Rattle.relay_share.specs.Laws.{EditsAlone, LeavesSteps}
 use Rattle.relay_share.proofs.LeftFacts.{relays_leave_steps, relays_show_what_they_read}
 use Rattle.relay_command.specs.Laws.{RunsShowWhatTheyRead}
 
--- edits at each place are of this number
+-- each edit is of this number
 each_alone : (number : ℕ) (h : List Entry) → ((i : ℕ) (d : Entry) → suc i ≤ length h → is_edit (get_or h i d) ≡ true → maker (get_or h i d) ≡ number) → EditsAlone number h
 each_alone number [] each = tt
 each_alone number (e ∷ h) each = (each 0 e (omega arith), each_alone number h (λ i d less. each (suc i) d (omega (arith, less))))

@@ -1,4 +1,4 @@
-//! What stands behind the last round: the lines that tell what was relayed and served, and the status.
+//! Writes the lines after the last round, and returns the status.
 
 ghost use Rattle.std.specs.Prelude.{◌≡◌, ◌<◌, ◌^◌, ◌++◌, Some, map, IfOk, MatchResult};
 ghost use Rattle.command_core.specs.Seen.{output_seen};
@@ -21,7 +21,7 @@ use share_crew::{LinkReports, Outcome, ended_line_of};
 use share_server::LinkReport;
 use std::alloc::{AllocError, Global};
 
-/// Tells what was relayed and served, or the fault that ended it.
+/// Writes what was relayed and served, or the line of `fault`. Returns the outcome of the run.
 pub(crate) fn closed<W: Sink>(
     alloc: Global,
     output: &mut W,
@@ -49,7 +49,7 @@ pub(crate) fn closed<W: Sink>(
     }
 }
 
-// The lines of the rounds, and the last line where no fault stands in its place.
+// Returns the lines of the rounds, and the last line if there is no error.
 fn last_lines(
     alloc: Global,
     revision: u32,
@@ -95,7 +95,7 @@ fn round_line(alloc: Global, round: &Relayed) -> Result<Vec<u8>, AllocError>
     Ok(line)
 }
 
-// Writes the lines, and behind them that of the fault.
+// Writes the lines, and then that of the error. Returns the status.
 fn told<W: Sink>(
     alloc: Global,
     output: &mut W,
@@ -121,7 +121,7 @@ fn told<W: Sink>(
     }
 }
 
-// Writes the line of a fault.
+// Writes the line of `fault`, if there is one. Returns the status.
 fn ruled<W: Sink>(alloc: Global, output: &mut W, fault: Option<Fault<RelayFault>>) -> u8
     ensures { TellsRuling fault (output_seen (W.taken output.old) (W.faults output.old)) (output_seen (W.taken output.new) (W.faults output.new)) result }
 {
@@ -131,7 +131,7 @@ fn ruled<W: Sink>(alloc: Global, output: &mut W, fault: Option<Fault<RelayFault>
     }
 }
 
-// The fault where memory is wanted besides.
+// Returns the error that counts if an allocation failed besides.
 fn with_memory(fault: Option<Fault<RelayFault>>) -> Option<Fault<RelayFault>>
     ensures { result ≡ worse fault (Some Memory) }
 {

@@ -1,4 +1,5 @@
-//! What stands before the first link is served: the link to the share that is followed, the doors, and the share under its lock.
+//! Opens what a relay needs before it serves: the connection to the followed share, the listeners, and a share under
+//! its lock.
 
 ghost use Rattle.std.specs.Prelude.{◌≡◌, ◌+◌, map, length, IfOk, IfErr, OnErr, MatchResult};
 ghost use Rattle.command_core.specs.Seen.{net_seen, output_seen};
@@ -18,14 +19,15 @@ use share_core::Share;
 use share_crew::{Begun, Room, announced};
 use std::alloc::{AllocError, Global};
 
-/// The link to the share that is followed, and the doors of the relay, before anything went over them.
+/// The connection to the followed share, and the listeners of the relay, before their first use.
 #[derive(Drop)]
 pub(crate) struct Places<K, D> {
     pub(crate) link: K,
     pub(crate) doors: Vec<D>,
 }
 
-/// Connects to the share that is followed, and then opens the place of the players. Where that is not opened, the link is hung up.
+/// Connects to the share that is followed, and then opens the address of the players. If that fails, closes the
+/// connection.
 pub(crate) fn opened<N: Net>(
     net: &mut N,
     relaying: &Relaying,
@@ -56,8 +58,12 @@ pub(crate) fn opened<N: Net>(
     }
 }
 
-/// Opens an empty share, writes its line, and puts it under a lock. Where that fails, the line of the fault was written, and the
-/// status is answered that the program ends with.
+/// Opens an empty share, writes its line, and puts it under a lock.
+///
+/// # Errors
+///
+/// Returns the status that the program ends with: 5 if the output failed, and 9 if an allocation failed and the line of
+/// that was written.
 pub(crate) fn begin<W: Sink, D: Drop>(
     alloc: Global,
     relaying: &Relaying,
@@ -85,7 +91,7 @@ pub(crate) fn begin<W: Sink, D: Drop>(
     }
 }
 
-// An empty share with the line that tells it, and the room for its workers.
+// An empty share, its first line, and the capacity for its workers.
 struct Prepared<D> {
     share: Share,
     line: Vec<u8>,

@@ -1,4 +1,4 @@
-//! A relay's share from its first link to its last.
+//! Runs a relay's share from its first connection to its last.
 
 ghost use Rattle.std.specs.Prelude.{◌≡◌, ◌≤◌, ◌+◌, ◌-◌, [], ◌∷◌, ◌++◌, ℕ, List, map, length, All, vec_len, vec_capacity};
 ghost use Rattle.command_core.specs.Seen.{NetSeen, OutputSeen, net_seen, output_seen};
@@ -28,7 +28,7 @@ use std::sync::Wait;
 use std::thread::Threads;
 use std::time::Clock;
 
-/// Serves the players of a share that is under its lock and relays another share to it, until all have ended.
+/// Serves the players of a share that is under its lock, and relays another share to it, until all have ended.
 pub(crate) fn relay_begun<W: Sink, N: Net, R: Threads + Wait + Clock + Sync>(
     rt: &R,
     alloc: Global,
@@ -94,7 +94,8 @@ pub(crate) fn relay_begun<W: Sink, N: Net, R: Threads + Wait + Clock + Sync>(
     )
 }
 
-// Gives each door but the last its worker, and then splits off the relay's pass.
+// Makes a worker for each listener except the last, and then splits off the relay's lock handle. Returns it with that
+// listener.
 fn staffed<D: Drop, R: Wait>(
     rt: &R,
     alloc: Global,

@@ -1,4 +1,4 @@
-//! What stands behind the last link: the line that tells what was served, and the status.
+//! Writes the lines after the last connection, and returns the status.
 
 ghost use Rattle.std.specs.Prelude.{◌≡◌, ◌<◌, ◌^◌, ◌++◌, MatchResult, Some};
 ghost use Rattle.command_core.specs.Seen.{output_seen};
@@ -15,7 +15,7 @@ use share_core::Share;
 use share_crew::{LinkReports, Outcome, Verdict, ended_line_of};
 use std::alloc::{AllocError, Global};
 
-/// Tells what was served, and how it ended.
+/// Writes what was served, and how it ended. Returns the outcome of the run.
 pub(crate) fn closed<W: Sink>(
     alloc: Global,
     output: &mut W,
@@ -42,7 +42,7 @@ pub(crate) fn closed<W: Sink>(
     }
 }
 
-// Writes the line, and behind it that of the verdict.
+// Writes the line, and then that of the verdict. Returns the status.
 fn told<W: Sink>(output: &mut W, line: Result<Vec<u8>, AllocError>, verdict: Verdict) -> u8
     ensures { MatchResult line
         (λ bytes. Tells (verdict_status verdict) (bytes.items ++ verdict_line verdict)
@@ -63,7 +63,7 @@ fn told<W: Sink>(output: &mut W, line: Result<Vec<u8>, AllocError>, verdict: Ver
     }
 }
 
-// Writes the line of a verdict.
+// Writes the line of a verdict. Returns the status.
 fn ruled<W: Sink>(output: &mut W, verdict: Verdict) -> u8
     ensures { Tells (verdict_status verdict) (verdict_line verdict)
         (output_seen (W.taken output.old) (W.faults output.old))

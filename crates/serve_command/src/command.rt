@@ -1,4 +1,4 @@
-//! The command, whole.
+//! The command `serve`.
 
 ghost use Rattle.std.specs.Prelude.{◌≡◌, ◌+◌, ◌-◌, ◌++◌, None, map, length};
 ghost use Rattle.command_core.specs.Seen.{NetSeen, input_seen, files_seen, net_seen, output_seen, seen, told_in};
@@ -21,8 +21,8 @@ use std::sync::Wait;
 use std::thread::Threads;
 use std::time::Clock;
 
-/// Serves a share that begins with the batches of its file, where it has one, and with the records of the input, until it is
-/// stopped or no further link comes. An edit is kept in the file before it is answered.
+/// Serves a share that begins with the batches of its file, if it has one, and then the records of the input, until it
+/// is stopped or no further connection comes. Each edit is kept in the file before it is answered.
 pub fn serve<I: Source, W: Sink, F: Files, N: Net, R: Threads + Wait + Clock + Sync>(
     rt: &R,
     alloc: Global,
@@ -52,7 +52,7 @@ pub fn serve<I: Source, W: Sink, F: Files, N: Net, R: Threads + Wait + Clock + S
     }
 }
 
-// Serves a share at doors that are open.
+// Serves a share at listeners that are open.
 fn serve_at<I: Source, W: Sink, F: Files, N: Net, R: Threads + Wait + Clock + Sync>(
     rt: &R,
     alloc: Global,

@@ -1,4 +1,4 @@
-//! What stands before the first link is served: the line that tells the share, and the share under its lock.
+//! Writes the first line of a share, and puts the share under its lock.
 
 ghost use Rattle.std.specs.Prelude.{◌≡◌, All, IfOk, MatchResult};
 ghost use Rattle.command_core.specs.Seen.{output_seen};
@@ -18,8 +18,12 @@ use share_core::Share;
 use share_crew::{Begun, Room, announced};
 use std::alloc::{AllocError, Global};
 
-/// Puts a share under a lock once its line was written. Where that fails, the line of the fault was written, and the status is
-/// answered that the program ends with.
+/// Writes the first line of `share`, and puts it under a lock.
+///
+/// # Errors
+///
+/// Returns the status that the program ends with: 5 if the output failed, and 9 if an allocation failed and the line of
+/// that was written.
 pub(crate) fn begin<W: Sink, D: Drop>(
     alloc: Global,
     serving: &Serving,
@@ -44,7 +48,7 @@ pub(crate) fn begin<W: Sink, D: Drop>(
     }
 }
 
-// The line that tells the share, and the room for its workers.
+// Returns the first line of the share, and the capacity for its workers.
 fn prepared<D: Drop>(
     alloc: Global,
     serving: &Serving,
@@ -59,7 +63,7 @@ fn prepared<D: Drop>(
     Ok((line, room))
 }
 
-// The line that tells that the share is served.
+// Returns the first line of the share.
 fn first_line_of(alloc: Global, serving: &Serving, revision: u32) -> Result<Vec<u8>, AllocError>
     ensures { IfOk result (λ line. line.items ≡ serving_line serving.now.name revision) }
 {

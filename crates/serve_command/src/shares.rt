@@ -1,4 +1,4 @@
-//! A share from its first line to its last, at doors that are open.
+//! Serves a share from its first line to its last, at listeners that are open.
 
 ghost use Rattle.std.specs.Prelude.{◌≡◌, ◌≤◌, ◌<◌, ◌+◌, ◌-◌, ◌++◌, ◌∷◌, [], ℕ, List, map, length, vec_len, vec_capacity, false, All};
 ghost use Rattle.item_model.specs.declared.changes.Entry.{Entry};
@@ -32,7 +32,7 @@ use std::sync::Wait;
 use std::thread::Threads;
 use std::time::Clock;
 
-/// Serves a share, with what keeps its edits, which is given back.
+/// Serves a share whose edits `keeper` keeps. Returns the keeper, too.
 pub(crate) fn serve_share<W: Sink, N: Net, K: Keeps, R: Threads + Wait + Clock + Sync>(
     rt: &R,
     alloc: Global,
@@ -69,7 +69,7 @@ pub(crate) fn serve_share<W: Sink, N: Net, K: Keeps, R: Threads + Wait + Clock +
     }
 }
 
-// Serves a share that is under its lock, to its end. The last of those who edit it works in this thread.
+// Serves a share that is under its lock, to its end. The last editor's worker works in this thread.
 fn serve_begun<W: Sink, N: Net, K: Keeps, R: Threads + Wait + Clock + Sync>(
     rt: &R,
     alloc: Global,
@@ -121,7 +121,7 @@ fn serve_begun<W: Sink, N: Net, K: Keeps, R: Threads + Wait + Clock + Sync>(
     (closed(alloc, output, share, links, verdict), keeper)
 }
 
-// Gives each door its worker, and takes out the last of them.
+// Makes a worker for each listener. Returns the last of them by itself.
 fn staffed<D: Drop, R: Wait>(
     rt: &R,
     alloc: Global,

@@ -1,4 +1,4 @@
-//! The command `rehearse`: a share that made-up batches edit while mirrors follow it, and the summary of what they held.
+//! The command `rehearse`: edits a share with made-up batches while mirrors follow it, and writes a summary.
 
 ghost use Rattle.std.specs.Prelude.{◌≡◌, ◌≤◌};
 ghost use Rattle.command_core.specs.Seen.{Around, InputSeen, output_seen, told_beside};
@@ -11,7 +11,7 @@ use rehearsal::{Rehearsal, rehearse};
 use share_history::MAX_EDITS;
 use std::alloc::{AllocError, Global};
 
-/// Why nothing is rehearsed.
+/// Errors of `rehearse`.
 #[derive(Debug, Drop)]
 pub enum RehearseFault {
     /// There are more edits than a share's history may have.
@@ -32,8 +32,8 @@ impl Refusal for RehearseFault {
     }
 }
 
-/// Does `rehearse`: batches of so many edits, made up from a number, of a share that keeps so many revisions back. It
-/// reads nothing.
+/// Runs `rehearse`: makes up `batches` batches of `size` edits each, from `number`, and applies them to a share with a
+/// delta window of `keep` revisions. Reads no input.
 pub fn rehearse_share<W: Sink>(
     alloc: Global,
     number: u32,

@@ -1,4 +1,4 @@
--- What is told behind a front.
+-- What is written after a prefix.
 use Rattle.std.proofs.Common.{◌≡◌, ◌⊎◌, ◌++◌, ℕ, List, Result, Ok, Err, MatchResult, sym, subst, inl, inr, arith, length-append}
 use Rattle.std.proofs.lemmas.List.{take-append-le}
 use Rattle.std.specs.Io.KnownBytes.{Appends}
@@ -11,7 +11,7 @@ use Rattle.share_crew.specs.declared.opening.Begun.{Begun}
 use Rattle.share_crew.specs.declared.opening.Room.{Room}
 use Rattle.share_crew.specs.Begun.{Locks, Announces}
 
--- behind a front
+-- after a prefix
 pub told_behind : (start mid after : OutputSeen) (front bytes : List ℕ) (wanted status : ℕ) → IsWritten start mid front → Tells wanted bytes mid after status → Tells wanted (front ++ bytes) start after status
 told_behind start mid after front bytes wanted status w (inl h) = inl (h.0, written_more start mid after front bytes w h.1)
 told_behind start mid after front bytes wanted status w (inr h) = inr (h.0, cut_more start mid after front bytes w h.1)

@@ -1,4 +1,4 @@
--- A share that came under its lock, with room for its workers.
+-- A share under its lock, with capacity for its workers.
 use Rattle.std.specs.Prelude.{◌≡◌, ◌⊎◌, ◌≤◌, ℕ, ◌++◌, List, [], vec_capacity, Result, MatchResult}
 use Rattle.share_lock.specs.Known.{fresh}
 use Rattle.share_lock.specs.Passes.{lock_id, passes_of, known, IsReady}
@@ -11,28 +11,28 @@ use Rattle.command_core.specs.Seen.{OutputSeen}
 use Rattle.share_replies.specs.Answers.{Shared}
 
 module _ {D : Type 0} where
-  -- no worker yet, and place for so many
+  -- no worker yet, and capacity for `workers`
   pub record HasRoom (workers : ℕ) (room : Room D) : Type 0 where
     pub no_crew : room.crew.items ≡ []
     pub no_links : room.links.items ≡ []
     pub crew : workers ≤ vec_capacity room.crew
     pub links : workers ≤ vec_capacity room.links
 
-  -- it is under a lock for so many passes, the first of which has seen its opening
+  -- the share is under a lock for `passes` handles, the first of which has seen its opening
   pub record IsBegun (passes : ℕ) (share : Shared) (room : Room D) (begun : Begun D) : Type 0 where
     pub passes_are : passes_of begun.lock ≡ passes
     pub ready : IsReady (lock_id begun.lock) begun.first
     pub pass : known begun.first ≡ fresh 0 share.settings share.history
     pub room_is : begun.room ≡ room
 
-  -- the share came under its lock, or memory was wanted behind a front
+  -- the share is under its lock, or an allocation failed after `front` was written
   abbrev pub Locks : (passes : ℕ) → Shared → Room D → (front : List ℕ) → OutputSeen → OutputSeen → Result (Begun D) ℕ → Type 0
   Locks passes share room front start after result =
       MatchResult result
       (λ begun. IsBegun passes share room begun × IsWritten start after front)
       (λ status. Tells 9 (front ++ memory_line) start after status)
 
-  -- so it was behind its line, or the output failed in that
+  -- .. after its line was written, or the output failed in that line
   abbrev pub Announces : (passes : ℕ) → Shared → Room D → (line : List ℕ) → OutputSeen → OutputSeen → Result (Begun D) ℕ → Type 0
   Announces passes share room line before after result =
       MatchResult result

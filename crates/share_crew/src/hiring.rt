@@ -1,4 +1,4 @@
-//! Workers that are hired.
+//! Makes workers for listeners.
 
 ghost use Rattle.std.specs.Prelude.{◌≡◌, ◌<◌, ◌≤◌, ◌+◌, [], vec_len, vec_capacity};
 ghost use Rattle.share_lock.specs.Known.{fresh};
@@ -12,7 +12,7 @@ use share_workers::{Worker, WorkerEnd};
 use std::alloc::Global;
 use std::sync::Wait;
 
-/// Adds a worker for each door, with a pass of its own. There is room for all of them.
+/// Appends a worker for each listener, with its own lock handle. `crew` has the capacity for all of them.
 pub fn hire<D: Drop, R: Wait>(
     rt: &R,
     alloc: Global,
@@ -36,7 +36,7 @@ pub fn hire<D: Drop, R: Wait>(
     }
 }
 
-// A pass of its own, for a worker that has not begun.
+// Returns a new lock handle, for a worker that has not begun.
 fn drawn<R: Wait>(rt: &R, lock: &ShareLock<Share>, first: &mut Pass<Share>) -> Pass<Share>
     requires ready { IsReady (lock_id lock.now) first.old }
     ensures first { IsReady (lock_id lock.now) first.new }
@@ -49,7 +49,7 @@ fn drawn<R: Wait>(rt: &R, lock: &ShareLock<Share>, first: &mut Pass<Share>) -> P
     lock.split(rt, first).unwrap()
 }
 
-// A worker that has not begun.
+// Returns a worker that has not begun.
 fn hired<D>(alloc: Global, pass: Pass<Share>, door: D, role: Role) -> Worker<D>
     ensures pass { result.pass ≡ pass }
     ensures door { result.door ≡ door }

@@ -1,5 +1,5 @@
-//! The workers of a share that is under its lock: one is hired for each door, all serve to their ends beside a partner, and
-//! behind them their passes are joined, their doors given back, and what they served is told as one history.
+//! The workers of a share that is under its lock. There is one for each listener. All serve to their ends, concurrently
+//! with a partner; then their lock handles are joined, their listeners closed, and one history has what they served.
 #![tactic(auto)]
 
 mod beside;

@@ -1,4 +1,4 @@
-//! A share that comes under its lock, behind the line that tells it.
+//! Writes the first line of a share, and puts the share under its lock.
 
 ghost use Rattle.std.specs.Prelude.{◌≡◌, ◌≤◌, ℕ, List, All, IfOk};
 ghost use Rattle.command_core.specs.Seen.{OutputSeen, output_seen};
@@ -14,14 +14,14 @@ use share_server::LinkReport;
 use share_workers::Worker;
 use std::alloc::{AllocError, Global};
 
-/// A share under its lock, and the room for its workers and for what is told of their links.
+/// A share under its lock, the first lock handle, and the capacity for workers and reports.
 pub struct Begun<D> {
     pub lock: ShareLock<Share>,
     pub first: Pass<Share>,
     pub room: Room<D>,
 }
 
-/// The room for so many workers, and for what is told of their links.
+/// Lists of workers and of the reports of their connections, with the capacity that they need.
 #[derive(Drop)]
 pub struct Room<D> {
     pub crew: Vec<Worker<D>>,
@@ -29,7 +29,7 @@ pub struct Room<D> {
 }
 
 impl<D: Drop> Room<D> {
-    /// Room for `workers` of them, of which there is none yet.
+    /// Returns empty lists with capacity for `workers` workers.
     ///
     /// # Errors
     ///
@@ -43,8 +43,12 @@ impl<D: Drop> Room<D> {
     }
 }
 
-/// Writes the line of a share, and puts the share under a lock for so many passes. Where that fails, the line of the fault was
-/// written, and the status is answered that the program ends with.
+/// Writes `line`, and puts the share under a lock for `passes` handles.
+///
+/// # Errors
+///
+/// Returns the status that the program ends with: 5 if the output failed, and 9 if an allocation failed and the line of
+/// that was written.
 pub fn announced<W: Sink, D: Drop>(
     alloc: Global,
     output: &mut W,
@@ -66,7 +70,7 @@ pub fn announced<W: Sink, D: Drop>(
     }
 }
 
-// Puts the share under a lock for so many passes.
+// Puts the share under a lock for `passes` handles.
 fn locked<W: Sink, D: Drop>(
     alloc: Global,
     output: &mut W,

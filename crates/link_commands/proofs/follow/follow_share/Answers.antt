@@ -41,7 +41,7 @@ returns-in-Ok-connect-clause-answered g c =
     finished host c.args.rounds query meta c.args.target told mid c.ended.result c.in-Ok.mirror c.follow_rounds-end.new.mirror link c.follow_rounds-end.result
     (record { asks = c.in-Ok.ensures.asks; unread = record { left = refl; faults = refl }; linked = made }) c.follow_rounds-end.ensures.followed c.follow_rounds-end.ensures.ends c.ended.ensures
 
--- no link was made
+-- no connection was made
 pub returns-clause-answered : goal.returns-clause-answered
 returns-clause-answered g c =
     let old = c.args.net.now in

@@ -25,7 +25,7 @@ returns-in-Ok g c =
     (cut_in old after c.in-Ok.lines.items c.args.fault
     (record { taken = subst (λ (l : List ℕ). AppendsPrefix old.taken after.taken l) c.as_slice.ensures.value c.in-Err-put_all.ensures.part; rose = c.in-Err-put_all.ensures.count }))
 
--- there was no memory for them
+-- an allocation for the lines failed
 pub returns : goal.returns
 returns g c =
     let old : OutputSeen = output_seen (g.W.Sink.taken c.args.output.now) (g.W.Faulted.faults c.args.output.now) in

@@ -28,7 +28,7 @@ returns-in-Ok g c =
     (told_cut old after c.in-Ok.line.items (verdict_line c.args.verdict) (verdict_status c.args.verdict)
     (record { taken = subst (λ (l : List ℕ). AppendsPrefix old.taken after.taken l) c.as_slice.ensures.value c.in-Err-put_all.ensures.part; rose = c.in-Err-put_all.ensures.count }))
 
--- there was no memory for the line
+-- an allocation for the line failed
 pub returns : goal.returns
 returns g c =
     let old : OutputSeen = output_seen (g.W.Sink.taken c.args.output.now) (g.W.Faulted.faults c.args.output.now) in

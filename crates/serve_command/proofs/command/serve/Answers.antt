@@ -15,7 +15,7 @@ returns-in-Ok-clause-ends g c =
     let start : NetSeen = net_seen (g.N.Net.asked net) (g.N.Net.written net) (g.N.Net.door_links net) (g.N.Net.next_input net) (g.N.Faulted.faults net) in
     c.serve_at.ensures.ends start c.in-Ok.ensures.opened c.in-Ok.ensures.listen c.in-Ok.ensures.edit
 
--- a place was not opened
+-- an address was not opened
 pub returns-in-Err-clause-ends : goal.returns-in-Err-clause-ends
 returns-in-Err-clause-ends g c =
     let old : OutputSeen = output_seen (g.W.Sink.taken c.args.output.now) (g.W.Faulted.faults c.args.output.now) in
