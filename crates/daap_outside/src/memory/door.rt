@@ -7,7 +7,7 @@ ghost use Rattle.daap_outside.specs.Places.{Accepts, returned};
 ghost use Rattle.daap_outside.specs.MemLink.{IsNew};
 
 use crate::memory::copied;
-use crate::memory::kept::Kept;
+use crate::memory::kept::BoundedLog;
 use crate::memory::link::{MemLink, Returned};
 use crate::net::Door;
 use outside_disks::{Failed, Faulted, counted};
@@ -23,7 +23,7 @@ pub struct MemDoor {
     coming: VecDeque<MemLink>,
     failing: Vec<u64>,
     calls: u64,
-    written: Kept<Returned>,
+    written: BoundedLog<Returned>,
     faults: u64,
     ghost new_links: { All IsNew coming.items },
 }
@@ -45,7 +45,7 @@ impl MemDoor {
             coming: VecDeque::new(alloc),
             failing: copied(alloc, failing)?,
             calls: 0,
-            written: Kept::with_room(alloc, room)?,
+            written: BoundedLog::with_room(alloc, room)?,
             faults: 0,
         })
     }
@@ -79,7 +79,7 @@ impl MemDoor {
     }
 
     // Returns the connections returned so far, for the network that opened the listener.
-    pub(crate) fn into_written(self) -> Kept<Returned>
+    pub(crate) fn into_written(self) -> BoundedLog<Returned>
         ensures { result ≡ self.written }
     {
         self.written

@@ -7,28 +7,28 @@ use std::alloc::{AllocError, Global};
 
 /// A list that grows at its end and does not allocate. After an item that exceeds its capacity, it is unknown.
 #[derive(Drop)]
-pub(crate) struct Kept<T> {
+pub(crate) struct BoundedLog<T> {
     items: Vec<T>,
     is_told: bool,
 }
 
-impl<T: Drop> Kept<T> {
+impl<T: Drop> BoundedLog<T> {
     /// Returns an empty list without capacity.
-    pub(crate) fn new(alloc: Global) -> Kept<T>
+    pub(crate) fn new(alloc: Global) -> BoundedLog<T>
         ensures { kept_items result ≡ Some [] }
     {
-        Kept {
+        BoundedLog {
             items: Vec::new(alloc),
             is_told: true,
         }
     }
 
     /// Returns an empty list with capacity for `room` items.
-    pub(crate) fn with_room(alloc: Global, room: usize) -> Result<Kept<T>, AllocError>
+    pub(crate) fn with_room(alloc: Global, room: usize) -> Result<BoundedLog<T>, AllocError>
         ensures items { IfOk result (λ kept. kept_items kept ≡ Some []) }
         ensures room { IfOk result (λ kept. kept_room kept ≡ room) }
     {
-        Ok(Kept {
+        Ok(BoundedLog {
             items: Vec::with_capacity(alloc, room)?,
             is_told: true,
         })
@@ -54,7 +54,7 @@ impl<T: Drop> Kept<T> {
     }
 
     /// Appends all items of a list. An unknown one makes this one unknown.
-    pub(crate) fn keep_all(&mut self, mut more: Kept<T>)
+    pub(crate) fn keep_all(&mut self, mut more: BoundedLog<T>)
         ensures items { kept_items self.new
             ≡ option_and_then (keeps (kept_items self.old) (kept_room self.old)) (kept_items more) }
     {

@@ -12,7 +12,7 @@ ghost use Rattle.daap_outside.specs.MemDoor.{IsNew as is_new_door};
 use crate::memory::asked::{Asked, PLACE_ROOM};
 use crate::memory::copied;
 use crate::memory::door::MemDoor;
-use crate::memory::kept::Kept;
+use crate::memory::kept::BoundedLog;
 use crate::memory::link::{MemLink, Returned};
 use crate::net::{Net, NetError};
 use outside_disks::{Failed, Faulted, counted};
@@ -31,8 +31,8 @@ pub struct MemNet {
     links: VecDeque<MemLink>,
     failing: Vec<u64>,
     calls: u64,
-    asked: Kept<Asked>,
-    written: Kept<Returned>,
+    asked: BoundedLog<Asked>,
+    written: BoundedLog<Returned>,
     open_count: u64,
     faults: u64,
     ghost new_doors: { All is_new_door doors.items },
@@ -58,8 +58,8 @@ impl MemNet {
             links: VecDeque::new(alloc),
             failing: Vec::new(alloc),
             calls: 0,
-            asked: Kept::new(alloc),
-            written: Kept::new(alloc),
+            asked: BoundedLog::new(alloc),
+            written: BoundedLog::new(alloc),
             open_count: 0,
             faults: 0,
         }
@@ -86,8 +86,8 @@ impl MemNet {
     {
         let mut net = MemNet::new(alloc);
         net.failing = copied(alloc, failing)?;
-        net.asked = Kept::with_room(alloc, places)?;
-        net.written = Kept::with_room(alloc, links)?;
+        net.asked = BoundedLog::with_room(alloc, places)?;
+        net.written = BoundedLog::with_room(alloc, links)?;
         Ok(net)
     }
 
