@@ -12,9 +12,9 @@ pub struct Key<S> {
     pub opening: Snapshot<S>,
 }
 
-pub struct Law;
+pub struct LockRule;
 
-impl<S: Recorded> TableRule<Option<S>, View<S::Entry, S::Settings>, Key<S>> for Law {
+impl<S: Recorded> TableRule<Option<S>, View<S::Entry, S::Settings>, Key<S>> for LockRule {
     ghost use Rattle.share_lock.specs.Rule.{Holds, first_view};
 
     ghost holds = { λ key. Holds S.entries S.by S.settings key.passes };
@@ -59,27 +59,27 @@ impl<S: Recorded> Play<Option<S>, View<S::Entry, S::Settings>> for Leave {
 }
 
 /// Draws a number.
-pub struct Name;
+pub struct DrawNumber;
 
-impl<S: Recorded> Play<Option<S>, View<S::Entry, S::Settings>> for Name {
+impl<S: Recorded> Play<Option<S>, View<S::Entry, S::Settings>> for DrawNumber {
     ghost use Rattle.share_lock.specs.Plays.{numbered};
 
     ghost then = { numbered };
 }
 
 /// Reports what the rule says of two handles that were joined.
-pub struct Tell;
+pub struct LearnJoin;
 
-impl<S: Recorded> Play<Option<S>, View<S::Entry, S::Settings>> for Tell {
+impl<S: Recorded> Play<Option<S>, View<S::Entry, S::Settings>> for LearnJoin {
     ghost use Rattle.share_lock.specs.Plays.{told};
 
     ghost then = { told S.by };
 }
 
 /// Makes a new handle, which has no number yet.
-pub struct Cut;
+pub struct SplitPass;
 
-impl<E, T> Split<View<E, T>> for Cut {
+impl<E, T> Split<View<E, T>> for SplitPass {
     ghost use Rattle.share_lock.specs.Rule.{newcomer};
 
     ghost left = { λ v. v };

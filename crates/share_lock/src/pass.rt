@@ -2,7 +2,7 @@
 ghost use Rattle.std.specs.Prelude.{◌≡◌, ◌≤◌, length, Some};
 
 use crate::gate::Gate;
-use crate::law::{Key, Law};
+use crate::law::{Key, LockRule};
 use crate::recorded::Recorded;
 use crate::view::View;
 use atomic_table::{Seat, Table};
@@ -12,7 +12,7 @@ use std::alloc::Global;
 #[derive(Drop)]
 pub struct ShareLock<S: Recorded> {
     pub(crate) gate: Gate,
-    pub(crate) table: Table<Option<S>, View<S::Entry, S::Settings>, Key<S>, Law, Global>,
+    pub(crate) table: Table<Option<S>, View<S::Entry, S::Settings>, Key<S>, LockRule, Global>,
     pub(crate) passes: u32,
     ghost sized: { (table.shared.table_id.words ≡ 4) × (table.shared.table_id.slots ≡ 1) },
     ghost counted: { (table.shared.key.passes ≡ passes) × (1 ≤ passes) },

@@ -4,7 +4,7 @@ ghost use Rattle.share_lock.specs.Histories.{Adds, Continues};
 ghost use Rattle.share_lock.specs.Plays.{having_seen, holding};
 ghost use Rattle.share_lock.specs.Rule.{own_numbers};
 
-use crate::law::{Draw, Enter, Key, Law, Leave, Name, Store};
+use crate::law::{Draw, DrawNumber, Enter, Key, Leave, LockRule, Store};
 use crate::recorded::Recorded;
 use crate::view::View;
 use atomic_table::{Seat, Shared};
@@ -30,7 +30,7 @@ pub(crate) fn words(length: u64) -> [u64; 4]
 /// Draws a ticket. Waits forever if none is left.
 pub(crate) fn draw<S: Recorded, R: Wait>(
     rt: &R,
-    table: &Shared<Option<S>, View<S::Entry, S::Settings>, Key<S>, Law>,
+    table: &Shared<Option<S>, View<S::Entry, S::Settings>, Key<S>, LockRule>,
     seat: &mut Seat<Option<S>, View<S::Entry, S::Settings>>,
 ) -> u64
     requires table { (table.now.table_id.words ≡ 4) × (seat.old.table_id ≡ table.now.table_id) }
@@ -52,7 +52,7 @@ pub(crate) fn draw<S: Recorded, R: Wait>(
 /// Waits until `ticket` is served, and takes the state.
 pub(crate) fn enter<S: Recorded, R: Wait>(
     rt: &R,
-    table: &Shared<Option<S>, View<S::Entry, S::Settings>, Key<S>, Law>,
+    table: &Shared<Option<S>, View<S::Entry, S::Settings>, Key<S>, LockRule>,
     seat: &mut Seat<Option<S>, View<S::Entry, S::Settings>>,
     ticket: u64,
 ) -> S
@@ -77,7 +77,7 @@ pub(crate) fn enter<S: Recorded, R: Wait>(
 
 /// Puts the state back, and serves the next ticket.
 pub(crate) fn leave<S: Recorded>(
-    table: &Shared<Option<S>, View<S::Entry, S::Settings>, Key<S>, Law>,
+    table: &Shared<Option<S>, View<S::Entry, S::Settings>, Key<S>, LockRule>,
     seat: &mut Seat<Option<S>, View<S::Entry, S::Settings>>,
     state: S,
     recorded: u64,
@@ -100,7 +100,7 @@ pub(crate) fn leave<S: Recorded>(
 /// Draws a number. Waits forever if all are drawn.
 pub(crate) fn name<S: Recorded, R: Wait>(
     rt: &R,
-    table: &Shared<Option<S>, View<S::Entry, S::Settings>, Key<S>, Law>,
+    table: &Shared<Option<S>, View<S::Entry, S::Settings>, Key<S>, LockRule>,
     seat: &mut Seat<Option<S>, View<S::Entry, S::Settings>>,
     passes: u32,
 ) -> u32
@@ -115,7 +115,7 @@ pub(crate) fn name<S: Recorded, R: Wait>(
         let number = table.peek(NAMED);
         if number >= passes as u64 {
             table.park(rt, NAMED, passes);
-        } else if table.compare_exchange::<Name>(seat, NAMED, number, number + 1) == number {
+        } else if table.compare_exchange::<DrawNumber>(seat, NAMED, number, number + 1) == number {
             return number as u32;
         }
     }

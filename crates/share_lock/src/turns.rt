@@ -5,7 +5,7 @@ ghost use Rattle.share_lock.specs.Known.{numbers_of, fresh, after_turn, after_jo
 ghost use Rattle.share_lock.specs.Passes.{lock_id, passes_of, known, found_of, IsReady, IsInside};
 
 use crate::gate::Gate;
-use crate::law::{Cut, Key, Merge, Tell};
+use crate::law::{Key, LearnJoin, Merge, SplitPass};
 use crate::pass::{Pass, ShareLock, Turn};
 use crate::recorded::Recorded;
 use crate::seats::{draw, enter, leave, name, words};
@@ -62,7 +62,7 @@ impl<S: Recorded> ShareLock<S> {
         ensures another { IfOk result (λ p. ¬ (Contains (numbers_of (known pass.old)) (known p).number)) }
     {
         let table = &self.table.shared;
-        let mut seat = table.split_seat::<Cut>(&mut pass.seat);
+        let mut seat = table.split_seat::<SplitPass>(&mut pass.seat);
         let number = name(rt, table, &mut seat, self.passes);
         Ok(Pass {
             number,
@@ -138,7 +138,7 @@ impl<S: Recorded> ShareLock<S> {
         } = other;
         let table = &self.table.shared;
         table.join_seat::<Merge<S>>(&mut pass.seat, seat);
-        table.load::<Tell>(&mut pass.seat, 0);
+        table.load::<LearnJoin>(&mut pass.seat, 0);
         pass.seen = seen.max(pass.seen);
     }
 }
