@@ -12,7 +12,7 @@ use Rattle.item_model.specs.declared.refusal.RecordWhy.{RecordWhy}
 use Rattle.item_model.specs.declared.refusal.RecordWhy.TheVariants as reason
 use Rattle.song_query.specs.Answers.{Answers}
 use Rattle.song_query.proofs.Decided.{answer_for}
-use Rattle.records_import.specs.Actions.{drop_action, least_id, put_action, uses}
+use Rattle.records_import.specs.Actions.{drop_of_kind, least_id, put_of_kind, uses}
 use Rattle.records_import.specs.Columns.{column_named, columns_of, header_of, is_named, unless_known}
 use Rattle.records_import.specs.Limits.{most_records}
 use Rattle.records_import.specs.Number.{cell_number}
@@ -147,9 +147,9 @@ kind_decided row (Some action) = refl
 
 action_decided : (row : ℕ) (op kind : List ℕ) → is_answer (action_of row op kind) ≡ true
 action_decided row op kind = elim (cases_Bool (bytes_eq op (codes "put"))) [
-  | inl puts ↦ rw puts (kind_decided row (put_action kind))
+  | inl puts ↦ rw puts (kind_decided row (put_of_kind kind))
   | inr other ↦ elim (cases_Bool (bytes_eq op (codes "drop"))) [
-    | inl drops ↦ rw (other, drops) (kind_decided row (drop_action kind))
+    | inl drops ↦ rw (other, drops) (kind_decided row (drop_of_kind kind))
     | inr neither ↦ rw (other, neither) refl
   ]
 ]

@@ -10,16 +10,16 @@ use Rattle.records_import.specs.declared.header.Column.{Column}
 use Rattle.records_import.specs.declared.header.Column.TheVariants as holds
 use Rattle.records_import.specs.Columns.{has_column, is_same_column}
 
-abbrev pub put_action : List ℕ → Option Action
-put_action kind =
+abbrev pub put_of_kind : List ℕ → Option Action
+put_of_kind kind =
     if bytes_eq kind (codes "item") then Some PutItem
     else if bytes_eq kind (codes "list") then Some PutList
     else if bytes_eq kind (codes "rule") then Some PutRule
     else if bytes_eq kind (codes "member") then Some PutMember
     else None
 
-abbrev pub drop_action : List ℕ → Option Action
-drop_action kind =
+abbrev pub drop_of_kind : List ℕ → Option Action
+drop_of_kind kind =
     if bytes_eq kind (codes "item") then Some DropItem
     else if bytes_eq kind (codes "list") then Some DropList
     else if bytes_eq kind (codes "member") then Some DropMember

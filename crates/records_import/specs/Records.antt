@@ -12,7 +12,7 @@ use Rattle.item_model.specs.declared.property.Property.TheVariants.{Minm}
 use Rattle.item_model.specs.declared.query.Query.{Query}
 use Rattle.item_model.specs.declared.refusal.RecordWhy.{RecordWhy}
 use Rattle.item_model.specs.declared.refusal.RecordWhy.TheVariants as reason
-use Rattle.records_import.specs.Actions.{put_action, drop_action, least_id, lacks}
+use Rattle.records_import.specs.Actions.{put_of_kind, drop_of_kind, least_id, lacks}
 use Rattle.records_import.specs.Columns.{has_column, is_same_column, header_of}
 use Rattle.records_import.specs.Rules.{RuleReads}
 use Rattle.records_import.specs.Table.{Cells}
@@ -111,8 +111,8 @@ or_fault fault (Some x) = Ok x
 -- the action of a record, by its first two cells
 abbrev pub action_of : ℕ → List ℕ → List ℕ → Result Action RecordError
 action_of row op kind =
-    if bytes_eq op (codes "put") then or_fault (Field row 2 reason.Kind) (put_action kind)
-    else if bytes_eq op (codes "drop") then or_fault (Field row 2 reason.Kind) (drop_action kind)
+    if bytes_eq op (codes "put") then or_fault (Field row 2 reason.Kind) (put_of_kind kind)
+    else if bytes_eq op (codes "drop") then or_fault (Field row 2 reason.Kind) (drop_of_kind kind)
     else Err (Field row 1 reason.Op)
 
 abbrev pub WithId : Action → ℕ → List Column → Cells → Result ℕ RecordWhy → Result Edit RecordError → Type 0

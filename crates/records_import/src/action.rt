@@ -1,7 +1,7 @@
 // What a record does.
 
 ghost use Rattle.std.specs.Prelude.{◌≡◌};
-ghost use Rattle.records_import.specs.Actions.{drop_action, is_property, least_id, put_action, uses};
+ghost use Rattle.records_import.specs.Actions.{drop_of_kind, is_property, least_id, put_of_kind, uses};
 
 use crate::header::Column;
 use item_model::Property;
@@ -20,8 +20,8 @@ pub enum Action {
 
 impl Action {
     /// What is put of this kind.
-    pub fn put(kind: &[u8]) -> Option<Action>
-        ensures { result ≡ put_action kind.now }
+    pub fn put_of_kind(kind: &[u8]) -> Option<Action>
+        ensures { result ≡ put_of_kind kind.now }
     {
         if kind == b"item".as_slice() {
             return Some(Action::PutItem);
@@ -39,8 +39,8 @@ impl Action {
     }
 
     /// What is dropped of this kind.
-    pub fn drop_(kind: &[u8]) -> Option<Action>
-        ensures { result ≡ drop_action kind.now }
+    pub fn drop_of_kind(kind: &[u8]) -> Option<Action>
+        ensures { result ≡ drop_of_kind kind.now }
     {
         if kind == b"item".as_slice() {
             return Some(Action::DropItem);

@@ -55,9 +55,9 @@ fn read_action(row: u64, cells: &ByteRecord) -> Result<Action, RecordError>
 {
     let kind = cell(cells, 1);
     let action = if cell(cells, 0) == b"put".as_slice() {
-        Action::put(kind)
+        Action::put_of_kind(kind)
     } else if cell(cells, 0) == b"drop".as_slice() {
-        Action::drop_(kind)
+        Action::drop_of_kind(kind)
     } else {
         return Err(field(row, 1, RecordWhy::Op));
     };
