@@ -18,7 +18,7 @@ use Rattle.share_history.specs.LastSaid.{member_at}
 use Rattle.share_history.proofs.KeyedFacts.{same_key, is_eq-cmp, member-insert_key}
 use Rattle.share_history.proofs.EditFacts.{member_unnamed, drop_more}
 use Rattle.share_history.proofs.ValidFacts.{keys_are_ids}
-use Rattle.playlist_store.specs.declared.kept.Kept.{Kept}
+use Rattle.playlist_store.specs.declared.kept.ListVersion.{ListVersion}
 use Rattle.playlist_store.specs.Names.{Names}
 use Rattle.playlist_store.specs.Lists.{near_cmp}
 use Rattle.playlist_store.specs.Reads.{is_key, is_member, pairs_of, is_near, is_item_of, is_touched_by}
@@ -135,7 +135,7 @@ or_apart false true true d = refl
 or_apart false true false d = refl
 or_apart false false c d = refl
 
-pub touched_together : (kept : Kept) (c q : ℕ) (named : List Names)
+pub touched_together : (kept : ListVersion) (c q : ℕ) (named : List Names)
     → list_any (is_touched_by kept c q) named ≡ (list_any (is_member c q) (flat_map (λ n. n.members) named) || list_any (is_item_of kept q) (flat_map (λ n. n.items) named))
 touched_together kept c q [] = refl
 touched_together kept c q (n ∷ named) =

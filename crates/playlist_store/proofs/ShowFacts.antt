@@ -13,7 +13,7 @@ use Rattle.share_history.specs.Histories.{edits, revision, up_to, later}
 use Rattle.share_history.specs.LastSaid.{Playlist, Plain, Ruled, list_at, member_at}
 use Rattle.share_history.specs.Named.{names_list}
 use Rattle.share_history.proofs.EditFacts.{edits_more, up_to-all}
-use Rattle.playlist_store.specs.declared.kept.Kept.{Kept}
+use Rattle.playlist_store.specs.declared.kept.ListVersion.{ListVersion}
 use Rattle.playlist_store.specs.Words.{head_of, standing}
 use Rattle.playlist_store.specs.Lists.{head_in, since_of, member_in, near_in, names_key}
 use Rattle.playlist_store.specs.Stands.{Shows}
@@ -51,7 +51,7 @@ no_head (Some l) h = absurd (cc)
 -- ---- readings
 
 -- from which earlier value a value is read
-pub record Source (bs : List (List Edit)) (more : List Edit) (low c key base : ℕ) (new old : Option Kept) : Type 0 where
+pub record Source (bs : List (List Edit)) (more : List Edit) (low c key base : ℕ) (new old : Option ListVersion) : Type 0 where
   pub from : ℕ
   pub same : member_in new key base ≡ member_in old key from
   pub reached : low ≤ from
@@ -60,7 +60,7 @@ pub record Source (bs : List (List Edit)) (more : List Edit) (low c key base : �
   pub until : up_to bs from ≡ up_to bs base
 
 -- other versions with the same reads show the same batches
-pub shows_moved : (bs : List (List Edit)) (more more' : List Edit) (low : ℕ) (read read' : ℕ → Option Kept) → Shows bs more low read
+pub shows_moved : (bs : List (List Edit)) (more more' : List Edit) (low : ℕ) (read read' : ℕ → Option ListVersion) → Shows bs more low read
     → ((c : ℕ) → head_in (read' c) ≡ head_in (read c)) → ((c : ℕ) → since_of (read' c) ≡ since_of (read c))
     → ((c item key : ℕ) → near_in (read c) item key ≡ true → near_in (read' c) item key ≡ true)
     → ((c key base : ℕ) → low ≤ base → since_of (read c) ≤ base → (nat_lt (revision bs) base && list_any (names_key (head_in (read c)) c key) more') ≡ false
@@ -76,12 +76,12 @@ shows_moved bs more more' low read read' h head since near moved = record {
 }
 
 -- a list came by the last revision
-pub since_shown : (bs : List (List Edit)) (more : List Edit) (low : ℕ) (read : ℕ → Option Kept) → Shows bs more low read → low ≤ revision bs → (c : ℕ) → since_of (read c) ≤ revision bs
+pub since_shown : (bs : List (List Edit)) (more : List Edit) (low : ℕ) (read : ℕ → Option ListVersion) → Shows bs more low read → low ≤ revision bs → (c : ℕ) → since_of (read c) ≤ revision bs
 since_shown bs more low read h le c =
     ltb-false (revision bs) (since_of (read c)) (sym (h.since c (revision bs) le) ∙ ap (list_any (names_list c)) (later_none bs (revision bs) (omega arith)))
 
 -- one that edits since a revision don't name came by the revision
-pub since_by : (bs : List (List Edit)) (more : List Edit) (low : ℕ) (read : ℕ → Option Kept) → Shows bs more low read → (c base : ℕ) → low ≤ base
+pub since_by : (bs : List (List Edit)) (more : List Edit) (low : ℕ) (read : ℕ → Option ListVersion) → Shows bs more low read → (c base : ℕ) → low ≤ base
     → list_any (names_list c) (later bs base) ≡ false → since_of (read c) ≤ base
 since_by bs more low read h c base le un = ltb-false base (since_of (read c)) (sym (h.since c base le) ∙ un)
 
@@ -104,7 +104,7 @@ left_below v base lower b le h =
     and_true false = refl
 
 -- what is pruned shows the same from the low revision on
-pub shows_pruned : (bs : List (List Edit)) (more : List Edit) (low low' : ℕ) (read read' : ℕ → Option Kept) → low ≤ low' → low' ≤ revision bs → Shows bs more low read
+pub shows_pruned : (bs : List (List Edit)) (more : List Edit) (low low' : ℕ) (read read' : ℕ → Option ListVersion) → low ≤ low' → low' ≤ revision bs → Shows bs more low read
     → ((c : ℕ) → Prunes low' (read c) (read' c)) → Shows bs more low' read'
 shows_pruned bs more low low' read read' le few h p = record {
   heads = λ c. (p c).head ∙ h.heads c;

@@ -20,7 +20,7 @@ use Rattle.share_history.proofs.RowFacts.{at-library}
 use Rattle.item_store.specs.Stands.{named_items}
 use Rattle.item_store.proofs.BatchFacts.{among_named}
 use Rattle.item_store.proofs.StandFacts.{has-among}
-use Rattle.playlist_store.specs.declared.kept.Kept.{Kept}
+use Rattle.playlist_store.specs.declared.kept.ListVersion.{ListVersion}
 use Rattle.playlist_store.specs.Words.{head_of, ruled, standing}
 use Rattle.playlist_store.specs.Lists.{Lists, top, list_in, head_in, since_of, member_in, near_in, has_rule, names_key}
 use Rattle.playlist_store.specs.Store.{Store}
@@ -71,14 +71,14 @@ not_in_library es id h = none (item_at es id) (sym (has-keys_of id (library es) 
     none (Some row) h = absurd (true≢false h)
 
 -- what the last of a rule's looks says
-pub record Looked (n : ℕ) (es : List Edit) (ids : List ℕ) (old new : Option Kept) : Type 0 where
+pub record Looked (n : ℕ) (es : List Edit) (ids : List ℕ) (old new : Option ListVersion) : Type 0 where
   pub head : head_in new ≡ head_in old
   pub since : since_of new ≡ since_of old
   pub near : (item key : ℕ) → near_in old item key ≡ true → near_in new item key ≡ true
   pub members : (key base : ℕ) → n ≤ base
       → member_in new key base ≡ cond (has_rule (head_in old) && is_among key (tested_ids (since_of old == n) es ids)) (ruled_in (head_in old) es key) (member_in old key base)
 
-pub looked : (n : ℕ) (es : List Edit) (ids : List ℕ) (a b : Kept) → TestsRule n es ids a b → Looked n es ids (Some a) (Some b)
+pub looked : (n : ℕ) (es : List Edit) (ids : List ℕ) (a b : ListVersion) → TestsRule n es ids a b → Looked n es ids (Some a) (Some b)
 looked n es ids a b t = record {
   head = t.head;
   since = t.since;

@@ -10,30 +10,30 @@ use Rattle.item_model.specs.declared.changes.Edit.{Edit}
 use Rattle.key_versions.specs.Held.{at, value_at}
 use Rattle.share_history.specs.Named.{names_item, names_member}
 use Rattle.playlist_store.specs.declared.head.ListHead.{ListHead}
-use Rattle.playlist_store.specs.declared.kept.Kept.{Kept}
-use Rattle.playlist_store.specs.declared.kept.KeptList.{KeptList}
+use Rattle.playlist_store.specs.declared.kept.ListVersion.{ListVersion}
+use Rattle.playlist_store.specs.declared.kept.ListHistory.{ListHistory}
 
 abbrev pub Lists : Type 0
-Lists = List (ℕ × KeptList)
+Lists = List (ℕ × ListHistory)
 
 -- the newest version of a list
-abbrev pub top : Lists → ℕ → Option Kept
+abbrev pub top : Lists → ℕ → Option ListVersion
 top lists c = option_map (λ list. list.now) (at c lists)
 
 -- the version of a list at a revision
-abbrev pub list_in : Lists → ℕ → ℕ → Option Kept
+abbrev pub list_in : Lists → ℕ → ℕ → Option ListVersion
 list_in lists c v = option_and_then (λ list. find (λ kept. nat_le kept.since v) (list.now ∷ list.older.items)) (at c lists)
 
 -- its head; `None` if it was dropped
-abbrev pub head_in : Option Kept → Option ListHead
+abbrev pub head_in : Option ListVersion → Option ListHead
 head_in kept = option_and_then (λ k. k.head) kept
 
 -- the revision of the put or drop
-abbrev pub since_of : Option Kept → ℕ
+abbrev pub since_of : Option ListVersion → ℕ
 since_of kept = option_map_or (λ k. k.since) kept 0
 
 -- the item under a key at a revision
-abbrev pub member_in : Option Kept → ℕ → ℕ → Option ℕ
+abbrev pub member_in : Option ListVersion → ℕ → ℕ → Option ℕ
 member_in None key base = None
 member_in (Some k) key base = value_at k.members key base
 
@@ -42,7 +42,7 @@ abbrev pub near_cmp : ℕ × ℕ → ℕ × ℕ → Ordering
 near_cmp a b = ordering_then (nat_cmp a.0 b.0) (nat_cmp a.1 b.1)
 
 -- whether the index has the member under the item
-abbrev pub near_in : Option Kept → ℕ → ℕ → Bool
+abbrev pub near_in : Option ListVersion → ℕ → ℕ → Bool
 near_in None item key = false
 near_in (Some k) item key = list_any (is_at (near_cmp (item, key))) k.near.keys
 

@@ -12,7 +12,7 @@ use Rattle.item_model.specs.declared.changes.Edit.TheVariants.{PutItem, DropItem
 use Rattle.key_versions.specs.Found.{newest_value}
 use Rattle.key_versions.specs.Held.{versions_at}
 use Rattle.share_history.specs.LastSaid.{only_if, item_at}
-use Rattle.playlist_store.specs.declared.kept.Kept.{Kept}
+use Rattle.playlist_store.specs.declared.kept.ListVersion.{ListVersion}
 use Rattle.playlist_store.specs.Names.{Names}
 use Rattle.playlist_store.specs.Lists.{near_cmp}
 
@@ -40,11 +40,11 @@ abbrev pub is_near : List (ℕ × ℕ) → ℕ → ℕ → Bool
 is_near near item key = list_any (λ pair. pair.1 == key) (pairs_of item near)
 
 -- whether a member of a playlist has an item
-abbrev pub is_item_of : Kept → ℕ → ℕ → Bool
+abbrev pub is_item_of : ListVersion → ℕ → ℕ → Bool
 is_item_of kept key item = is_near kept.near.keys item key && has_item (newest_value (versions_at key kept.members)) item
 
 -- whether a batch touches a key of a playlist, by what it names
-abbrev pub is_touched_by : Kept → ℕ → ℕ → Names → Bool
+abbrev pub is_touched_by : ListVersion → ℕ → ℕ → Names → Bool
 is_touched_by kept c key names = list_any (is_member c key) names.members || list_any (is_item_of kept key) names.items
 
 -- the ids of existing lists after an edit

@@ -9,7 +9,7 @@ use Rattle.share_history.specs.Numbers.{first_revision}
 use Rattle.share_history.specs.Histories.{revision, edits, up_to, later}
 use Rattle.share_history.specs.LastSaid.{Plain, list_at, member_at}
 use Rattle.share_history.specs.Named.{names_list}
-use Rattle.playlist_store.specs.declared.kept.Kept.{Kept}
+use Rattle.playlist_store.specs.declared.kept.ListVersion.{ListVersion}
 use Rattle.playlist_store.specs.Words.{head_of, standing}
 use Rattle.playlist_store.specs.Names.{names_of}
 use Rattle.playlist_store.specs.Lists.{top, list_in, head_in, since_of, member_in, near_in, names_key}
@@ -17,7 +17,7 @@ use Rattle.playlist_store.specs.Store.{Store}
 
 -- what is read of each list agrees with the batches `bs`. Members agree from the list's last put on and from `low`
 -- on; after the last of `bs` only if none of the edits `more` may have changed them
-pub record Shows (bs : List (List Edit)) (more : List Edit) (low : ℕ) (read : ℕ → Option Kept) : Type 0 where
+pub record Shows (bs : List (List Edit)) (more : List Edit) (low : ℕ) (read : ℕ → Option ListVersion) : Type 0 where
   pub heads : (c : ℕ) → head_in (read c) ≡ option_map head_of (list_at (edits bs) c)
   -- the list was put or dropped after a base if and only if its version is later than the base
   pub since : (c base : ℕ) → low ≤ base → list_any (names_list c) (later bs base) ≡ nat_lt base (since_of (read c))

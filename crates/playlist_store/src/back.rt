@@ -4,7 +4,7 @@ ghost use Rattle.std.specs.Prelude.{◌≡◌, ◌≤◌};
 ghost use Rattle.playlist_store.specs.Changes.{ChangesOne, Everywhere, ReturnsAt, ReturnsKey, ReturnsMembers, ReturnsItems, TakesBack};
 
 use crate::heads::has_rule;
-use crate::kept::Kept;
+use crate::kept::ListVersion;
 use crate::lists::{Lists, pop_all};
 use crate::named::Named;
 use key_versions::next_key;
@@ -57,7 +57,7 @@ fn back_rule(lists: &mut Lists, id: u32, items: &[u32], revision: u32)
     }
 }
 
-fn back_kept(kept: &mut Kept, items: &[u32], revision: u32)
+fn back_kept(kept: &mut ListVersion, items: &[u32], revision: u32)
     ensures { 1 ≤ revision → ReturnsItems revision items.now kept.old kept.new }
 {
     if has_rule(&kept.head) {

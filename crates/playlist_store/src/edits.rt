@@ -8,7 +8,7 @@ ghost use Rattle.playlist_store.specs.Lists.{Lists as KeptLists, near_cmp};
 ghost use Rattle.playlist_store.specs.Changes.{ChangesOne, Frames, Tells, SetsMember, LeavesMember};
 
 use crate::heads::{fresh, is_plain, plain_head, ruled_head};
-use crate::kept::Kept;
+use crate::kept::ListVersion;
 use crate::lists::{Lists, put};
 use item_model::Edit;
 use std::alloc::{AllocError, Global};
@@ -79,7 +79,12 @@ fn set_member(
     }
 }
 
-fn set_in(kept: &mut Kept, key: u32, revision: u32, item: Option<u32>) -> Result<(), AllocError>
+fn set_in(
+    kept: &mut ListVersion,
+    key: u32,
+    revision: u32,
+    item: Option<u32>,
+) -> Result<(), AllocError>
     ensures sets { OnOk result (SetsMember revision key item kept.old kept.new) }
     ensures leaves { LeavesMember revision key kept.old kept.new }
 {

@@ -6,7 +6,7 @@ use std::collections::{BTreeSet, VecDeque};
 
 /// A list since one of its puts or drops.
 #[derive(Debug, Drop)]
-pub(crate) struct Kept {
+pub(crate) struct ListVersion {
     // the revision of the put or drop
     pub(crate) since: u32,
     // `None` if the list was dropped
@@ -19,7 +19,7 @@ pub(crate) struct Kept {
 
 /// A list as it is, and its earlier versions, newest first.
 #[derive(Debug, Drop)]
-pub(crate) struct KeptList {
-    pub(crate) now: Kept,
-    pub(crate) older: VecDeque<Kept>,
+pub(crate) struct ListHistory {
+    pub(crate) now: ListVersion,
+    pub(crate) older: VecDeque<ListVersion>,
 }

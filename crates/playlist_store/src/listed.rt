@@ -9,13 +9,13 @@ ghost use Rattle.std.specs.List.Sorted.{IsStrictlySortedBy};
 ghost use Rattle.share_history.specs.Keyed.{ascending};
 ghost use Rattle.playlist_store.specs.Reads.{with_list, is_of_list};
 
-use crate::kept::KeptList;
+use crate::kept::ListHistory;
 use item_model::Edit;
 use std::alloc::{AllocError, Global};
 use std::collections::{BTreeMap, BTreeSet};
 
 // Returns the ids of the existing lists, ascending.
-pub(crate) fn ids(alloc: Global, lists: &BTreeMap<u32, KeptList>) -> Result<Vec<u32>, AllocError>
+pub(crate) fn ids(alloc: Global, lists: &BTreeMap<u32, ListHistory>) -> Result<Vec<u32>, AllocError>
     ensures ids { IfOk result (λ ids. ids.items ≡ keys_of (filter (λ e. is_some e.1.now.head) lists.now.entries)) }
     ensures ascending { IfOk result (λ _. IsStrictlySortedBy nat_cmp (keys_of lists.now.entries)) }
 {
@@ -39,7 +39,7 @@ fn count_with(count: u32, is_counted: bool) -> u32
 }
 
 // Returns the number of existing lists.
-pub(crate) fn count(lists: &BTreeMap<u32, KeptList>) -> u32
+pub(crate) fn count(lists: &BTreeMap<u32, ListHistory>) -> u32
     ensures count { length (filter (λ e. is_some e.1.now.head) lists.now.entries) < 2 ^ 32 → result ≡ length (filter (λ e. is_some e.1.now.head) lists.now.entries) }
     ensures ascending { IsStrictlySortedBy nat_cmp (keys_of lists.now.entries) }
 {

@@ -8,7 +8,7 @@ ghost use Rattle.playlist_store.specs.Lists.{near_cmp};
 ghost use Rattle.playlist_store.specs.Changes.{found_in, now_of, ChangesOne, Everywhere, GoneBy, PrunesAll, PrunesKept, ForgetsOne};
 
 use crate::heads::has_rule;
-use crate::kept::{Kept, KeptList};
+use crate::kept::{ListHistory, ListVersion};
 use crate::lists::{Lists, remove};
 use crate::named::Named;
 use key_versions::{Versions, next_key};
@@ -61,7 +61,7 @@ fn forget(alloc: Global, lists: &mut Lists, id: u32, before: u32)
     }
 }
 
-fn forget_older(alloc: Global, list: &mut KeptList, before: u32)
+fn forget_older(alloc: Global, list: &mut ListHistory, before: u32)
     ensures now { list.new.now ≡ list.old.now }
     ensures found { (v : ℕ) → before ≤ v → found_in list.new v ≡ found_in list.old v }
 {
@@ -74,7 +74,7 @@ fn forget_older(alloc: Global, list: &mut KeptList, before: u32)
     }
 }
 
-fn is_first_seen(older: &VecDeque<Kept>, before: u32) -> bool
+fn is_first_seen(older: &VecDeque<ListVersion>, before: u32) -> bool
     ensures { result ≡ true → (v : ℕ) → before ≤ v → find (λ kept. nat_le kept.since v) (take 1 older.now.items) ≡ find (λ kept. nat_le kept.since v) older.now.items }
 {
     if older.is_empty() {
@@ -166,7 +166,7 @@ fn prune_rule(lists: &mut Lists, id: u32, items: &[u32], floor: u32)
     }
 }
 
-fn prune_ruled(kept: &mut Kept, items: &[u32], floor: u32)
+fn prune_ruled(kept: &mut ListVersion, items: &[u32], floor: u32)
     ensures { PrunesKept floor kept.old kept.new }
 {
     if has_rule(&kept.head) {
@@ -174,7 +174,7 @@ fn prune_ruled(kept: &mut Kept, items: &[u32], floor: u32)
     }
 }
 
-fn prune_keys(kept: &mut Kept, keys: &[u32], floor: u32)
+fn prune_keys(kept: &mut ListVersion, keys: &[u32], floor: u32)
     ensures { PrunesKept floor kept.old kept.new }
 {
     for key in keys {
@@ -183,7 +183,7 @@ fn prune_keys(kept: &mut Kept, keys: &[u32], floor: u32)
 }
 
 // Removes a key's versions before `floor`, and each pair whose item no version has any more.
-fn prune_key(kept: &mut Kept, key: u32, floor: u32)
+fn prune_key(kept: &mut ListVersion, key: u32, floor: u32)
     ensures { PrunesKept floor kept.old kept.new }
 {
     while let Some(version) = kept.members.pop_past(key, floor) {

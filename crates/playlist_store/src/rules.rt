@@ -13,7 +13,7 @@ ghost use Rattle.playlist_store.specs.Words.{ruled};
 ghost use Rattle.playlist_store.specs.Lists.{top};
 ghost use Rattle.playlist_store.specs.Changes.{ChangesOne, Everywhere, TestsRule, LeavesRule, tested_ids, ticks_in, allowed};
 
-use crate::kept::Kept;
+use crate::kept::ListVersion;
 use crate::lists::Lists;
 use item_model::Query;
 use item_store::ItemStore;
@@ -66,7 +66,7 @@ fn test_list<L: Ledger>(
 }
 
 fn test_kept<L: Ledger>(
-    kept: &mut Kept,
+    kept: &mut ListVersion,
     ids: &[u32],
     revision: u32,
     items: &ItemStore,

@@ -10,7 +10,7 @@ ghost use Rattle.playlist_store.specs.Tests.{tests_of};
 ghost use Rattle.playlist_store.specs.Stands.{StandsFor, IsUnchanged};
 
 use crate::batches::{take_back_batch, take_in_batch};
-use crate::kept::KeptList;
+use crate::kept::ListHistory;
 use crate::named::Named;
 use crate::prune::prune_to;
 use item_model::Edit;
@@ -33,7 +33,7 @@ pub struct PlaylistStore {
     pub(crate) can_undo: bool,
     // what each batch after `low` names, in order
     pub(crate) named: VecDeque<Named>,
-    pub(crate) lists: BTreeMap<u32, KeptList>,
+    pub(crate) lists: BTreeMap<u32, ListHistory>,
 }
 
 impl Model for PlaylistStore {

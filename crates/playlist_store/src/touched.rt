@@ -8,7 +8,7 @@ ghost use Rattle.key_versions.specs.Found.{newest_value};
 ghost use Rattle.key_versions.specs.Held.{versions_at};
 ghost use Rattle.playlist_store.specs.Reads.{is_key, is_member, has_item, is_item_of, is_touched_by};
 
-use crate::kept::Kept;
+use crate::kept::ListVersion;
 use crate::named::Named;
 use key_versions::Versions;
 use std::alloc::{AllocError, Global};
@@ -48,7 +48,7 @@ fn put_members(
 }
 
 // Adds the keys of the members that have `item`.
-fn put_item(keys: &mut BTreeSet<u32>, kept: &Kept, item: u32) -> Result<(), AllocError>
+fn put_item(keys: &mut BTreeSet<u32>, kept: &ListVersion, item: u32) -> Result<(), AllocError>
     ensures { OnOk result ((q : ℕ) → is_key q keys.new.keys ≡ (is_key q keys.old.keys || is_item_of kept.now q item)) }
 {
     let bounds = (
@@ -61,7 +61,7 @@ fn put_item(keys: &mut BTreeSet<u32>, kept: &Kept, item: u32) -> Result<(), Allo
     Ok(())
 }
 
-fn put_items(keys: &mut BTreeSet<u32>, kept: &Kept, items: &[u32]) -> Result<(), AllocError>
+fn put_items(keys: &mut BTreeSet<u32>, kept: &ListVersion, items: &[u32]) -> Result<(), AllocError>
     ensures { OnOk result ((q : ℕ) → is_key q keys.new.keys ≡ (is_key q keys.old.keys || list_any (is_item_of kept.now q) items.now)) }
 {
     for item in items {
@@ -73,7 +73,7 @@ fn put_items(keys: &mut BTreeSet<u32>, kept: &Kept, items: &[u32]) -> Result<(),
 fn put_named(
     keys: &mut BTreeSet<u32>,
     list: u32,
-    kept: &Kept,
+    kept: &ListVersion,
     named: &Named,
 ) -> Result<(), AllocError>
     ensures { OnOk result ((q : ℕ) → is_key q keys.new.keys ≡ (is_key q keys.old.keys || is_touched_by kept.now list q named.now)) }
@@ -97,7 +97,7 @@ fn keys_of(alloc: Global, set: &BTreeSet<u32>) -> Result<Vec<u32>, AllocError>
 pub(crate) fn touched(
     alloc: Global,
     list: u32,
-    kept: &Kept,
+    kept: &ListVersion,
     named: &VecDeque<Named>,
     passed: usize,
 ) -> Result<Vec<u32>, AllocError>
