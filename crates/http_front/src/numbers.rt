@@ -3,7 +3,7 @@
 ghost use Rattle.std.specs.Prelude.{◌≡◌};
 ghost use Rattle.http_front.specs.Numbers.{small_number, range_of, hyphen_range, range_from};
 
-use crate::cuts::cut;
+use crate::cuts::split_at_first;
 use item_model::Range;
 use records_import::read_number;
 
@@ -25,7 +25,7 @@ pub fn small_number(text: &[u8]) -> Option<u32>
 pub fn range_of(text: &[u8]) -> Option<Range>
     ensures { result ≡ range_of text.now }
 {
-    let (before, behind) = cut(text, b'-');
+    let (before, behind) = split_at_first(text, b'-');
     match behind {
         Some(behind) => hyphen_range(before, behind),
         None => Some(Range::One {

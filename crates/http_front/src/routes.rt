@@ -4,7 +4,7 @@ ghost use Rattle.std.specs.Prelude.{◌≡◌, map, true, false, IfOk, MatchOpti
 ghost use Rattle.std.specs.Str.{is_utf8};
 ghost use Rattle.http_front.specs.Routes.{rows_of, all_routes, route_at, list_in, place_on, place_at, for_role, place_of, verb_of, verb_text};
 
-use crate::cuts::cut;
+use crate::cuts::split_at_first;
 use crate::numbers::small_number;
 use item_model::{Browse, Target};
 use matchit::Router;
@@ -159,7 +159,7 @@ fn list_in(path: &[u8]) -> Option<u32>
     ensures { result ≡ list_in path.now }
 {
     let (_, rest) = path.split_at(LIST_AT.min(path.len()));
-    let (list, _) = cut(rest, b'/');
+    let (list, _) = split_at_first(rest, b'/');
     small_number(list)
 }
 

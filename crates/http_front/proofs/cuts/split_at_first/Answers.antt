@@ -1,6 +1,6 @@
 use Rattle.std.proofs.Common.{◌==◌, ◌+◌, ◌∙◌, ap, sym, take, drop}
 use Rattle.http_front.proofs.FirstPlace.{at_position, any_position, nothing_before, nothing_behind, none_position}
-use Rattle.http_front.proofs.cuts.cut.Goals as goal
+use Rattle.http_front.proofs.cuts.split_at_first.Goals as goal
 
 pub returns-in-Some-clause-before : goal.returns-in-Some-clause-before
 returns-in-Some-clause-before c =
