@@ -21,8 +21,8 @@ unless_empty (Some []) = None
 unless_empty (Some (b ∷ bs)) = Some (b ∷ bs)
 
 -- the value of the parameter `name` in a query string
-unfoldable pub told : List ℕ → List ℕ → Option (List ℕ)
-told name query = unless_empty (first_named name (raw_pairs query))
+unfoldable pub nonempty_value : List ℕ → List ℕ → Option (List ℕ)
+nonempty_value name query = unless_empty (first_named name (raw_pairs query))
 
 abbrev pub meta_in : Option (List ℕ) → Option Meta
 meta_in None = Some Default

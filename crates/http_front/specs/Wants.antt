@@ -22,7 +22,7 @@ use Rattle.share_asks.specs.declared.ask.Want.{Want}
 use Rattle.share_asks.specs.declared.ask.Want.TheVariants.{ServerInfo, Codes, Login, Logout, Update, Databases, Rows, Lists, Values, Edit, Stop, Bad}
 use Rattle.song_query.specs.Answers.{Answers}
 use Rattle.http_front.specs.Numbers.{number_in, range_in}
-use Rattle.http_front.specs.Parameters.{told, meta_in}
+use Rattle.http_front.specs.Parameters.{nonempty_value, meta_in}
 use Rattle.http_front.specs.Routes.{place_of, verb_of, verb_text}
 use Rattle.http_front.specs.declared.routes.Place.{Place}
 use Rattle.http_front.specs.declared.routes.Place.TheVariants as place
@@ -33,7 +33,7 @@ NumberThen name None Then want = want ≡ Bad (fault.Parameter name)
 NumberThen name (Some n) Then want = Then n want
 
 abbrev pub WithNumber : List ℕ → List ℕ → (ℕ → Want → Type 0) → Want → Type 0
-WithNumber name query Then want = NumberThen name (number_in (told name query)) Then want
+WithNumber name query Then want = NumberThen name (number_in (nonempty_value name query)) Then want
 
 abbrev pub MetaThen : Option Meta → (Meta → Want → Type 0) → Want → Type 0
 MetaThen None Then want = want ≡ Bad (fault.Parameter (codes "meta"))
@@ -66,17 +66,17 @@ ListsWant query = WithNumber (codes "session-id") query (λ session want. want �
 -- the rows of a look in the range
 abbrev pub RowsInRange : List ℕ → ℕ → Target → Look → Want → Type 0
 RowsInRange query session target look =
-    RangeThen (range_in (told (codes "index") query)) (λ range want. want ≡ Rows session target (record look { range = range }))
+    RangeThen (range_in (nonempty_value (codes "index") query)) (λ range want. want ≡ Rows session target (record look { range = range }))
 
 -- the rows of a look that match the query
 abbrev pub AskedRows : List ℕ → ℕ → Target → Look → Want → Type 0
 AskedRows query session target look =
-    QueryThen (told (codes "query") query) (λ asked. RowsInRange query session target (record look { query = asked }))
+    QueryThen (nonempty_value (codes "query") query) (λ asked. RowsInRange query session target (record look { query = asked }))
 
 abbrev pub RowsWant : Target → List ℕ → Want → Type 0
 RowsWant target query = WithNumber (codes "session-id") query (λ session.
     WithNumber (codes "delta") query (λ base.
-    MetaThen (meta_in (told (codes "meta") query)) (λ meta.
+    MetaThen (meta_in (nonempty_value (codes "meta") query)) (λ meta.
     AskedRows query session target (record { query = None; meta = meta; base = base; range = All }))))
 
 -- the text that selects values: the filter if it is present, otherwise the query
@@ -86,7 +86,7 @@ filter_or (Some filter) query = Some filter
 
 abbrev pub ValuesWant : Browse → List ℕ → Want → Type 0
 ValuesWant browse query = WithNumber (codes "session-id") query (λ session.
-    QueryThen (filter_or (told (codes "filter") query) (told (codes "query") query)) (λ asked want. want ≡ Values session browse asked))
+    QueryThen (filter_or (nonempty_value (codes "filter") query) (nonempty_value (codes "query") query)) (λ asked want. want ≡ Values session browse asked))
 
 -- what a body reads as: edits, or why it is refused
 abbrev pub BodyReads : List ℕ → Result (List OneEdit) RecordError → Type 0

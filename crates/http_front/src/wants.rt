@@ -1,12 +1,12 @@
 //! The operation of a request.
 
 ghost use Rattle.std.specs.Prelude.{◌≡◌, [], codes, Some, IfOk, option_map, string_bytes};
-ghost use Rattle.http_front.specs.Parameters.{told};
+ghost use Rattle.http_front.specs.Parameters.{nonempty_value};
 ghost use Rattle.http_front.specs.ParametersRead.{Gives, ReadsQuery};
 ghost use Rattle.http_front.specs.Routes.{all_routes};
 ghost use Rattle.http_front.specs.Wants.{LogoutWant, UpdateWant, DatabasesWant, ListsWant, RowsWant, ValuesWant, filter_or, AskedRows, RowsInRange, PlaceWant, Wants};
 
-use crate::parameters::{Flaw, meta, number, query_in, range, told};
+use crate::parameters::{Flaw, meta, nonempty_value, number, query_in, range};
 use crate::routes::{Place, Route, place_of, verb_of, verb_text};
 use item_model::{Browse, Look, Query, Range, Target};
 use matchit::Router;
@@ -152,9 +152,9 @@ fn asked_rows(
 }
 
 fn asked(alloc: Global, query: &[u8]) -> Result<Option<Query>, Flaw>
-    ensures { ReadsQuery (told (codes "query") query.now) result }
+    ensures { ReadsQuery (nonempty_value (codes "query") query.now) result }
 {
-    let text = told(alloc, query, "query")?;
+    let text = nonempty_value(alloc, query, "query")?;
     query_in(alloc, text.as_deref())
 }
 
@@ -198,11 +198,11 @@ fn values(alloc: Global, browse: Browse, query: &[u8]) -> Result<Want, Flaw>
 
 // Returns the filter if it is present, otherwise the query.
 fn filter_or_query(alloc: Global, query: &[u8]) -> Result<Option<String>, AllocError>
-    ensures { IfOk result (λ text. option_map string_bytes text ≡ filter_or (told (codes "filter") query.now) (told (codes "query") query.now)) }
+    ensures { IfOk result (λ text. option_map string_bytes text ≡ filter_or (nonempty_value (codes "filter") query.now) (nonempty_value (codes "query") query.now)) }
 {
-    match told(alloc, query, "filter")? {
+    match nonempty_value(alloc, query, "filter")? {
         Some(filter) => Ok(Some(filter)),
-        None => told(alloc, query, "query"),
+        None => nonempty_value(alloc, query, "query"),
     }
 }
 
