@@ -8,5 +8,5 @@ mod outcome;
 mod records;
 
 pub use fault::{Fault, Refusal, read_fault};
-pub use outcome::{Outcome, done, out_of_memory, refused, written};
+pub use outcome::{Outcome, out_of_memory, write_error, write_output, write_result};
 pub use records::{InputFault, read_records};

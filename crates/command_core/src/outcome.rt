@@ -17,7 +17,7 @@ pub struct Outcome {
 }
 
 /// Writes the result of a command that opens no share, or the line of its error.
-pub fn written<W: Sink, E: Refusal + Drop>(
+pub fn write_result<W: Sink, E: Refusal + Drop>(
     alloc: Global,
     output: &mut W,
     answer: Result<Vec<u8>, Fault<E>>,
@@ -33,26 +33,26 @@ pub fn written<W: Sink, E: Refusal + Drop>(
         result) }
 {
     match answer {
-        Ok(bytes) => done(output, bytes.as_slice(), None),
-        Err(fault) => refused(alloc, output, &fault),
+        Ok(bytes) => write_output(output, bytes.as_slice(), None),
+        Err(fault) => write_error(alloc, output, &fault),
     }
 }
 
 /// Writes the output of a command that succeeded.
-pub fn done<W: Sink>(output: &mut W, bytes: &[u8], history: Option<Entries>) -> Outcome
+pub fn write_output<W: Sink>(output: &mut W, bytes: &[u8], history: Option<Entries>) -> Outcome
     ensures { TellsDone history bytes.now
         (output_seen (W.taken output.old) (W.faults output.old))
         (output_seen (W.taken output.new) (W.faults output.new))
         result }
 {
     Outcome {
-        status: told(output, bytes, 0),
+        status: write_bytes(output, bytes, 0),
         history,
     }
 }
 
 /// Writes the line of an error of a command that opened no share, or that of out of memory if an allocation fails.
-pub fn refused<W: Sink, E: Refusal>(alloc: Global, output: &mut W, fault: &Fault<E>) -> Outcome
+pub fn write_error<W: Sink, E: Refusal>(alloc: Global, output: &mut W, fault: &Fault<E>) -> Outcome
     ensures { TellsFault E.told_line E.told_status fault.now
         (output_seen (W.taken output.old) (W.faults output.old))
         (output_seen (W.taken output.new) (W.faults output.new))
@@ -60,7 +60,7 @@ pub fn refused<W: Sink, E: Refusal>(alloc: Global, output: &mut W, fault: &Fault
 {
     match fault.line(alloc) {
         Ok(line) => Outcome {
-            status: told(output, line.as_slice(), fault.status()),
+            status: write_bytes(output, line.as_slice(), fault.status()),
             history: None,
         },
         Err(_) => out_of_memory(output, None),
@@ -75,13 +75,13 @@ pub fn out_of_memory<W: Sink>(output: &mut W, history: Option<Entries>) -> Outco
         result }
 {
     Outcome {
-        status: told(output, b"memory\n", 9),
+        status: write_bytes(output, b"memory\n", 9),
         history,
     }
 }
 
 /// Writes `bytes`. Returns `status`, or 5 if the output failed.
-fn told<W: Sink>(output: &mut W, bytes: &[u8], status: u8) -> u8
+fn write_bytes<W: Sink>(output: &mut W, bytes: &[u8], status: u8) -> u8
     ensures { Tells status bytes.now
         (output_seen (W.taken output.old) (W.faults output.old))
         (output_seen (W.taken output.new) (W.faults output.new))

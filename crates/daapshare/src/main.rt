@@ -16,7 +16,7 @@ mod usage;
 use crate::outcome::{Outcome, unlinked};
 use crate::run::run;
 use crate::usage::UsageFault;
-use command_core::{Fault, out_of_memory, refused};
+use command_core::{Fault, out_of_memory, write_error};
 use daap_outside::{Files, Net, Reading, SystemFiles, TcpNet, Writing};
 use std::alloc::Global;
 use std::io::{ErrorKind, Read, Write};
@@ -82,7 +82,7 @@ fn main(rt: HostRuntime) -> ExitCode {
         Err(error) if error.kind() == ErrorKind::OutOfMemory => {
             out_of_memory(&mut output, None).status
         }
-        Err(_) => refused(alloc, &mut output, &Fault::Own(UsageFault::NoCommand)).status,
+        Err(_) => write_error(alloc, &mut output, &Fault::Own(UsageFault::NoCommand)).status,
     };
     ExitCode::from(status)
 }

@@ -10,7 +10,7 @@ use crate::local::obeyed;
 use crate::outcome::{Outcome, unlinked};
 use crate::over_net::obeyed_over_net;
 use crate::usage::UsageFault;
-use command_core::{Fault, out_of_memory, refused};
+use command_core::{Fault, out_of_memory, write_error};
 use daap_outside::{Files, Net, Sink, Source};
 use daapshare_words::{Command, WordsError, read_words};
 use std::alloc::Global;
@@ -70,7 +70,7 @@ pub fn run<R: Threads + Wait + Clock + Sync, I: Source, W: Sink, F: Files, N: Ne
         Err(WordsError::Usage) => {
             unlinked(
                 alloc,
-                refused(alloc, output, &Fault::Own(UsageFault::NoCommand)),
+                write_error(alloc, output, &Fault::Own(UsageFault::NoCommand)),
             )
         }
         Err(WordsError::Memory) => unlinked(alloc, out_of_memory(output, None)),

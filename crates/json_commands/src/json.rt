@@ -13,7 +13,7 @@ ghost use Rattle.json_commands.specs.Fed.{Feeds, HasFed};
 
 use crate::whole::{INPUT_LIMIT, TAG_LIMITS};
 use code_table::CodeTable;
-use command_core::{Fault, Outcome, read_fault, written};
+use command_core::{Fault, Outcome, read_fault, write_result};
 use daap_outside::{Sink, Source, read_within};
 use dmap_json::to_json;
 use dmap_stream::{DmapReader, StreamError, read_tag};
@@ -32,7 +32,7 @@ pub fn write_json<I: Source, W: Sink>(alloc: Global, input: &mut I, output: &mut
         result }
 {
     let answer = input_lines(alloc, input);
-    written(alloc, output, answer)
+    write_result(alloc, output, answer)
 }
 
 /// Reads the input to its end. Returns the lines of its tags.

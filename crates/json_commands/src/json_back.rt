@@ -11,7 +11,7 @@ ghost use Rattle.json_commands.specs.JsonBack.{line_text, line_status, GivesTags
 use crate::lines::{split_line, tag_of};
 use crate::whole::INPUT_LIMIT;
 use code_table::CodeTable;
-use command_core::{Fault, Outcome, Refusal, read_fault, written};
+use command_core::{Fault, Outcome, Refusal, read_fault, write_result};
 use daap_outside::{Sink, Source, read_within};
 use dmap_tags::{Tag, encode_into};
 use fault_lines::push_number;
@@ -66,7 +66,7 @@ pub fn read_json<I: Source, W: Sink>(alloc: Global, input: &mut I, output: &mut 
         result }
 {
     let answer = input_tags(alloc, input);
-    written(alloc, output, answer)
+    write_result(alloc, output, answer)
 }
 
 /// Reads the input to its end. Returns the bytes of the tags that its lines read as.

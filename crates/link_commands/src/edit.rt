@@ -8,7 +8,7 @@ ghost use Rattle.link_commands.specs.Linked.{link_seen};
 ghost use Rattle.link_commands.specs.Meanings.{IsLinkAnswered};
 
 use crate::answer::{link_line, link_status, number_line};
-use command_core::{Fault, Outcome, Refusal, read_fault, refused, written};
+use command_core::{Fault, Outcome, Refusal, read_fault, write_error, write_result};
 use daap_outside::{Failed, Link, Net, Sink, Source, read_within};
 use dmap_tags::Bytes;
 use mirror_client::{FollowError, Pushed, push_link};
@@ -97,9 +97,9 @@ pub fn edit_share<I: Source, W: Sink, N: Net>(
         Ok(mut link) => {
             let answer = sent(alloc, place, stop, input, &mut link);
             net.hang_up(link);
-            written(alloc, output, answer)
+            write_result(alloc, output, answer)
         }
-        Err(Failed) => refused(alloc, output, &Fault::Own(EditFault::Unreached)),
+        Err(Failed) => write_error(alloc, output, &Fault::Own(EditFault::Unreached)),
     }
 }
 

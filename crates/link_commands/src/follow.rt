@@ -10,7 +10,7 @@ use crate::answer::{link_line, link_status};
 use crate::look::mirror_for;
 use crate::rounds::{Stop, follow_rounds};
 use crate::shown::shown_rows;
-use command_core::{Fault, Outcome, Refusal, done, out_of_memory, refused};
+use command_core::{Fault, Outcome, Refusal, out_of_memory, write_error, write_output};
 use daap_outside::{Failed, Net, Sink};
 use dmap_tags::Text;
 use fault_lines::query_line;
@@ -81,7 +81,7 @@ pub fn follow_share<W: Sink, N: Net>(
 {
     let mut mirror = match mirror_for(alloc, query, meta, target) {
         Ok(mirror) => mirror,
-        Err(fault) => return refused(alloc, output, &fault),
+        Err(fault) => return write_error(alloc, output, &fault),
     };
     match net.connect(place) {
         Ok(mut link) => {
@@ -89,7 +89,7 @@ pub fn follow_share<W: Sink, N: Net>(
             net.hang_up(link);
             ended(alloc, &mirror, end, output)
         }
-        Err(Failed) => refused(alloc, output, &Fault::Own(FollowFault::Unreached)),
+        Err(Failed) => write_error(alloc, output, &Fault::Own(FollowFault::Unreached)),
     }
 }
 
@@ -101,14 +101,14 @@ fn ended<W: Sink>(alloc: Global, mirror: &Mirror, end: Result<(), Stop>, output:
 {
     match end {
         Ok(()) => match shown_rows(alloc, mirror) {
-            Ok(rows) => done(output, rows.as_str().as_bytes(), None),
+            Ok(rows) => write_output(output, rows.as_str().as_bytes(), None),
             Err(AllocError) => out_of_memory(output, None),
         },
         Err(Stop::Output) => Outcome {
             status: 5,
             history: None,
         },
-        Err(Stop::Link(error)) => refused(alloc, output, &link_fault(error)),
+        Err(Stop::Link(error)) => write_error(alloc, output, &link_fault(error)),
     }
 }
 

@@ -11,7 +11,7 @@ ghost use Rattle.relay_command.specs.Lines.{round_line, round_lines};
 ghost use Rattle.relay_command.specs.Runs.{TellsBehind, TellsEnd, TellsRuling, last_lines};
 
 use crate::fault::{RelayFault, rank_of};
-use command_core::{Fault, refused};
+use command_core::{Fault, write_error};
 use daap_outside::{Sink, put_all};
 use fault_lines::push_number;
 use item_model::Entries;
@@ -126,7 +126,7 @@ fn ruled<W: Sink>(alloc: Global, output: &mut W, fault: Option<Fault<RelayFault>
     ensures { TellsRuling fault (output_seen (W.taken output.old) (W.faults output.old)) (output_seen (W.taken output.new) (W.faults output.new)) result }
 {
     match fault {
-        Some(fault) => refused(alloc, output, &fault).status,
+        Some(fault) => write_error(alloc, output, &fault).status,
         None => 0,
     }
 }

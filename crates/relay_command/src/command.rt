@@ -10,7 +10,7 @@ ghost use Rattle.relay_command.specs.Terms.{MayRelay};
 use crate::opening::{Places, begin, opened};
 use crate::running::relay_begun;
 use crate::terms::Relaying;
-use command_core::refused;
+use command_core::write_error;
 use daap_outside::{Net, Sink};
 use share_crew::{LinkReports, Outcome, shut_all};
 use std::alloc::Global;
@@ -38,7 +38,7 @@ pub fn relay<W: Sink, N: Net, R: Threads + Wait + Clock + Sync>(
 {
     match opened(net, relaying) {
         Ok(places) => relay_at(rt, alloc, relaying, output, net, places),
-        Err(stop) => unrelayed(alloc, refused(alloc, output, &stop).status),
+        Err(stop) => unrelayed(alloc, write_error(alloc, output, &stop).status),
     }
 }
 

@@ -13,7 +13,7 @@ use crate::places::{Doors, opened};
 use crate::records::serve_records;
 use crate::terms::Serving;
 use crate::unserved::{turned_away, unserved};
-use command_core::{read_records, refused};
+use command_core::{read_records, write_error};
 use daap_outside::{Files, Net, Sink, Source};
 use share_crew::Outcome;
 use std::alloc::Global;
@@ -48,7 +48,7 @@ pub fn serve<I: Source, W: Sink, F: Files, N: Net, R: Threads + Wait + Clock + S
 {
     match opened(net, serving) {
         Ok(doors) => serve_at(rt, alloc, serving, input, output, files, net, doors),
-        Err(stop) => unserved(alloc, refused(alloc, output, &stop).status),
+        Err(stop) => unserved(alloc, write_error(alloc, output, &stop).status),
     }
 }
 

@@ -9,7 +9,7 @@ ghost use Rattle.serve_command.specs.Runs.{HasNoShare, TellsFault};
 ghost use Rattle.serve_command.specs.Terms.{places_of};
 
 use crate::places::Doors;
-use command_core::{Fault, Refusal, refused};
+use command_core::{Fault, Refusal, write_error};
 use daap_outside::{Net, Sink};
 use share_crew::{LinkReports, Outcome, shut_all};
 use std::alloc::Global;
@@ -54,7 +54,7 @@ pub(crate) fn turned_away<W: Sink, N: Net, E: Refusal>(
         (net_seen (N.asked net.new) (N.written net.new) (N.door_links net.new) (N.next_input net.new) (N.faults net.new)) }
     ensures closes { N.open_count net.new ≡ N.open_count net.old - (length doors.listen.items + length doors.edit.items) }
 {
-    let status = refused(alloc, output, stop).status;
+    let status = write_error(alloc, output, stop).status;
     given_back(net, doors);
     unserved(alloc, status)
 }

@@ -11,7 +11,7 @@ ghost use Rattle.share_commands.specs.Openings.{HasOpened};
 
 use crate::look::look_of;
 use crate::opening::{Opened, open};
-use command_core::{Fault, InputFault, Outcome, Refusal, out_of_memory, read_records, refused};
+use command_core::{Fault, InputFault, Outcome, Refusal, out_of_memory, read_records, write_error};
 use daap_outside::{Failed, Sink, Source};
 use dmap_tags::Text;
 use fault_lines::{query_line, records_line};
@@ -83,11 +83,11 @@ pub fn list_share<I: Source, W: Sink>(
 {
     let look = match look_of(alloc, query, meta) {
         Ok(look) => look,
-        Err(fault) => return refused(alloc, output, &fault),
+        Err(fault) => return write_error(alloc, output, &fault),
     };
     match opened(alloc, target, input) {
         Ok(opened) => listed(alloc, opened, target, look, output),
-        Err(fault) => refused(alloc, output, &fault),
+        Err(fault) => write_error(alloc, output, &fault),
     }
 }
 
@@ -157,7 +157,7 @@ fn listed<W: Sink>(
         result }
 {
     match planned(alloc, &opened, target, look) {
-        Ok(listing) => written(output, &listing, opened.history),
+        Ok(listing) => write_listing(output, &listing, opened.history),
         Err(AllocError) => out_of_memory(output, Some(opened.history)),
     }
 }
@@ -172,7 +172,7 @@ fn planned(alloc: Global, opened: &Opened, target: Target, look: Look) -> Result
 }
 
 /// Writes `listing`.
-fn written<W: Sink>(output: &mut W, listing: &Plan, history: Entries) -> Outcome
+fn write_listing<W: Sink>(output: &mut W, listing: &Plan, history: Entries) -> Outcome
     requires { IsWritable listing.now }
     ensures { TellsDone (Some history) (plan_bytes listing.now)
         (output_seen (W.taken output.old) (W.faults output.old))

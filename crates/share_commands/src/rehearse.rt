@@ -5,7 +5,7 @@ ghost use Rattle.command_core.specs.Seen.{Around, InputSeen, output_seen, told_b
 ghost use Rattle.command_core.specs.Endings.{IsAnswered, share_of};
 ghost use Rattle.share_commands.specs.RehearseShare.{rehearse_line, rehearse_status, MayRehearse, OpensWithin, rehearse_meaning};
 
-use command_core::{Fault, Outcome, Refusal, done, out_of_memory, refused};
+use command_core::{Fault, Outcome, Refusal, out_of_memory, write_error, write_output};
 use daap_outside::Sink;
 use rehearsal::{Rehearsal, rehearse};
 use share_history::MAX_EDITS;
@@ -51,7 +51,7 @@ pub fn rehearse_share<W: Sink>(
     ensures opened { OpensWithin number batches size (share_of result) }
 {
     if MAX_EDITS < batches as usize * size as usize {
-        return refused(alloc, output, &Fault::Own(RehearseFault::TooMany));
+        return write_error(alloc, output, &Fault::Own(RehearseFault::TooMany));
     }
     let plan = Rehearsal {
         number,
@@ -62,7 +62,7 @@ pub fn rehearse_share<W: Sink>(
     match rehearse(alloc, &plan) {
         Ok(rehearsed) => {
             let summary = rehearsed.summary;
-            done(output, summary.as_slice(), Some(rehearsed.history))
+            write_output(output, summary.as_slice(), Some(rehearsed.history))
         }
         Err(broken) => out_of_memory(output, Some(broken.history)),
     }

@@ -12,7 +12,7 @@ ghost use Rattle.share_commands.specs.declared.replay.ReplayFault.{ReplayFault};
 ghost use Rattle.share_commands.specs.Moments.{EndsPlay, IsOfOneMoment};
 ghost use Rattle.share_commands.specs.ReplayShare.{IsRead, ReplayReadsOn, replay_cause, replay_line, replay_meaning, replay_status, settings_of};
 
-use command_core::{Fault, Outcome, Refusal, out_of_memory, read_fault, refused};
+use command_core::{Fault, Outcome, Refusal, out_of_memory, read_fault, write_error};
 use daap_outside::{Sink, Source, read_within};
 use item_model::{Batch, Edits, Entries};
 use itoa::Buffer;
@@ -97,7 +97,7 @@ pub fn replay_script<I: Source, W: Sink>(
 {
     let script = match script_of(alloc, input) {
         Ok(script) => script,
-        Err(fault) => return refused(alloc, output, &fault),
+        Err(fault) => return write_error(alloc, output, &fault),
     };
     match opened(alloc, keep, name) {
         Ok(share) => played(alloc, &script, share, output),

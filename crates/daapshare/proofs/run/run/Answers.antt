@@ -44,11 +44,11 @@ returns-in-Err-Usage-clause-answered g c =
     let net : NetSeen = net_seen (g.N.Net.asked c.args.net.now) (g.N.Net.written c.args.net.now) (g.N.Net.door_links c.args.net.now) (g.N.Net.next_input c.args.net.now) (g.N.Faulted.faults c.args.net.now) in
     let told : Told = told_in (seen (input_seen (g.I.Source.left c.args.input.now) (g.I.Faulted.faults c.args.input.now)) files net)
     (seen (input_seen (g.I.Source.left c.args.input.now) (g.I.Faulted.faults c.args.input.now)) files net)
-    (output_seen (g.W.Sink.taken c.args.output.now) (g.W.Faulted.faults c.args.output.now)) (output_seen (g.W.Sink.taken c.refused.new.output) (g.W.Faulted.faults c.refused.new.output)) in
+    (output_seen (g.W.Sink.taken c.args.output.now) (g.W.Faulted.faults c.args.output.now)) (output_seen (g.W.Sink.taken c.write_error.new.output) (g.W.Faulted.faults c.write_error.new.output)) in
     subst (λ asked. IsRun asked told c.unlinked-in-Err-Usage.result) (sym (c.in-Err-Usage.ensures.usage c.in-Err-Usage.field-0-is)) (
       c.unlinked-in-Err-Usage.ensures.unlinked,
       subst (λ (ended : CoreOutcome). IsAnswered usage_meaning told ended) (sym c.unlinked-in-Err-Usage.ensures.ended)
-          (by_refusal usage_meaning usage_sense told c.refused.result (Own NoCommand) (tt, record { left = refl; faults = refl }) c.refused.ensures),
+          (by_refusal usage_meaning usage_sense told c.write_error.result (Own NoCommand) (tt, record { left = refl; faults = refl }) c.write_error.ensures),
     )
 
 pub returns-in-Err-Memory-clause-answered : goal.returns-in-Err-Memory-clause-answered

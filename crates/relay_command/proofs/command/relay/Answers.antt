@@ -17,5 +17,5 @@ returns-in-Ok-clause-ends g c =
 pub returns-in-Err-clause-ends : goal.returns-in-Err-clause-ends
 returns-in-Err-clause-ends g c =
     let old : OutputSeen = output_seen (g.W.Sink.taken c.args.output.now) (g.W.Faulted.faults c.args.output.now) in
-    let new : OutputSeen = output_seen (g.W.Sink.taken c.refused.new.output) (g.W.Faulted.faults c.refused.new.output) in
-    unopened c.in-Err.stop c.in-Err.ensures.failed (subst (TellsStop c.in-Err.stop old new) (sym c.unrelayed.ensures.status) c.refused.ensures.told) c.unrelayed.ensures.none
+    let new : OutputSeen = output_seen (g.W.Sink.taken c.write_error.new.output) (g.W.Faulted.faults c.write_error.new.output) in
+    unopened c.in-Err.stop c.in-Err.ensures.failed (subst (TellsStop c.in-Err.stop old new) (sym c.unrelayed.ensures.status) c.write_error.ensures.told) c.unrelayed.ensures.none
