@@ -6,7 +6,7 @@ use Rattle.item_model.specs.declared.request.Meta.TheVariants.{Default}
 use Rattle.item_model.specs.declared.request.Target.TheVariants.{Items}
 use Rattle.item_store.specs.Store.{Store}
 use Rattle.share_history.specs.Mirror.{Held, mirrored}
-use Rattle.rehearsal.specs.declared.follower.Follower.{Follower}
+use Rattle.rehearsal.specs.declared.follower.RehearsedMirror.{RehearsedMirror}
 use Rattle.rehearsal.specs.declared.plan.Rehearsal.{Rehearsal}
 use Rattle.rehearsal.specs.Asks.{asks, deltas, fulls}
 use Rattle.rehearsal.specs.Plan.{batches_of}
@@ -25,7 +25,7 @@ pub record IsAt (plan : Rehearsal) (count : ℕ) (store : Store) : Type 0 where
   pub keep : store.keep ≡ plan.keep
 
 -- a mirror of items that made its requests up to batch `count`, with their counts
-pub record Follows (plan : Rehearsal) (count : ℕ) (f : Follower) : Type 0 where
+pub record Follows (plan : Rehearsal) (count : ℕ) (f : RehearsedMirror) : Type 0 where
   pub period : 1 ≤ f.period
   pub target : f.mirror.target ≡ Items
   pub meta : f.mirror.meta ≡ Default
@@ -35,6 +35,6 @@ pub record Follows (plan : Rehearsal) (count : ℕ) (f : Follower) : Type 0 wher
   pub few : f.full + f.delta ≤ count
 
 -- which of the mirrors it is: its period and its query
-pub record IsMirror (often : ℕ) (asked : Option Query) (f : Follower) : Type 0 where
+pub record IsMirror (often : ℕ) (asked : Option Query) (f : RehearsedMirror) : Type 0 where
   pub period : f.period ≡ often
   pub query : f.mirror.query ≡ asked

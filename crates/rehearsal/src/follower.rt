@@ -18,7 +18,7 @@ use std::alloc::{AllocError, Global};
 
 /// A mirror of items with the period of its requests, and how many of them got a full listing or a delta.
 #[derive(Debug, Drop)]
-pub(crate) struct Follower {
+pub(crate) struct RehearsedMirror {
     mirror: Mirror,
     period: u32,
     full: u32,
@@ -32,13 +32,13 @@ fn is_due(period: u32, last: u32, n: u32) -> bool
     n % period == 0 || n == last
 }
 
-impl Follower {
-    pub(crate) fn new(alloc: Global, query: Option<Query>, period: u32) -> Follower
+impl RehearsedMirror {
+    pub(crate) fn new(alloc: Global, query: Option<Query>, period: u32) -> RehearsedMirror
         requires { 1 ≤ period }
         ensures follows { (plan : Rehearsal) → Follows plan 0 result }
         ensures mirror { IsMirror period query result }
     {
-        Follower {
+        RehearsedMirror {
             mirror: Mirror::new(alloc, Target::Items, query, Meta::Default),
             period,
             full: 0,

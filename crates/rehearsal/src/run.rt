@@ -11,7 +11,7 @@ ghost use Rattle.rehearsal.specs.Summary.{summary_text};
 
 use crate::draws::Draws;
 use crate::edits::batch;
-use crate::follower::Follower;
+use crate::follower::RehearsedMirror;
 use crate::plan::Rehearsal;
 use crate::queries::{artist_query, year_query};
 use crate::summary::summary;
@@ -26,9 +26,9 @@ pub(crate) struct Run {
     draws: Draws,
     log: EditLog,
     store: ItemStore,
-    first: Follower,
-    second: Follower,
-    third: Follower,
+    first: RehearsedMirror,
+    second: RehearsedMirror,
+    third: RehearsedMirror,
 }
 
 impl Run {
@@ -43,9 +43,9 @@ impl Run {
             draws: Draws { state: plan.number },
             log: EditLog::new(alloc),
             store: ItemStore::open(alloc, plan.keep),
-            first: Follower::new(alloc, None, 1),
-            second: Follower::new(alloc, Some(artists), 3),
-            third: Follower::new(alloc, Some(years), 300),
+            first: RehearsedMirror::new(alloc, None, 1),
+            second: RehearsedMirror::new(alloc, Some(artists), 3),
+            third: RehearsedMirror::new(alloc, Some(years), 300),
         })
     }
 

@@ -1,7 +1,7 @@
 use Rattle.std.proofs.Common.{◌+◌, take, sym, ap, ◌∙◌}
 use Rattle.rehearsal.specs.Plan.{batches_of}
 use Rattle.rehearsal.proofs.FollowFacts.{not_due, may_ask, was_due, same_mirror}
-use Rattle.rehearsal.proofs.follower.Follower.after_batch.Goals as goal
+use Rattle.rehearsal.proofs.follower.RehearsedMirror.after_batch.Goals as goal
 
 pub answered-requires-clause-asks : goal.answered-requires-clause-asks
 answered-requires-clause-asks c = (
