@@ -31,8 +31,8 @@ use Rattle.share_server.specs.Losses.{ServesBut, Unacknowledged}
 use Rattle.share_server.specs.declared.turns.outcome.Answered.{Answered}
 use Rattle.share_server.specs.declared.turns.outcome.Unanswered.{Unanswered}
 use Rattle.share_server.specs.declared.turns.outcome.Unanswered.TheVariants.{Gone, Lost}
-use Rattle.share_server.specs.declared.turns.outcome.Look.{Look}
-use Rattle.share_server.specs.declared.turns.outcome.Look.TheVariants as look
+use Rattle.share_server.specs.declared.turns.outcome.TurnOutcome.{TurnOutcome}
+use Rattle.share_server.specs.declared.turns.outcome.TurnOutcome.TheVariants as outcome
 
 -- If allocating the answer failed, the status is 500. Otherwise the answer can be written, and its bytes are those of
 -- the request on the history `p`.
@@ -78,21 +78,21 @@ CountsOutcome before now (Err Gone) = Rose before now
 CountsOutcome before now (Err Lost) = now ≡ before
 
 -- In one turn the handle served the request, or nothing, or lost its edit.
-abbrev pub IsLooked : Pass → Pass → Ask → Look → Type 0
-IsLooked k k' ask (look.Answered a) = IsAnswered k k' ask a
-IsLooked k k' ask (look.Held point) = Serves k k' [] [] × (point ≡ length k'.seen)
-IsLooked k k' ask (look.Lost point) = IsLost k k' ask
+abbrev pub IsTurnOutcome : Pass → Pass → Ask → TurnOutcome → Type 0
+IsTurnOutcome k k' ask (outcome.Answered a) = IsAnswered k k' ask a
+IsTurnOutcome k k' ask (outcome.Held point) = Serves k k' [] [] × (point ≡ length k'.seen)
+IsTurnOutcome k k' ask (outcome.Lost point) = IsLost k k' ask
 
-abbrev pub loses_in : Look → Bool
-loses_in (look.Answered a) = false
-loses_in (look.Held point) = false
-loses_in (look.Lost point) = true
+abbrev pub loses_in : TurnOutcome → Bool
+loses_in (outcome.Answered a) = false
+loses_in (outcome.Held point) = false
+loses_in (outcome.Lost point) = true
 
 -- Whether the answer added an entry.
-abbrev pub has_added : Look → Bool
-has_added (look.Answered a) = a.served.added
-has_added (look.Held point) = false
-has_added (look.Lost point) = false
+abbrev pub has_added : TurnOutcome → Bool
+has_added (outcome.Answered a) = a.served.added
+has_added (outcome.Held point) = false
+has_added (outcome.Lost point) = false
 
 -- The operation added one entry to the history, or left it as it was.
 abbrev pub HasAdded : Bool → List Entry → ℕ → Want → List Entry → Type 0
@@ -111,7 +111,7 @@ served_of r = record { session = r.session; seen = r.seen; point = r.point; stat
 abbrev pub given_up : ℕ → Served
 given_up point = record { session = 0; seen = 0; point = point; status = 500; added = false }
 
-abbrev pub look_of : Result Answer AllocError → Bool → ℕ → ℕ → Look
-look_of (Ok (answer.Reply r)) stopped revision end = look.Answered (record { served = served_of r; said = Some r.said; stopped = stopped; revision = revision })
-look_of (Ok (answer.Wait now point)) stopped revision end = look.Held point
-look_of (Err error) stopped revision end = look.Answered (record { served = given_up end; said = None; stopped = stopped; revision = revision })
+abbrev pub turn_outcome : Result Answer AllocError → Bool → ℕ → ℕ → TurnOutcome
+turn_outcome (Ok (answer.Reply r)) stopped revision end = outcome.Answered (record { served = served_of r; said = Some r.said; stopped = stopped; revision = revision })
+turn_outcome (Ok (answer.Wait now point)) stopped revision end = outcome.Held point
+turn_outcome (Err error) stopped revision end = outcome.Answered (record { served = given_up end; said = None; stopped = stopped; revision = revision })

@@ -8,7 +8,7 @@ ghost use Rattle.share_server.specs.Answering.{IsOutcome, CountsOutcome, loses};
 ghost use Rattle.share_server.specs.Kept.{Keeping};
 
 use crate::turns::looks::turn;
-use crate::turns::outcome::{Answered, Look, Unanswered};
+use crate::turns::outcome::{Answered, TurnOutcome, Unanswered};
 use daap_outside::Link;
 use edit_keeping::Keeps;
 use share_asks::Ask;
@@ -54,19 +54,19 @@ pub fn answer_request<K: Link, F: Keeps, R: Wait + Clock>(
 {
     for _ in rt.forever() {
         match turn(rt, alloc, lock, pass, keeper, ask) {
-            Look::Answered(answered) => {
+            TurnOutcome::Answered(answered) => {
                 if answered.served.added {
                     bell.ring(rt, answered.served.point);
                 }
                 return Ok(answered);
             }
-            Look::Held { point } => {
+            TurnOutcome::Held { point } => {
                 wait_held(rt, bell, point);
                 if link.probe().is_err() {
                     return Err(Unanswered::Gone);
                 }
             }
-            Look::Lost { point } => {
+            TurnOutcome::Lost { point } => {
                 bell.ring(rt, point);
                 return Err(Unanswered::Lost);
             }

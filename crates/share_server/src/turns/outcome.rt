@@ -30,7 +30,7 @@ pub enum Unanswered {
 
 /// The outcome of one turn.
 #[derive(Debug, Drop)]
-pub(crate) enum Look {
+pub(crate) enum TurnOutcome {
     Answered(Answered),
     /// The request is pending until the history has more than `point` entries.
     Held { point: u64 },
@@ -38,14 +38,14 @@ pub(crate) enum Look {
     Lost { point: u64 },
 }
 
-impl Look {
+impl TurnOutcome {
     /// Returns whether the answer added an entry.
     pub(crate) fn has_added(&self) -> bool
         ensures { result ≡ has_added self.now }
     {
         match self {
-            Look::Answered(answered) => answered.served.added,
-            Look::Held { .. } | Look::Lost { .. } => false,
+            TurnOutcome::Answered(answered) => answered.served.added,
+            TurnOutcome::Held { .. } | TurnOutcome::Lost { .. } => false,
         }
     }
 }

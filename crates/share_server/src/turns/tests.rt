@@ -7,9 +7,9 @@ ghost use Rattle.share_lock.specs.Passes.{lock_id, IsReady};
 
 use crate::report::Served;
 use crate::turns::answers::{PROBE_SECONDS, answer_request};
-use crate::turns::keeping::look_of;
+use crate::turns::keeping::turn_outcome;
 use crate::turns::looks::turn;
-use crate::turns::outcome::{Answered, Look, Unanswered};
+use crate::turns::outcome::{Answered, TurnOutcome, Unanswered};
 use daap_outside::{MemLink, MemSink, MemSource};
 use edit_keeping::{Keeps, Lost, Unkept};
 use item_model::{Batch, Edits, Entry};
@@ -89,7 +89,7 @@ impl Keeps for Losing {
 }
 
 // The status, the history length, whether an entry was added, and whether the share was stopped.
-type Told = (u16, u64, bool, bool);
+type Summary = (u16, u64, bool, bool);
 
 // A connection without bytes on which the probes `failing` fail.
 fn linked(alloc: Global, failing: &[u64]) -> Result<MemLink, AllocError> {
@@ -149,14 +149,14 @@ fn answered<R: Wait + Clock>(
     }
 }
 
-fn told<R: Wait + Clock>(
+fn answer_last<R: Wait + Clock>(
     rt: &R,
     alloc: Global,
     lock: &ShareLock<Share>,
     bell: &Bell,
     pass: Pass<Share>,
     want: Want,
-) -> Result<Told, AllocError>
+) -> Result<Summary, AllocError>
     requires ready { IsReady (lock_id lock.now) pass }
     requires valid { IsValidWant want }
     requires readable { IsReadableWant want }
@@ -191,8 +191,8 @@ fn held_from<R: Wait + Clock>(
 {
     answered(rt, alloc, lock, bell, pass, Want::Login)?;
     match turn(rt, alloc, lock, pass, &mut Unkept, &asks(update())) {
-        Look::Held { point } => Ok(Some(point)),
-        Look::Answered(_) | Look::Lost { .. } => Ok(None),
+        TurnOutcome::Held { point } => Ok(Some(point)),
+        TurnOutcome::Answered(_) | TurnOutcome::Lost { .. } => Ok(None),
     }
 }
 
@@ -201,7 +201,7 @@ fn held_before<R: Wait + Clock>(
     rt: &R,
     alloc: Global,
     other: Want,
-) -> Result<(Option<u64>, Told, Told), AllocError>
+) -> Result<(Option<u64>, Summary, Summary), AllocError>
     requires valid { IsValidWant other }
     requires readable { IsReadableWant other }
 {
@@ -209,8 +209,8 @@ fn held_before<R: Wait + Clock>(
     let bell = Bell::new();
     let second = lock.split(rt, &mut first)?;
     let point = held_from(rt, alloc, &lock, &bell, &mut first)?;
-    let other = told(rt, alloc, &lock, &bell, second, other)?;
-    let held = told(rt, alloc, &lock, &bell, first, update())?;
+    let other = answer_last(rt, alloc, &lock, &bell, second, other)?;
+    let held = answer_last(rt, alloc, &lock, &bell, first, update())?;
     Ok((point, held, other))
 }
 
@@ -236,7 +236,7 @@ fn a_stop_ends_what_holds_an_update(rt: HostRuntime) -> Result<(), Fail> {
 fn held_before_a_loss<R: Wait + Clock>(
     rt: &R,
     alloc: Global,
-) -> Result<(bool, Told, u64), AllocError> {
+) -> Result<(bool, Summary, u64), AllocError> {
     let (lock, mut first) = opened(alloc)?;
     let bell = Bell::new();
     let mut second = lock.split(rt, &mut first)?;
@@ -254,7 +254,7 @@ fn held_before_a_loss<R: Wait + Clock>(
         &mut keeper,
         edit(alloc)?,
     )?;
-    let held = told(rt, alloc, &lock, &bell, first, update())?;
+    let held = answer_last(rt, alloc, &lock, &bell, first, update())?;
     Ok((lost.is_none(), held, second.seen()))
 }
 
@@ -323,7 +323,7 @@ fn a_request_is_told_with_what_is_to_be_written(rt: HostRuntime) -> Result<(), F
 
 #[test]
 fn want_of_memory_is_told_at_the_end_of_the_history(rt: HostRuntime) -> Result<(), Fail> {
-    let Look::Answered(answered) = look_of(Err(AllocError), true, 2, 5) else {
+    let TurnOutcome::Answered(answered) = turn_outcome(Err(AllocError), true, 2, 5) else {
         return Err(Fail::from(AllocError));
     };
     let served = Served {
