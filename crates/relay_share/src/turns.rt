@@ -83,14 +83,19 @@ fn turn<R: Wait>(
     ensures ready { IsReady (lock_id lock.now) pass.new }
     ensures told { IsTold (known pass.old) (known pass.new) ask.now result }
 {
-    let told = looked(rt, lock, pass, ask);
+    let told = answer_in_turn(rt, lock, pass, ask);
     if told.served.added {
         bell.ring(rt, told.served.point);
     }
     told
 }
 
-fn looked<R: Wait>(rt: &R, lock: &ShareLock<Share>, pass: &mut Pass<Share>, ask: &Ask) -> Told
+fn answer_in_turn<R: Wait>(
+    rt: &R,
+    lock: &ShareLock<Share>,
+    pass: &mut Pass<Share>,
+    ask: &Ask,
+) -> Told
     requires ready { IsReady (lock_id lock.now) pass.old }
     requires valid { IsValidWant ask.now.want }
     requires change { is_change ask.now.want ≡ true }
@@ -99,13 +104,13 @@ fn looked<R: Wait>(rt: &R, lock: &ShareLock<Share>, pass: &mut Pass<Share>, ask:
 {
     let by = pass.number();
     let mut turn = lock.take(rt, pass);
-    let told = asked::<Brand>(Blank::new(1), turn.state(), by, ask);
+    let told = ask_share::<Brand>(Blank::new(1), turn.state(), by, ask);
     lock.give(turn);
     told
 }
 
 // Answers the request for handle `by`. Evaluations of rules are not counted.
-fn asked<L: Ledger>(blank: Blank, share: &mut Share, by: u32, ask: &Ask) -> Told
+fn ask_share<L: Ledger>(blank: Blank, share: &mut Share, by: u32, ask: &Ask) -> Told
     requires name { blank.name ≡ L.name }
     requires parts { blank.parts ≡ L.parts }
     requires any { 0 < blank.parts }

@@ -5,7 +5,7 @@ use Rattle.share_lock.specs.Known.{after_turn}
 use Rattle.share_server.proofs.Turning.{Asked, grows_at}
 use Rattle.relay_share.specs.Turns.{IsTold}
 use Rattle.relay_share.proofs.TurnFacts.{told_at}
-use Rattle.relay_share.proofs.turns.asked.Goals as goal
+use Rattle.relay_share.proofs.turns.ask_share.Goals as goal
 
 pub returns-clause-grows : goal.returns-clause-grows
 returns-clause-grows g c =

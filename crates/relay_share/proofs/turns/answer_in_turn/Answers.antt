@@ -4,7 +4,7 @@ use Rattle.share_lock.specs.Passes.{known}
 use Rattle.share_server.specs.Answering.{Finds}
 use Rattle.share_server.specs.Passes.{Pass}
 use Rattle.relay_share.specs.Turns.{IsTold}
-use Rattle.relay_share.proofs.turns.looked.Goals as goal
+use Rattle.relay_share.proofs.turns.answer_in_turn.Goals as goal
 
 pub returns-clause-told : goal.returns-clause-told
 returns-clause-told g c =
@@ -12,4 +12,4 @@ returns-clause-told g c =
     let own : k.number ≡ c.number-by.result = search rules in
     let found : Finds k c.state.result.now =
     subst (Finds k) (sym c.state.ensures.value) (record { settings = c.take-turn.ensures.settings; history = c.take-turn.ensures.history }) in
-    subst (λ (now : Pass). IsTold k now c.args.ask.now c.asked-told.result) (search rules) (c.asked-told.ensures.told k own found)
+    subst (λ (now : Pass). IsTold k now c.args.ask.now c.ask_share-told.result) (search rules) (c.ask_share-told.ensures.told k own found)
