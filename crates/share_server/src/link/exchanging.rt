@@ -13,7 +13,7 @@ ghost use Rattle.share_server.specs.Kept.{Keeping};
 ghost use Rattle.share_server.specs.Written.{CountsMaybe, IsCalm, IsSayable};
 ghost use Rattle.share_server.specs.Steps.{Goes, Exchanges};
 
-use crate::link::ending::given_up;
+use crate::link::ending::end_out_of_memory;
 use crate::link::writing::reply;
 use crate::report::{LinkEnd, Served};
 use crate::turns::{Answered, Unanswered, answer_request};
@@ -59,7 +59,7 @@ pub(crate) fn exchange<K: Link, F: Keeps, R: Wait + Clock>(
     ensures count { CountsMaybe (K.faults link.old) (K.faults link.new) result }
 {
     if served.reserve(1).is_err() {
-        return Some(given_up(link));
+        return Some(end_out_of_memory(link));
     }
     match answer_request(
         service.rt,

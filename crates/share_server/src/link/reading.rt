@@ -10,7 +10,7 @@ ghost use Rattle.share_server.specs.Serving.{CountsEnd};
 ghost use Rattle.share_server.specs.Written.{CountsMaybe, IsCalm};
 ghost use Rattle.share_server.specs.Steps.{Midway, Steps, Feeds, Underway, Pumps, EndsInput};
 
-use crate::link::ending::unread;
+use crate::link::ending::end_on_head_error;
 use crate::link::exchanging::{Service, exchange};
 use crate::report::{LinkEnd, Served};
 use daap_outside::{Failed, Link};
@@ -133,7 +133,7 @@ fn step<K: Link, F: Keeps, R: Wait + Clock>(
 {
     let taken = match serving.reader.feed(piece) {
         Ok(taken) => taken,
-        Err(error) => return Err(unread(service.alloc, link, error)),
+        Err(error) => return Err(end_on_head_error(service.alloc, link, error)),
     };
     let Some(ask) = serving.reader.next() else {
         return Ok(taken);

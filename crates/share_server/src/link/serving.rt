@@ -10,7 +10,7 @@ ghost use Rattle.share_server.specs.Kept.{Keeping};
 ghost use Rattle.share_server.specs.Links.{LinkEnded};
 ghost use Rattle.share_server.specs.Serving.{LinkServed, CountsEnd, limit_of};
 
-use crate::link::ending::given_up;
+use crate::link::ending::end_out_of_memory;
 use crate::link::exchanging::Service;
 use crate::link::reading::{Serving, pump};
 use crate::report::{LinkEnd, LinkReport, Served, ServedRequests};
@@ -106,7 +106,7 @@ fn serve_to_end<K: Link, F: Keeps, R: Wait + Clock>(
         return (served, LinkEnd::Spent);
     }
     let Ok(reader) = HeadReader::new(service.alloc, role) else {
-        return (served, given_up(link));
+        return (served, end_out_of_memory(link));
     };
     let mut serving = Serving { reader, served };
     let mut consumed = 0;
