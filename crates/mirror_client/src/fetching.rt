@@ -37,7 +37,7 @@ pub(crate) fn fetch<K: Link>(
     ensures count { MatchResult result (λ _. K.faults link.new ≡ K.faults link.old) (λ e. CountsFault (K.faults link.old) (K.faults link.new) e) }
 {
     match exchange(alloc, link, incoming, request) {
-        Ok((status, body)) => told_tag(alloc, table, incoming.used(), status, &body),
+        Ok((status, body)) => reply_tag(alloc, table, incoming.used(), status, &body),
         Err(error) => Err(error),
     }
 }
@@ -59,13 +59,13 @@ pub(crate) fn fetch_number<K: Link>(
     ensures count { MatchResult result (λ _. K.faults link.new ≡ K.faults link.old) (λ e. CountsFault (K.faults link.old) (K.faults link.new) e) }
 {
     match exchange(alloc, link, incoming, request) {
-        Ok((status, body)) => told_number(alloc, table, code, incoming.used(), status, &body),
+        Ok((status, body)) => reply_number(alloc, table, code, incoming.used(), status, &body),
         Err(error) => Err(error),
     }
 }
 
 /// Returns the tag of an answer that ends at byte `used`.
-fn told_tag(
+fn reply_tag(
     alloc: Global,
     table: &CodeTable,
     used: u64,
@@ -85,7 +85,7 @@ fn told_tag(
 }
 
 /// Returns the number in an answer that ends at byte `used`.
-pub(crate) fn told_number(
+pub(crate) fn reply_number(
     alloc: Global,
     table: &CodeTable,
     code: Code,
@@ -95,7 +95,7 @@ pub(crate) fn told_number(
 ) -> Result<u32, FollowError>
     ensures { MatchResult result (λ n. TellsNumber code table.now (status, body.now) n) (λ e. UndueNumber code table.now used (status, body.now) e) }
 {
-    match told_tag(alloc, table, used, status, body) {
+    match reply_tag(alloc, table, used, status, body) {
         Ok(tag) => match number_in(code, &tag) {
             Some(n) => Ok(n),
             None => Err(FollowError::BadReply { at: used }),

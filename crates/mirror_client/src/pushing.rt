@@ -9,7 +9,7 @@ ghost use Rattle.mirror_client.specs.Pushes.{IsEdited, IsPushed, IsStopped, Undu
 ghost use Rattle.mirror_client.specs.Stopping.{CountsFault, Stops};
 
 use crate::exchanging::exchange;
-use crate::fetching::told_number;
+use crate::fetching::reply_number;
 use crate::incoming::Incoming;
 use crate::refusal::FollowError;
 use code_table::CodeTable;
@@ -116,7 +116,7 @@ fn revised(alloc: Global, table: &CodeTable, used: u64, text: &Bytes) -> Result<
     requires { table.now ≡ standard_rows }
     ensures { MatchResult result (λ pushed. IsEdited (200, text.now) pushed) (λ e. UndueEdit used (200, text.now) e) }
 {
-    match told_number(alloc, table, Code(*b"musr"), used, 200, text) {
+    match reply_number(alloc, table, Code(*b"musr"), used, 200, text) {
         Ok(n) => Ok(Pushed::Revision(n)),
         Err(error) => Err(error),
     }

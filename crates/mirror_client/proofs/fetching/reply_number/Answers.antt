@@ -1,6 +1,6 @@
 use Rattle.std.proofs.Common.{refl, sym, ◌∙◌}
 use Rattle.mirror_client.proofs.TellingFacts.{no_number}
-use Rattle.mirror_client.proofs.fetching.told_number.Goals as goal
+use Rattle.mirror_client.proofs.fetching.reply_number.Goals as goal
 
 -- no other tag is in the body, and this one has no such number
 pub returns-in-Ok : goal.returns-in-Ok
