@@ -9,8 +9,8 @@ use Rattle.share_replies.specs.Answers.{Shared}
 use Rattle.share_replay.specs.Asked.{IsReplied}
 use Rattle.share_replay.specs.Connections.{Connection, asked_on, fault_on}
 use Rattle.share_replay.specs.Turns.{due_on, most_requests}
-use Rattle.share_replay.specs.declared.asking.Told.{Told}
-use Rattle.share_replay.specs.declared.asking.Told.TheVariants.{Reply, Refusal, Nothing}
+use Rattle.share_replay.specs.declared.asking.Output.{Output}
+use Rattle.share_replay.specs.declared.asking.Output.TheVariants.{Reply, Refusal, Nothing}
 
 -- The reply to the next request.
 pub record IsDueReply (old new : Shared) (number : ℕ) (c : Connection) (said : Said) (close : Bool) : Type 0 where
@@ -35,7 +35,7 @@ pub record IsNotDue (old new : Shared) (c : Connection) : Type 0 where
   pub none : due_on old.settings old.history c ≡ None
   pub stays : new ≡ old
 
-abbrev pub IsDue : Shared → Shared → ℕ → Connection → Told → Type 0
+abbrev pub IsDue : Shared → Shared → ℕ → Connection → Output → Type 0
 IsDue old new number c (Reply said close) = IsDueReply old new number c said close
 IsDue old new number c (Refusal status) = IsDueRefusal old new c status
 IsDue old new number c Nothing = IsNotDue old new c

@@ -12,7 +12,7 @@ ghost use Rattle.share_replay.specs.Played.{BreaksOff, HasAnswered};
 ghost use Rattle.share_replay.specs.Stops.{CountsFault};
 ghost use Rattle.share_replay.specs.Turns.{due_on, left_on, most_requests, refused_with, turn_with};
 
-use crate::asking::{Told, told_on};
+use crate::asking::{Output, next_output};
 use crate::connection::Connection;
 use crate::ends::End;
 use crate::replay_error::ReplayError;
@@ -39,12 +39,12 @@ pub(crate) fn answer_on<W: Sink>(
     ensures settings { share.new.settings ≡ share.old.settings }
     ensures count { MatchResult result (λ _. W.faults sink.new ≡ W.faults sink.old) (λ e. CountsFault (W.faults sink.old) (W.faults sink.new) e) }
 {
-    match told_on(number, connection, share) {
-        Ok(Told::Reply { said, close }) => {
+    match next_output(number, connection, share) {
+        Ok(Output::Reply { said, close }) => {
             reply_on(alloc, number, connection, &said, share, close, sink)
         }
-        Ok(Told::Refusal { status }) => refuse_on(alloc, number, connection, status, sink),
-        Ok(Told::Nothing) => Ok(false),
+        Ok(Output::Refusal { status }) => refuse_on(alloc, number, connection, status, sink),
+        Ok(Output::Nothing) => Ok(false),
         Err(AllocError) => Err(ReplayError::Memory),
     }
 }

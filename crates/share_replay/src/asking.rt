@@ -16,7 +16,7 @@ use std::sync::ledger::{Blank, Ledger};
 
 /// The next output on a connection.
 #[derive(Drop)]
-pub(crate) enum Told {
+pub(crate) enum Output {
     /// The reply to its next request. If `close`, the connection ends after it.
     Reply { said: Said, close: bool },
     /// The refusal of its bytes, with its status.
@@ -25,28 +25,28 @@ pub(crate) enum Told {
 }
 
 /// Returns the next output on connection `number`. The share answers its next request.
-pub(crate) fn told_on(
+pub(crate) fn next_output(
     number: u32,
     connection: &Connection,
     share: &mut Share,
-) -> Result<Told, AllocError>
+) -> Result<Output, AllocError>
     ensures told { IfOk result (IsDue share.old share.new number connection.now) }
     ensures unchanged { OnErr result (share.new ≡ share.old) }
 {
     match connection.next() {
         Some(ask) => match said_to(share, number, ask) {
-            Ok(Some(said)) => Ok(Told::Reply {
+            Ok(Some(said)) => Ok(Output::Reply {
                 said,
                 close: ask.close,
             }),
-            Ok(None) => Ok(Told::Nothing),
+            Ok(None) => Ok(Output::Nothing),
             Err(error) => Err(error),
         },
         None => match connection.fault() {
-            Some(error) => Ok(Told::Refusal {
+            Some(error) => Ok(Output::Refusal {
                 status: status_of(error),
             }),
-            None => Ok(Told::Nothing),
+            None => Ok(Output::Nothing),
         },
     }
 }
