@@ -21,7 +21,7 @@ use daap_outside::{Net, Sink};
 use relay_share::{RelayEnd, RelayReport};
 use share_asks::Role;
 use share_core::Share;
-use share_crew::{Begun, Gathered, Outcome, Room, hire, share_of, worked};
+use share_crew::{Begun, Gathered, Outcome, Room, add_workers, run_workers, share_of};
 use share_lock::Pass;
 use std::alloc::Global;
 use std::sync::Wait;
@@ -56,7 +56,7 @@ pub(crate) fn relay_begun<W: Sink, N: Net, R: Threads + Wait + Clock + Sync>(
     ensures closes { N.open_count net.new ≡ N.open_count net.old - (length places.doors.items + 1) }
 {
     let Places { link, doors } = places;
-    let (begun, pass, door) = staffed(rt, alloc, begun, doors);
+    let (begun, pass, door) = assign_workers(rt, alloc, begun, doors);
     let mut relayer = Relayer {
         terms: relaying,
         pass,
@@ -72,7 +72,7 @@ pub(crate) fn relay_begun<W: Sink, N: Net, R: Threads + Wait + Clock + Sync>(
         mut first,
         links,
         verdict,
-    } = worked(rt, alloc, net, begun, &mut relayer);
+    } = run_workers(rt, alloc, net, begun, &mut relayer);
     let Relayer {
         terms: _,
         pass,
@@ -96,7 +96,7 @@ pub(crate) fn relay_begun<W: Sink, N: Net, R: Threads + Wait + Clock + Sync>(
 
 // Makes a worker for each listener except the last, and then splits off the relay's lock handle. Returns it with that
 // listener.
-fn staffed<D: Drop, R: Wait>(
+fn assign_workers<D: Drop, R: Wait>(
     rt: &R,
     alloc: Global,
     begun: Begun<D>,
@@ -125,7 +125,7 @@ fn staffed<D: Drop, R: Wait>(
     } = begun;
     let mut doors = doors;
     let last = doors.pop().unwrap();
-    hire(rt, alloc, &lock, &mut first, doors, Role::Listen, &mut crew);
+    add_workers(rt, alloc, &lock, &mut first, doors, Role::Listen, &mut crew);
     let pass = lock.split(rt, &mut first).unwrap();
     let begun = Begun {
         lock,

@@ -24,7 +24,7 @@ use daap_outside::{Net, Sink};
 use edit_keeping::Keeps;
 use share_asks::Role;
 use share_core::Share;
-use share_crew::{Begun, Gathered, Outcome, Room, gather, hire, keep_beside, share_of};
+use share_crew::{Begun, Gathered, Outcome, Room, add_workers, gather, keep_beside, share_of};
 use share_lock::Bell;
 use share_workers::Worker;
 use std::alloc::Global;
@@ -99,7 +99,7 @@ fn serve_begun<W: Sink, N: Net, K: Keeps, R: Threads + Wait + Clock + Sync>(
         before (output_seen (W.taken output.new) (W.faults output.new)) (left_of result.0) }
     ensures closes { N.open_count net.new ≡ N.open_count net.old - (length doors.listen.items + length doors.edit.items) }
 {
-    let (mut begun, mut last) = staffed(rt, alloc, begun, doors);
+    let (mut begun, mut last) = assign_workers(rt, alloc, begun, doors);
     let mut keeper = keeper;
     keep_beside(
         rt,
@@ -122,7 +122,7 @@ fn serve_begun<W: Sink, N: Net, K: Keeps, R: Threads + Wait + Clock + Sync>(
 }
 
 // Makes a worker for each listener. Returns the last of them by itself.
-fn staffed<D: Drop, R: Wait>(
+fn assign_workers<D: Drop, R: Wait>(
     rt: &R,
     alloc: Global,
     begun: Begun<D>,
@@ -148,7 +148,7 @@ fn staffed<D: Drop, R: Wait>(
         room: Room { mut crew, links },
     } = begun;
     let Doors { listen, edit } = doors;
-    hire(
+    add_workers(
         rt,
         alloc,
         &lock,
@@ -157,7 +157,7 @@ fn staffed<D: Drop, R: Wait>(
         Role::Listen,
         &mut crew,
     );
-    hire(rt, alloc, &lock, &mut first, edit, Role::Edit, &mut crew);
+    add_workers(rt, alloc, &lock, &mut first, edit, Role::Edit, &mut crew);
     let last = crew.pop().unwrap();
     let begun = Begun {
         lock,

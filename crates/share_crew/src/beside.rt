@@ -95,7 +95,7 @@ pub fn keep_beside<D: Door + Drop + Send, F: Keeps, R: Threads + Wait + Clock + 
 }
 
 /// Lets all workers and `partner` work to their ends. Returns what the workers leave, gathered.
-pub fn worked<N: Net, P: Partner, R: Threads + Wait + Clock + Sync>(
+pub fn run_workers<N: Net, P: Partner, R: Threads + Wait + Clock + Sync>(
     rt: &R,
     alloc: Global,
     net: &mut N,

@@ -12,10 +12,10 @@ mod outcome;
 mod partner;
 mod verdict;
 
-pub use beside::{keep_beside, work_beside, worked};
+pub use beside::{keep_beside, run_workers, work_beside};
 pub use doors::shut_all;
 pub use gathering::{Gathered, gather, share_of};
-pub use hiring::hire;
+pub use hiring::add_workers;
 pub use lines::ended_line_of;
 pub use opening::{Begun, Room, announced};
 pub use outcome::{LinkReports, Outcome};

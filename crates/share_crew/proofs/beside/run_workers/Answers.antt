@@ -1,6 +1,6 @@
 use Rattle.std.proofs.Common.{◌≤◌, length, sym, subst, ap, arith}
 use Rattle.std.proofs.lemmas.Slice.Zip.{AllZip-long}
-use Rattle.share_crew.proofs.beside.worked.Goals as goal
+use Rattle.share_crew.proofs.beside.run_workers.Goals as goal
 
 pub work_beside-requires-clause-ready : goal.work_beside-requires-clause-ready
 work_beside-requires-clause-ready g c = λ κs bounds k d less. (c.requires.hired k d less).ready

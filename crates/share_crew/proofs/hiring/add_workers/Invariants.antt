@@ -3,7 +3,7 @@ use Rattle.std.specs.Prelude.{vec_len, vec_capacity}
 use Rattle.std.specs.Vec.Iter.{into_iter_items}
 use Rattle.share_lock.specs.Passes.{lock_id, known, IsReady}
 use Rattle.share_crew.specs.Crews.{HasHired}
-use Rattle.share_crew.proofs.hiring.hire.Given as goal
+use Rattle.share_crew.proofs.hiring.add_workers.Given as goal
 
 abbrev pub invariant-loop-door : goal.invariant-loop-door
 invariant-loop-door g l = record {

@@ -4,7 +4,7 @@ use Rattle.share_lock.specs.Passes.{lock_id, known, IsReady}
 use Rattle.share_lock.specs.Known.{fresh}
 use Rattle.share_crew.specs.Crews.{HasHired}
 use Rattle.share_crew.proofs.Staffing.{none_hired, hire_more, is_hired}
-use Rattle.share_crew.proofs.hiring.hire.Goals as goal
+use Rattle.share_crew.proofs.hiring.add_workers.Goals as goal
 
 pub loop-door-init : goal.loop-door-init
 loop-door-init g c = record {
@@ -23,18 +23,18 @@ loop-door-preserved g c =
     let k = known c.args.first.now in
     let inv = c.loop-door.invariant in
     let door = c.in-Some.door in
-    let worker = c.hired.result in
-    let here = sym c.hired.ensures.pass in record {
-      ready = c.drawn-pass.ensures.first;
-      pass = c.drawn-pass.ensures.same ∙ inv.pass;
+    let worker = c.new_worker.result in
+    let here = sym c.new_worker.ensures.pass in record {
+      ready = c.new_pass-pass.ensures.first;
+      pass = c.new_pass-pass.ensures.same ∙ inv.pass;
       hired = hire_more id k c.args.role c.loop-door.yielded door c.args.crew.now.items c.loop-door.crew.items c.push_reserved.new.self.items worker inv.hired c.push_reserved.ensures.items
           (is_hired id k (known c.loop-door.first) worker inv.pass
-          (subst (λ p. IsReady id p) here c.drawn-pass.ensures.ready)
-          (subst (λ p. known p ≡ fresh (known p).number (known c.loop-door.first).settings (known c.loop-door.first).seen) here c.drawn-pass.ensures.pass)
-          (subst (λ p. 1 ≤ (known p).number) here c.drawn-pass.ensures.some)
-          (subst (λ p. (known p).number < id.1) here c.drawn-pass.ensures.few)
-          c.hired.ensures.unreported c.hired.ensures.running)
-          c.hired.ensures.door c.hired.ensures.role;
+          (subst (λ p. IsReady id p) here c.new_pass-pass.ensures.ready)
+          (subst (λ p. known p ≡ fresh (known p).number (known c.loop-door.first).settings (known c.loop-door.first).seen) here c.new_pass-pass.ensures.pass)
+          (subst (λ p. 1 ≤ (known p).number) here c.new_pass-pass.ensures.some)
+          (subst (λ p. (known p).number < id.1) here c.new_pass-pass.ensures.few)
+          c.new_worker.ensures.unreported c.new_worker.ensures.running)
+          c.new_worker.ensures.door c.new_worker.ensures.role;
       counted = let more = length-append c.loop-door.yielded (door ∷ []) in let was = inv.counted in omega (arith, more, was, c.push_reserved.ensures.len);
       capacity = c.push_reserved.ensures.capacity ∙ inv.capacity;
       items = append_assoc c.loop-door.yielded (door ∷ []) _ ∙ (ap (λ l. c.loop-door.yielded ++ l) (sym c.in-Some.ensures.steps.0) ∙ inv.items);
