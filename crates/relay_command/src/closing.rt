@@ -22,7 +22,7 @@ use share_server::LinkReport;
 use std::alloc::{AllocError, Global};
 
 /// Writes what was relayed and served, or the line of `fault`. Returns the outcome of the run.
-pub(crate) fn closed<W: Sink>(
+pub(crate) fn finish<W: Sink>(
     alloc: Global,
     output: &mut W,
     share: Share,
@@ -41,7 +41,7 @@ pub(crate) fn closed<W: Sink>(
         result.status }
 {
     let lines = last_lines(alloc, share.revision(), links.as_slice(), rounds, &fault);
-    let status = told(alloc, output, lines, fault);
+    let status = write_end(alloc, output, lines, fault);
     Outcome {
         status,
         history: Some(Entries::of(share.into_history())),
@@ -96,7 +96,7 @@ fn round_line(alloc: Global, round: &Relayed) -> Result<Vec<u8>, AllocError>
 }
 
 // Writes the lines, and then that of the error. Returns the status.
-fn told<W: Sink>(
+fn write_end<W: Sink>(
     alloc: Global,
     output: &mut W,
     lines: Result<Vec<u8>, AllocError>,
@@ -114,15 +114,15 @@ fn told<W: Sink>(
 {
     match lines {
         Ok(lines) => match put_all(output, lines.as_slice()) {
-            Ok(()) => ruled(alloc, output, fault),
+            Ok(()) => write_verdict(alloc, output, fault),
             Err(_) => 5,
         },
-        Err(AllocError) => ruled(alloc, output, with_memory(fault)),
+        Err(AllocError) => write_verdict(alloc, output, with_memory(fault)),
     }
 }
 
 // Writes the line of `fault`, if there is one. Returns the status.
-fn ruled<W: Sink>(alloc: Global, output: &mut W, fault: Option<Fault<RelayFault>>) -> u8
+fn write_verdict<W: Sink>(alloc: Global, output: &mut W, fault: Option<Fault<RelayFault>>) -> u8
     ensures { TellsRuling fault (output_seen (W.taken output.old) (W.faults output.old)) (output_seen (W.taken output.new) (W.faults output.new)) result }
 {
     match fault {

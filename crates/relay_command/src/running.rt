@@ -12,7 +12,7 @@ ghost use Rattle.relay_command.specs.Places.{HasOpened};
 ghost use Rattle.relay_command.specs.Runs.{HasServed};
 ghost use Rattle.relay_command.specs.Terms.{MayRelay};
 
-use crate::closing::closed;
+use crate::closing::finish;
 use crate::fault::ruling;
 use crate::opening::Places;
 use crate::relayer::Relayer;
@@ -84,7 +84,7 @@ pub(crate) fn relay_begun<W: Sink, N: Net, R: Threads + Wait + Clock + Sync>(
     net.shut(door);
     net.hang_up(link);
     let share = share_of(rt, &lock, &mut first);
-    closed(
+    finish(
         alloc,
         output,
         share,

@@ -15,7 +15,7 @@ ghost use Rattle.serve_command.specs.Places.{HasOpened};
 ghost use Rattle.serve_command.specs.Runs.{HasServed, ShareEnds};
 ghost use Rattle.serve_command.specs.Terms.{MayServe, settings_of};
 
-use crate::closing::closed;
+use crate::closing::finish;
 use crate::opening::begin;
 use crate::places::Doors;
 use crate::terms::Serving;
@@ -118,7 +118,7 @@ fn serve_begun<W: Sink, N: Net, K: Keeps, R: Threads + Wait + Clock + Sync>(
         verdict,
     } = gather(net, begun);
     let share = share_of(rt, &lock, &mut first);
-    (closed(alloc, output, share, links, verdict), keeper)
+    (finish(alloc, output, share, links, verdict), keeper)
 }
 
 // Makes a worker for each listener. Returns the last of them by itself.

@@ -83,19 +83,19 @@ returns-clause-serves g c = λ start before first front begun opens new wrote.
     let fault = worse (crew_fault (verdict_of ends)) (end_fault after.report.end) in
     let ruled : c.ruling.result ≡ fault = c.ruling.ensures ∙ ap (λ v. worse (crew_fault v) (end_fault after.report.end)) all.verdict_is in
     let at_line : OutputSeen = output_seen (g.W.Sink.taken c.args.output.now) (g.W.Faulted.faults c.args.output.now) in
-    let ending : OutputSeen = output_seen (g.W.Sink.taken c.closed.new.output) (g.W.Faulted.faults c.closed.new.output) in
-    let told : TellsEnd (last_lines (revision (batches history)) c.closed.result.links after.report.rounds.items fault) fault at_line ending c.closed.result.status =
-    subst (λ f. TellsEnd (last_lines (revision (batches history)) c.closed.result.links after.report.rounds.items f) f at_line ending c.closed.result.status) ruled
-    (subst (λ l. TellsEnd (last_lines (revision (batches history)) l after.report.rounds.items c.ruling.result) c.ruling.result at_line ending c.closed.result.status) (sym c.closed.ensures.links)
-    (subst (λ rs. TellsEnd (last_lines (revision (batches history)) c.run_workers-lock.result.links rs c.ruling.result) c.ruling.result at_line ending c.closed.result.status) c.as_slice.ensures.value
-    c.closed.ensures.told)) in
+    let ending : OutputSeen = output_seen (g.W.Sink.taken c.finish.new.output) (g.W.Faulted.faults c.finish.new.output) in
+    let told : TellsEnd (last_lines (revision (batches history)) c.finish.result.links after.report.rounds.items fault) fault at_line ending c.finish.result.status =
+    subst (λ f. TellsEnd (last_lines (revision (batches history)) c.finish.result.links after.report.rounds.items f) f at_line ending c.finish.result.status) ruled
+    (subst (λ l. TellsEnd (last_lines (revision (batches history)) l after.report.rounds.items c.ruling.result) c.ruling.result at_line ending c.finish.result.status) (sym c.finish.ensures.links)
+    (subst (λ rs. TellsEnd (last_lines (revision (batches history)) c.run_workers-lock.result.links rs c.ruling.result) c.ruling.result at_line ending c.finish.result.status) c.as_slice.ensures.value
+    c.finish.ensures.told)) in
     record {
       history = history;
-      history_is = c.closed.ensures.history;
-      whole_history = c.closed.ensures.whole;
+      history_is = c.finish.ensures.history;
+      whole_history = c.finish.ensures.whole;
       crew = all.crew;
       roles = all.roles_are ∙ (e.roles ∙ sym (splat_is_map crew relaying.workers role.Listen crew_count));
-      links = c.closed.ensures.links ∙ all.links_are;
+      links = c.finish.ensures.links ∙ all.links_are;
       relay = record { pass = k1; link = link; report = after.report };
       one = history_of;
       begun = opens.begun;
@@ -124,7 +124,7 @@ returns-clause-serves g c = λ start before first front begun opens new wrote.
       told = told;
       whole = λ success.
           wholes_by history all.crew history_of.parts
-          (crew_done (verdict_of ends) (end_fault after.report.end) (end_none (last_lines (revision (batches history)) c.closed.result.links after.report.rounds.items fault) fault at_line ending c.closed.result.status told success));
+          (crew_done (verdict_of ends) (end_fault after.report.end) (end_none (last_lines (revision (batches history)) c.finish.result.links after.report.rounds.items fault) fault at_line ending c.finish.result.status told success));
     }
 
 pub returns-clause-closes : goal.returns-clause-closes

@@ -63,8 +63,8 @@ gather-lock-requires-clause-room g c =
     let room = ap (λ l. vec_capacity l) c.assign_workers-begun.ensures.links in
     omega (arith, count, len, room, c.push_reserved.ensures.len, c.requires.links)
 
-pub closed-requires-clause-links : goal.closed-requires-clause-links
-closed-requires-clause-links g c =
+pub finish-requires-clause-links : goal.finish-requires-clause-links
+finish-requires-clause-links g c =
     let r = c.assign_workers-begun.result in
     let R = HasEnded g.N.D.Door.coming g.N.D.Door.written g.N.D.Faulted.faults in
     let zip = subst (λ l. AllZip R (r.0.room.crew.items ++ r.1 ∷ []) l) (sym c.push_reserved.ensures.items)
@@ -72,8 +72,8 @@ closed-requires-clause-links g c =
     let more = length-append r.0.room.crew.items (r.1 ∷ []) in
     c.gather-lock.ensures.links (r.0.room.crew.items ++ r.1 ∷ []) zip (omega (arith, more, c.assign_workers-begun.ensures.len, c.requires.few))
 
-pub closed-requires-clause-requests : goal.closed-requires-clause-requests
-closed-requires-clause-requests g c =
+pub finish-requires-clause-requests : goal.finish-requires-clause-requests
+finish-requires-clause-requests g c =
     let r = c.assign_workers-begun.result in
     let R = HasEnded g.N.D.Door.coming g.N.D.Door.written g.N.D.Faulted.faults in
     let zip = subst (λ l. AllZip R (r.0.room.crew.items ++ r.1 ∷ []) l) (sym c.push_reserved.ensures.items)
@@ -99,7 +99,7 @@ returns-clause-serves g c = λ serving opened start before front begun first ope
     let mid : NetSeen = net_seen (g.N.Net.asked old) (g.N.Net.written old) (g.N.Net.door_links old) (g.N.Net.next_input old) (g.N.Faulted.faults old) in
     let now : NetSeen = net_seen (g.N.Net.asked new) (g.N.Net.written new) (g.N.Net.door_links new) (g.N.Net.next_input new) (g.N.Faulted.faults new) in
     let at_line : OutputSeen = output_seen (g.W.Sink.taken c.args.output.now) (g.W.Faulted.faults c.args.output.now) in
-    let after : OutputSeen = output_seen (g.W.Sink.taken c.closed.new.output) (g.W.Faulted.faults c.closed.new.output) in
+    let after : OutputSeen = output_seen (g.W.Sink.taken c.finish.new.output) (g.W.Faulted.faults c.finish.new.output) in
     let staff = c.assign_workers-begun.ensures.staff in
     let len : length crew ≡ length listen + length edit = length-append r.0.room.crew.items (r.1 ∷ []) ∙ c.assign_workers-begun.ensures.len in
     let count : length crew ≡ workers_of serving = len ∙ (λ i. opens.listening i + opens.editing i) in
@@ -126,13 +126,13 @@ returns-clause-serves g c = λ serving opened start before front begun first ope
     let last = last_of_all (IsHired id (known r.0.first)) r.0.room.crew.items r.1 staff.hired in
     let seen : (known r.1.pass).seen ≡ opened = ap (λ p. p.seen) last.pass ∙ ap (λ p. p.seen) (c.assign_workers-begun.ensures.pass ∙ begun.pass) in
     has_served serving opened (HasKept serving.editors (g.K.Keeps.keeps c.args.keeper) (g.K.Keeps.keeps c.keep_beside.new.keeper) (g.K.Keeps.is_lost c.keep_beside.new.keeper) (g.K.Keeps.faults c.args.keeper) (g.K.Keeps.faults c.keep_beside.new.keeper) opened)
-    front start mid now before at_line after (left_of c.closed.result) coming listen edit (length crew) roles come
+    front start mid now before at_line after (left_of c.finish.result) coming listen edit (length crew) roles come
     k history c.gather-lock.result.links c.gather-lock.result.verdict opens all one
     (crew_keeps written faults history all.crew c.keep_beside.new.crew.items c.keep_beside.new.worker (workers_of serving) serving.workers serving.editors (known r.1.pass)
     (g.K.Keeps.keeps c.args.keeper) (g.K.Keeps.keeps c.keep_beside.new.keeper) (g.K.Keeps.is_lost c.keep_beside.new.keeper) (g.K.Keeps.faults c.args.keeper) (g.K.Keeps.faults c.keep_beside.new.keeper)
     (subst (λ l. AllZip (IsOf written faults) all.crew l) c.push_reserved.ensures.items both.1) c.keep_beside.ensures.whole (all.roles_are ∙ (staff.roles_are ∙ roles_are serving listen edit opens.listening opens.editing)) first one seen c.keep_beside.ensures.keeping)
-    staff.roles_are (sym (map-map coming (λ w. w.door) crew) ∙ ap (map coming) staff.doors_are) c.gather-lock.ensures.asked c.closed.ensures.history c.closed.ensures.whole c.closed.ensures.links
-    wrote c.closed.ensures.told
+    staff.roles_are (sym (map-map coming (λ w. w.door) crew) ∙ ap (map coming) staff.doors_are) c.gather-lock.ensures.asked c.finish.ensures.history c.finish.ensures.whole c.finish.ensures.links
+    wrote c.finish.ensures.told
 
 pub returns-clause-closes : goal.returns-clause-closes
 returns-clause-closes g c =

@@ -4,17 +4,17 @@ use Rattle.daap_outside.specs.Told.{AppendsPrefix}
 use Rattle.command_core.specs.Seen.{OutputSeen, output_seen}
 use Rattle.relay_command.specs.Runs.{TellsRuling}
 use Rattle.relay_command.proofs.Telling.{TellsLines, cut_in, ruled_behind}
-use Rattle.relay_command.proofs.closing.told.Goals as goal
+use Rattle.relay_command.proofs.closing.write_end.Goals as goal
 
 pub returns-in-Ok-put_all : goal.returns-in-Ok-put_all
 returns-in-Ok-put_all g c =
     let old : OutputSeen = output_seen (g.W.Sink.taken c.args.output.now) (g.W.Faulted.faults c.args.output.now) in
     let mid : OutputSeen = output_seen (g.W.Sink.taken c.put_all.new.sink) (g.W.Faulted.faults c.put_all.new.sink) in
-    let after : OutputSeen = output_seen (g.W.Sink.taken c.ruled.new.output) (g.W.Faulted.faults c.ruled.new.output) in
-    subst (TellsLines c.args.fault old after c.ruled.result) (sym c.in-Ok.is)
-    (ruled_behind old mid after c.in-Ok.lines.items c.args.fault c.ruled.result
+    let after : OutputSeen = output_seen (g.W.Sink.taken c.write_verdict.new.output) (g.W.Faulted.faults c.write_verdict.new.output) in
+    subst (TellsLines c.args.fault old after c.write_verdict.result) (sym c.in-Ok.is)
+    (ruled_behind old mid after c.in-Ok.lines.items c.args.fault c.write_verdict.result
     (record { taken = subst (λ (l : List ℕ). Appends old.taken mid.taken l) c.as_slice.ensures.value c.in-Ok-put_all.ensures.all; faultless = c.in-Ok-put_all.ensures.count })
-    c.ruled.ensures)
+    c.write_verdict.ensures)
 
 -- the output failed in the lines
 pub returns-in-Ok : goal.returns-in-Ok
@@ -29,6 +29,6 @@ returns-in-Ok g c =
 pub returns : goal.returns
 returns g c =
     let old : OutputSeen = output_seen (g.W.Sink.taken c.args.output.now) (g.W.Faulted.faults c.args.output.now) in
-    let after : OutputSeen = output_seen (g.W.Sink.taken c.ruled-in-Err.new.output) (g.W.Faulted.faults c.ruled-in-Err.new.output) in
-    subst (TellsLines c.args.fault old after c.ruled-in-Err.result) (sym c.in-Err.is)
-    (subst (λ f. TellsRuling f old after c.ruled-in-Err.result) c.with_memory.ensures c.ruled-in-Err.ensures)
+    let after : OutputSeen = output_seen (g.W.Sink.taken c.write_verdict-in-Err.new.output) (g.W.Faulted.faults c.write_verdict-in-Err.new.output) in
+    subst (TellsLines c.args.fault old after c.write_verdict-in-Err.result) (sym c.in-Err.is)
+    (subst (λ f. TellsRuling f old after c.write_verdict-in-Err.result) c.with_memory.ensures c.write_verdict-in-Err.ensures)
