@@ -7,14 +7,14 @@ use Rattle.command_core.specs.Seen.{OutputSeen}
 use Rattle.share_lock.specs.Known.{fresh}
 use Rattle.share_lock.specs.Passes.{IsReady, known, lock_id, passes_of}
 use Rattle.share_crew.specs.Begun.{HasRoom}
-use Rattle.share_crew.specs.declared.opening.Begun.{Begun}
+use Rattle.share_crew.specs.declared.opening.LockedShare.{LockedShare}
 use Rattle.relay_command.specs.Lines.{relaying_line}
 use Rattle.relay_command.specs.Terms.{settings_of}
 use Rattle.relay_command.specs.declared.terms.Relaying.{Relaying}
 
 -- an empty share is under a lock, for the first handle, those of workers and that of the relay, and its line was
 -- written
-pub record HasBegun {D : Type 0} (relaying : Relaying) (output output' : OutputSeen) (begun : Begun D) : Type 0 where
+pub record HasBegun {D : Type 0} (relaying : Relaying) (output output' : OutputSeen) (begun : LockedShare D) : Type 0 where
   pub ready : IsReady (lock_id begun.lock) begun.first
   pub passes : passes_of begun.lock ≡ relaying.workers + 2
   pub pass : known begun.first ≡ fresh 0 (settings_of relaying) []

@@ -16,7 +16,7 @@ use command_core::{Fault, out_of_memory};
 use daap_outside::{Failed, Net, Sink};
 use item_model::{Batch, Edits};
 use share_core::Share;
-use share_crew::{Begun, Room, announced};
+use share_crew::{LockedShare, WorkerBuffers, announced};
 use std::alloc::{AllocError, Global};
 
 /// The connection to the followed share, and the listeners of the relay, before their first use.
@@ -68,7 +68,7 @@ pub(crate) fn begin<W: Sink, D: Drop>(
     alloc: Global,
     relaying: &Relaying,
     output: &mut W,
-) -> Result<Begun<D>, u8>
+) -> Result<LockedShare<D>, u8>
     requires may { MayRelay relaying.now }
     ensures { MatchResult result
         (HasBegun relaying.now
@@ -95,7 +95,7 @@ pub(crate) fn begin<W: Sink, D: Drop>(
 struct Prepared<D> {
     share: Share,
     line: Vec<u8>,
-    room: Room<D>,
+    room: WorkerBuffers<D>,
 }
 
 fn prepare<D: Drop>(alloc: Global, relaying: &Relaying) -> Result<Prepared<D>, AllocError>
@@ -113,7 +113,7 @@ fn prepare<D: Drop>(alloc: Global, relaying: &Relaying) -> Result<Prepared<D>, A
     Ok(Prepared {
         share,
         line: line_of(alloc, relaying)?,
-        room: Room::of(alloc, relaying.workers as usize)?,
+        room: WorkerBuffers::of(alloc, relaying.workers as usize)?,
     })
 }
 

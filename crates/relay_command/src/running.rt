@@ -21,7 +21,9 @@ use daap_outside::{Net, Sink};
 use relay_share::{RelayEnd, RelayReport};
 use share_asks::Role;
 use share_core::Share;
-use share_crew::{Begun, Gathered, Outcome, Room, add_workers, run_workers, share_of};
+use share_crew::{
+    Gathered, LockedShare, Outcome, WorkerBuffers, add_workers, run_workers, share_of,
+};
 use share_lock::Pass;
 use std::alloc::Global;
 use std::sync::Wait;
@@ -36,7 +38,7 @@ pub(crate) fn relay_begun<W: Sink, N: Net, R: Threads + Wait + Clock + Sync>(
     output: &mut W,
     net: &mut N,
     places: Places<N::L, N::D>,
-    begun: Begun<N::D>,
+    begun: LockedShare<N::D>,
 ) -> Outcome
     requires may { MayRelay relaying.now }
     requires ready { IsReady (lock_id begun.lock) begun.first }
@@ -99,9 +101,9 @@ pub(crate) fn relay_begun<W: Sink, N: Net, R: Threads + Wait + Clock + Sync>(
 fn assign_workers<D: Drop, R: Wait>(
     rt: &R,
     alloc: Global,
-    begun: Begun<D>,
+    begun: LockedShare<D>,
     doors: Vec<D>,
-) -> (Begun<D>, Pass<Share>, D)
+) -> (LockedShare<D>, Pass<Share>, D)
     requires ready { IsReady (lock_id begun.lock) begun.first }
     requires empty { begun.room.crew.items ≡ [] }
     requires some { 1 ≤ length doors.items }
@@ -118,19 +120,19 @@ fn assign_workers<D: Drop, R: Wait>(
     ensures relay_some { 1 ≤ (known result.1).number }
     ensures relay_few { (known result.1).number + 1 ≤ passes_of begun.lock }
 {
-    let Begun {
+    let LockedShare {
         lock,
         mut first,
-        room: Room { mut crew, links },
+        room: WorkerBuffers { mut crew, links },
     } = begun;
     let mut doors = doors;
     let last = doors.pop().unwrap();
     add_workers(rt, alloc, &lock, &mut first, doors, Role::Listen, &mut crew);
     let pass = lock.split(rt, &mut first).unwrap();
-    let begun = Begun {
+    let begun = LockedShare {
         lock,
         first,
-        room: Room { crew, links },
+        room: WorkerBuffers { crew, links },
     };
     (begun, pass, last)
 }

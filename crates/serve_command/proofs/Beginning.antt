@@ -13,8 +13,8 @@ use Rattle.command_core.specs.Answers.{Tells}
 use Rattle.command_core.specs.Endings.{IsWritten, IsCut}
 use Rattle.command_core.specs.Faults.{memory_line}
 use Rattle.command_core.specs.Seen.{OutputSeen}
-use Rattle.share_crew.specs.declared.opening.Begun.{Begun}
-use Rattle.share_crew.specs.declared.opening.Room.{Room}
+use Rattle.share_crew.specs.declared.opening.LockedShare.{LockedShare}
+use Rattle.share_crew.specs.declared.opening.WorkerBuffers.{WorkerBuffers}
 use Rattle.share_crew.specs.Begun.{HasRoom, Announces}
 use Rattle.serve_command.specs.declared.terms.Serving.{Serving}
 use Rattle.serve_command.specs.Runs.{first_line, NotAnnounced}
@@ -32,7 +32,7 @@ opened_made (b ∷ bs) = All-cons (λ e. maker e ≡ 0) (Edits 0 b) (opened_with
 
 module _ {D : Type 0} where
   -- it is under its lock after its line was written
-  pub begins : (serving : Serving) (output output' : OutputSeen) (share : Shared) (room : Room D) (line : List ℕ) (result : Result (Begun D) ℕ)
+  pub begins : (serving : Serving) (output output' : OutputSeen) (share : Shared) (room : WorkerBuffers D) (line : List ℕ) (result : Result (LockedShare D) ℕ)
       → share.settings ≡ settings_of serving → HasRoom (workers_of serving) room → line ≡ first_line serving share.history
       → Announces (workers_of serving + 1) share room line output output' result
       → MatchResult result (HasBegun serving share.history output output') (NotAnnounced (first_line serving share.history) output output')

@@ -15,7 +15,7 @@ use command_core::out_of_memory;
 use daap_outside::Sink;
 use fault_lines::push_number;
 use share_core::Share;
-use share_crew::{Begun, Room, announced};
+use share_crew::{LockedShare, WorkerBuffers, announced};
 use std::alloc::{AllocError, Global};
 
 /// Writes the first line of `share`, and puts it under a lock.
@@ -29,7 +29,7 @@ pub(crate) fn begin<W: Sink, D: Drop>(
     serving: &Serving,
     output: &mut W,
     share: Share,
-) -> Result<Begun<D>, u8>
+) -> Result<LockedShare<D>, u8>
     requires may { MayServe serving.now }
     requires opening { All (λ e. maker e ≡ 0) share.history }
     requires settings { share.settings ≡ settings_of serving.now }
@@ -53,13 +53,13 @@ fn prepared<D: Drop>(
     alloc: Global,
     serving: &Serving,
     share: &Share,
-) -> Result<(Vec<u8>, Room<D>), AllocError>
+) -> Result<(Vec<u8>, WorkerBuffers<D>), AllocError>
     requires { MayServe serving.now }
     ensures line { IfOk result (λ r. r.0.items ≡ serving_line serving.now.name (revision (batches share.now.history))) }
     ensures room { IfOk result (λ r. HasRoom (workers_of serving.now) r.1) }
 {
     let line = first_line_of(alloc, serving, share.revision())?;
-    let room = Room::of(alloc, (serving.workers + serving.editors) as usize)?;
+    let room = WorkerBuffers::of(alloc, (serving.workers + serving.editors) as usize)?;
     Ok((line, room))
 }
 

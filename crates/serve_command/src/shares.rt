@@ -24,7 +24,9 @@ use daap_outside::{Net, Sink};
 use edit_keeping::Keeps;
 use share_asks::Role;
 use share_core::Share;
-use share_crew::{Begun, Gathered, Outcome, Room, add_workers, gather, keep_beside, share_of};
+use share_crew::{
+    Gathered, LockedShare, Outcome, WorkerBuffers, add_workers, gather, keep_beside, share_of,
+};
 use share_lock::Bell;
 use share_workers::Worker;
 use std::alloc::Global;
@@ -76,7 +78,7 @@ fn serve_begun<W: Sink, N: Net, K: Keeps, R: Threads + Wait + Clock + Sync>(
     output: &mut W,
     net: &mut N,
     doors: Doors<N::D>,
-    begun: Begun<N::D>,
+    begun: LockedShare<N::D>,
     keeper: K,
 ) -> (Outcome, K)
     requires ready { IsReady (lock_id begun.lock) begun.first }
@@ -125,9 +127,9 @@ fn serve_begun<W: Sink, N: Net, K: Keeps, R: Threads + Wait + Clock + Sync>(
 fn assign_workers<D: Drop, R: Wait>(
     rt: &R,
     alloc: Global,
-    begun: Begun<D>,
+    begun: LockedShare<D>,
     doors: Doors<D>,
-) -> (Begun<D>, Worker<D>)
+) -> (LockedShare<D>, Worker<D>)
     requires ready { IsReady (lock_id begun.lock) begun.first }
     requires empty { begun.room.crew.items ≡ [] }
     requires room { length doors.listen.items + length doors.edit.items ≤ vec_capacity begun.room.crew }
@@ -142,10 +144,10 @@ fn assign_workers<D: Drop, R: Wait>(
     ensures room { vec_len result.0.room.crew < vec_capacity result.0.room.crew }
     ensures links { result.0.room.links ≡ begun.room.links }
 {
-    let Begun {
+    let LockedShare {
         lock,
         mut first,
-        room: Room { mut crew, links },
+        room: WorkerBuffers { mut crew, links },
     } = begun;
     let Doors { listen, edit } = doors;
     add_workers(
@@ -159,10 +161,10 @@ fn assign_workers<D: Drop, R: Wait>(
     );
     add_workers(rt, alloc, &lock, &mut first, edit, Role::Edit, &mut crew);
     let last = crew.pop().unwrap();
-    let begun = Begun {
+    let begun = LockedShare {
         lock,
         first,
-        room: Room { crew, links },
+        room: WorkerBuffers { crew, links },
     };
     (begun, last)
 }

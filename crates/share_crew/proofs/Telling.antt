@@ -7,8 +7,8 @@ use Rattle.command_core.specs.Endings.{IsWritten, IsCut}
 use Rattle.command_core.specs.Answers.{Tells}
 use Rattle.command_core.proofs.Appending.{written_more, cut_more}
 use Rattle.share_replies.specs.Answers.{Shared}
-use Rattle.share_crew.specs.declared.opening.Begun.{Begun}
-use Rattle.share_crew.specs.declared.opening.Room.{Room}
+use Rattle.share_crew.specs.declared.opening.LockedShare.{LockedShare}
+use Rattle.share_crew.specs.declared.opening.WorkerBuffers.{WorkerBuffers}
 use Rattle.share_crew.specs.Begun.{Locks, Announces}
 
 -- after a prefix
@@ -28,7 +28,7 @@ cut_wider before after bytes more h = record {
 }
 
 module _ {D : Type 0} where
-  pub announces : (passes : ℕ) (share : Shared) (room : Room D) (line : List ℕ) (before after : OutputSeen) (result : Result (Begun D) ℕ) → Locks passes share room line before after result
+  pub announces : (passes : ℕ) (share : Shared) (room : WorkerBuffers D) (line : List ℕ) (before after : OutputSeen) (result : Result (LockedShare D) ℕ) → Locks passes share room line before after result
       → Announces passes share room line before after result
   announces passes share room line before after (Ok begun) h = h
   announces passes share room line before after (Err status) h = inr h

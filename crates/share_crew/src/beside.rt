@@ -15,7 +15,7 @@ ghost use Rattle.share_crew.specs.Lines.{links_in, requests_in};
 ghost use Rattle.share_crew.specs.Gathered.{HasGathered};
 
 use crate::gathering::{Gathered, gather};
-use crate::opening::Begun;
+use crate::opening::LockedShare;
 use crate::partner::Partner;
 use daap_outside::{Door, Net};
 use edit_keeping::Keeps;
@@ -99,7 +99,7 @@ pub fn run_workers<N: Net, P: Partner, R: Threads + Wait + Clock + Sync>(
     rt: &R,
     alloc: Global,
     net: &mut N,
-    mut begun: Begun<N::D>,
+    mut begun: LockedShare<N::D>,
     partner: &mut P,
 ) -> Gathered
     requires ready { IsReady (lock_id begun.lock) begun.first }

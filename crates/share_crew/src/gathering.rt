@@ -16,7 +16,7 @@ ghost use Rattle.share_crew.specs.Lines.{links_in, requests_in};
 ghost use Rattle.share_crew.specs.Stints.{Stint, IsHistoryOf, IsNumbered, passes_in};
 ghost use Rattle.share_crew.specs.Gathered.{HasGathered};
 
-use crate::opening::{Begun, Room};
+use crate::opening::{LockedShare, WorkerBuffers};
 use crate::outcome::LinkReports;
 use crate::verdict::{Verdict, verdict_of};
 use daap_outside::Net;
@@ -37,7 +37,7 @@ pub struct Gathered {
 
 /// Gathers workers that have ended, in their order: joins their lock handles, closes their listeners and keeps the
 /// reports of their connections.
-pub fn gather<N: Net>(net: &mut N, begun: Begun<N::D>) -> Gathered
+pub fn gather<N: Net>(net: &mut N, begun: LockedShare<N::D>) -> Gathered
     requires ready { IsReady (lock_id begun.lock) begun.first }
     requires crew { All (λ w. IsReady (lock_id begun.lock) w.pass) begun.room.crew.items }
     requires empty { begun.room.links.items ≡ [] }
@@ -59,10 +59,10 @@ pub fn gather<N: Net>(net: &mut N, begun: Begun<N::D>) -> Gathered
     ensures requests { (before : List (Member N.D)) → AllZip (HasEnded N.D.coming N.D.written N.D.faults) before begun.room.crew.items
         → length before ≤ 72 → requests_in result.links < 2 ^ 64 }
 {
-    let Begun {
+    let LockedShare {
         lock,
         mut first,
-        room: Room { crew, mut links },
+        room: WorkerBuffers { crew, mut links },
     } = begun;
     let verdict = verdict_of(crew.as_slice());
     join_each(&lock, net, &mut first, crew, &mut links);

@@ -17,7 +17,7 @@ pub use doors::shut_all;
 pub use gathering::{Gathered, gather, share_of};
 pub use hiring::add_workers;
 pub use lines::ended_line_of;
-pub use opening::{Begun, Room, announced};
+pub use opening::{LockedShare, WorkerBuffers, announced};
 pub use outcome::{LinkReports, Outcome};
 pub use partner::Partner;
 pub use verdict::{Verdict, verdict_of};

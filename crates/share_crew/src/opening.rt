@@ -15,31 +15,31 @@ use share_workers::Worker;
 use std::alloc::{AllocError, Global};
 
 /// A share under its lock, the first lock handle, and the capacity for workers and reports.
-pub struct Begun<D> {
+pub struct LockedShare<D> {
     pub lock: ShareLock<Share>,
     pub first: Pass<Share>,
-    pub room: Room<D>,
+    pub room: WorkerBuffers<D>,
 }
 
 /// Lists of workers and of the reports of their connections, with the capacity that they need.
 #[derive(Drop)]
-pub struct Room<D> {
+pub struct WorkerBuffers<D> {
     pub crew: Vec<Worker<D>>,
     pub links: Vec<Vec<LinkReport>>,
 }
 
-impl<D: Drop> Room<D> {
+impl<D: Drop> WorkerBuffers<D> {
     /// Returns empty lists with capacity for `workers` workers.
     ///
     /// # Errors
     ///
     /// Returns `AllocError` if an allocation fails.
-    pub fn of(alloc: Global, workers: usize) -> Result<Room<D>, AllocError>
+    pub fn of(alloc: Global, workers: usize) -> Result<WorkerBuffers<D>, AllocError>
         ensures { IfOk result (HasRoom workers) }
     {
         let crew = Vec::with_capacity(alloc, workers)?;
         let links = Vec::with_capacity(alloc, workers)?;
-        Ok(Room { crew, links })
+        Ok(WorkerBuffers { crew, links })
     }
 }
 
@@ -55,8 +55,8 @@ pub fn announced<W: Sink, D: Drop>(
     line: &[u8],
     share: Share,
     passes: u32,
-    room: Room<D>,
-) -> Result<Begun<D>, u8>
+    room: WorkerBuffers<D>,
+) -> Result<LockedShare<D>, u8>
     requires passes { 1 ≤ passes }
     requires opening { All (λ e. maker e ≡ 0) share.history }
     ensures { Announces passes share room line.now
@@ -76,8 +76,8 @@ fn locked<W: Sink, D: Drop>(
     output: &mut W,
     share: Share,
     passes: u32,
-    room: Room<D>,
-) -> Result<Begun<D>, u8>
+    room: WorkerBuffers<D>,
+) -> Result<LockedShare<D>, u8>
     requires passes { 1 ≤ passes }
     requires opening { All (λ e. maker e ≡ 0) share.history }
     ensures { (start : OutputSeen) (front : List ℕ)
@@ -85,7 +85,7 @@ fn locked<W: Sink, D: Drop>(
         → Locks passes share room front start (output_seen (W.taken output.new) (W.faults output.new)) result }
 {
     match ShareLock::open(alloc, share, passes) {
-        Ok((lock, first)) => Ok(Begun { lock, first, room }),
+        Ok((lock, first)) => Ok(LockedShare { lock, first, room }),
         Err(AllocError) => Err(out_of_memory(output, None).status),
     }
 }
