@@ -89,7 +89,12 @@ enum Way {
 }
 
 // Without clauses, so that other proofs do not unfold the specification of a command.
-fn obeyed<I: Source, W: Sink>(alloc: Global, way: Way, input: &mut I, output: &mut W) -> Outcome {
+fn run_command<I: Source, W: Sink>(
+    alloc: Global,
+    way: Way,
+    input: &mut I,
+    output: &mut W,
+) -> Outcome {
     match way {
         Way::There => write_json(alloc, input, output),
         Way::Back => read_json(alloc, input, output),
@@ -99,7 +104,7 @@ fn obeyed<I: Source, W: Sink>(alloc: Global, way: Way, input: &mut I, output: &m
 fn run_over(alloc: Global, way: Way, bytes: &[u8], pieces: Pieces) -> Result<Ran, AllocError> {
     let mut input = source(alloc, bytes, pieces)?;
     let mut output = sink(alloc, pieces)?;
-    let outcome = obeyed(alloc, way, &mut input, &mut output);
+    let outcome = run_command(alloc, way, &mut input, &mut output);
     Ok(left(outcome, output))
 }
 

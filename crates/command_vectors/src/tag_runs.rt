@@ -19,7 +19,7 @@ pub(crate) enum Asked {
 }
 
 // Without clauses, so that other proofs do not unfold the specification of a command.
-fn obeyed<I: Source, W: Sink>(
+fn run_command<I: Source, W: Sink>(
     alloc: Global,
     asked: Asked,
     input: &mut I,
@@ -37,7 +37,7 @@ fn obeyed<I: Source, W: Sink>(
 fn run_over(alloc: Global, asked: Asked, bytes: &[u8], pieces: Pieces) -> Result<Ran, AllocError> {
     let mut input = source(alloc, bytes, pieces)?;
     let mut output = sink(alloc, pieces)?;
-    let outcome = obeyed(alloc, asked, &mut input, &mut output);
+    let outcome = run_command(alloc, asked, &mut input, &mut output);
     Ok(left(outcome, output))
 }
 

@@ -21,7 +21,7 @@ use std::alloc::Global;
 use tag_commands::{check_tags, learn_codes, list_codes, read_shown, show_tags};
 
 /// Runs a command over standard input and output.
-pub fn obeyed<I: Source, W: Sink>(
+pub fn run_local<I: Source, W: Sink>(
     alloc: Global,
     command: &LocalCommand,
     input: &mut I,
@@ -37,18 +37,18 @@ pub fn obeyed<I: Source, W: Sink>(
         result }
 {
     match command {
-        LocalCommand::List(words) => listed(alloc, words, input, output),
-        LocalCommand::Show(words) => shown(alloc, words.back, input, output),
+        LocalCommand::List(words) => run_list(alloc, words, input, output),
+        LocalCommand::Show(words) => run_show(alloc, words.back, input, output),
         LocalCommand::Check => check_tags(alloc, input, output),
-        LocalCommand::Codes(words) => told_codes(alloc, words.learn, input, output),
-        LocalCommand::Replay(words) => replayed(alloc, words, input, output),
-        LocalCommand::Rehearse(words) => rehearsed(alloc, words, input, output),
-        LocalCommand::Json(words) => told_json(alloc, words.back, input, output),
+        LocalCommand::Codes(words) => run_codes(alloc, words.learn, input, output),
+        LocalCommand::Replay(words) => run_replay(alloc, words, input, output),
+        LocalCommand::Rehearse(words) => run_rehearse(alloc, words, input, output),
+        LocalCommand::Json(words) => run_json(alloc, words.back, input, output),
     }
 }
 
 /// Runs `list`.
-fn listed<I: Source, W: Sink>(
+fn run_list<I: Source, W: Sink>(
     alloc: Global,
     words: &ListWords,
     input: &mut I,
@@ -73,7 +73,7 @@ fn listed<I: Source, W: Sink>(
 }
 
 /// Runs `show`, or `show --back`.
-fn shown<I: Source, W: Sink>(alloc: Global, back: bool, input: &mut I, output: &mut W) -> Outcome
+fn run_show<I: Source, W: Sink>(alloc: Global, back: bool, input: &mut I, output: &mut W) -> Outcome
     ensures { (around : Around) → IsAnswered (shows back)
         (told_beside around
         (input_seen (I.left input.old) (I.faults input.old))
@@ -89,7 +89,7 @@ fn shown<I: Source, W: Sink>(alloc: Global, back: bool, input: &mut I, output: &
 }
 
 /// Runs `codes`, or `codes --learn`.
-fn told_codes<I: Source, W: Sink>(
+fn run_codes<I: Source, W: Sink>(
     alloc: Global,
     learn: bool,
     input: &mut I,
@@ -110,7 +110,7 @@ fn told_codes<I: Source, W: Sink>(
 }
 
 /// Runs `replay`.
-fn replayed<I: Source, W: Sink>(
+fn run_replay<I: Source, W: Sink>(
     alloc: Global,
     words: &ReplayWords,
     input: &mut I,
@@ -129,7 +129,7 @@ fn replayed<I: Source, W: Sink>(
 }
 
 /// Runs `rehearse`.
-fn rehearsed<I: Source, W: Sink>(
+fn run_rehearse<I: Source, W: Sink>(
     alloc: Global,
     words: &RehearseWords,
     input: &mut I,
@@ -155,12 +155,7 @@ fn rehearsed<I: Source, W: Sink>(
 }
 
 /// Runs `json`, or `json --back`.
-fn told_json<I: Source, W: Sink>(
-    alloc: Global,
-    back: bool,
-    input: &mut I,
-    output: &mut W,
-) -> Outcome
+fn run_json<I: Source, W: Sink>(alloc: Global, back: bool, input: &mut I, output: &mut W) -> Outcome
     ensures { (around : Around) → IsAnswered (jsons back)
         (told_beside around
         (input_seen (I.left input.old) (I.faults input.old))

@@ -23,7 +23,7 @@ use std::thread::Threads;
 use std::time::Clock;
 
 /// Runs a command over the network.
-pub fn obeyed_over_net<R: Threads + Wait + Clock + Sync, I: Source, W: Sink, F: Files, N: Net>(
+pub fn run_net<R: Threads + Wait + Clock + Sync, I: Source, W: Sink, F: Files, N: Net>(
     rt: &R,
     alloc: Global,
     command: NetCommand,

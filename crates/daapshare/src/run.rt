@@ -6,9 +6,9 @@ ghost use Rattle.daapshare_words.specs.Grammar.{texts_of};
 ghost use Rattle.daapshare_words.specs.Words.{command_of};
 ghost use Rattle.daapshare.specs.Table.{leaves_files, leaves_net, IsRun};
 
-use crate::local::obeyed;
+use crate::local::run_local;
 use crate::outcome::{Outcome, unlinked};
-use crate::over_net::obeyed_over_net;
+use crate::over_net::run_net;
 use crate::usage::UsageFault;
 use command_core::{Fault, out_of_memory, write_error};
 use daap_outside::{Files, Net, Sink, Source};
@@ -63,10 +63,8 @@ pub fn run<R: Threads + Wait + Clock + Sync, I: Source, W: Sink, F: Files, N: Ne
     ensures open_stays { N.open_count net.new ≡ N.open_count net.old }
 {
     match read_words(alloc, words) {
-        Ok(Command::Local(command)) => unlinked(alloc, obeyed(alloc, &command, input, output)),
-        Ok(Command::Net(command)) => {
-            obeyed_over_net(rt, alloc, command, input, output, files, net)
-        }
+        Ok(Command::Local(command)) => unlinked(alloc, run_local(alloc, &command, input, output)),
+        Ok(Command::Net(command)) => { run_net(rt, alloc, command, input, output, files, net) }
         Err(WordsError::Usage) => {
             unlinked(
                 alloc,

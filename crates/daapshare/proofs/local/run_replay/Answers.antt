@@ -3,7 +3,7 @@ use Rattle.std.proofs.lemmas.Bool.{leb-true}
 use Rattle.command_core.specs.Seen.{Told, input_seen, output_seen, told_beside}
 use Rattle.command_core.specs.Endings.{IsAnswered}
 use Rattle.share_commands.specs.ReplayShare.{replay_meaning}
-use Rattle.daapshare.proofs.local.replayed.Goals as goal
+use Rattle.daapshare.proofs.local.run_replay.Goals as goal
 
 pub replay_script-requires-clause-short : goal.replay_script-requires-clause-short
 replay_script-requires-clause-short g c = subst (λ (name : List ℕ). length name ≤ 255) (sym c.as_str.ensures) (leb-true _ _ c.requires.name)

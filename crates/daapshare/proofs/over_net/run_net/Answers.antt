@@ -13,7 +13,7 @@ use Rattle.serve_command.specs.Runs.{Left, ServeEnds}
 use Rattle.share_crew.specs.declared.outcome.Outcome.{Outcome as CrewOutcome}
 use Rattle.daapshare_words.specs.declared.command.NetCommand.{NetCommand}
 use Rattle.daapshare.specs.Table.{relaying_of, serving_of, target_of, IsRunOverNet}
-use Rattle.daapshare.proofs.over_net.obeyed_over_net.Goals as goal
+use Rattle.daapshare.proofs.over_net.run_net.Goals as goal
 
 pub returns-in-Serve-clause-answered : goal.returns-in-Serve-clause-answered
 returns-in-Serve-clause-answered g c =

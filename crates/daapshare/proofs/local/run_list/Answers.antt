@@ -3,7 +3,7 @@ use Rattle.item_model.specs.declared.request.Target.{Target}
 use Rattle.command_core.specs.Seen.{Told, input_seen, output_seen, told_beside}
 use Rattle.command_core.specs.Endings.{IsAnswered}
 use Rattle.share_commands.specs.ListShare.{list_meaning}
-use Rattle.daapshare.proofs.local.listed.Goals as goal
+use Rattle.daapshare.proofs.local.run_list.Goals as goal
 
 pub returns : goal.returns
 returns g c =

@@ -2,7 +2,7 @@ use Rattle.std.proofs.Common.{Bool, sym, subst}
 use Rattle.command_core.specs.Seen.{Told, input_seen, output_seen, told_beside}
 use Rattle.command_core.specs.Endings.{IsAnswered}
 use Rattle.daapshare.specs.Table.{jsons}
-use Rattle.daapshare.proofs.local.told_json.Goals as goal
+use Rattle.daapshare.proofs.local.run_json.Goals as goal
 
 pub returns-in-false : goal.returns-in-false
 returns-in-false g c =
