@@ -31,7 +31,7 @@ use crate::listings::rows;
 use crate::replies::{end, enter, log_in, log_out, next_session, read};
 use crate::said::nothing;
 use crate::settings::Settings;
-use crate::small::{codes, logged_in, revised, server_info};
+use crate::small::{codes, login_reply, revision_reply, server_info};
 use crate::stores::Stores;
 use crate::whole::rows_are_whole;
 use dmap_tags::Text;
@@ -301,7 +301,7 @@ impl Share {
             return Ok(Answer::Reply(self.read(nothing(507), 0)));
         }
         let id = next_session(&self.register);
-        let said = logged_in(self.alloc, id)?;
+        let said = login_reply(self.alloc, id)?;
         let reply = log_in(&mut self.register, by, said, id)?;
         Ok(Answer::Reply(reply))
     }
@@ -327,7 +327,7 @@ impl Share {
             let point = self.register.len();
             return Ok(Answer::Wait { revision, point });
         }
-        let said = revised(self.alloc, revision)?;
+        let said = revision_reply(self.alloc, revision)?;
         Ok(Answer::Reply(self.read(said, session)))
     }
 
@@ -372,7 +372,7 @@ impl Share {
         }
         let revision = self.register.revision();
         let next = revision + 1;
-        let said = revised(self.alloc, next)?;
+        let said = revision_reply(self.alloc, next)?;
         let reply = self.add(by, batch, said, steps)?;
         Ok(Answer::Reply(reply))
     }

@@ -57,7 +57,7 @@ pub(crate) fn codes(alloc: Global) -> Result<Said, AllocError>
 }
 
 /// Returns the reply to a login, with the id of the new session.
-pub(crate) fn logged_in(alloc: Global, session: u32) -> Result<Said, AllocError>
+pub(crate) fn login_reply(alloc: Global, session: u32) -> Result<Said, AllocError>
     ensures { IfOk result (λ said. IsSaid (200, Tagged (login_body session)) said) }
 {
     let mut tags = Tags::new(alloc);
@@ -67,7 +67,7 @@ pub(crate) fn logged_in(alloc: Global, session: u32) -> Result<Said, AllocError>
 }
 
 /// Returns the reply to an update, with a revision.
-pub(crate) fn revised(alloc: Global, revision: u32) -> Result<Said, AllocError>
+pub(crate) fn revision_reply(alloc: Global, revision: u32) -> Result<Said, AllocError>
     ensures { IfOk result (λ said. IsSaid (200, Tagged (revision_body revision)) said) }
 {
     let mut tags = Tags::new(alloc);
