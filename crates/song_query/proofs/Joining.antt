@@ -67,7 +67,7 @@ behind_none p q ps h = and_left _ _ (eq_false _ _ h)
 other_length : (xs ys : List ℕ) → length xs ≢ length ys → bytes_eq xs ys ≡ false
 other_length xs ys h = eq_false xs ys (λ (e : xs ≡ ys). h (ap length e))
 
--- a piece that is longer than the text is not its end
+-- a part that is longer than the text is not its end
 pub too_short : (p text : List ℕ) → length text < length p → from_some (joins (p ∷ [])) text ≡ false
 too_short p [] h = other_length [] p (omega arith)
 too_short p (c ∷ cs) h = or_from _ _ (other_length (c ∷ cs) p (omega arith)) (too_short p cs (omega arith))
@@ -202,7 +202,7 @@ pub joins_one : (first text : List ℕ) (others : List (List ℕ)) (r : Bool) �
 joins_one first text [] r e d = same_from_decides r _ d (bytes_eq-Decides (lowered text) (lowered first))
 joins_one first text (p ∷ ps) r e d = grind (arith, nat_tests)
 
--- the text begins with the first piece
+-- the text begins with the first part
 pub joins_more : (first text rest : List ℕ) (others : List (List ℕ)) → false ≡ (length others == 0) → take (length first) (lowered text) ≡ lowered first → lowered rest ≡ drop (length first) (lowered text)
     → from_some (joins (map lowered others)) (lowered rest) ≡ joins (lowered first ∷ map lowered others) (lowered text)
 joins_more first text rest [] h e d = absurd (false≢true h)
