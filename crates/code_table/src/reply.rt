@@ -73,8 +73,8 @@ impl CodeTable {
     /// Returns the table of a reply to `/content-codes`. Members that are not an `mdcl` are skipped.
     ///
     /// # Errors
-    /// Returns `NotReply` if the tag is not an `mccr`, `Entry` for a member without a row, `Repeated` for one with an
-    /// earlier member's code, and `Memory` if an allocation fails.
+    /// Returns `NotReply` if the tag is not an `mccr` list, `Entry` for an `mdcl` that lacks a part, `Repeated` for one
+    /// with the code of an earlier one, and `Memory` if an allocation fails.
     pub fn from_reply(alloc: Global, tag: &Tag) -> Result<CodeTable, CodeError>
         ensures { MatchResult result (λ table. table_of tag.now ≡ Ok table)
             (λ e. e ≢ CodeError.Memory → table_of tag.now ≡ Err e) }
