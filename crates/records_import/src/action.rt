@@ -1,4 +1,4 @@
-// What a record does.
+// The action of a record.
 
 ghost use Rattle.std.specs.Prelude.{◌≡◌};
 ghost use Rattle.records_import.specs.Actions.{drop_of_kind, is_property, least_id, put_of_kind, uses};
@@ -19,7 +19,7 @@ pub enum Action {
 }
 
 impl Action {
-    /// What is put of this kind.
+    /// Returns the action that puts this kind of thing.
     pub fn put_of_kind(kind: &[u8]) -> Option<Action>
         ensures { result ≡ put_of_kind kind.now }
     {
@@ -38,7 +38,7 @@ impl Action {
         None
     }
 
-    /// What is dropped of this kind.
+    /// Returns the action that drops this kind of thing.
     pub fn drop_of_kind(kind: &[u8]) -> Option<Action>
         ensures { result ≡ drop_of_kind kind.now }
     {
@@ -54,7 +54,7 @@ impl Action {
         None
     }
 
-    /// The least id of what is put or dropped. List 1 is always there and no record's.
+    /// Returns the least id that may be put or dropped. List 1 always exists, and no record names it.
     pub fn least_id(self) -> u32
         ensures { result ≡ least_id self }
     {
@@ -64,7 +64,7 @@ impl Action {
         }
     }
 
-    /// Whether the cells of a column say something to the action.
+    /// Returns whether the action uses the cells of a column.
     pub fn uses(self, column: Column) -> bool
         ensures { result ≡ uses self column }
     {
