@@ -44,7 +44,9 @@ edit h:1 => Ok(Net(Edit(EditWords { place: Text { text: \"h:1\" }, stop: false }
 edit --stop h:1 => Ok(Net(Edit(EditWords { place: Text { text: \"h:1\" }, stop: true })))\n\
 edit !~ => Ok(Net(Edit(EditWords { place: Text { text: \"!~\" }, stop: false })))\n\
 follow h 1 => Ok(Net(Follow(FollowWords { place: Text { text: \"h\" }, rounds: 1, query: None, meta: None, list: None })))\n\
-follow h 16384 --query x --meta=y --list 2 => Ok(Net(Follow(FollowWords { place: Text { text: \"h\" }, rounds: 16384, query: Some(Text { text: \"x\" }), meta: Some(Text { text: \"y\" }), list: Some(2) })))";
+follow h 16384 --query x --meta=y --list 2 => Ok(Net(Follow(FollowWords { place: Text { text: \"h\" }, rounds: 16384, query: Some(Text { text: \"x\" }), meta: Some(Text { text: \"y\" }), list: Some(2) })))\n\
+relay a b 1 => Ok(Net(Relay(RelayWords { upstream: Text { text: \"a\" }, listen: Text { text: \"b\" }, rounds: 1, name: Text { text: \"daapshare\" }, keep: 256, workers: 16 })))\n\
+relay --workers=64 a --name Attic b --keep 1 16384 => Ok(Net(Relay(RelayWords { upstream: Text { text: \"a\" }, listen: Text { text: \"b\" }, rounds: 16384, name: Text { text: \"Attic\" }, keep: 1, workers: 64 })))";
 
 /// Lines that are no commands. A blank at an end makes an empty word, and so does the empty line.
 const NONE: &str = "\
@@ -132,7 +134,17 @@ follow a 16385\n\
 follow 1 a\n\
 follow a 1 --list 0\n\
 follow a 1 --keep 1\n\
-follow a 1 2";
+follow a 1 2\n\
+relay a b\n\
+relay a b 0\n\
+relay a b 16385\n\
+relay 1 a b\n\
+relay  b 1\n\
+relay a caf\u{e9} 1\n\
+relay a b 1 --keep 65537\n\
+relay a b 1 --workers 65\n\
+relay a b 1 --editors 1\n\
+relay a b 1 --file F";
 
 /// Words, each with the number that it is, as it is shown.
 const NUMBERS: &str = "\
@@ -162,6 +174,7 @@ usage: daapshare list [--query Q] [--meta M] [--list ID]
        daapshare serve LISTEN EDIT [--name N] [--keep K] [--workers W] [--editors E] [--file F]
        daapshare edit PLACE [--stop]
        daapshare follow PLACE ROUNDS [--query Q] [--meta M] [--list ID]
+       daapshare relay UPSTREAM LISTEN ROUNDS [--name N] [--keep K] [--workers W]
        daapshare json [--back]
 ";
 

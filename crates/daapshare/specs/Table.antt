@@ -1,15 +1,17 @@
 -- What each command means, a line for each, and how a run of it ends.
-use Rattle.std.specs.Prelude.{ℕ, Bool, true, false, not, is_some, Option, Some, None}
+use Rattle.std.specs.Prelude.{◌≡◌, ℕ, Bool, true, false, not, is_some, Option, Some, None}
 use Rattle.item_model.specs.declared.request.Target.{Target}
 use Rattle.item_model.specs.declared.request.Target.TheVariants.{Items, Container}
 use Rattle.command_core.specs.Endings.{IsAnswered}
 use Rattle.command_core.specs.Meanings.{Meaning}
-use Rattle.command_core.specs.Seen.{Told}
+use Rattle.command_core.specs.Seen.{IsUnread, Told}
 use Rattle.json_commands.specs.Json.{json_meaning}
 use Rattle.json_commands.specs.JsonBack.{json_back_meaning}
 use Rattle.link_commands.specs.EditShare.{edit_meaning}
 use Rattle.link_commands.specs.FollowShare.{follow_meaning}
 use Rattle.link_commands.specs.Meanings.{IsLinkAnswered}
+use Rattle.relay_command.specs.declared.terms.Relaying.{Relaying}
+use Rattle.relay_command.specs.Runs.{RelayEnds}
 use Rattle.serve_command.specs.declared.terms.Serving.{Serving}
 use Rattle.serve_command.specs.Runs.{ServeEnds}
 use Rattle.tag_commands.specs.Check.{check_meaning}
@@ -26,9 +28,10 @@ use Rattle.daapshare_words.specs.declared.command.LocalCommand.{LocalCommand}
 use Rattle.daapshare_words.specs.declared.command.LocalCommand.TheVariants as local
 use Rattle.daapshare_words.specs.declared.command.NetCommand.{NetCommand}
 use Rattle.daapshare_words.specs.declared.command.NetCommand.TheVariants as net
+use Rattle.daapshare_words.specs.declared.relay.RelayWords.{RelayWords}
 use Rattle.daapshare_words.specs.declared.serve.ServeWords.{ServeWords}
 use Rattle.daapshare.specs.declared.outcome.Outcome.{Outcome}
-use Rattle.daapshare.specs.Left.{Unlinked, left_by}
+use Rattle.daapshare.specs.Left.{Unlinked, crew_of, left_by}
 use Rattle.daapshare.specs.Usage.{usage_meaning}
 
 abbrev pub shows : (back : Bool) → Meaning
@@ -70,12 +73,30 @@ serving_of words = record {
   file = words.file;
 }
 
+-- the share that is relayed
+abbrev pub relaying_of : RelayWords → Relaying
+relaying_of words = record {
+  upstream = words.upstream;
+  listen = words.listen;
+  rounds = words.rounds;
+  name = words.name;
+  keep = words.keep;
+  workers = words.workers;
+}
+
+-- a share was relayed, and neither the input nor files were touched
+pub record IsRelayed (relaying : Relaying) (told : Told) (outcome : Outcome) : Type 0 where
+  pub unread : IsUnread told.before.input told.after.input
+  pub files : told.after.around.files ≡ told.before.around.files
+  pub ends : RelayEnds relaying told.before.around.net told.after.around.net told.output_before told.output_after (crew_of outcome)
+
 -- a run of a command over the net ends as it means
 abbrev pub IsRunOverNet : NetCommand → Told → Outcome → Type 0
 IsRunOverNet (net.Serve words) told outcome = ServeEnds (serving_of words) told (left_by outcome)
 IsRunOverNet (net.Edit words) told outcome = Unlinked (IsLinkAnswered (edit_meaning words.place words.stop) told) outcome
 IsRunOverNet (net.Follow words) told outcome =
     Unlinked (IsLinkAnswered (follow_meaning words.place words.rounds words.query words.meta (target_of words.list)) told) outcome
+IsRunOverNet (net.Relay words) told outcome = IsRelayed (relaying_of words) told outcome
 
 -- a run ends as the command of its words means
 abbrev pub IsRun : Option Command → Told → Outcome → Type 0

@@ -1,7 +1,10 @@
-//! What holds of mirrors of a share, over all histories, targets, queries and choices of properties. The functions do
-//! nothing; each has a law as its contract.
+//! What holds of all mirrors of a share and of all runs of `serve` and `follow`. The functions do nothing; each has a law as its
+//! contract.
 
 ghost use Rattle.mirror_core.specs.Laws.{MirrorsFollowAnswers, FullBodiesSuffice};
+ghost use Rattle.served_mirrors.specs.Laws.{FollowersHoldTheShare};
+ghost use Rattle.serve_and_follow.specs.Laws.{RunsMeet};
+ghost use Rattle.serve_command.specs.Laws.{RunsAreDecided};
 
 use mirror_core::laws;
 
@@ -18,4 +21,29 @@ pub fn a_full_body_suffices()
     ensures { FullBodiesSuffice }
 {
     laws::a_full_body_suffices();
+}
+
+/// A mirror that followed a share over a connection which the share served holds all rows that its query selects, at the
+/// revision of its last round. Each listing that it applied is the share's at a point of the one history, none before that
+/// of the listing before it.
+pub fn followers_hold_the_share()
+    ensures { FollowersHoldTheShare }
+{
+    served_mirrors::laws::followers_hold_the_share();
+}
+
+/// So a run of `follow` over a connection of a run of `serve` writes in the end the rows that the share had at the revision of
+/// the last round.
+pub fn runs_meet()
+    ensures { RunsMeet }
+{
+    serve_and_follow::laws::runs_meet();
+}
+
+/// Arguments and input decide how a run of `serve` ends if nothing outside fails, except for failed allocations and for workers
+/// that served as much as they may.
+pub fn runs_of_serve_are_decided()
+    ensures { RunsAreDecided }
+{
+    serve_command::laws::runs_are_decided();
 }

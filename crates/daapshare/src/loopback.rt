@@ -1,6 +1,7 @@
 //! A share, one who changes it and two mirrors, each a run of the program in a thread of its own, over sockets of this machine.
 
 mod crowd;
+mod relays;
 
 use crate::run::run;
 use daap_outside::{

@@ -2,7 +2,7 @@
 
 ghost use Rattle.std.specs.Prelude.{◌≡◌, []};
 ghost use Rattle.serve_command.specs.Outcomes.{left_of};
-ghost use Rattle.daapshare.specs.Left.{core_of, left_by};
+ghost use Rattle.daapshare.specs.Left.{core_of, crew_of, left_by};
 
 use item_model::Entries;
 use serve_command::LinkReports;
@@ -29,9 +29,10 @@ pub fn unlinked(alloc: Global, ended: command_core::Outcome) -> Outcome
     }
 }
 
-/// The outcome of a share that was served.
+/// The outcome of a share that was served or relayed.
 pub fn linked(ended: serve_command::Outcome) -> Outcome
-    ensures { left_by result ≡ left_of ended }
+    ensures served { left_by result ≡ left_of ended }
+    ensures crew { crew_of result ≡ ended }
 {
     Outcome {
         status: ended.status,

@@ -3,16 +3,19 @@
 ghost use Rattle.std.specs.Prelude.{◌≡◌, Some, true};
 ghost use Rattle.daapshare_words.specs.declared.command.Command.TheVariants.{Net as OverNet};
 ghost use Rattle.command_core.specs.Seen.{files_seen, input_seen, net_seen, output_seen, seen, told_in};
+ghost use Rattle.daapshare_words.specs.Relay.{AreRelayWords};
 ghost use Rattle.daapshare_words.specs.Serve.{AreServeWords};
 ghost use Rattle.daapshare_words.specs.Words.{IsNetRanged};
+ghost use Rattle.relay_command.specs.Terms.{MayRelay};
 ghost use Rattle.serve_command.specs.Terms.{MayServe};
-ghost use Rattle.daapshare.specs.Table.{leaves_files, serving_of, IsRunOverNet};
+ghost use Rattle.daapshare.specs.Table.{leaves_files, relaying_of, serving_of, IsRunOverNet};
 
 use crate::local::target_of;
 use crate::outcome::{Outcome, linked, unlinked};
 use daap_outside::{Files, Net, Sink, Source};
-use daapshare_words::{NetCommand, ServeWords};
+use daapshare_words::{NetCommand, RelayWords, ServeWords};
 use link_commands::{edit_share, follow_share};
+use relay_command::{Relaying, relay};
 use serve_command::{Serving, serve};
 use std::alloc::Global;
 use std::sync::Wait;
@@ -42,6 +45,7 @@ pub fn obeyed_over_net<R: Threads + Wait + Clock + Sync, I: Source, W: Sink, F: 
         (output_seen (W.taken output.new) (W.faults output.new)))
         result }
     ensures files { leaves_files (Some (OverNet command)) ≡ true → files.new ≡ files.old }
+    ensures open_stays { N.open_count net.new ≡ N.open_count net.old }
 {
     match command {
         NetCommand::Serve(words) => {
@@ -64,6 +68,7 @@ pub fn obeyed_over_net<R: Threads + Wait + Clock + Sync, I: Source, W: Sink, F: 
             );
             unlinked(alloc, ended)
         }
+        NetCommand::Relay(words) => linked(relay(rt, alloc, &relaying_of(words), output, net)),
     }
 }
 
@@ -81,5 +86,21 @@ fn serving_of(words: ServeWords) -> Serving
         workers: words.workers,
         editors: words.editors,
         file: words.file,
+    }
+}
+
+/// The share that the words of `relay` ask for.
+fn relaying_of(words: RelayWords) -> Relaying
+    requires { AreRelayWords words }
+    ensures asked { result ≡ relaying_of words }
+    ensures may { MayRelay result }
+{
+    Relaying {
+        upstream: words.upstream,
+        listen: words.listen,
+        rounds: words.rounds,
+        name: words.name,
+        keep: words.keep,
+        workers: words.workers,
     }
 }

@@ -48,6 +48,9 @@ pub fn run<R: Threads + Wait + Clock + Sync, I: Source, W: Sink, F: Files, N: Ne
     // Files are left alone by all commands but `serve` with a file, and the net is by all but those over it.
     ensures files { leaves_files (command_of (texts_of words.now)) ≡ true → files.new ≡ files.old }
     ensures net { leaves_net (command_of (texts_of words.now)) ≡ true → net.new ≡ net.old }
+
+    // Each door and each connected link was given back, however the run ended.
+    ensures open_stays { N.open_count net.new ≡ N.open_count net.old }
 {
     match read_words(alloc, words) {
         Ok(Command::Local(command)) => unlinked(alloc, obeyed(alloc, &command, input, output)),

@@ -10,6 +10,7 @@ pub mod Rehearse
 pub mod Serve
 pub mod Edit
 pub mod Follow
+pub mod Relay
 pub mod Json
 pub mod Usage
 pub mod Words

@@ -10,6 +10,7 @@ use Rattle.daapshare_words.specs.Rehearse.{rehearse_usage}
 use Rattle.daapshare_words.specs.Serve.{serve_usage}
 use Rattle.daapshare_words.specs.Edit.{edit_usage}
 use Rattle.daapshare_words.specs.Follow.{follow_usage}
+use Rattle.daapshare_words.specs.Relay.{relay_usage}
 use Rattle.daapshare_words.specs.Json.{json_usage}
 
 abbrev pub usage_line : (margin words : Text) → List ℕ
@@ -30,4 +31,5 @@ usage_text =
     ++ under serve_usage
     ++ under edit_usage
     ++ under follow_usage
+    ++ under relay_usage
     ++ under json_usage

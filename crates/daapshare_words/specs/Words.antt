@@ -11,13 +11,14 @@ use Rattle.daapshare_words.specs.Rehearse.{rehearse_command, AreRehearseWords}
 use Rattle.daapshare_words.specs.Serve.{serve_command, AreServeWords}
 use Rattle.daapshare_words.specs.Edit.{edit_command, AreEditWords}
 use Rattle.daapshare_words.specs.Follow.{follow_command, AreFollowWords}
+use Rattle.daapshare_words.specs.Relay.{relay_command, AreRelayWords}
 use Rattle.daapshare_words.specs.Json.{json_command}
 use Rattle.daapshare_words.specs.declared.command.Command.{Command}
 use Rattle.daapshare_words.specs.declared.command.Command.TheVariants.{Local, Net}
 use Rattle.daapshare_words.specs.declared.command.LocalCommand.{LocalCommand}
 use Rattle.daapshare_words.specs.declared.command.LocalCommand.TheVariants.{Replay, Rehearse}
 use Rattle.daapshare_words.specs.declared.command.NetCommand.{NetCommand}
-use Rattle.daapshare_words.specs.declared.command.NetCommand.TheVariants.{Serve, Edit, Follow}
+use Rattle.daapshare_words.specs.declared.command.NetCommand.TheVariants.{Serve, Edit, Follow, Relay}
 use Rattle.daapshare_words.specs.declared.command.WordsError.{WordsError}
 use Rattle.daapshare_words.specs.declared.command.WordsError.TheVariants.{Usage, Memory}
 
@@ -27,7 +28,8 @@ net_command_named name words =
     if bytes_eq name (codes "serve") then serve_command words
     else (if bytes_eq name (codes "edit") then edit_command words
     else (if bytes_eq name (codes "follow") then follow_command words
-    else None))
+    else (if bytes_eq name (codes "relay") then relay_command words
+    else None)))
 
 -- the command of a name
 abbrev pub command_named : Text → List Text → Option Command
@@ -62,6 +64,7 @@ abbrev pub IsNetRanged : NetCommand → Type 0
 IsNetRanged (Serve words) = AreServeWords words
 IsNetRanged (Edit words) = AreEditWords words
 IsNetRanged (Follow words) = AreFollowWords words
+IsNetRanged (Relay words) = AreRelayWords words
 
 abbrev pub IsRanged : Command → Type 0
 IsRanged (Local command) = IsLocalRanged command

@@ -10,10 +10,11 @@ use crate::follow::FollowWords;
 use crate::json::JsonWords;
 use crate::list::ListWords;
 use crate::rehearse::RehearseWords;
+use crate::relay::RelayWords;
 use crate::replay::ReplayWords;
 use crate::serve::ServeWords;
 use crate::show::ShowWords;
-use crate::{check, codes, edit, follow, json, list, rehearse, replay, serve, show};
+use crate::{check, codes, edit, follow, json, list, rehearse, relay, replay, serve, show};
 use clap::error::ErrorKind;
 use std::alloc::{AllocError, Global};
 use thiserror::Error;
@@ -55,6 +56,8 @@ pub enum NetCommand {
     Edit(EditWords),
     /// A mirror of a share, for some rounds.
     Follow(FollowWords),
+    /// A share that follows another one.
+    Relay(RelayWords),
 }
 
 /// Why no command was read.
@@ -142,6 +145,8 @@ fn read_net_words(alloc: Global, name: &str, words: &[&str]) -> Result<Command, 
         edit::read(alloc, words)
     } else if name == "follow" {
         follow::read(alloc, words)
+    } else if name == "relay" {
+        relay::read(alloc, words)
     } else {
         Err(WordsError::Usage)
     }

@@ -3,7 +3,7 @@
 ghost use Rattle.std.specs.Prelude.{◌≡◌, ◌++◌, ◌∷◌, [], codes, IfOk, OnOk};
 ghost use Rattle.daapshare_words.specs.Usage.{usage_line, usage_text};
 
-use crate::{check, codes, edit, follow, json, list, rehearse, replay, serve, show};
+use crate::{check, codes, edit, follow, json, list, rehearse, relay, replay, serve, show};
 use std::alloc::{AllocError, Global};
 
 /// The whole text. It stands on the output where the words are no command's.
@@ -20,6 +20,7 @@ pub fn usage_text(alloc: Global) -> Result<Vec<u8>, AllocError>
     push_line(&mut text, "       ", serve::USAGE)?;
     push_line(&mut text, "       ", edit::USAGE)?;
     push_line(&mut text, "       ", follow::USAGE)?;
+    push_line(&mut text, "       ", relay::USAGE)?;
     push_line(&mut text, "       ", json::USAGE)?;
     Ok(text)
 }

@@ -27,7 +27,7 @@ use Rattle.item_model.specs.declared.request.Look.{Look}
 use Rattle.item_model.specs.declared.request.Meta.{Meta}
 use Rattle.item_model.specs.declared.request.Target.{Target}
 use Rattle.item_model.specs.declared.request.Target.TheVariants.{Items, Container}
-use Rattle.item_model.specs.Items.{is_item, is_of_kind, is_value_of, value_of}
+use Rattle.item_model.specs.Items.{IsText, is_item, is_of_kind, is_value_of, value_of}
 use Rattle.item_model.specs.Projection.{asked, keys, property_tag, shown, value_leaf}
 use Rattle.item_model.specs.Properties.{is_same, property_code, property_kind}
 use Rattle.item_model.proofs.Places.{value_fits}
@@ -46,8 +46,9 @@ use Rattle.share_history.proofs.SessionFacts.{few_batches}
 use Rattle.listing_plan.proofs.Bodies.{listings_are_short}
 use Rattle.mirror_client.specs.Tellings.{IsTag}
 use Rattle.item_model.specs.Valid.{is_valid}
-use Rattle.followed_shares.specs.Whole.{AreWhole, IsText, IsWhole, PutsWhole}
-use Rattle.followed_shares.proofs.WholeFacts.{AreSmall, IsRow, each_both, each_filtered, each_front, rows_are, small_keys}
+use Rattle.share_history.specs.Whole.{AreWhole, IsWhole, PutsWhole}
+use Rattle.share_history.proofs.WholeFacts.{each_both, each_front}
+use Rattle.followed_shares.proofs.WholeFacts.{AreSmall, IsRow, each_filtered, rows_are, small_keys}
 
 -- ---- tags that fit below a list
 

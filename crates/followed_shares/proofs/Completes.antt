@@ -43,7 +43,7 @@ use Rattle.mirror_client.proofs.StageFacts.{held_more}
 use Rattle.mirror_client.proofs.TellingFacts.{tags_once}
 use Rattle.followed_shares.specs.Laws.{ServedRunsGoOn}
 use Rattle.followed_shares.specs.Served.{Rise, Round, Serves, ServesRounds, ServesRun, asked_behind, points_of}
-use Rattle.followed_shares.specs.Whole.{IsWhole}
+use Rattle.share_history.specs.Whole.{IsWhole}
 use Rattle.followed_shares.proofs.BodiesRead.{listing_body_read}
 use Rattle.followed_shares.proofs.FilterShown.{each_whole, few, learned, left_owed, listing_is, login_tag, owed_split, revision_tag, split_on, standard_back, table_tag}
 use Rattle.followed_shares.proofs.Successes.{Begins, answer_is, empty_served, tag_served}
@@ -247,7 +247,7 @@ stops_outside request Undue p taken e bytes rest told owed b never (inr a) =
 not_both : (r : Result (List CodeRow) CodeError) (e : CodeError) (rows : List CodeRow) → r ≡ Err e → r ≡ Ok rows → ⊥
 not_both r e rows h k = true≢false (sym (ap is_ok k) ∙ ap is_ok h)
 
-table_due : (used : ℕ) (e : FollowError) → UndueTable used (200, spelling (table_reply standard_rows)) e → IsOutside e
+pub table_due : (used : ℕ) (e : FollowError) → UndueTable used (200, spelling (table_reply standard_rows)) e → IsOutside e
 table_due used (Refused status) h = absurd (h.1 refl)
 table_due used (BadReply at) h = absurd (h.1 (table_reply standard_rows) table_tag)
 table_due used (Ended at) h = absurd h
@@ -258,7 +258,7 @@ table_due used (Codes error) h =
 table_due used LinkFault h = inl refl
 table_due used Memory h = inr refl
 
-number_due : (c : Four) (rows : List CodeRow) (tag : Tree) (n used : ℕ) (e : FollowError) → rows ≡ standard_rows → IsTag standard_rows (spelling tag) tag → number_told c tag ≡ Some n
+pub number_due : (c : Four) (rows : List CodeRow) (tag : Tree) (n used : ℕ) (e : FollowError) → rows ≡ standard_rows → IsTag standard_rows (spelling tag) tag → number_told c tag ≡ Some n
     → UndueNumber c rows used (200, spelling tag) e → IsOutside e
 number_due c rows tag n used (Refused status) standard is told h = absurd (h.1 refl)
 number_due c rows tag n used (BadReply at) standard is told h =
@@ -270,7 +270,7 @@ number_due c rows tag n used (Codes error) standard is told h = absurd h
 number_due c rows tag n used LinkFault standard is told h = inl refl
 number_due c rows tag n used Memory standard is told h = inr refl
 
-end_due : (used : ℕ) (e : FollowError) → UndueEnd used (204, []) e → IsOutside e
+pub end_due : (used : ℕ) (e : FollowError) → UndueEnd used (204, []) e → IsOutside e
 end_due used (Refused status) h = absurd (h.1 refl)
 end_due used (BadReply at) h = absurd h
 end_due used (Ended at) h = absurd h
@@ -295,7 +295,7 @@ taken_due keep m h tag (mirror.Backwards held told) later is refused =
     omega (arith, later, v, refused.2, refused.3, refused.4)
 taken_due keep m h tag mirror.Memory later is refused = refused
 
-listing_due : (keep : ℕ) (rows : List CodeRow) (m : Mirrored) (h : List Entry) (used : ℕ) (e : FollowError) → rows ≡ standard_rows → m.held.revision ≤ revision (batches h) → IsWhole h
+pub listing_due : (keep : ℕ) (rows : List CodeRow) (m : Mirrored) (h : List Entry) (used : ℕ) (e : FollowError) → rows ≡ standard_rows → m.held.revision ≤ revision (batches h) → IsWhole h
     → UndueListing rows m used (200, spelling (listing_body keep h m.target (mirror_look m.query m.meta m.held.revision))) e → IsOutside e
 listing_due keep rows m h used (Refused status) standard later whole x = absurd (x.1 refl)
 listing_due keep rows m h used (BadReply at) standard later whole x =

@@ -15,7 +15,7 @@ use Rattle.share_replies.specs.Replies.{Nothing, Replies, Reply as share_reply, 
 use Rattle.http_front.specs.ReplyHeads.{reply_head_text}
 use Rattle.http_client.specs.Replies.{Reply}
 use Rattle.reply_bytes.specs.ReplyBytes.{reply_bytes}
-use Rattle.followed_shares.specs.Whole.{IsWhole}
+use Rattle.share_history.specs.Whole.{IsWhole}
 use Rattle.followed_shares.proofs.FilterShown.{few, number_tag}
 use Rattle.followed_shares.proofs.HeadsRead.{empty_read, tag_read}
 use Rattle.followed_shares.proofs.Successes.{Begins, good_status, success_bytes}

@@ -50,10 +50,10 @@ use Rattle.mirror_client.proofs.ServedFacts.{followers_hold_what_the_share_has}
 use Rattle.mirror_client.proofs.TellingFacts.{tags_once}
 use Rattle.followed_shares.specs.Laws.{FollowersHoldTheRows, last_revision, rows_at}
 use Rattle.followed_shares.specs.Served.{Rise, Round, ServesRounds, ServesRun, first_of, points_of}
-use Rattle.followed_shares.specs.Whole.{IsWhole}
+use Rattle.share_history.specs.Whole.{IsWhole}
 use Rattle.followed_shares.proofs.BodiesRead.{listing_body_read, small_revision}
 use Rattle.followed_shares.proofs.Successes.{answer_is, empty_served, tag_served}
-use Rattle.followed_shares.proofs.WholeFacts.{point_whole}
+use Rattle.share_history.proofs.WholeFacts.{point_whole}
 
 -- ---- points
 
@@ -201,7 +201,7 @@ few table tag is =
     let short = leb-true (length (payload tag)) 1073741824 (and_parts (nat_le (levels tag) 32) (nat_le (length (payload tag)) 1073741824) limits).1 in
     omega (arith, payload_length tag, short)
 
-tells : (rows : List CodeRow) (answer : Reply) (tag : Tree) → rows ≡ standard_rows → answer ≡ (200, spelling tag) → IsTag standard_rows (spelling tag) tag → Tells rows answer tag
+pub tells : (rows : List CodeRow) (answer : Reply) (tag : Tree) → rows ≡ standard_rows → answer ≡ (200, spelling tag) → IsTag standard_rows (spelling tag) tag → Tells rows answer tag
 tells rows answer tag standard is read =
     subst (λ (a : Reply). Tells rows a tag) (sym is) (refl, subst (λ (r : List CodeRow). IsTag r (spelling tag) tag) (sym standard) read)
 
@@ -285,12 +285,12 @@ last_told : (held : Held) (l : Listing) (ls : List Listing) → last_revision (a
 last_told held l [] = refl
 last_told held l (k ∷ ls) = last_told (mirror_after held l) k ls
 
-held_last : (held : Held) (ls : List Listing) → 1 ≤ length ls → last_revision (all_applied held ls) ≡ (held_after held ls).revision
+pub held_last : (held : Held) (ls : List Listing) → 1 ≤ length ls → last_revision (all_applied held ls) ≡ (held_after held ls).revision
 held_last held [] some = absurd (omega (arith, some))
 held_last held (l ∷ ls) some = last_told held l ls
 
 -- the history at the revision of one of its points has the batches of that point
-point_batches : (h point later : List Entry) → h ≡ point ++ later → batches (at_revision h (revision (batches point))) ≡ batches point
+pub point_batches : (h point later : List Entry) → h ≡ point ++ later → batches (at_revision h (revision (batches point))) ≡ batches point
 point_batches h point later same =
     batches-at_revision h (revision (batches point)) ∙ ap (λ (bs : List (List Edit)). up_to bs (revision (batches point))) (ap batches same ∙ batches-append point later)
     ∙ taken (batches point) (batches later)

@@ -44,7 +44,7 @@ by_found h want (Some t) held told reply is bad good =
 by_found h want None true told reply is bad good = absurd (cc)
 by_found h want None false told reply is bad good = sym (ap (λ (a : Answer). told_in a told) is)
 
-success_is : (s : Settings) (h : List Entry) (want : Want) (reply : Reply) → answer_to s h want ≡ Replies reply → is_bad (reply.status, reply.body) ≡ false
+pub success_is : (s : Settings) (h : List Entry) (want : Want) (reply : Reply) → answer_to s h want ≡ Replies reply → is_bad (reply.status, reply.body) ≡ false
     → (reply.status, reply.body) ≡ success s h want
 success_is s h want reply is good = by_found h want (refusal h want) (is_held h want) (success s h want) reply is (refusals_have is_bad h want bad_refusals) good
 

@@ -1,37 +1,23 @@
 -- The rows and the keys of a listing of a whole history.
-use Rattle.std.proofs.Common.{◌≡◌, ◌<◌, ◌≤◌, ◌^◌, ℕ, ◌==◌, List, [], ◌∷◌, ◌++◌, Bool, true, false, cond, ◌&&◌, nat_le, nat_lt, Option, Some, None, filter, length, unwrap_or, count_by, refl, sym, ap, ◌∙◌, subst, arith, append_assoc, length-append}
+use Rattle.std.proofs.Common.{◌≡◌, ◌<◌, ◌^◌, ℕ, ◌==◌, List, [], ◌∷◌, Bool, true, false, cond, ◌&&◌, nat_le, nat_lt, Option, Some, None, filter, unwrap_or}
 use Rattle.std.specs.List.{AllByRecursion, cons_option}
 use Rattle.std.specs.Option.{option_map, option_and_then, option_or}
 use Rattle.std.proofs.lemmas.Bool.{and_parts, ltb-true}
-use Rattle.std.proofs.lemmas.List.Sums.{sum_by-cons}
 use Rattle.item_model.specs.declared.changes.Edit.{Edit}
 use Rattle.item_model.specs.declared.changes.Edit.TheVariants.{PutItem, DropItem, PutList, PutRule, DropList, PutMember, DropMember}
-use Rattle.item_model.specs.declared.changes.Entry.{Entry}
 use Rattle.item_model.specs.declared.item.Row.{Row}
 use Rattle.item_model.specs.declared.query.Query.{Query}
 use Rattle.item_model.specs.declared.request.Target.{Target}
 use Rattle.item_model.specs.declared.request.Target.TheVariants.{Items, Container}
 use Rattle.item_model.specs.Valid.{is_id, is_list_id, is_valid}
-use Rattle.share_history.specs.Histories.{all_edits, batches, edits}
 use Rattle.share_history.specs.Keyed.{ascending, pairs_at}
 use Rattle.share_history.specs.LastSaid.{Playlist, Plain, Ruled, item_at, last_said, list_at, member_at, only_if, says_item}
-use Rattle.share_history.specs.Limits.{takes_place}
 use Rattle.share_history.specs.Named.{keys_in, named_keys}
 use Rattle.share_history.specs.Numbers.{base_list}
 use Rattle.share_history.specs.Rows.{if_asked, in_list, in_target, is_asked, row_at, rows}
-use Rattle.share_history.proofs.EditFacts.{batches-append}
+use Rattle.share_history.specs.Whole.{AreWhole, IsWholeRow, PutsWhole}
 use Rattle.share_history.proofs.KeyedFacts.{all-ascending}
-use Rattle.followed_shares.specs.Whole.{AreWhole, IsWhole, IsWholeRow, PutsWhole}
-
--- ---- lists by recursion
-
-pub each_both : {A : Type 0} (P : A → Type 0) (xs ys : List A) → AllByRecursion P xs → AllByRecursion P ys → AllByRecursion P (xs ++ ys)
-each_both P [] ys h k = k
-each_both P (x ∷ xs) ys h k = (h.0, each_both P xs ys h.1 k)
-
-pub each_front : {A : Type 0} (P : A → Type 0) (xs ys : List A) → AllByRecursion P (xs ++ ys) → AllByRecursion P xs
-each_front P [] ys h = tt
-each_front P (x ∷ xs) ys h = (h.0, each_front P xs ys h.1)
+use Rattle.share_history.proofs.WholeFacts.{each_both}
 
 pub each_filtered : {A : Type 0} (P : A → Type 0) (p : A → Bool) (xs : List A) → AllByRecursion P xs → AllByRecursion P (filter p xs)
 each_filtered P p [] h = tt
@@ -157,23 +143,3 @@ pairs_are f (k ∷ ks) finds small = with_one (f k) (finds k) (pairs_are f ks fi
 pub rows_are : (es : List Edit) (target : Target) (q : Option Query) → AreWhole es → AllByRecursion IsRow (rows es target q)
 rows_are es target q whole =
     pairs_are (row_at es target q) (ascending (named_keys es)) (λ k. row_finds es target q k whole) (small_keys es whole)
-
--- ---- points
-
-edits_both : (bs cs : List (List Edit)) → edits (bs ++ cs) ≡ edits bs ++ edits cs
-edits_both [] cs = refl
-edits_both (b ∷ bs) cs = ap (λ (es : List Edit). b ++ es) (edits_both bs cs) ∙ sym (append_assoc b (edits bs) (edits cs))
-
-count_front : (p : Entry → Bool) (h k : List Entry) → count_by p h ≤ count_by p (h ++ k)
-count_front p [] k = omega arith
-count_front p (e ∷ h) k = omega (arith, count_front p h k, sum_by-cons (λ x. cond (p x) 1 0) e h, sum_by-cons (λ x. cond (p x) 1 0) e (h ++ k))
-
--- each point of a whole history is one
-pub point_whole : (h later : List Entry) → IsWhole (h ++ later) → IsWhole h
-point_whole h later whole =
-    let all : all_edits (h ++ later) ≡ all_edits h ++ all_edits later = ap edits (batches-append h later) ∙ edits_both (batches h) (batches later) in
-    record {
-      edits = each_front (λ e. (is_valid e ≡ true) × PutsWhole e) (all_edits h) (all_edits later) (subst AreWhole all whole.edits);
-      few_edits = let few = whole.few_edits in omega (arith, few, ap length all, length-append (all_edits h) (all_edits later));
-      few_entries = let few = whole.few_entries in omega (arith, few, count_front takes_place h later);
-    }

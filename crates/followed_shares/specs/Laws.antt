@@ -16,7 +16,7 @@ use Rattle.mirror_client.specs.declared.refusal.FollowError.{FollowError}
 use Rattle.mirror_client.specs.declared.refusal.FollowError.TheVariants.{LinkFault, Memory}
 use Rattle.mirror_client.specs.Runs.{Followed}
 use Rattle.mirror_client.specs.Stages.{Begun, StopsFrom}
-use Rattle.followed_shares.specs.Whole.{IsWhole}
+use Rattle.share_history.specs.Whole.{IsWhole}
 use Rattle.followed_shares.specs.Served.{ServesRun}
 
 -- the revision that the last round told

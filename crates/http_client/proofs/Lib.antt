@@ -8,5 +8,6 @@ mod TargetsBack
 mod PathsBack
 mod ParametersBack
 mod WantsBack
-mod RequestBack
+pub mod RequestBack
+pub mod StatusRead
 mod Pushes

@@ -20,6 +20,7 @@ use Rattle.share_asks.specs.declared.ask.Verb.{Verb}
 use Rattle.share_asks.specs.declared.ask.Verb.TheVariants as verb
 use Rattle.share_asks.specs.declared.ask.Want.{Want}
 use Rattle.share_asks.specs.declared.ask.Want.TheVariants.{ServerInfo, Codes, Login, Logout, Update, Databases, Rows, Lists, Values, Edit, Stop, Bad}
+use Rattle.http_client.specs.Laws.{RequestsReadBack}
 use Rattle.http_client.specs.Requests.{CanSend, HasNumbers, IsRead, IsSent, IsSmall, length_line, request_line, request_text, sent_body, verb_for}
 use Rattle.http_client.specs.Targets.{IsTextOf, target_of}
 use Rattle.http_client.proofs.HeadsBack.{AreParts, few_fields, head_framed, head_is, head_short, head_text, is_shown, length_text, length_told, line_count, printed_head, sent_head, sent_method, sent_target, stays_open, told_len}
@@ -194,6 +195,9 @@ request_read ask host text is may numbers utf8 read sent =
       spell = (sent_spells ask host may numbers utf8 read sent, tt);
       joined = is ∙ text_is ask.want host ∙ sym (append-nil (print_message m)) ∙ sym (append-nil (print_message m ++ []));
     })
+
+pub requests_read_back : RequestsReadBack
+requests_read_back ask host may numbers utf8 read sent = request_read ask host (request_text ask.want host) refl may numbers utf8 read sent
 
 -- three facts of a call's answer give a fourth
 pub if_all : {T E : Type 0} {P Q : T → Type 0} {A B : Type 0} (r : Result T E) → ((v : T) → P v → A → B → Q v) → IfOk r P → OnOk r A → OnOk r B → IfOk r Q

@@ -2,3 +2,4 @@ pub mod Replies
 pub mod Gathers
 pub mod Targets
 pub mod Requests
+pub mod Laws

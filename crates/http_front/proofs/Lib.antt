@@ -2,5 +2,6 @@ pub mod FirstPlace
 pub mod OneAsk
 pub mod ReadingLaws
 pub mod Fed
+pub mod ValidRefusals
 pub mod ValidWants
 pub mod Decided

@@ -10,7 +10,7 @@ use Rattle.http_heads.specs.declared.refusal.HeadError.TheVariants.{Memory}
 use Rattle.http_heads.specs.Gathering.{Gathered}
 use Rattle.http_heads.specs.Messages.{HasNoMessage, IsMessage, IsRefused, Message, Refuses, print_message}
 use Rattle.http_heads.specs.Scanning.{start}
-use Rattle.http_heads.proofs.Messages.{goes_further, idle_stands, open_goes, open_none, refusals_are_one, refusals_stay, refused_none, splits_once}
+use Rattle.http_heads.proofs.Messages.{goes_further, idle_stands, message_once, open_goes, open_none, refusals_are_one, refusals_stay, refused_none, splits_once}
 use Rattle.share_asks.specs.declared.ask.Ask.{Ask}
 use Rattle.share_asks.specs.declared.ask.Role.{Role}
 use Rattle.http_front.specs.Asks.{Spells}
@@ -228,22 +228,39 @@ parted role [] (x ∷ xs) ys k = absurd k
 parted role (m ∷ ms) (x ∷ xs) ys k =
     let rest = parted role ms xs ys k.1 in (m ∷ rest.0, rest.1, ap (λ (l : List Message). m ∷ l) rest.2, (k.0, rest.3))
 
+-- bytes that begin with some asks begin with the first of them
+pub earlier_asks : (role : Role) (bytes : List ℕ) (asks others : List Ask) (rest : List ℕ) → Joins role bytes (asks ++ others) rest → (left : List ℕ) × Joins role bytes asks left
+earlier_asks role bytes asks others rest j = let parts = parted role j.requests asks others j.spell in (
+  flat_map print_message parts.1 ++ rest,
+  record {
+    requests = parts.0;
+    spell = parts.3;
+    joined =
+        j.joined ∙ ap (λ (ms : List Message). flat_map print_message ms ++ rest) parts.2
+        ∙ ap (λ b. b ++ rest) (flat_both parts.0 parts.1) ∙ append_assoc (flat_map print_message parts.0) (flat_map print_message parts.1) rest;
+  },
+)
+
+-- a text that reads as one ask is the first request of all bytes that begin with it
+pub first_ask : (role : Role) (text more : List ℕ) (ask a : Ask) (asks : List Ask) (rest : List ℕ) → IsReading role text (reading (ask ∷ []) [] None)
+    → Joins role (text ++ more) (a ∷ asks) rest → (a ≡ ask) × Joins role more asks rest
+first_ask role text more ask a asks rest is j = by_first is.joins.requests is.joins.spell is.joins.joined j.requests j.spell j.joined
+  where
+    by_first : (ms : List Message) → AllZip (Spells role) ms (ask ∷ []) → text ≡ flat_map print_message ms ++ [] → (ns : List Message) → AllZip (Spells role) ns (a ∷ asks)
+        → text ++ more ≡ flat_map print_message ns ++ rest → (a ≡ ask) × Joins role more asks rest
+    by_first [] h e ns k f = absurd h
+    by_first (m ∷ x ∷ ms) h e ns k f = absurd h.1
+    by_first (m ∷ []) h e [] k f = absurd k
+    by_first (m ∷ []) h e (n ∷ ns) k f =
+        let once = message_once Request m n more (flat_map print_message ns ++ rest) h.0.1.0 k.0.1.0
+        (sym (ap (λ b. b ++ more) (e ∙ append-nil (print_message m ++ []) ∙ append-nil (print_message m))) ∙ f
+        ∙ append_assoc (print_message n) (flat_map print_message ns) rest) in
+        (one_ask role m a ask (subst (λ (x : Message). Spells role x a) (sym once.0) k.0) h.0, record { requests = ns; spell = k.1; joined = once.1 })
+
 unwaited : (fed : List ℕ) (handed : List Ask) (r : Reader) (ready : Option Ask) → r.ready ≡ ready → IsReading r.role fed (reading (handed ++ option_to_list ready) r.kept None)
     → (rest : List ℕ) × Joins r.role fed handed rest
 unwaited fed handed r None is h = (r.kept, subst (λ (asks : List Ask). Joins r.role fed asks r.kept) (append-nil handed) h.joins)
-unwaited fed handed r (Some ask) is h = before h.joins
-  where
-    before : Joins r.role fed (handed ++ ask ∷ []) r.kept → (rest : List ℕ) × Joins r.role fed handed rest
-    before j = let parts = parted r.role j.requests handed (ask ∷ []) j.spell in (
-      flat_map print_message parts.1 ++ r.kept,
-      record {
-        requests = parts.0;
-        spell = parts.3;
-        joined =
-            j.joined ∙ ap (λ (ms : List Message). flat_map print_message ms ++ r.kept) parts.2
-            ∙ ap (λ b. b ++ r.kept) (flat_both parts.0 parts.1) ∙ append_assoc (flat_map print_message parts.0) (flat_map print_message parts.1) r.kept;
-      },
-    )
+unwaited fed handed r (Some ask) is h = earlier_asks r.role fed handed (ask ∷ []) r.kept h.joins
 
 joined_by : (fed : List ℕ) (handed : List Ask) (r : Reader) (error : Option HeadError) → ReadAs fed handed r error → (rest : List ℕ) × Joins r.role fed handed rest
 joined_by fed handed r None h = unwaited fed handed r r.ready refl h

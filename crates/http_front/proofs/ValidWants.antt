@@ -30,6 +30,7 @@ use Rattle.http_front.specs.Targets.{local_part, path_of, query_of}
 use Rattle.http_front.specs.Wants.{NumberThen, MetaThen, RangeThen, QueryThen, RowsInRange, AskedRows, RowsWant, ValuesWant, filter_or, BodyReads, PlaceWant, WithMethod, AtPlace}
 use Rattle.http_front.specs.declared.routes.Place.{Place}
 use Rattle.http_front.specs.declared.routes.Place.TheVariants as place
+use Rattle.http_front.proofs.ValidRefusals.{refusal_valid}
 
 abbrev pub Fits : Want → Type 0
 Fits w = IsValidWant w × IsReadableWant w
@@ -92,7 +93,7 @@ values_valid browse query =
 
 body_valid : (body : List ℕ) (answer : Result (List OneEdit) RecordError) → BodyReads body answer → Fits (Edit answer)
 body_valid body (Ok edits) h = ((batch_valid (table_of body) edits h).0, record { text = body; reads = h })
-body_valid body (Err error) h = (h.0, tt)
+body_valid body (Err error) h = (refusal_valid (table_of body) error h.1, tt)
 
 edit_valid : (query body : List ℕ) → IsSafe (PlaceWant place.Edit query body)
 unfolding IsSafe

@@ -7,7 +7,7 @@ use Rattle.std.proofs.lemmas.Bool.Decides.{nat_tests}
 use Rattle.item_model.specs.declared.property.Property.{Property}
 use Rattle.item_model.specs.declared.item.PropValue.{PropValue}
 use Rattle.item_model.specs.Properties.{rank_of, is_same}
-use Rattle.item_model.specs.Items.{is_value_of, rises_from, with_value, value_of}
+use Rattle.item_model.specs.Items.{AreTexts, IsText, is_value_of, rises_from, with_value, value_of}
 use Rattle.item_model.proofs.Ranks.{same_property}
 
 abbrev Entry : Type 0
@@ -67,6 +67,17 @@ value_fits p n [] h = tt
 value_fits p n (e ∷ es) h =
     let k = (and_parts _ _ (and_parts _ _ h).1) in
     fits_step p e (value_of p es) (is_same e.0 p) refl k.0 (value_fits p (rank_of e.0 + 1) es k.1)
+
+texts_step : (p : Property) (v : PropValue) (e : Entry) (es with : List Entry) (b s : Bool) → IsText v → IsText e.1 → AreTexts es → AreTexts with
+    → AreTexts (cond b (e ∷ with) (cond s ((p, v) ∷ es) ((p, v) ∷ e ∷ es)))
+texts_step p v e es with true s new old others rest = (old, rest)
+texts_step p v e es with false true new old others rest = (new, others)
+texts_step p v e es with false false new old others rest = (new, (old, others))
+
+-- a text that is UTF-8 leaves all texts UTF-8
+pub stay_texts : (p : Property) (v : PropValue) (es : List Entry) → IsText v → AreTexts es → AreTexts (with_value p v es)
+stay_texts p v [] new h = (new, tt)
+stay_texts p v (e ∷ es) new h = texts_step p v e es (with_value p v es) (nat_lt (rank_of e.0) (rank_of p)) (is_same e.0 p) new h.0 h.1 (stay_texts p v es new h.1)
 
 -- what holds of a value holds of a reference to it
 pub through : (P : PropValue → Type 0) (r : Option (Bor PropValue)) (o : Option PropValue) → option_copied r ≡ o → IfSome o P → IfSome r (λ v. P v.now)

@@ -1,6 +1,7 @@
 -- An item: properties with their values, in the order of listings, each property at most once.
 use Rattle.std.specs.Prelude.{◌≡◌, ◌<◌, ◌≤◌, slice_set, false, ℕ, List, [], ◌∷◌, ◌+◌, ◌^◌, Option, Some, None, Bool, true, ◌&&◌, nat_lt, nat_le, length, if◌then◌else◌}
-use Rattle.std.specs.List.{insert}
+use Rattle.std.specs.List.{AllByRecursion, insert}
+use Rattle.std.specs.Str.{is_utf8}
 use Rattle.dmap_tags.specs.declared.kinds.Kind.{Kind}
 use Rattle.dmap_tags.specs.declared.kinds.Kind.TheVariants.{U8, I8, U16, I16, U32, I32, U64, I64, Text, Date, Version, List as Members, Opaque}
 use Rattle.item_model.specs.declared.property.Property.{Property}
@@ -57,6 +58,14 @@ rises_from n (e ∷ entries) = nat_le n (rank_of e.0) && (is_value_of e.0 e.1 &&
 
 abbrev pub is_item : List (Property × PropValue) → Bool
 is_item entries = rises_from 0 entries
+
+-- a text is UTF-8
+abbrev pub IsText : PropValue → Type 0
+IsText (Number n) = Unit {0}
+IsText (Words bytes) = is_utf8 bytes ≡ true
+
+abbrev pub AreTexts : List (Property × PropValue) → Type 0
+AreTexts entries = AllByRecursion (λ e. IsText e.1) entries
 
 -- the value of a property, and none where the item lacks it
 abbrev pub value_of : Property → List (Property × PropValue) → Option PropValue

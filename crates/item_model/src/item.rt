@@ -1,7 +1,7 @@
 //! Items and rows.
 
 ghost use Rattle.std.specs.Prelude.{◌≡◌, ◌↔◌, ◌<◌, [], OnOk, OnErr, IfOk, IfSome, MatchResult, option_copied, nat_lt, true, false, vec_len, vec_capacity};
-ghost use Rattle.item_model.specs.Items.{is_value_of, numbers_of, is_text_of, value_of, with_value, Replaces, ComesIn};
+ghost use Rattle.item_model.specs.Items.{is_item, is_value_of, numbers_of, is_text_of, value_of, with_value, AreTexts, IsText, Replaces, ComesIn};
 ghost use Rattle.item_model.specs.Folds.{Serves, ServesIfAny, IsSoughtIfAny};
 
 use crate::folds::{Sought, find_fold, fold_copies, fold_of, keep};
@@ -36,12 +36,12 @@ impl Model for Item {
 
     ghost Value = { List (Property × PropValue) };
 
-    ghost use Rattle.item_model.specs.Items.{is_item};
+    ghost use Rattle.item_model.specs.Items.{AreTexts, is_item};
     ghost use Rattle.item_model.specs.Folds.{AreFolds};
 
     ghost view = { λ a. a.entries.items };
 
-    ghost invariant = { λ a. (is_item a.entries.items ≡ true) × AreFolds a.entries.items a.folds.items };
+    ghost invariant = { λ a. (is_item a.entries.items ≡ true) × AreFolds a.entries.items a.folds.items × AreTexts a.entries.items };
 }
 
 /// An item with its id.
@@ -94,7 +94,8 @@ impl PropValue {
 
     // What an item keeps beside the value.
     fn fold(&self, alloc: Global) -> Result<Option<Text>, AllocError>
-        ensures { IfOk result (λ kept. Serves kept self.now) }
+        ensures serves { IfOk result (λ kept. Serves kept self.now) }
+        ensures text { IsText self.now }
     {
         match self {
             PropValue::Number(_) => Ok(None),
@@ -191,6 +192,15 @@ impl Item {
         keep(&mut self.folds, property, fold)?;
         set(&mut self.entries, property, value);
         Ok(())
+    }
+
+    /// What every item has: its properties are in order, each once, with a value of its kind and range, and its texts are
+    /// UTF-8. The call does nothing.
+    pub fn is_whole(&self)
+        ensures item { is_item self.now ≡ true }
+        ensures texts { AreTexts self.now }
+    {
+        let _ = &self.entries;
     }
 
     /// Lets go of room for further properties, without memory.

@@ -15,7 +15,7 @@ use Rattle.mirror_core.specs.declared.mirror.Applied.{Applied}
 use Rattle.mirror_core.specs.Mirrored.{Mirrored}
 use Rattle.followed_shares.specs.Laws.{last_revision, rows_at}
 use Rattle.followed_shares.specs.Served.{ServesRun}
-use Rattle.followed_shares.specs.Whole.{IsWhole}
+use Rattle.share_history.specs.Whole.{IsWhole}
 use Rattle.link_commands.specs.Decided.{DecidesEdit, DecidesFollow, IsOrMemory, IsTextRefused}
 use Rattle.link_commands.specs.Looks.{AsksMirror}
 use Rattle.link_commands.specs.Meanings.{KeepsNet}

@@ -81,7 +81,7 @@ pub fn edit_share<I: Source, W: Sink, N: Net>(
     output: &mut W,
     net: &mut N,
 ) -> Outcome
-    ensures { (files : FilesSeen) → IsLinkAnswered (edit_meaning place.now stop)
+    ensures answered { (files : FilesSeen) → IsLinkAnswered (edit_meaning place.now stop)
         (told_over files
         (input_seen (I.left input.old) (I.faults input.old))
         (input_seen (I.left input.new) (I.faults input.new))
@@ -90,6 +90,7 @@ pub fn edit_share<I: Source, W: Sink, N: Net>(
         (output_seen (W.taken output.old) (W.faults output.old))
         (output_seen (W.taken output.new) (W.faults output.new)))
         result }
+    ensures open_stays { N.open_count net.new ≡ N.open_count net.old }
 {
     match net.connect(place) {
         Ok(mut link) => {

@@ -69,13 +69,14 @@ pub fn follow_share<W: Sink, N: Net>(
 ) -> Outcome
     requires some { 1 ≤ rounds }
     requires few { rounds ≤ 16384 }
-    ensures { (files : FilesSeen) (input : InputSeen) → IsLinkAnswered (follow_meaning place.now rounds (option_copied query.entry) (option_copied meta.entry) target)
+    ensures answered { (files : FilesSeen) (input : InputSeen) → IsLinkAnswered (follow_meaning place.now rounds (option_copied query.entry) (option_copied meta.entry) target)
         (told_over files input input
         (net_seen (N.asked net.old) (N.written net.old) (N.door_links net.old) (N.next_input net.old) (N.faults net.old))
         (net_seen (N.asked net.new) (N.written net.new) (N.door_links net.new) (N.next_input net.new) (N.faults net.new))
         (output_seen (W.taken output.old) (W.faults output.old))
         (output_seen (W.taken output.new) (W.faults output.new)))
         result }
+    ensures open_stays { N.open_count net.new ≡ N.open_count net.old }
 {
     let mut mirror = match mirror_for(alloc, query, meta, target) {
         Ok(mirror) => mirror,

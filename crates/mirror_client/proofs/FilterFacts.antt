@@ -13,7 +13,7 @@ use Rattle.mirror_client.specs.Laws.{AreAnswers, FollowersHoldTheFilter, NeverFa
 use Rattle.mirror_client.specs.Steps.{held_after}
 
 -- one answer more
-caught_up : (keep : ℕ) (target : Target) (query : Option Query) (meta : Meta) (h later k : List Entry) (held : Held) (l : Listing) → k ≡ h ++ later
+pub caught_up : (keep : ℕ) (target : Target) (query : Option Query) (meta : Meta) (h later k : List Entry) (held : Held) (l : Listing) → k ≡ h ++ later
     → held ≡ mirrored (batches h) target query meta → l ≡ listing keep (batches k) target (mirror_look query meta (revision (batches h)))
     → mirror_after held l ≡ mirrored (batches k) target query meta
 caught_up keep target query meta h later k held l further holds is =

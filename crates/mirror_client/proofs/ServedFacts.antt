@@ -33,7 +33,7 @@ listing_revision : (keep : ℕ) (bs : List (List Edit)) (target : Target) (look 
 listing_revision keep bs target look = by_kept (is_kept keep bs target look.base) bs target look look.base
 
 -- the listing that was taken in is the one with which the share answered
-told_listing : (keep : ℕ) (rows : List CodeRow) (m : Mirrored) (answer : Reply) (l : Listing) (h : List Entry) → TellsListing rows m answer l
+pub told_listing : (keep : ℕ) (rows : List CodeRow) (m : Mirrored) (answer : Reply) (l : Listing) (h : List Entry) → TellsListing rows m answer l
     → Tells rows answer (listing_body keep h m.target (mirror_look m.query m.meta m.held.revision))
     → l ≡ listing keep (batches h) m.target (mirror_look m.query m.meta m.held.revision)
 told_listing keep rows m answer l h t share =

@@ -1,6 +1,7 @@
 -- Walks through the stages of a client that follows.
-use Rattle.std.proofs.Common.{◌≡◌, ℕ, ◌<◌, ◌==◌, List, [], ◌∷◌, ◌++◌, length, Bool, true, false, Option, Some, refl, sym, ap, ◌∙◌, inl, inr, subst, eq-eqb, arith}
+use Rattle.std.proofs.Common.{◌≡◌, ℕ, ◌<◌, ◌==◌, List, [], ◌∷◌, ◌++◌, length, take, Bool, true, false, Option, Some, refl, sym, ap, ◌∙◌, inl, inr, subst, eq-eqb, arith}
 use Rattle.std.proofs.lemmas.Bool.{ne_eqb}
+use Rattle.std.specs.Io.KnownBytes.{Appends}
 use Rattle.dmap_tags.specs.Codes.{code}
 use Rattle.share_asks.specs.declared.ask.Want.TheVariants as want
 use Rattle.share_history.specs.Listings.{Listing}
@@ -11,7 +12,7 @@ use Rattle.http_client.specs.Replies.{Reply}
 use Rattle.http_client.specs.Requests.{request_text}
 use Rattle.mirror_client.specs.declared.refusal.FollowError.{FollowError}
 use Rattle.mirror_client.specs.declared.refusal.FollowError.TheVariants.{Memory}
-use Rattle.mirror_client.specs.Exchanges.{Exchange, Exchanged}
+use Rattle.mirror_client.specs.Exchanges.{Exchange, Exchanged, requests}
 use Rattle.mirror_client.specs.Points.{Point}
 use Rattle.mirror_client.specs.Runs.{Followed}
 use Rattle.mirror_client.specs.Stages.{Asking, Begun, Closed, Holding, Leads, LeadsOn, Learned, Path, Stage, StopsFrom, UndueBehind, UndueIn, Walks, behind_round, due, listings_in}
@@ -19,6 +20,12 @@ use Rattle.mirror_client.specs.Steps.{FailsToOpen, Known, Opened, TellsListing, 
 use Rattle.mirror_client.specs.Stopping.{Stops}
 use Rattle.mirror_client.specs.Tellings.{TellsNumber, UndueNumber}
 use Rattle.mirror_client.proofs.ExchangeFacts.{unwritten, went_nowhere, went_on}
+
+-- what a client wrote that stopped is its requests and a part of the next one
+pub part_written : (request : List ℕ) (Undue : ℕ → Reply → FollowError → Type 0) (p : Point) (taken : Option (List ℕ)) (e : FollowError) → Stops request Undue p taken e → (part : List ℕ) × Appends p.taken taken part
+part_written request Undue p taken e (inl s) = (take s.written.0 request, s.written.2)
+part_written request Undue p taken e (inr a) =
+    (requests (a.exchange ∷ []), subst (λ (o : Option (List ℕ)). Appends p.taken o (requests (a.exchange ∷ []))) a.written a.went.written)
 
 -- ---- walks
 

@@ -3,3 +3,4 @@ pub mod Nets
 pub mod Staying
 pub mod Staff
 pub mod Success
+pub mod Shown

@@ -1,5 +1,5 @@
 -- What success says of the workers.
-use Rattle.std.proofs.Common.{◌≡◌, ◌++◌, ℕ, List, Bool, true, false, cond, true≢false, nat_le, Option, None, Some, refl, sym, ap, ◌∙◌, inl, inr, arith}
+use Rattle.std.proofs.Common.{◌≡◌, ℕ, List, [], Bool, true, false, cond, true≢false, nat_le, Option, None, Some, refl, sym, ap, ◌∙◌, inl, inr, arith}
 use Rattle.std.proofs.lemmas.Bool.{le-leb}
 use Rattle.command_core.specs.declared.fault.Fault.{Fault}
 use Rattle.command_core.specs.declared.fault.Fault.TheVariants as fault
@@ -53,9 +53,9 @@ first_none (Some f) (Some g) is = absurd (by_rank (nat_le (rank_of (Some g)) (ra
     by_rank true is = cc
     by_rank false is = cc
 
-pub end_none : (front lines : List ℕ) (f : Option (Fault RelayFault)) (before after : OutputSeen) (status : ℕ) → TellsEnd front lines f before after status → status ≡ 0 → f ≡ None
-end_none front lines f before after status (inl h) zero = behind_none (front ++ lines) f before after status h zero
-end_none front lines f before after status (inr h) zero = first_none f (Some fault.Memory) (behind_none front (worse f (Some fault.Memory)) before after status h zero)
+pub end_none : (lines : List ℕ) (f : Option (Fault RelayFault)) (before after : OutputSeen) (status : ℕ) → TellsEnd lines f before after status → status ≡ 0 → f ≡ None
+end_none lines f before after status (inl h) zero = behind_none lines f before after status h zero
+end_none lines f before after status (inr h) zero = first_none f (Some fault.Memory) (behind_none [] (worse f (Some fault.Memory)) before after status h zero)
 
 crew_none : (v : Verdict) → crew_fault v ≡ None → v ≡ crew.Done
 crew_none crew.Done is = refl

@@ -4,3 +4,4 @@ pub mod Terms
 pub mod Places
 pub mod Begun
 pub mod Runs
+pub mod Laws

@@ -5,6 +5,7 @@ use Rattle.daap_outside.specs.Counts.{Rose}
 use Rattle.daap_outside.specs.Told.{BeginsEmpty, Grows, GrowsByTold}
 use Rattle.item_model.specs.declared.changes.Entry.{Entry}
 use Rattle.share_history.specs.Histories.{batches, revision}
+use Rattle.share_history.specs.Whole as histories
 use Rattle.share_lock.specs.Known.{fresh}
 use Rattle.share_server.specs.Passes.{Pass}
 use Rattle.share_server.specs.declared.report.LinkReport.{LinkReport}
@@ -12,6 +13,7 @@ use Rattle.share_workers.specs.declared.worker.WorkerEnd.TheVariants.{AcceptFaul
 use Rattle.command_core.specs.declared.fault.Fault.{Fault}
 use Rattle.command_core.specs.declared.fault.Fault.TheVariants.{Memory}
 use Rattle.command_core.specs.Answers.{Tells}
+use Rattle.command_core.specs.Endings.{IsWritten}
 use Rattle.command_core.specs.Faults.{fault_line, fault_status, memory_line}
 use Rattle.command_core.specs.Seen.{NetSeen, OutputSeen}
 use Rattle.link_commands.specs.Linked.{LinkSeen, start_of}
@@ -46,10 +48,9 @@ TellsBehind text (Some fault) before after status =
 abbrev pub TellsRuling : Option (Fault RelayFault) → OutputSeen → OutputSeen → ℕ → Type 0
 TellsRuling fault before after status = TellsBehind [] fault before after status
 
--- behind a front the lines and the fault were told, or there was no memory for the lines
-abbrev pub TellsEnd : (front lines : List ℕ) → Option (Fault RelayFault) → OutputSeen → OutputSeen → ℕ → Type 0
-TellsEnd front lines fault before after status =
-    TellsBehind (front ++ lines) fault before after status ⊎ TellsBehind front (worse fault (Some Memory)) before after status
+-- the lines and the fault were told, or there was no memory for the lines
+abbrev pub TellsEnd : (lines : List ℕ) → Option (Fault RelayFault) → OutputSeen → OutputSeen → ℕ → Type 0
+TellsEnd lines fault before after status = TellsBehind lines fault before after status ⊎ TellsRuling (worse fault (Some Memory)) before after status
 
 -- ---- the run
 
@@ -64,6 +65,7 @@ pub record RelayStint : Type 0 where
 pub record HasServed (relaying : Relaying) (front : List ℕ) (net net' : NetSeen) (output output' : OutputSeen) (left : Outcome) : Type 0 where
   pub history : List Entry
   pub history_is : left.history ≡ Some history
+  pub whole_history : histories.IsWhole history
   pub crew : List (Stint (settings_of relaying) [])
   pub roles : map (λ stint. stint.role) crew ≡ roles_of relaying
   pub links : left.links ≡ map (λ stint. stint.reports) crew
@@ -79,9 +81,12 @@ pub record HasServed (relaying : Relaying) (front : List ℕ) (net net' : NetSee
   pub asked : Grows net.asked net'.asked (places_of relaying)
   pub written : GrowsByTold net.written net'.written (option_map (λ bytes. flat_map returns_of crew ++ (bytes, nat_lt 0 relay.link.faults) ∷ []) relay.link.taken)
   pub counts : MatchBool (has_end AcceptFault (map (λ stint. stint.end) crew) || is_fault relay.report.end) (Rose net.faults net'.faults) (net'.faults ≡ net.faults)
-  pub told : TellsEnd front
+  -- the first line was written whole, so a share whose first line fails is served to nobody; what was told at the end comes after it
+  pub at_line : OutputSeen
+  pub line_written : IsWritten output at_line front
+  pub told : TellsEnd
       (last_lines (revision (batches history)) left.links relay.report.rounds.items (worse (crew_fault (verdict_of (map (λ stint. stint.end) crew))) (end_fault relay.report.end)))
-      (worse (crew_fault (verdict_of (map (λ stint. stint.end) crew))) (end_fault relay.report.end)) output output' left.status
+      (worse (crew_fault (verdict_of (map (λ stint. stint.end) crew))) (end_fault relay.report.end)) at_line output' left.status
   -- success says that all links were served, or a stop came
   pub whole : left.status ≡ 0 → AllByRecursion (IsWhole history) crew
 

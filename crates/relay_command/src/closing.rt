@@ -1,11 +1,11 @@
 //! What stands behind the last round: the lines that tell what was relayed and served, and the status.
 
-ghost use Rattle.std.specs.Prelude.{◌≡◌, ◌<◌, ◌^◌, ◌++◌, ℕ, List, Some, map, IfOk, MatchResult};
-ghost use Rattle.command_core.specs.Seen.{OutputSeen, output_seen};
-ghost use Rattle.command_core.specs.Endings.{IsWritten};
+ghost use Rattle.std.specs.Prelude.{◌≡◌, ◌<◌, ◌^◌, ◌++◌, Some, map, IfOk, MatchResult};
+ghost use Rattle.command_core.specs.Seen.{output_seen};
 ghost use Rattle.command_core.specs.declared.fault.Fault.TheVariants.{Memory};
 ghost use Rattle.relay_command.specs.Faults.{worse};
 ghost use Rattle.share_history.specs.Histories.{batches, revision};
+ghost use Rattle.share_history.specs.Whole.{IsWhole};
 ghost use Rattle.share_crew.specs.Lines.{ended_line, links_in, requests_in};
 ghost use Rattle.relay_command.specs.Lines.{round_line, round_lines};
 ghost use Rattle.relay_command.specs.Runs.{TellsBehind, TellsEnd, TellsRuling, last_lines};
@@ -33,9 +33,12 @@ pub(crate) fn closed<W: Sink>(
     requires links { links_in links < 2 ^ 64 }
     requires requests { requests_in links < 2 ^ 64 }
     ensures history { result.history ≡ Some share.history }
+    ensures whole { IsWhole share.history }
     ensures links { result.links ≡ links }
-    ensures told { (start : OutputSeen) (front : List ℕ) → IsWritten start (output_seen (W.taken output.old) (W.faults output.old)) front
-        → TellsEnd front (last_lines (revision (batches share.history)) links rounds.now fault) fault start (output_seen (W.taken output.new) (W.faults output.new)) result.status }
+    ensures told { TellsEnd (last_lines (revision (batches share.history)) links rounds.now fault) fault
+        (output_seen (W.taken output.old) (W.faults output.old))
+        (output_seen (W.taken output.new) (W.faults output.new))
+        result.status }
 {
     let lines = last_lines(alloc, share.revision(), links.as_slice(), rounds, &fault);
     let status = told(alloc, output, lines, fault);
@@ -99,10 +102,15 @@ fn told<W: Sink>(
     lines: Result<Vec<u8>, AllocError>,
     fault: Option<Fault<RelayFault>>,
 ) -> u8
-    ensures { (start : OutputSeen) (front : List ℕ) → IsWritten start (output_seen (W.taken output.old) (W.faults output.old)) front
-        → MatchResult lines
-        (λ text. TellsBehind (front ++ text.items) fault start (output_seen (W.taken output.new) (W.faults output.new)) result)
-        (λ _. TellsBehind front (worse fault (Some Memory)) start (output_seen (W.taken output.new) (W.faults output.new)) result) }
+    ensures { MatchResult lines
+        (λ text. TellsBehind text.items fault
+        (output_seen (W.taken output.old) (W.faults output.old))
+        (output_seen (W.taken output.new) (W.faults output.new))
+        result)
+        (λ _. TellsRuling (worse fault (Some Memory))
+        (output_seen (W.taken output.old) (W.faults output.old))
+        (output_seen (W.taken output.new) (W.faults output.new))
+        result) }
 {
     match lines {
         Ok(lines) => match put_all(output, lines.as_slice()) {

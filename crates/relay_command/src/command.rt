@@ -1,6 +1,6 @@
 //! The command, whole.
 
-ghost use Rattle.std.specs.Prelude.{◌≡◌, ◌+◌, length, map};
+ghost use Rattle.std.specs.Prelude.{◌≡◌, ◌+◌, ◌-◌, length, map};
 ghost use Rattle.command_core.specs.Seen.{NetSeen, net_seen, output_seen};
 ghost use Rattle.share_crew.specs.Doors.{AreNew};
 ghost use Rattle.relay_command.specs.Places.{HasOpened, IsGivenBack};
@@ -28,12 +28,13 @@ pub fn relay<W: Sink, N: Net, R: Threads + Wait + Clock + Sync>(
     net: &mut N,
 ) -> Outcome
     requires { MayRelay relaying.now }
-    ensures { RelayEnds relaying.now
+    ensures ends { RelayEnds relaying.now
         (net_seen (N.asked net.old) (N.written net.old) (N.door_links net.old) (N.next_input net.old) (N.faults net.old))
         (net_seen (N.asked net.new) (N.written net.new) (N.door_links net.new) (N.next_input net.new) (N.faults net.new))
         (output_seen (W.taken output.old) (W.faults output.old))
         (output_seen (W.taken output.new) (W.faults output.new))
         result }
+    ensures open_stays { N.open_count net.new ≡ N.open_count net.old }
 {
     match opened(net, relaying) {
         Ok(places) => relay_at(rt, alloc, relaying, output, net, places),
@@ -52,7 +53,7 @@ fn relay_at<W: Sink, N: Net, R: Threads + Wait + Clock + Sync>(
 ) -> Outcome
     requires may { MayRelay relaying.now }
     requires doors { length places.doors.items ≡ relaying.now.workers + 1 }
-    ensures { (start : NetSeen)
+    ensures ends { (start : NetSeen)
         → HasOpened relaying.now start (net_seen (N.asked net.old) (N.written net.old) (N.door_links net.old) (N.next_input net.old) (N.faults net.old))
         (N.L.taken places.link) (N.L.left places.link) (N.L.faults places.link) (map N.D.coming places.doors.items)
         → AreNew N.D.written N.D.faults start.written places.doors.items
@@ -61,6 +62,7 @@ fn relay_at<W: Sink, N: Net, R: Threads + Wait + Clock + Sync>(
         (output_seen (W.taken output.old) (W.faults output.old))
         (output_seen (W.taken output.new) (W.faults output.new))
         result }
+    ensures closes { N.open_count net.new ≡ N.open_count net.old - (length places.doors.items + 1) }
 {
     match begin(alloc, relaying, output) {
         Ok(begun) => relay_begun(rt, alloc, relaying, output, net, places, begun),
@@ -73,12 +75,13 @@ fn relay_at<W: Sink, N: Net, R: Threads + Wait + Clock + Sync>(
 
 // Gives the doors back, at which nobody waited, and hangs the link up.
 fn given_back<N: Net>(net: &mut N, places: Places<N::L, N::D>)
-    ensures { (start : NetSeen) (relaying : Relaying)
+    ensures back { (start : NetSeen) (relaying : Relaying)
         → HasOpened relaying start (net_seen (N.asked net.old) (N.written net.old) (N.door_links net.old) (N.next_input net.old) (N.faults net.old))
         (N.L.taken places.link) (N.L.left places.link) (N.L.faults places.link) (map N.D.coming places.doors.items)
         → AreNew N.D.written N.D.faults start.written places.doors.items
         → IsGivenBack relaying start
         (net_seen (N.asked net.new) (N.written net.new) (N.door_links net.new) (N.next_input net.new) (N.faults net.new)) }
+    ensures closes { N.open_count net.new ≡ N.open_count net.old - (length places.doors.items + 1) }
 {
     shut_all(net, places.doors);
     net.hang_up(places.link);

@@ -5,6 +5,7 @@
 mod closing;
 mod command;
 mod fault;
+pub mod laws;
 mod opening;
 mod relayer;
 mod running;

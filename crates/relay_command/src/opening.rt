@@ -1,6 +1,6 @@
 //! What stands before the first link is served: the link to the share that is followed, the doors, and the share under its lock.
 
-ghost use Rattle.std.specs.Prelude.{◌≡◌, map, IfOk, IfErr, MatchResult};
+ghost use Rattle.std.specs.Prelude.{◌≡◌, ◌+◌, map, length, IfOk, IfErr, OnErr, MatchResult};
 ghost use Rattle.command_core.specs.Seen.{net_seen, output_seen};
 ghost use Rattle.share_crew.specs.Begun.{HasRoom};
 ghost use Rattle.share_crew.specs.Doors.{AreNew};
@@ -40,6 +40,8 @@ pub(crate) fn opened<N: Net>(
         (net_seen (N.asked net.old) (N.written net.old) (N.door_links net.old) (N.next_input net.old) (N.faults net.old))
         (net_seen (N.asked net.new) (N.written net.new) (N.door_links net.new) (N.next_input net.new) (N.faults net.new))
         stop) }
+    ensures opens { IfOk result (λ p. N.open_count net.new ≡ N.open_count net.old + (length p.doors.items + 1)) }
+    ensures closes { OnErr result (N.open_count net.new ≡ N.open_count net.old) }
 {
     let link = match net.connect(relaying.upstream.as_str()) {
         Ok(link) => link,

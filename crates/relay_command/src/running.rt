@@ -1,6 +1,6 @@
 //! A relay's share from its first link to its last.
 
-ghost use Rattle.std.specs.Prelude.{◌≡◌, ◌≤◌, ◌+◌, [], ◌∷◌, ◌++◌, ℕ, List, map, length, All, vec_len, vec_capacity};
+ghost use Rattle.std.specs.Prelude.{◌≡◌, ◌≤◌, ◌+◌, ◌-◌, [], ◌∷◌, ◌++◌, ℕ, List, map, length, All, vec_len, vec_capacity};
 ghost use Rattle.command_core.specs.Seen.{NetSeen, OutputSeen, net_seen, output_seen};
 ghost use Rattle.command_core.specs.Endings.{IsWritten};
 ghost use Rattle.share_lock.specs.Known.{fresh};
@@ -45,7 +45,7 @@ pub(crate) fn relay_begun<W: Sink, N: Net, R: Threads + Wait + Clock + Sync>(
     requires doors { length places.doors.items ≡ relaying.now.workers + 1 }
     requires crew { relaying.now.workers ≤ vec_capacity begun.room.crew }
     requires links { relaying.now.workers ≤ vec_capacity begun.room.links }
-    ensures { (start : NetSeen) (before first : OutputSeen) (front : List ℕ) → HasBegun relaying.now before first begun
+    ensures serves { (start : NetSeen) (before first : OutputSeen) (front : List ℕ) → HasBegun relaying.now before first begun
         → HasOpened relaying.now start (net_seen (N.asked net.old) (N.written net.old) (N.door_links net.old) (N.next_input net.old) (N.faults net.old))
         (N.L.taken places.link) (N.L.left places.link) (N.L.faults places.link) (map N.D.coming places.doors.items)
         → AreNew N.D.written N.D.faults start.written places.doors.items
@@ -53,6 +53,7 @@ pub(crate) fn relay_begun<W: Sink, N: Net, R: Threads + Wait + Clock + Sync>(
         → HasServed relaying.now front start
         (net_seen (N.asked net.new) (N.written net.new) (N.door_links net.new) (N.next_input net.new) (N.faults net.new))
         before (output_seen (W.taken output.new) (W.faults output.new)) result }
+    ensures closes { N.open_count net.new ≡ N.open_count net.old - (length places.doors.items + 1) }
 {
     let Places { link, doors } = places;
     let (begun, pass, door) = staffed(rt, alloc, begun, doors);

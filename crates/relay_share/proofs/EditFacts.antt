@@ -52,6 +52,13 @@ module _ (h : List Entry) (want : Want) (granted : ℕ × Body) where
   granted_one false true reply no503 no507 is made new = absurd (no507 (sym made ∙ sym (ap status_in is)))
   granted_one false false reply no503 no507 is made new = refl
 
+  -- and one that got another status adds nothing
+  refused_one : (stopped limited : Bool) (reply : Reply) → replied stopped limited ≡ Replies reply → (reply.status ≡ granted.0 → ⊥) → (new : Option Entry)
+      → cond (is_some (refused stopped limited)) None new ≡ None
+  refused_one true limited reply is other new = refl
+  refused_one false true reply is other new = refl
+  refused_one false false reply is other new = absurd (other (sym (ap status_in is)))
+
 status_replied : (settings : Settings) (h : List Entry) (batch : List OneEdit) (reply : Reply) → answer_to settings h (Edit (Ok batch)) ≡ Replies reply → IsStatus batch reply.status
 status_replied settings h [] reply is = by_refusal h (Edit (Ok [])) (success settings h (Edit (Ok []))) (is_stopped h) false reply is
 status_replied settings h (e ∷ es) reply is =
@@ -66,6 +73,14 @@ entry_replied settings h by (e ∷ es) reply is made =
     ap option_to_list
     (granted_one h (Edit (Ok (e ∷ es))) (success settings h (Edit (Ok (e ∷ es)))) (is_stopped h) (not (takes_batch h (e ∷ es))) reply (λ (e : 200 ≡ 503). omega (arith, e))
     (λ (e : 200 ≡ 507). omega (arith, e)) is made (Some (entry.Edits by (e ∷ es))))
+
+nothing_replied : (settings : Settings) (h : List Entry) (by : ℕ) (batch : List OneEdit) (reply : Reply) → answer_to settings h (Edit (Ok batch)) ≡ Replies reply
+    → (reply.status ≡ made_status batch → ⊥) → option_to_list (adds h by (Edit (Ok batch))) ≡ []
+nothing_replied settings h by [] reply is other =
+    ap option_to_list (refused_one h (Edit (Ok [])) (success settings h (Edit (Ok []))) (is_stopped h) false reply is other None)
+nothing_replied settings h by (e ∷ es) reply is other =
+    ap option_to_list
+    (refused_one h (Edit (Ok (e ∷ es))) (success settings h (Edit (Ok (e ∷ es)))) (is_stopped h) (not (takes_batch h (e ∷ es))) reply is other (Some (entry.Edits by (e ∷ es))))
 
 -- ---- a request that was served
 
@@ -89,3 +104,14 @@ edit_entry settings by h batch s is made =
     let how : IsReplied settings by (at_point h s) (Edit (Ok batch)) s =
     subst (λ b. MatchBool b (IsGivenUp s) (IsReplied settings by (at_point h s) (Edit (Ok batch)) s)) fine is.how in
     how.adds_it ∙ entry_replied settings (answered_on s.added (at_point h s)) by batch how.reply how.replies (sym how.status ∙ made)
+
+-- and one that got another status added nothing
+pub refused_entry : (settings : Settings) (by : ℕ) (h : List Entry) (batch : List OneEdit) (s : Served) → IsServed settings by h (Edit (Ok batch)) s
+    → (s.status ≡ made_status batch → ⊥) → added_part s.added (at_point h s) ≡ []
+refused_entry settings by h batch s is other = by_failure (s.status == 500) is.how
+  where
+    by_failure : (b : Bool) → MatchBool b (IsGivenUp s) (IsReplied settings by (at_point h s) (Edit (Ok batch)) s) → added_part s.added (at_point h s) ≡ []
+    by_failure true how = ap (λ (b : Bool). added_part b (at_point h s)) how.added
+    by_failure false how =
+        how.adds_it
+        ∙ nothing_replied settings (answered_on s.added (at_point h s)) by batch how.reply how.replies (λ (made : how.reply.status ≡ made_status batch). other (how.status ∙ made))

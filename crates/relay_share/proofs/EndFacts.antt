@@ -49,12 +49,12 @@ unserved k = record {
 }
 
 unstarted : (host : List ℕ) (rounds : ℕ) (p : Point) (k : Pass) → Relays host rounds p Begun p k k []
-unstarted host rounds p k = record { walks = record { exchanges = []; path = refl; went = went_nowhere p }; served = []; serves = unserved k; relayed = tt }
+unstarted host rounds p k = record { walks = record { exchanges = []; path = refl; went = went_nowhere p }; served = []; serves = unserved k; relayed = tt; libraries = tt }
 
 pub begins : (host : List ℕ) (rounds : ℕ) (p q : Point) (known : Known) (k : Pass) (now : Relaying) → Opened host p q known → now ≡ record { revision = 0; library = [] }
     → Stands host rounds p (Asking known []) q k k [] now
 begins host rounds p q known k now o new = record {
-  relays = record { walks = opened_walks host followed rounds p q known o; served = []; serves = unserved k; relayed = tt };
+  relays = record { walks = opened_walks host followed rounds p q known o; served = []; serves = unserved k; relayed = tt; libraries = tt };
   holds = new;
 }
 
@@ -98,6 +98,7 @@ unopened host rounds p taken k e (inr b) = record {
     served = [];
     serves = unserved k;
     relayed = tt;
+    libraries = tt;
   };
   request = request_text want.Login host;
   is_due = refl;
@@ -279,6 +280,7 @@ logged_out host rounds p known ls q q' answer k k' done old all one x fine = rec
     served = one.relays.served;
     serves = one.relays.serves;
     relayed = one.relays.relayed;
+    libraries = one.relays.libraries;
   };
   all = all;
   written = refl;

@@ -5,3 +5,5 @@ pub mod RoundFacts
 pub mod EndFacts
 pub mod StepFacts
 pub mod StopFacts
+pub mod LeftFacts
+pub mod ShareLibraries

@@ -1,5 +1,6 @@
 -- A relay's rounds: one more, and what was told stays.
 use Rattle.std.proofs.Common.{◌≡◌, ℕ, List, [], ◌∷◌, ◌++◌, length, refl, sym, ap, ◌∙◌, subst}
+use Rattle.std.specs.List.{AllByRecursion}
 use Rattle.item_model.specs.declared.changes.Entry.{Entry}
 use Rattle.mirror_client.specs.Points.{Point}
 use Rattle.mirror_client.specs.Stages.{Asking, Begun, Holding, Walks, listings_in}
@@ -17,7 +18,8 @@ use Rattle.share_server.specs.Passes.{Pass, Serves}
 use Rattle.share_server.specs.Served.{AreServed, at_point}
 use Rattle.share_server.proofs.InTurn.{serves_in_turn}
 use Rattle.share_server.proofs.Longer.{same_point}
-use Rattle.relayed_rows.specs.Relays.{Relaying, nothing_held, relaying_at}
+use Rattle.relayed_rows.specs.Libraries.{IsLibrary, library_in}
+use Rattle.relayed_rows.specs.Relays.{Relaying, libraries_after, nothing_held, relaying_at}
 use Rattle.relayed_rows.proofs.RelayFacts.{ascending-mirrored}
 use Rattle.relay_share.specs.Asks.{edit_ask}
 use Rattle.relay_share.specs.Ends.{Relays}
@@ -56,6 +58,11 @@ relayed_longer settings by h more held (l ∷ ls) (s ∷ served) (d ∷ done) se
   relayed_longer settings by h more (mirror_after held l) ls served done served_too.1 are.1,
 )
 
+libraries_more : (held : Held) (ls : List Listing) (l : Listing) → AllByRecursion IsLibrary (libraries_after held ls)
+    → IsLibrary (library_in (mirror_after (held_after held ls) l).rows) → AllByRecursion IsLibrary (libraries_after held (ls ++ l ∷ []))
+libraries_more held [] l are is = (is, tt)
+libraries_more held (x ∷ ls) l are is = (are.0, libraries_more (mirror_after held x) ls l are.1 is)
+
 -- ---- one round more
 
 pub relays_more : (host : List ℕ) (rounds : ℕ) (p : Point) (known : Known) (ls : List Listing) (l : Listing) (q q' : Point) (k k' k'' : Pass) (done done' : List Relayed) (now : Relaying)
@@ -75,6 +82,7 @@ relays_more host rounds p known ls l q q' k k' k'' done done' now one walks t =
         relayed =
             subst (λ (ds : List Relayed). AreRelayed k''.seen nothing_held (ls ++ l ∷ []) (one.served ++ t.made ∷ []) ds) (sym t.told)
             (relayed_more k''.seen nothing_held ls l one.served t.made done _ longer (record { made = t.status; told = refl }));
+        libraries = libraries_more nothing_held ls l one.libraries (subst (λ (r : Relaying). IsLibrary r.library) t.holds t.library);
       };
       holds = t.holds ∙ ap relaying_at (sym (held_more nothing_held ls l));
     }
@@ -89,6 +97,7 @@ walked host rounds p known ls q q' k k' done now one walks = record {
     served = one.relays.served;
     serves = one.relays.serves;
     relayed = one.relays.relayed;
+    libraries = one.relays.libraries;
   };
   holds = one.holds;
 }

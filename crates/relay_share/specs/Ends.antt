@@ -1,6 +1,7 @@
 -- A relay on its link and at its own share. One list of listings carries both: on the link they are what was read, and at the share
 -- each of them is an edit of the relay's pass.
 use Rattle.std.specs.Prelude.{◌≡◌, ◌≢◌, ◌⊎◌, ℕ, List, [], ◌∷◌, ◌++◌, length, Bool, true, false, MatchBool, Option, Some, None, ◌==◌, if◌then◌else◌}
+use Rattle.std.specs.List.{AllByRecursion}
 use Rattle.daap_outside.specs.Counts.{Rose}
 use Rattle.share_history.specs.Listings.{Listing}
 use Rattle.share_history.specs.Sessions.{is_stopped}
@@ -12,7 +13,8 @@ use Rattle.mirror_client.specs.Steps.{Known, held_after}
 use Rattle.mirror_client.specs.Stopping.{Stops}
 use Rattle.share_server.specs.declared.report.Served.{Served}
 use Rattle.share_server.specs.Passes.{Pass, Serves}
-use Rattle.relayed_rows.specs.Relays.{first_unread, nothing_held}
+use Rattle.relayed_rows.specs.Libraries.{IsLibrary}
+use Rattle.relayed_rows.specs.Relays.{first_unread, nothing_held, relay_of}
 use Rattle.relay_share.specs.Asks.{stop_ask}
 use Rattle.relay_share.specs.Rounds.{AreRelayed, IsRefused, edits_asked, followed}
 use Rattle.relay_share.specs.declared.report.Relayed.{Relayed}
@@ -20,12 +22,14 @@ use Rattle.relay_share.specs.declared.report.RelayEnd.{RelayEnd}
 use Rattle.relay_share.specs.declared.report.RelayEnd.TheVariants.{Done, Row, Full, Stopped, Peer, Memory}
 use Rattle.relay_share.specs.declared.report.RelayReport.{RelayReport}
 
--- The relay read listings until it came to a stage of its client, and the edit of each of them was made by its pass.
+-- The relay read listings until it came to a stage of its client, and the edit of each of them was made by its pass. Each of them left
+-- a library: items with ids and values as a program has them, each once.
 pub record Relays (host : List ℕ) (rounds : ℕ) (p : Point) (stage : Stage) (q : Point) (k k' : Pass) (done : List Relayed) : Type 0 where
   pub walks : Walks host followed rounds Begun p stage q
   pub served : List Served
   pub serves : Serves k k' (edits_asked nothing_held (listings_in stage)) served
   pub relayed : AreRelayed k'.seen nothing_held (listings_in stage) served done
+  pub libraries : AllByRecursion IsLibrary (relay_of (listings_in stage))
 
 -- all rounds were done, and it logged out
 pub record IsDone (host : List ℕ) (rounds : ℕ) (p : Point) (taken : Option (List ℕ)) (k k' : Pass) (done : List Relayed) : Type 0 where

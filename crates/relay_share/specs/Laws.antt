@@ -1,20 +1,31 @@
 -- What follows from the definitions: the entries of a relay's pass.
-use Rattle.std.specs.Prelude.{◌≡◌, ℕ, List, [], ◌∷◌, ◌++◌, length, Bool, true, false, ◌&&◌, ◌==◌, not, map, if◌then◌else◌}
-use Rattle.std.specs.List.{list_any}
+use Rattle.std.specs.Prelude.{◌≡◌, ℕ, List, [], ◌∷◌, ◌++◌, length, Bool, true, false, ◌&&◌, ◌==◌, not, map, Option, None, if◌then◌else◌}
+use Rattle.std.specs.Io.KnownBytes.{Appends}
+use Rattle.std.specs.List.{AllByRecursion, list_any}
 use Rattle.item_model.specs.declared.changes.Edit.{Edit}
 use Rattle.item_model.specs.declared.changes.Entry.{Entry}
 use Rattle.item_model.specs.declared.changes.Entry.TheVariants as entry
+use Rattle.item_model.specs.declared.request.Meta.TheVariants.{All}
+use Rattle.item_model.specs.declared.request.Target.TheVariants.{Items}
+use Rattle.mirror_client.specs.Laws.{AreAnswers, NeverFall, last_point}
 use Rattle.mirror_client.specs.Points.{Point}
-use Rattle.mirror_client.specs.Stages.{Stage, listings_in}
+use Rattle.mirror_client.specs.Stages.{Begun, Stage, Walks, listings_in}
+use Rattle.share_history.specs.Histories.{all_edits}
+use Rattle.share_history.specs.Listings.{Listing}
+use Rattle.share_history.specs.Rows.{library}
 use Rattle.share_history.specs.Sessions.{is_stop, is_stopped}
+use Rattle.share_history.specs.Whole.{IsWhole}
 use Rattle.share_lock.specs.Histories.{entries_of}
-use Rattle.share_replies.specs.Laws.{maker}
+use Rattle.share_replies.specs.Laws.{is_edit, maker}
 use Rattle.share_server.specs.declared.report.Served.{Served}
 use Rattle.share_server.specs.Passes.{Pass, Serves}
-use Rattle.relayed_rows.specs.Relays.{relay_of, steps_between}
+use Rattle.relayed_rows.specs.Libraries.{IsLibrary}
+use Rattle.relayed_rows.specs.Relays.{StandsAt, relay_of, steps_between}
 use Rattle.relay_share.specs.Asks.{stop_ask}
-use Rattle.relay_share.specs.Ends.{Relays}
+use Rattle.relay_share.specs.Ends.{HasRelayed, Relays}
+use Rattle.relay_share.specs.Rounds.{followed}
 use Rattle.relay_share.specs.declared.report.Relayed.{Relayed}
+use Rattle.relay_share.specs.declared.report.RelayReport.{RelayReport}
 
 abbrev pub edits_by : ℕ → List (List Edit) → List Entry
 edits_by number batches = map (λ batch. entry.Edits number batch) batches
@@ -40,3 +51,39 @@ StopsComeLast =
     (k k' : Pass) (s : Served) → is_stopped (entries_of maker k.number k.seen) ≡ false → Serves k k' (stop_ask ∷ []) (s ∷ [])
     → s.point ≡ length k'.seen → is_stopped k'.seen ≡ true
     → entries_of maker k.number k'.seen ≡ entries_of maker k.number k.seen ++ stop_behind k.number k'.seen
+
+-- What a relay leaves. Its entries are the steps between the libraries that the listings left which it read on its link, from nothing
+-- on, and behind them the stop. What stands on its link are the requests of these listings, and at most a part of more behind them
+pub record LeavesSteps (host : List ℕ) (rounds : ℕ) (p : Point) (taken : Option (List ℕ)) (k : Pass) : Type 0 where
+  pub stage : Stage
+  pub there : Point
+  pub walks : Walks host followed rounds Begun p stage there
+  pub part : List ℕ
+  pub written : Appends there.taken taken part
+  pub libraries : AllByRecursion IsLibrary (relay_of (listings_in stage))
+  pub entries : entries_of maker k.number k.seen ≡ edits_by k.number (steps_between [] (relay_of (listings_in stage))) ++ stop_behind k.number k.seen
+
+-- that of a pass that had seen nothing before, however it ended
+abbrev pub RelaysLeaveSteps : Type 0
+RelaysLeaveSteps =
+    (host : List ℕ) (rounds : ℕ) (p : Point) (taken : Option (List ℕ)) (k k' : Pass) (report : RelayReport) → k.seen ≡ []
+    → HasRelayed host rounds p taken k k' report → LeavesSteps host rounds p taken k'
+
+-- only the pass of this number made edits
+abbrev pub EditsAlone : ℕ → List Entry → Type 0
+EditsAlone number h = AllByRecursion (λ e. is_edit e ≡ true → maker e ≡ number) h
+
+-- Where only a relay edits its share, the share's library is at each point of its history one that the relay read, or the empty one,
+-- and at a later point it is that one or one that the relay read later
+abbrev pub RelaysShowWhatTheyRead : Type 0
+RelaysShowWhatTheyRead =
+    (host : List ℕ) (rounds : ℕ) (p : Point) (taken : Option (List ℕ)) (k : Pass) (h front middle rest : List Entry) → (r : LeavesSteps host rounds p taken k)
+    → entries_of maker k.number h ≡ entries_of maker k.number k.seen → EditsAlone k.number h → h ≡ front ++ (middle ++ rest)
+    → (s : StandsAt ([] ∷ relay_of (listings_in r.stage)) front) × StandsAt (library (all_edits front) ∷ s.ahead) (front ++ middle)
+
+-- The libraries that a relay read are those that a share had, where that share answered its listings, at points of its one history
+-- that never fall
+abbrev pub LibrariesAreTheShares : Type 0
+LibrariesAreTheShares =
+    (keep : ℕ) (point : List Entry) (points : List (List Entry)) (listings : List Listing) → IsWhole (last_point point points) → NeverFall point points
+    → AreAnswers keep Items None All 0 (point ∷ points) listings → relay_of listings ≡ map (λ h. library (all_edits h)) (point ∷ points)

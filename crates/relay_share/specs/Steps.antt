@@ -15,6 +15,7 @@ use Rattle.share_history.specs.Mirror.{Held, mirror_after}
 use Rattle.share_server.specs.declared.report.Served.{Served}
 use Rattle.share_server.specs.Passes.{Pass, Serves}
 use Rattle.share_server.specs.Served.{at_point}
+use Rattle.relayed_rows.specs.Libraries.{IsLibrary}
 use Rattle.relayed_rows.specs.Relays.{Relaying, first_unread, nothing_held, relaying_at}
 use Rattle.relay_share.specs.Asks.{edit_ask}
 use Rattle.relay_share.specs.Ends.{Relays}
@@ -34,6 +35,7 @@ pub record Takes (held : Held) (l : Listing) (k k' : Pass) (done done' : List Re
   pub status : made.status ≡ made_status (batch_of held l)
   pub told : done' ≡ done ++ relayed_by held l (revision (batches (at_point k'.seen made))) ∷ []
   pub holds : now ≡ relaying_at (mirror_after held l)
+  pub library : IsLibrary now.library
 
 -- why it was not
 abbrev pub IsUntaken : Held → Listing → Pass → Pass → RelayEnd → Type 0

@@ -181,10 +181,10 @@ by_ends ends links before after false false false true n f m s steady counts sou
 by_ends ends links before after false false false false n f m s steady counts sound some verdict is status (inl said) = inl (said ∙ ap verdict_status is)
 by_ends ends links before after false false false false n f m s steady counts sound some verdict is status (inr said) = inr (inl (said ∙ ap (λ v. verdict_status (with_memory v)) is))
 
-end_said : (front ended : List ℕ) (verdict : Verdict) (before after : OutputSeen) (status : ℕ) → ¬ (Rose before.faults after.faults) → TellsEnd front ended verdict before after status
+end_said : (ended : List ℕ) (verdict : Verdict) (before after : OutputSeen) (status : ℕ) → ¬ (Rose before.faults after.faults) → TellsEnd ended verdict before after status
     → (status ≡ verdict_status verdict) ⊎ (status ≡ verdict_status (with_memory verdict))
-end_said front ended verdict before after status steady (inl h) = inl (told_as (verdict_status verdict) _ before after status steady h)
-end_said front ended verdict before after status steady (inr h) = inr (told_as (verdict_status (with_memory verdict)) _ before after status steady h)
+end_said ended verdict before after status steady (inl h) = inl (told_as (verdict_status verdict) _ before after status steady h)
+end_said ended verdict before after status steady (inr h) = inr (told_as (verdict_status (with_memory verdict)) _ before after status steady h)
 
 -- no edit was lost where no fault of files was counted
 none_lost : (file : Option (List ℕ)) (before after : FilesSeen) (history : List Entry) (lost : Bool) → ¬ (Rose before.faults after.faults) → AreKept file before after history lost → lost ≡ true → ⊥
@@ -204,4 +204,5 @@ runs_are_decided serving told left input first (served edits opened read opening
     let ends = map (λ (s : Stint (settings_of serving) opened). s.end) run.crew in
     by_ends ends left.links told.before.around.net.faults told.after.around.net.faults (has_end worker.AcceptFault ends) (has_end worker.FileFault ends) (has_end worker.Memory ends) (has_end worker.Spent ends) refl refl refl refl calm run.counts
     (none_lost serving.file told.before.around.files told.after.around.files run.history (has_end worker.FileFault ends) sound run.kept_so)
-    (λ some. subst IsSpent (sym run.links) (some_spent run.crew some)) (verdict_of ends) refl left.status (end_said (first_line serving opened) (ended_line (revision (batches run.history)) left.links) (verdict_of ends) told.output_before told.output_after left.status whole run.told)
+    (λ some. subst IsSpent (sym run.links) (some_spent run.crew some)) (verdict_of ends) refl left.status (end_said (ended_line (revision (batches run.history)) left.links) (verdict_of ends) run.at_line told.output_after left.status
+    (subst (λ n. ¬ (Rose n told.output_after.faults)) (sym run.line_written.faultless) whole) run.told)

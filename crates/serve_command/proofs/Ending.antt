@@ -26,15 +26,15 @@ not_done FileFailed is = let e : 0 ≡ 10 = is in omega arith
 not_done OutOfMemory is = let e : 0 ≡ 9 = is in omega arith
 not_done Exhausted is = let e : 0 ≡ 9 = is in omega arith
 
-pub done_from : (front ended : List ℕ) (verdict : Verdict) (before after : OutputSeen) (status : ℕ) → status ≡ 0 → TellsEnd front ended verdict before after status → verdict ≡ Done
-done_from front ended verdict before after status is (inl (inl h)) = done_by verdict (sym is ∙ h.0)
-done_from front ended verdict before after status is (inl (inr h)) = absurd (omega (arith, is, h.0))
-done_from front ended verdict before after status is (inr (inl h)) = absurd (not_done verdict (sym is ∙ h.0))
-done_from front ended verdict before after status is (inr (inr h)) = absurd (omega (arith, is, h.0))
+pub done_from : (ended : List ℕ) (verdict : Verdict) (before after : OutputSeen) (status : ℕ) → status ≡ 0 → TellsEnd ended verdict before after status → verdict ≡ Done
+done_from ended verdict before after status is (inl (inl h)) = done_by verdict (sym is ∙ h.0)
+done_from ended verdict before after status is (inl (inr h)) = absurd (omega (arith, is, h.0))
+done_from ended verdict before after status is (inr (inl h)) = absurd (not_done verdict (sym is ∙ h.0))
+done_from ended verdict before after status is (inr (inr h)) = absurd (omega (arith, is, h.0))
 
 -- then each worker served what came, or until the stop
-pub whole_by : {settings : Settings} {opening : List Entry} (history : List Entry) (stints : List (Stint settings opening)) (front ended : List ℕ) (verdict : Verdict) (before after : OutputSeen) (status : ℕ)
-    → AllByRecursion (IsPart history) stints → verdict ≡ verdict_of (map (λ (s : Stint settings opening). s.end) stints) → TellsEnd front ended verdict before after status
+pub whole_by : {settings : Settings} {opening : List Entry} (history : List Entry) (stints : List (Stint settings opening)) (ended : List ℕ) (verdict : Verdict) (before after : OutputSeen) (status : ℕ)
+    → AllByRecursion (IsPart history) stints → verdict ≡ verdict_of (map (λ (s : Stint settings opening). s.end) stints) → TellsEnd ended verdict before after status
     → status ≡ 0 → AllByRecursion (IsWhole history) stints
-whole_by history stints front ended verdict before after status parts is told success =
-    wholes_by history stints parts (sym is ∙ done_from front ended verdict before after status success told)
+whole_by history stints ended verdict before after status parts is told success =
+    wholes_by history stints parts (sym is ∙ done_from ended verdict before after status success told)

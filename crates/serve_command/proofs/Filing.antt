@@ -122,7 +122,7 @@ success_leaves_the_file serving path told left (unbegun asked faults not none) s
     let some = not_begun_some serving told.before.input told.after.input told.before.around.files told.after.around.files told.output_before told.output_after left.status not in absurd (omega (arith, some, success))
 success_leaves_the_file serving path told left (served edits opened read is run) success named =
     let ends = map (λ (s : Stint (settings_of serving) opened). s.end) run.crew in
-    let done : verdict_of ends ≡ Done = done_from (first_line serving opened) (ended_line (revision (batches run.history)) left.links) (verdict_of ends) told.output_before told.output_after left.status success run.told in
+    let done : verdict_of ends ≡ Done = done_from (ended_line (revision (batches run.history)) left.links) (verdict_of ends) run.at_line told.output_after left.status success run.told in
     let none : has_end worker.FileFault ends ≡ false = none_lost_if_done ends done in
     let kept = left_so serving.file path told.before.around.files told.after.around.files run.history (has_end worker.FileFault ends) named run.kept_so in record {
       faultless = subst (λ b. MatchBool b (Rose told.before.around.files.faults told.after.around.files.faults) (told.after.around.files.faults ≡ told.before.around.files.faults)) none kept.counts;
@@ -146,11 +146,11 @@ ten_with_memory FileFailed is = refl
 ten_with_memory OutOfMemory is = absurd (let e : 10 ≡ 9 = is in omega arith)
 ten_with_memory Exhausted is = absurd (let e : 10 ≡ 9 = is in omega arith)
 
-lost_from : (front ended : List ℕ) (verdict : Verdict) (before after : OutputSeen) (status : ℕ) → status ≡ 10 → TellsEnd front ended verdict before after status → verdict ≡ FileFailed
-lost_from front ended verdict before after status is (inl (inl h)) = ten_by verdict (sym is ∙ h.0)
-lost_from front ended verdict before after status is (inl (inr h)) = absurd (omega (arith, is, h.0))
-lost_from front ended verdict before after status is (inr (inl h)) = ten_with_memory verdict (sym is ∙ h.0)
-lost_from front ended verdict before after status is (inr (inr h)) = absurd (omega (arith, is, h.0))
+lost_from : (ended : List ℕ) (verdict : Verdict) (before after : OutputSeen) (status : ℕ) → status ≡ 10 → TellsEnd ended verdict before after status → verdict ≡ FileFailed
+lost_from ended verdict before after status is (inl (inl h)) = ten_by verdict (sym is ∙ h.0)
+lost_from ended verdict before after status is (inl (inr h)) = absurd (omega (arith, is, h.0))
+lost_from ended verdict before after status is (inr (inl h)) = ten_with_memory verdict (sym is ∙ h.0)
+lost_from ended verdict before after status is (inr (inr h)) = absurd (omega (arith, is, h.0))
 
 lost_by : (ends : List WorkerEnd) (network file memory spent : Bool) → has_end worker.FileFault ends ≡ file → cond network NetworkFailed (cond file FileFailed (cond memory OutOfMemory (cond spent Exhausted Done))) ≡ FileFailed
     → has_end worker.FileFault ends ≡ true
@@ -171,6 +171,6 @@ file_faults_are_counted serving told left (unbegun asked faults not none) ten =
     not_begun_ten serving told.before.input told.after.input told.before.around.files told.after.around.files told.output_before told.output_after left.status not ten
 file_faults_are_counted serving told left (served edits opened read is run) ten =
     let ends = map (λ (s : Stint (settings_of serving) opened). s.end) run.crew in
-    let failed = lost_from (first_line serving opened) (ended_line (revision (batches run.history)) left.links) (verdict_of ends) told.output_before told.output_after left.status ten run.told in
+    let failed = lost_from (ended_line (revision (batches run.history)) left.links) (verdict_of ends) run.at_line told.output_after left.status ten run.told in
     rose_by serving.file told.before.around.files told.after.around.files run.history (has_end worker.FileFault ends)
     (lost_by ends (has_end worker.AcceptFault ends) (has_end worker.FileFault ends) (has_end worker.Memory ends) (has_end worker.Spent ends) refl failed) run.kept_so

@@ -25,7 +25,8 @@ use Rattle.share_crew.specs.Stints.{Stint, IsHistoryOf, IsPart}
 use Rattle.share_crew.specs.Verdicts.{end_number, has_end}
 use Rattle.share_crew.proofs.Joining.{all_parts, last_of}
 use Rattle.serve_command.specs.Files.{HasKept}
-use Rattle.serve_command.proofs.Editing.{ArePlayers, editor_keeps}
+use Rattle.share_crew.proofs.Players.{ArePlayers}
+use Rattle.serve_command.proofs.Editing.{editor_keeps}
 
 -- what stands before the last of a list
 init_same : {A : Type 0} (xs ys : List A) (x y : A) → xs ++ x ∷ [] ≡ ys ++ y ∷ [] → xs ≡ ys

@@ -36,6 +36,7 @@ ends_so serving opened kept kept' net net' output output' left so (not_announced
 ends_so serving opened kept kept' net net' output output' left so (announced run) = announced (record {
   history = run.history;
   history_is = run.history_is;
+  whole_history = run.whole_history;
   crew = run.crew;
   roles = run.roles;
   links = run.links;
@@ -45,6 +46,8 @@ ends_so serving opened kept kept' net net' output output' left so (announced run
   written = run.written;
   counts = run.counts;
   kept_so = so run.history _ run.kept_so;
+  at_line = run.at_line;
+  line_written = run.line_written;
   told = run.told;
   whole = run.whole;
 })

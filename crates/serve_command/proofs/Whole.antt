@@ -8,8 +8,10 @@ use Rattle.item_model.specs.declared.changes.Entry.{Entry}
 use Rattle.share_asks.specs.declared.ask.Role.{Role}
 use Rattle.share_asks.specs.declared.ask.Role.TheVariants as role
 use Rattle.share_history.specs.Histories.{batches, revision}
+use Rattle.share_history.specs.Whole.{IsWhole}
 use Rattle.share_server.specs.declared.report.LinkReport.{LinkReport}
 use Rattle.share_server.specs.Passes.{Pass}
+use Rattle.command_core.specs.Endings.{IsWritten}
 use Rattle.command_core.specs.Seen.{NetSeen, OutputSeen}
 use Rattle.serve_command.specs.declared.terms.Serving.{Serving}
 use Rattle.share_crew.specs.declared.verdict.Verdict.{Verdict}
@@ -39,18 +41,19 @@ history_of serving opened count roles come kept written written' faults faults' 
     ap length (append-nil (passes_in g.crew)) ∙ (length-map g.crew (λ s. s.pass) ∙ (sym (length-map g.crew (λ s. s.role)) ∙ (ap length g.roles_are ∙ sym as_many))) in
     subst (λ n. IsHistoryOf n history g.crew []) (members ∙ count_is) (one (ap (λ n. n + 1) (sym members)))
 
-pub has_served : {D : Type 0} (serving : Serving) (opened : List Entry) (kept : List Entry → Bool → Type 0) (front : List ℕ) (start mid now : NetSeen) (before after : OutputSeen) (left : Left)
+pub has_served : {D : Type 0} (serving : Serving) (opened : List Entry) (kept : List Entry → Bool → Type 0) (front : List ℕ) (start mid now : NetSeen) (before first after : OutputSeen) (left : Left)
     (coming : D → Option (List (List ℕ))) (listen edit : List D)
     (count : ℕ) (roles : List Role) (come : List (Option (List (List ℕ)))) (k : Pass) (history : List Entry) (links : List (List LinkReport)) (verdict : Verdict)
     → HasOpened serving start mid (length listen) (length edit) (map coming (listen ++ edit))
     → (g : HasGathered (settings_of serving) opened (count + 1) roles come start.written mid.written now.written mid.faults now.faults k links verdict)
     → IsHistoryOf (workers_of serving) history g.crew [] → kept history (has_end FileFault (map (λ (s : Stint (settings_of serving) opened). s.end) g.crew))
     → roles ≡ map (λ (d : D). role.Listen) listen ++ map (λ (d : D). role.Edit) edit → come ≡ map coming (listen ++ edit) → now.asked ≡ mid.asked
-    → left.history ≡ Some history → left.links ≡ links → TellsEnd front (ended_line (revision (batches history)) links) verdict before after left.status
+    → left.history ≡ Some history → IsWhole history → left.links ≡ links → IsWritten before first front → TellsEnd (ended_line (revision (batches history)) links) verdict first after left.status
     → HasServed serving opened kept front start now before after left
-has_served serving opened kept front start mid now before after left coming listen edit count roles come k history links verdict opens g one kept_so roles_is come_is asked history_is links_is told = record {
+has_served serving opened kept front start mid now before first after left coming listen edit count roles come k history links verdict opens g one kept_so roles_is come_is asked history_is whole_history links_is wrote told = record {
   history = history;
   history_is = history_is;
+  whole_history = whole_history;
   crew = g.crew;
   roles = g.roles_are ∙ (roles_is ∙ roles_are serving listen edit opens.listening opens.editing);
   links = links_is ∙ g.links_are;
@@ -60,7 +63,9 @@ has_served serving opened kept front start mid now before after left coming list
   written = g.written_grows opens.asked.written;
   counts = subst (λ n. CountsShut n now.faults (map (λ stint. stint.end) g.crew)) opens.faultless g.counts;
   kept_so = kept_so;
-  told = subst (λ l. TellsEnd front (ended_line (revision (batches history)) l) (verdict_of (map (λ stint. stint.end) g.crew)) before after left.status) (sym links_is)
-      (subst (λ v. TellsEnd front (ended_line (revision (batches history)) links) v before after left.status) g.verdict_is told);
-  whole = whole_by history g.crew front (ended_line (revision (batches history)) links) verdict before after left.status one.parts g.verdict_is told;
+  at_line = first;
+  line_written = wrote;
+  told = subst (λ l. TellsEnd (ended_line (revision (batches history)) l) (verdict_of (map (λ stint. stint.end) g.crew)) first after left.status) (sym links_is)
+      (subst (λ v. TellsEnd (ended_line (revision (batches history)) links) v first after left.status) g.verdict_is told);
+  whole = whole_by history g.crew (ended_line (revision (batches history)) links) verdict first after left.status one.parts g.verdict_is told;
 }

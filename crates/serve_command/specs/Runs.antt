@@ -5,6 +5,7 @@ use Rattle.item_model.specs.declared.changes.Edit.{Edit}
 use Rattle.item_model.specs.declared.changes.Entry.{Entry}
 use Rattle.daap_outside.specs.Told.{Grows}
 use Rattle.share_history.specs.Histories.{batches, revision}
+use Rattle.share_history.specs.Whole as histories
 use Rattle.share_server.specs.declared.report.LinkReport.{LinkReport}
 use Rattle.share_workers.specs.declared.worker.WorkerEnd.TheVariants.{FileFault as lost_edit}
 use Rattle.kept_library.specs.declared.fault.FileFault.{FileFault}
@@ -14,7 +15,7 @@ use Rattle.command_core.specs.declared.fault.Fault.{Fault}
 use Rattle.command_core.specs.declared.fault.Fault.TheVariants as fault
 use Rattle.command_core.specs.Faults.{memory_line, fault_line, fault_status}
 use Rattle.command_core.specs.Seen.{FilesSeen, InputSeen, OutputSeen, NetSeen, IsUnread, Told}
-use Rattle.command_core.specs.Endings.{IsCut}
+use Rattle.command_core.specs.Endings.{IsCut, IsWritten}
 use Rattle.command_core.specs.Answers.{Tells}
 use Rattle.command_core.specs.ReadRecords.{HasReadAs}
 use Rattle.serve_command.specs.declared.fault.ServeFault.{ServeFault}
@@ -65,18 +66,19 @@ pub data NotBegun (serving : Serving) (before after : InputSeen) (files files' :
   unannounced : (edits : List Edit) (opened : List Entry) → HasReadAs edits before after → IsOpening serving.file files.contents edits opened → AreKept serving.file files files' opened false
       → NotAnnounced (first_line serving opened) output output' status → NotBegun serving before after files files' output output' status
 
--- behind a front, all workers have ended, and so was told: the line that counts links and requests, and that of the verdict;
--- or there was no memory for the first of them
-abbrev pub TellsEnd : (front ended : List ℕ) → Verdict → OutputSeen → OutputSeen → ℕ → Type 0
-TellsEnd front ended verdict before after status =
-    Tells (verdict_status verdict) (front ++ (ended ++ verdict_line verdict)) before after status
-    ⊎ Tells (verdict_status (with_memory verdict)) (front ++ verdict_line (with_memory verdict)) before after status
+-- all workers have ended, and so was told: the line that counts links and requests, and that of the verdict; or there was no
+-- memory for the first of them
+abbrev pub TellsEnd : (ended : List ℕ) → Verdict → OutputSeen → OutputSeen → ℕ → Type 0
+TellsEnd ended verdict before after status =
+    Tells (verdict_status verdict) (ended ++ verdict_line verdict) before after status
+    ⊎ Tells (verdict_status (with_memory verdict)) (verdict_line (with_memory verdict)) before after status
 
 -- The share was served: the stints of its workers, the history that they left, and what was told of both. What is kept of the
 -- history, by whether an edit was lost, is a parameter.
 pub record HasServed (serving : Serving) (opened : List Entry) (kept : List Entry → Bool → Type 0) (front : List ℕ) (net net' : NetSeen) (output output' : OutputSeen) (left : Left) : Type 0 where
   pub history : List Entry
   pub history_is : left.history ≡ Some history
+  pub whole_history : histories.IsWhole history
   -- a stint for each worker, in order
   pub crew : List (Stint (settings_of serving) opened)
   pub roles : map (λ stint. stint.role) crew ≡ roles_of serving
@@ -89,7 +91,10 @@ pub record HasServed (serving : Serving) (opened : List Entry) (kept : List Entr
   pub written : Grows net.written net'.written (flat_map returns_of crew)
   pub counts : CountsShut net.faults net'.faults (map (λ stint. stint.end) crew)
   pub kept_so : kept history (has_end lost_edit (map (λ stint. stint.end) crew))
-  pub told : TellsEnd front (ended_line (revision (batches history)) left.links) (verdict_of (map (λ stint. stint.end) crew)) output output' left.status
+  -- the first line was written whole, so a share whose first line fails is served to nobody; what was told at the end comes after it
+  pub at_line : OutputSeen
+  pub line_written : IsWritten output at_line front
+  pub told : TellsEnd (ended_line (revision (batches history)) left.links) (verdict_of (map (λ stint. stint.end) crew)) at_line output' left.status
   -- success says that all links were served, or a stop came
   pub whole : left.status ≡ 0 → AllByRecursion (IsWhole history) crew
 

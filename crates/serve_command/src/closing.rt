@@ -1,10 +1,10 @@
 //! What stands behind the last link: the line that tells what was served, and the status.
 
-ghost use Rattle.std.specs.Prelude.{◌≡◌, ◌<◌, ◌^◌, ◌++◌, List, ℕ, MatchResult, Some};
-ghost use Rattle.command_core.specs.Seen.{OutputSeen, output_seen};
-ghost use Rattle.command_core.specs.Endings.{IsWritten};
+ghost use Rattle.std.specs.Prelude.{◌≡◌, ◌<◌, ◌^◌, ◌++◌, MatchResult, Some};
+ghost use Rattle.command_core.specs.Seen.{output_seen};
 ghost use Rattle.command_core.specs.Answers.{Tells};
 ghost use Rattle.share_history.specs.Histories.{batches, revision};
+ghost use Rattle.share_history.specs.Whole.{IsWhole};
 ghost use Rattle.share_crew.specs.Lines.{ended_line, links_in, requests_in};
 ghost use Rattle.share_crew.specs.Verdicts.{verdict_line, verdict_status, with_memory};
 ghost use Rattle.serve_command.specs.Runs.{TellsEnd};
@@ -26,9 +26,12 @@ pub(crate) fn closed<W: Sink>(
     requires links { links_in links < 2 ^ 64 }
     requires requests { requests_in links < 2 ^ 64 }
     ensures history { result.history ≡ Some share.history }
+    ensures whole { IsWhole share.history }
     ensures links { result.links ≡ links }
-    ensures told { (start : OutputSeen) (front : List ℕ) → IsWritten start (output_seen (W.taken output.old) (W.faults output.old)) front
-        → TellsEnd front (ended_line (revision (batches share.history)) links) verdict start (output_seen (W.taken output.new) (W.faults output.new)) result.status }
+    ensures told { TellsEnd (ended_line (revision (batches share.history)) links) verdict
+        (output_seen (W.taken output.old) (W.faults output.old))
+        (output_seen (W.taken output.new) (W.faults output.new))
+        result.status }
 {
     let line = ended_line_of(alloc, share.revision(), links.as_slice());
     let status = told(output, line, verdict);
@@ -41,10 +44,15 @@ pub(crate) fn closed<W: Sink>(
 
 // Writes the line, and behind it that of the verdict.
 fn told<W: Sink>(output: &mut W, line: Result<Vec<u8>, AllocError>, verdict: Verdict) -> u8
-    ensures { (start : OutputSeen) (front : List ℕ) → IsWritten start (output_seen (W.taken output.old) (W.faults output.old)) front
-        → MatchResult line
-        (λ bytes. Tells (verdict_status verdict) (front ++ (bytes.items ++ verdict_line verdict)) start (output_seen (W.taken output.new) (W.faults output.new)) result)
-        (λ _. Tells (verdict_status (with_memory verdict)) (front ++ verdict_line (with_memory verdict)) start (output_seen (W.taken output.new) (W.faults output.new)) result) }
+    ensures { MatchResult line
+        (λ bytes. Tells (verdict_status verdict) (bytes.items ++ verdict_line verdict)
+        (output_seen (W.taken output.old) (W.faults output.old))
+        (output_seen (W.taken output.new) (W.faults output.new))
+        result)
+        (λ _. Tells (verdict_status (with_memory verdict)) (verdict_line (with_memory verdict))
+        (output_seen (W.taken output.old) (W.faults output.old))
+        (output_seen (W.taken output.new) (W.faults output.new))
+        result) }
 {
     match line {
         Ok(line) => match put_all(output, line.as_slice()) {

@@ -1,6 +1,6 @@
 //! The command, whole.
 
-ghost use Rattle.std.specs.Prelude.{◌≡◌, ◌++◌, None, map, length};
+ghost use Rattle.std.specs.Prelude.{◌≡◌, ◌+◌, ◌-◌, ◌++◌, None, map, length};
 ghost use Rattle.command_core.specs.Seen.{NetSeen, input_seen, files_seen, net_seen, output_seen, seen, told_in};
 ghost use Rattle.share_crew.specs.Doors.{AreNew};
 ghost use Rattle.serve_command.specs.Outcomes.{left_of};
@@ -44,6 +44,7 @@ pub fn serve<I: Source, W: Sink, F: Files, N: Net, R: Threads + Wait + Clock + S
         (output_seen (W.taken output.new) (W.faults output.new)))
         (left_of result) }
     ensures alone { serving.now.file ≡ None → files.new ≡ files.old }
+    ensures open_stays { N.open_count net.new ≡ N.open_count net.old }
 {
     match opened(net, serving) {
         Ok(doors) => serve_at(rt, alloc, serving, input, output, files, net, doors),
@@ -78,6 +79,7 @@ fn serve_at<I: Source, W: Sink, F: Files, N: Net, R: Threads + Wait + Clock + Sy
         (output_seen (W.taken output.new) (W.faults output.new)))
         (left_of result) }
     ensures alone { serving.now.file ≡ None → files.new ≡ files.old }
+    ensures closes { N.open_count net.new ≡ N.open_count net.old - (length doors.listen.items + length doors.edit.items) }
 {
     match read_records(alloc, input) {
         Ok(first) => serve_records(rt, alloc, serving, output, files, net, doors, first),

@@ -1,6 +1,6 @@
 //! The doors of the two places.
 
-ghost use Rattle.std.specs.Prelude.{◌++◌, map, length, IfOk, IfErr};
+ghost use Rattle.std.specs.Prelude.{◌≡◌, ◌+◌, ◌++◌, map, length, IfOk, IfErr, OnErr};
 ghost use Rattle.command_core.specs.Seen.{net_seen};
 ghost use Rattle.share_crew.specs.Doors.{AreNew};
 ghost use Rattle.serve_command.specs.Places.{HasOpened, FailsToOpen};
@@ -34,6 +34,8 @@ pub(crate) fn opened<N: Net>(
         (net_seen (N.asked net.old) (N.written net.old) (N.door_links net.old) (N.next_input net.old) (N.faults net.old))
         (net_seen (N.asked net.new) (N.written net.new) (N.door_links net.new) (N.next_input net.new) (N.faults net.new))
         stop) }
+    ensures opens { IfOk result (λ doors. N.open_count net.new ≡ N.open_count net.old + (length doors.listen.items + length doors.edit.items)) }
+    ensures closes { OnErr result (N.open_count net.new ≡ N.open_count net.old) }
 {
     let listen = match net.listen(serving.listen.as_str(), serving.workers) {
         Ok(doors) => doors,

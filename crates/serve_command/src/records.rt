@@ -1,6 +1,6 @@
 //! A share that begins with the records of the input, behind the batches of its file, if it has one.
 
-ghost use Rattle.std.specs.Prelude.{◌≡◌, ◌≤◌, ◌++◌, Some, None, map, length, false, All};
+ghost use Rattle.std.specs.Prelude.{◌≡◌, ◌≤◌, ◌+◌, ◌-◌, ◌++◌, Some, None, map, length, false, All};
 ghost use Rattle.item_model.specs.Valid.{AreValid};
 ghost use Rattle.records_import.specs.Limits.{most_records};
 ghost use Rattle.records_import.specs.Written.{IsReadable};
@@ -65,6 +65,7 @@ pub(crate) fn serve_records<W: Sink, F: Files, N: Net, R: Threads + Wait + Clock
         (output_seen (W.taken output.new) (W.faults output.new)))
         (left_of result) }
     ensures alone { serving.now.file ≡ None → files.new ≡ files.old }
+    ensures closes { N.open_count net.new ≡ N.open_count net.old - (length doors.listen.items + length doors.edit.items) }
 {
     match &serving.file {
         None => serve_input(rt, alloc, serving, output, net, doors, first),
@@ -97,7 +98,7 @@ fn serve_input<W: Sink, N: Net, R: Threads + Wait + Clock + Sync>(
     requires editing { length doors.edit.items ≡ serving.now.editors }
     requires valid { AreValid first }
     requires few { length first ≤ most_records }
-    ensures { (files : FilesSeen) (before after : InputSeen) (start : NetSeen) → serving.now.file ≡ None → HasReadAs first before after
+    ensures ends { (files : FilesSeen) (before after : InputSeen) (start : NetSeen) → serving.now.file ≡ None → HasReadAs first before after
         → HasOpened serving.now start (net_seen (N.asked net.old) (N.written net.old) (N.door_links net.old) (N.next_input net.old) (N.faults net.old))
         (length doors.listen.items) (length doors.edit.items) (map N.D.coming (doors.listen.items ++ doors.edit.items))
         → AreNew N.D.written N.D.faults start.written doors.listen.items → AreNew N.D.written N.D.faults start.written doors.edit.items
@@ -106,6 +107,7 @@ fn serve_input<W: Sink, N: Net, R: Threads + Wait + Clock + Sync>(
         (output_seen (W.taken output.old) (W.faults output.old))
         (output_seen (W.taken output.new) (W.faults output.new)))
         (left_of result) }
+    ensures closes { N.open_count net.new ≡ N.open_count net.old - (length doors.listen.items + length doors.edit.items) }
 {
     match Share::open(alloc, serving.name.as_str(), serving.keep, first) {
         Ok(share) => serve_share(rt, alloc, serving, output, net, doors, share, Unkept).0,
@@ -131,7 +133,7 @@ fn serve_file<W: Sink, F: Files, N: Net, R: Threads + Wait + Clock + Sync>(
     requires editing { length doors.edit.items ≡ serving.now.editors }
     requires valid { AreValid first }
     requires readable { IsReadable first }
-    ensures { (before after : InputSeen) (start : NetSeen) → HasReadAs first before after
+    ensures ends { (before after : InputSeen) (start : NetSeen) → HasReadAs first before after
         → HasOpened serving.now start (net_seen (N.asked net.old) (N.written net.old) (N.door_links net.old) (N.next_input net.old) (N.faults net.old))
         (length doors.listen.items) (length doors.edit.items) (map N.D.coming (doors.listen.items ++ doors.edit.items))
         → AreNew N.D.written N.D.faults start.written doors.listen.items → AreNew N.D.written N.D.faults start.written doors.edit.items
@@ -143,6 +145,7 @@ fn serve_file<W: Sink, F: Files, N: Net, R: Threads + Wait + Clock + Sync>(
         (output_seen (W.taken output.old) (W.faults output.old))
         (output_seen (W.taken output.new) (W.faults output.new)))
         (left_of result) }
+    ensures closes { N.open_count net.new ≡ N.open_count net.old - (length doors.listen.items + length doors.edit.items) }
 {
     match open_library(
         alloc,
@@ -183,7 +186,7 @@ fn serve_kept<P: Placed, W: Sink, N: Net, D: Disk + Drop, R: Threads + Wait + Cl
     requires keeps { HasBatches D.Disk.own file (batches share.history) }
     requires sound { is_broken D.Disk.own file ≡ false }
     requires place { place_of D.Disk.own file ≡ P.place }
-    ensures { (start : NetSeen)
+    ensures ends { (start : NetSeen)
         → HasOpened serving.now start (net_seen (N.asked net.old) (N.written net.old) (N.door_links net.old) (N.next_input net.old) (N.faults net.old))
         (length doors.listen.items) (length doors.edit.items) (map N.D.coming (doors.listen.items ++ doors.edit.items))
         → AreNew N.D.written N.D.faults start.written doors.listen.items → AreNew N.D.written N.D.faults start.written doors.edit.items
@@ -192,6 +195,7 @@ fn serve_kept<P: Placed, W: Sink, N: Net, D: Disk + Drop, R: Threads + Wait + Cl
         start (net_seen (N.asked net.new) (N.written net.new) (N.door_links net.new) (N.next_input net.new) (N.faults net.new))
         (output_seen (W.taken output.old) (W.faults output.old))
         (output_seen (W.taken output.new) (W.faults output.new)) (left_of result.0) }
+    ensures closes { N.open_count net.new ≡ N.open_count net.old - (length doors.listen.items + length doors.edit.items) }
 {
     let keeper = PlacedFile {
         file,

@@ -1,6 +1,6 @@
 //! A share from its first line to its last, at doors that are open.
 
-ghost use Rattle.std.specs.Prelude.{◌≡◌, ◌≤◌, ◌<◌, ◌+◌, ◌++◌, ◌∷◌, [], ℕ, List, map, length, vec_len, vec_capacity, false, All};
+ghost use Rattle.std.specs.Prelude.{◌≡◌, ◌≤◌, ◌<◌, ◌+◌, ◌-◌, ◌++◌, ◌∷◌, [], ℕ, List, map, length, vec_len, vec_capacity, false, All};
 ghost use Rattle.item_model.specs.declared.changes.Entry.{Entry};
 ghost use Rattle.command_core.specs.Seen.{NetSeen, OutputSeen, net_seen, output_seen};
 ghost use Rattle.command_core.specs.Endings.{IsWritten};
@@ -49,7 +49,7 @@ pub(crate) fn serve_share<W: Sink, N: Net, K: Keeps, R: Threads + Wait + Clock +
     requires opening { All (λ e. maker e ≡ 0) share.history }
     requires settings { share.settings ≡ settings_of serving.now }
     requires going { K.is_lost keeper ≡ false }
-    ensures { (start : NetSeen)
+    ensures ends { (start : NetSeen)
         → HasOpened serving.now start (net_seen (N.asked net.old) (N.written net.old) (N.door_links net.old) (N.next_input net.old) (N.faults net.old))
         (length doors.listen.items) (length doors.edit.items) (map N.D.coming (doors.listen.items ++ doors.edit.items))
         → AreNew N.D.written N.D.faults start.written doors.listen.items → AreNew N.D.written N.D.faults start.written doors.edit.items
@@ -58,6 +58,7 @@ pub(crate) fn serve_share<W: Sink, N: Net, K: Keeps, R: Threads + Wait + Clock +
         start (net_seen (N.asked net.new) (N.written net.new) (N.door_links net.new) (N.next_input net.new) (N.faults net.new))
         (output_seen (W.taken output.old) (W.faults output.old))
         (output_seen (W.taken output.new) (W.faults output.new)) (left_of result.0) }
+    ensures closes { N.open_count net.new ≡ N.open_count net.old - (length doors.listen.items + length doors.edit.items) }
 {
     match begin(alloc, serving, output, share) {
         Ok(begun) => serve_begun(rt, alloc, output, net, doors, begun, keeper),
@@ -86,7 +87,7 @@ fn serve_begun<W: Sink, N: Net, K: Keeps, R: Threads + Wait + Clock + Sync>(
     requires some { 1 ≤ length doors.edit.items }
     requires few { length doors.listen.items + length doors.edit.items ≤ 72 }
     requires going { K.is_lost keeper ≡ false }
-    ensures { (serving : Serving) (opened : List Entry) (start : NetSeen) (before : OutputSeen) (front : List ℕ)
+    ensures serves { (serving : Serving) (opened : List Entry) (start : NetSeen) (before : OutputSeen) (front : List ℕ)
         → IsBegunWith serving opened begun → All (λ e. maker e ≡ 0) opened
         → HasOpened serving start (net_seen (N.asked net.old) (N.written net.old) (N.door_links net.old) (N.next_input net.old) (N.faults net.old))
         (length doors.listen.items) (length doors.edit.items) (map N.D.coming (doors.listen.items ++ doors.edit.items))
@@ -96,6 +97,7 @@ fn serve_begun<W: Sink, N: Net, K: Keeps, R: Threads + Wait + Clock + Sync>(
         (HasKept serving.editors (K.keeps keeper) (K.keeps result.1) (K.is_lost result.1) (K.faults keeper) (K.faults result.1) opened) front start
         (net_seen (N.asked net.new) (N.written net.new) (N.door_links net.new) (N.next_input net.new) (N.faults net.new))
         before (output_seen (W.taken output.new) (W.faults output.new)) (left_of result.0) }
+    ensures closes { N.open_count net.new ≡ N.open_count net.old - (length doors.listen.items + length doors.edit.items) }
 {
     let (mut begun, mut last) = staffed(rt, alloc, begun, doors);
     let mut keeper = keeper;

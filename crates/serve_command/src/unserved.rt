@@ -1,6 +1,6 @@
 //! Runs that end before their share is served.
 
-ghost use Rattle.std.specs.Prelude.{◌≡◌, ◌++◌, map, length};
+ghost use Rattle.std.specs.Prelude.{◌≡◌, ◌+◌, ◌-◌, length};
 ghost use Rattle.command_core.specs.Seen.{NetSeen, net_seen, output_seen};
 ghost use Rattle.share_crew.specs.Doors.{AreNew};
 ghost use Rattle.serve_command.specs.Outcomes.{left_of};
@@ -28,10 +28,11 @@ pub(crate) fn unserved(alloc: Global, status: u8) -> Outcome
 
 /// Gives back doors at which nobody waited.
 pub(crate) fn given_back<N: Net>(net: &mut N, doors: Doors<N::D>)
-    ensures { (start : NetSeen) → AreNew N.D.written N.D.faults start.written doors.listen.items → AreNew N.D.written N.D.faults start.written doors.edit.items
+    ensures back { (start : NetSeen) → AreNew N.D.written N.D.faults start.written doors.listen.items → AreNew N.D.written N.D.faults start.written doors.edit.items
         → IsGivenBack start
         (net_seen (N.asked net.old) (N.written net.old) (N.door_links net.old) (N.next_input net.old) (N.faults net.old))
         (net_seen (N.asked net.new) (N.written net.new) (N.door_links net.new) (N.next_input net.new) (N.faults net.new)) }
+    ensures closes { N.open_count net.new ≡ N.open_count net.old - (length doors.listen.items + length doors.edit.items) }
 {
     shut_all(net, doors.listen);
     shut_all(net, doors.edit);
@@ -51,6 +52,7 @@ pub(crate) fn turned_away<W: Sink, N: Net, E: Refusal>(
         → IsGivenBack start
         (net_seen (N.asked net.old) (N.written net.old) (N.door_links net.old) (N.next_input net.old) (N.faults net.old))
         (net_seen (N.asked net.new) (N.written net.new) (N.door_links net.new) (N.next_input net.new) (N.faults net.new)) }
+    ensures closes { N.open_count net.new ≡ N.open_count net.old - (length doors.listen.items + length doors.edit.items) }
 {
     let status = refused(alloc, output, stop).status;
     given_back(net, doors);

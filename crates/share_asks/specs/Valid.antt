@@ -1,6 +1,6 @@
 -- Valid wants: those that the bytes of a request may give. Queries are proper, edits are ones that records may
 -- give, and no error is want of memory, which is no answer to a request.
-use Rattle.std.specs.Prelude.{◌≡◌, ◌≢◌, ℕ, Option, Some, None, Result, Ok, Err}
+use Rattle.std.specs.Prelude.{◌≢◌, ⊤, Option, Some, None, Ok, Err}
 use Rattle.item_model.specs.Proper.{IsProper}
 use Rattle.item_model.specs.Valid.{AreValid}
 use Rattle.item_model.specs.declared.query.Query.{Query}
@@ -24,6 +24,18 @@ IsValidFault (fault.Method allow) = Unit {0}
 IsValidFault (fault.Parameter name) = Unit {0}
 IsValidFault (fault.Query error) = error ≢ query.Memory
 
+-- why a cell is refused: the refusal of its query is not want of memory
+abbrev pub IsValidReason : RecordWhy → Type 0
+IsValidReason (why.Query error) = error ≢ query.Memory
+IsValidReason other = ⊤
+
+abbrev pub IsValidRefusal : RecordError → Type 0
+IsValidRefusal (records.Header column) = ⊤
+IsValidRefusal (records.Field row column reason) = IsValidReason reason
+IsValidRefusal (records.Length row) = ⊤
+IsValidRefusal (records.TooMany row) = ⊤
+IsValidRefusal records.Memory = ⊥
+
 abbrev pub IsValidWant : Want → Type 0
 IsValidWant ServerInfo = Unit {0}
 IsValidWant Codes = Unit {0}
@@ -35,6 +47,6 @@ IsValidWant (Rows session target look) = MayAsk look.query
 IsValidWant (Lists session) = Unit {0}
 IsValidWant (Values session browse asked) = MayAsk asked
 IsValidWant (Edit (Ok batch)) = AreValid batch
-IsValidWant (Edit (Err error)) = error ≢ records.Memory
+IsValidWant (Edit (Err error)) = IsValidRefusal error
 IsValidWant Stop = Unit {0}
 IsValidWant (Bad error) = IsValidFault error

@@ -11,3 +11,4 @@ pub mod Opening
 pub mod Results
 pub mod Looked
 pub mod Growing
+pub mod KeepsWhole

@@ -7,8 +7,10 @@ use Rattle.item_model.specs.declared.changes.Entry.TheVariants.{Edits}
 use Rattle.share_history.specs.Histories.{batches, edits, all_edits, revision}
 use Rattle.share_history.specs.Limits.{has_place, has_room_for, has_few_lists, takes_batch}
 use Rattle.share_history.specs.Rows as rows
+use Rattle.share_history.specs.Whole.{AreWhole, IsWhole}
 use Rattle.share_history.proofs.EditFacts.{batches-append, edits_more}
 use Rattle.share_history.proofs.SessionFacts.{few_batches}
+use Rattle.share_history.proofs.WholeFacts.{whole_batch, whole_begin}
 use Rattle.share_replies.specs.Settings.{Settings}
 use Rattle.share_core.specs.declared.stores.Stores.{Stores}
 use Rattle.share_core.specs.Held.{StandFor, AreHeld, IsSound}
@@ -25,8 +27,10 @@ held_by h h' stores same held = record {
 }
 
 -- an entry that brings no edits
-pub sound_quiet : (s : Settings) (h h' : List Entry) (e : Entry) (stores : Stores) → h' ≡ h ++ e ∷ [] → batches (e ∷ []) ≡ [] → IsSound s h stores → IsSound s h' stores
-sound_quiet s h h' e stores longer quiet sound = record {
+pub sound_quiet : (s : Settings) (h h' : List Entry) (e : Entry) (stores : Stores) → h' ≡ h ++ e ∷ [] → batches (e ∷ []) ≡ [] → IsWhole (h ++ e ∷ []) → IsSound s h stores
+    → IsSound s h' stores
+sound_quiet s h h' e stores longer quiet whole sound = record {
+  whole = subst IsWhole (sym longer) whole;
   held = held_by h h' stores (ap batches longer ∙ batches-append h (e ∷ []) ∙ ap (λ bs. batches h ++ bs) quiet ∙ append-nil (batches h)) sound.held;
   items_keep = sound.items_keep;
   lists_keep = sound.lists_keep;
@@ -49,9 +53,10 @@ held_more h h' batch stores stores' longer takes stand =
 
 -- a batch that no limit stands against
 pub sound_edit : (s : Settings) (h h' : List Entry) (by : ℕ) (batch : List Edit) (stores stores' : Stores) → h' ≡ h ++ Edits by batch ∷ [] → takes_batch h batch ≡ true
-    → StandFor (batches h ++ batch ∷ []) stores' → stores'.items.keep ≡ stores.items.keep → stores'.lists.keep ≡ stores.lists.keep
+    → AreWhole batch → StandFor (batches h ++ batch ∷ []) stores' → stores'.items.keep ≡ stores.items.keep → stores'.lists.keep ≡ stores.lists.keep
     → IsSound s h stores → IsSound s h' stores'
-sound_edit s h h' by batch stores stores' longer takes stand items lists sound = record {
+sound_edit s h h' by batch stores stores' longer takes brought stand items lists sound = record {
+  whole = subst IsWhole (sym longer) (whole_batch h by batch takes brought sound.whole);
   held = held_more h h' batch stores stores' (ap batches longer ∙ batches_more h by batch) takes stand;
   items_keep = items ∙ sound.items_keep;
   lists_keep = lists ∙ sound.lists_keep;
@@ -62,6 +67,7 @@ sound_edit s h h' by batch stores stores' longer takes stand items lists sound =
 pub sound_left : (s : Settings) (h : List Entry) (stores stores' : Stores) → ((bs : List (List Edit)) → StandFor bs stores → StandFor bs stores')
     → stores'.items.keep ≡ stores.items.keep → stores'.lists.keep ≡ stores.lists.keep → IsSound s h stores → IsSound s h stores'
 sound_left s h stores stores' left items lists sound = record {
+  whole = sound.whole;
   held = record { stand = left (batches h) sound.held.stand; few_edits = sound.held.few_edits; few_lists = sound.held.few_lists };
   items_keep = items ∙ sound.items_keep;
   lists_keep = lists ∙ sound.lists_keep;
@@ -73,6 +79,7 @@ sound_left s h stores stores' left items lists sound = record {
 pub sound_empty : (s : Settings) (h : List Entry) (stores : Stores) → h ≡ [] → StandFor [] stores → stores.items.keep ≡ s.keep → stores.lists.keep ≡ s.keep → length s.name ≤ 255 → IsSound s h stores
 sound_empty s h stores none stand items_keep lists_keep short = sound_on s [] h stores none (record {
   held = record { stand = stand; few_edits = omega arith; few_lists = omega arith };
+  whole = whole_begin;
   items_keep = items_keep;
   lists_keep = lists_keep;
   short_name = short;

@@ -8,6 +8,7 @@ use Rattle.share_history.specs.Histories.{batches, edits, all_edits}
 use Rattle.share_history.specs.LastSaid.{item_at}
 use Rattle.share_history.specs.Numbers.{most_edits, most_lists}
 use Rattle.share_history.specs.Rows as rows
+use Rattle.share_history.specs.Whole.{IsWhole}
 use Rattle.item_store.specs.Stands as item_store
 use Rattle.playlist_store.specs.Stands as playlist_store
 use Rattle.prop_index.specs.Index as prop_index
@@ -31,6 +32,7 @@ pub record AreHeld (h : List Entry) (stores : Stores) : Type 0 where
 -- what a share keeps fits its history and its settings
 pub record IsSound (settings : Settings) (h : List Entry) (stores : Stores) : Type 0 where
   pub held : AreHeld h stores
+  pub whole : IsWhole h
   pub items_keep : stores.items.keep ≡ settings.keep
   pub lists_keep : stores.lists.keep ≡ settings.keep
   pub short_name : length settings.name ≤ text_limit

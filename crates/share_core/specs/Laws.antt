@@ -1,8 +1,11 @@
 -- What an answer leaves of a share, whatever is asked: the settings as they were, and the history with entries of the pass that
--- asked behind it, if with any.
-use Rattle.std.specs.Prelude.{◌≡◌, ℕ, List, ◌++◌, All}
+-- asked behind it, if with any. Behind a whole history it is whole.
+use Rattle.std.specs.Prelude.{◌≡◌, ⊤, ℕ, List, [], ◌∷◌, ◌++◌, Some, Ok, All}
 use Rattle.item_model.specs.declared.changes.Entry.{Entry}
 use Rattle.share_asks.specs.declared.ask.Want.{Want}
+use Rattle.share_asks.specs.declared.ask.Want.TheVariants.{Edit as Change}
+use Rattle.share_history.specs.Whole.{AreWhole, IsWhole}
+use Rattle.share_replies.specs.Added.{adds}
 use Rattle.share_replies.specs.Answers.{Shared}
 use Rattle.share_replies.specs.Laws.{maker}
 use Rattle.share_core.specs.declared.answer.Answer.{Answer}
@@ -13,3 +16,24 @@ Grows old by new = (new.settings ≡ old.settings) × (more : List Entry) × (ne
 
 abbrev pub AnswersGrow : Type 0
 AnswersGrow = (old new : Shared) (by : ℕ) (want : Want) (answer : Answer) → IsAnswer old new by want answer → Grows old by new
+
+-- the batch that a want has, if it has one, is whole
+abbrev pub BringsWhole : Want → Type 0
+BringsWhole (Change (Ok batch)) = AreWhole batch
+BringsWhole want = ⊤
+
+-- the entry is what some want adds
+pub record IsAdded (h : List Entry) (e : Entry) : Type 0 where
+  pub by : ℕ
+  pub want : Want
+  pub whole : BringsWhole want
+  pub added : adds h by want ≡ Some e
+
+-- each entry is added behind those before it
+abbrev pub AreAdded : List Entry → List Entry → Type 0
+AreAdded h [] = ⊤
+AreAdded h (e ∷ es) = IsAdded h e × AreAdded (h ++ e ∷ []) es
+
+-- whatever is asked, a whole history stays whole
+abbrev pub AnswersKeepWhole : Type 0
+AnswersKeepWhole = (h later : List Entry) → IsWhole h → AreAdded h later → IsWhole (h ++ later)

@@ -17,6 +17,7 @@ mod small;
 mod stores;
 mod tags;
 mod texts;
+mod whole;
 
 pub use answer::{Answer, Reply, Said};
 pub use settings::Settings;

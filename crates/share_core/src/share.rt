@@ -12,6 +12,7 @@ ghost use Rattle.share_history.specs.Limits.{has_few_lists, has_place, has_room_
 ghost use Rattle.share_history.specs.Marks.{until_login};
 ghost use Rattle.share_history.specs.Numbers.{most_edits};
 ghost use Rattle.share_history.specs.Sessions.{is_live, is_stopped};
+ghost use Rattle.share_history.specs.Whole.{IsWhole};
 ghost use Rattle.playlist_store.specs.Tests.{tests_of};
 ghost use Rattle.share_history.specs.Histories.{all_edits};
 ghost use Rattle.share_replies.specs.Replies.{Body, Nothing, lacks_session, needed, refusal, success};
@@ -32,6 +33,7 @@ use crate::said::nothing;
 use crate::settings::Settings;
 use crate::small::{codes, logged_in, revised, server_info};
 use crate::stores::Stores;
+use crate::whole::rows_are_whole;
 use dmap_tags::Text;
 use item_model::{Batch, Edits, Entry};
 use records_import::RecordError;
@@ -232,9 +234,10 @@ impl Share {
         self.register.stopped()
     }
 
-    /// The entries, oldest first, without memory.
+    /// The entries, oldest first, without memory. No limit on entries and edits is passed, and their rows are whole.
     pub fn into_history(self) -> Vec<Entry>
-        ensures { result.items ≡ self.history }
+        ensures history { result.items ≡ self.history }
+        ensures whole { IsWhole result.items }
     {
         self.register.into_history()
     }
@@ -398,6 +401,7 @@ impl Share {
         if self.stores.lists.count_after(edits)? > MAX_LISTS {
             return Err(OpenError::Lists);
         }
+        rows_are_whole(edits);
         let next = self.register.revision() + 1;
         self.register.reserve()?;
         self.stores.apply(self.alloc, edits, next, steps)?;
@@ -425,6 +429,7 @@ impl Share {
         let next = self.register.revision() + 1;
         self.register.reserve()?;
         let edits = batch.edits.as_slice();
+        rows_are_whole(edits);
         self.stores.apply(self.alloc, edits, next, steps)?;
         Ok(enter(&mut self.register, by, own, said))
     }

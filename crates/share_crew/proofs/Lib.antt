@@ -8,3 +8,4 @@ pub mod Ending
 pub mod Working
 pub mod Counting
 pub mod Crossing
+pub mod Players

@@ -1,5 +1,5 @@
 //! Workers at work, beside a partner.
-ghost use Rattle.std.specs.Prelude.{◌≡◌, ◌<◌, ◌≤◌, ◌^◌, false, [], List, Option, map, length, All, vec_len, vec_capacity};
+ghost use Rattle.std.specs.Prelude.{◌≡◌, ◌<◌, ◌≤◌, ◌-◌, ◌^◌, false, [], List, Option, map, length, All, vec_len, vec_capacity};
 ghost use Rattle.std.specs.List.{AllZip};
 ghost use Rattle.std.specs.Thread.{IsSync};
 ghost use Rattle.daap_outside.specs.Places.{Returned};
@@ -114,6 +114,7 @@ pub fn worked<N: Net, P: Partner, R: Threads + Wait + Clock + Sync>(
         kept (N.written net.old) (N.written net.new) (N.faults net.old) (N.faults net.new) (known result.first) result.links result.verdict }
     ensures partner { P.worked (lock_id begun.lock) partner.old partner.new }
     ensures asked { N.asked net.new ≡ N.asked net.old }
+    ensures closes { N.open_count net.new ≡ N.open_count net.old - length begun.room.crew.items }
     ensures links { length begun.room.crew.items ≤ 72 → links_in result.links < 2 ^ 64 }
     ensures requests { length begun.room.crew.items ≤ 72 → requests_in result.links < 2 ^ 64 }
 {

@@ -1,6 +1,6 @@
 //! Doors that are given back before anybody waited at them.
 
-ghost use Rattle.std.specs.Prelude.{◌≡◌, [], List, Option};
+ghost use Rattle.std.specs.Prelude.{◌≡◌, ◌-◌, [], List, Option, length};
 ghost use Rattle.daap_outside.specs.Places.{Returned};
 ghost use Rattle.daap_outside.specs.Told.{Grows};
 ghost use Rattle.share_crew.specs.Doors.{AreNew};
@@ -14,6 +14,7 @@ pub fn shut_all<N: Net>(net: &mut N, doors: Vec<N::D>)
         → Grows kept (N.written net.old) [] → Grows kept (N.written net.new) [] }
     ensures count { (kept : Option (List Returned)) → AreNew N.D.written N.D.faults kept doors.items
         → N.faults net.new ≡ N.faults net.old }
+    ensures closes { N.open_count net.new ≡ N.open_count net.old - length doors.items }
 {
     for door in doors {
         net.shut(door);

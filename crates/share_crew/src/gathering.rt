@@ -1,6 +1,6 @@
 //! Workers that have ended, come together again.
 
-ghost use Rattle.std.specs.Prelude.{◌≡◌, ◌<◌, ◌≤◌, ◌+◌, ◌^◌, ◌++◌, [], List, Option, map, length, All, vec_len, vec_capacity};
+ghost use Rattle.std.specs.Prelude.{◌≡◌, ◌<◌, ◌≤◌, ◌+◌, ◌-◌, ◌^◌, ◌++◌, [], List, Option, map, length, All, vec_len, vec_capacity};
 ghost use Rattle.std.specs.List.{AllByRecursion, AllZip};
 ghost use Rattle.daap_outside.specs.Places.{Returned};
 ghost use Rattle.item_model.specs.declared.changes.Entry.{Entry};
@@ -53,6 +53,7 @@ pub fn gather<N: Net>(net: &mut N, begun: Begun<N::D>) -> Gathered
         kept (N.written net.old) (N.written net.new) (N.faults net.old) (N.faults net.new) (known result.first) result.links result.verdict)
         × AllZip (IsOf N.D.written N.D.faults) g.crew begun.room.crew.items }
     ensures asked { N.asked net.new ≡ N.asked net.old }
+    ensures closes { N.open_count net.new ≡ N.open_count net.old - length begun.room.crew.items }
     ensures links { (before : List (Member N.D)) → AllZip (HasEnded N.D.coming N.D.written N.D.faults) before begun.room.crew.items
         → length before ≤ 72 → links_in result.links < 2 ^ 64 }
     ensures requests { (before : List (Member N.D)) → AllZip (HasEnded N.D.coming N.D.written N.D.faults) before begun.room.crew.items
@@ -91,6 +92,7 @@ fn join_each<N: Net>(
         → AllZip (IsOf N.D.written N.D.faults) stints crew.items
         → HasShut (N.written net.old) (N.written net.new) (N.faults net.old) (N.faults net.new) stints }
     ensures asked { N.asked net.new ≡ N.asked net.old }
+    ensures closes { N.open_count net.new ≡ N.open_count net.old - length crew.items }
     ensures links { map (λ l. l.items) links.new.items ≡ map (λ l. l.items) links.old.items ++ map (λ w. w.reports.items) crew.items }
 {
     for worker in crew {

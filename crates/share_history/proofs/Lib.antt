@@ -12,3 +12,4 @@ pub mod FoldFacts
 pub mod SessionFacts
 pub mod RangeFacts
 pub mod TextFacts
+pub mod WholeFacts

@@ -10,6 +10,7 @@ pub mod Differences
 pub mod Listings
 pub mod Bodies
 pub mod Limits
+pub mod Whole
 pub mod Sessions
 pub mod Marks
 pub mod Mirror

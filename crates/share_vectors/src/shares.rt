@@ -81,6 +81,7 @@ fn rows(session: u32, target: Target) -> Want
     }
 }
 
+#[tactic(auto, using(http_front::proofs::ValidRefusals::refusal_valid))]
 fn edit(alloc: Global, records: &str) -> Result<Want, AllocError>
     ensures { IfOk result IsValidWant }
 {

@@ -7,8 +7,8 @@ use Rattle.link_commands.proofs.LinkedFacts.{linked}
 use Rattle.link_commands.proofs.PushFacts.{edit_done, edit_promised, edit_stops, edit_unlinked}
 use Rattle.link_commands.proofs.edit.edit_share.Goals as goal
 
-pub returns-in-Ok : goal.returns-in-Ok
-returns-in-Ok g c =
+pub returns-in-Ok-clause-answered : goal.returns-in-Ok-clause-answered
+returns-in-Ok-clause-answered g c =
     let host = c.args.place.now in
     let old = c.args.net.now in
     let new = c.hang_up.new.self in
@@ -28,8 +28,8 @@ returns-in-Ok g c =
     (edit_done host c.args.stop told.before told.after link c.sent-answer.result made c.sent-answer.ensures.sent)
     (edit_stops host c.args.stop told.before told.after link c.sent-answer.result made c.sent-answer.ensures.stops) c.written.ensures
 
-pub returns-in-Err : goal.returns-in-Err
-returns-in-Err g c =
+pub returns-in-Err-clause-answered : goal.returns-in-Err-clause-answered
+returns-in-Err-clause-answered g c =
     let old = c.args.net.now in
     let new = c.connect.new.self in
     let input : InputSeen = input_seen (g.I.Source.left c.args.input.now) (g.I.Faulted.faults c.args.input.now) in

@@ -6,8 +6,8 @@ use Rattle.link_commands.proofs.LinkedFacts.{linked}
 use Rattle.link_commands.proofs.follow.follow_share.Goals as goal
 
 -- the texts were refused
-pub returns-in-Err : goal.returns-in-Err
-returns-in-Err g c =
+pub returns-in-Err-clause-answered : goal.returns-in-Err-clause-answered
+returns-in-Err-clause-answered g c =
     let old = c.args.net.now in
     let net : NetSeen = net_seen (g.N.Net.asked old) (g.N.Net.written old) (g.N.Net.door_links old) (g.N.Net.next_input old) (g.N.Faulted.faults old) in
     λ files input.
@@ -16,8 +16,8 @@ returns-in-Err g c =
     look_ends c.args.place.now c.args.rounds (option_copied c.args.query) (option_copied c.args.meta) c.args.target told c.refused.result c.in-Err.fault refl c.in-Err.ensures.refused
     c.refused.ensures
 
-pub returns-in-Ok-connect : goal.returns-in-Ok-connect
-returns-in-Ok-connect g c =
+pub returns-in-Ok-connect-clause-answered : goal.returns-in-Ok-connect-clause-answered
+returns-in-Ok-connect-clause-answered g c =
     let host = c.args.place.now in
     let query = option_copied c.args.query in
     let meta = option_copied c.args.meta in
@@ -42,8 +42,8 @@ returns-in-Ok-connect g c =
     (record { asks = c.in-Ok.ensures.asks; unread = record { left = refl; faults = refl }; linked = made }) c.follow_rounds-end.ensures.followed c.follow_rounds-end.ensures.ends c.ended.ensures
 
 -- no link was made
-pub returns : goal.returns
-returns g c =
+pub returns-clause-answered : goal.returns-clause-answered
+returns-clause-answered g c =
     let old = c.args.net.now in
     let new = c.connect.new.self in
     λ files input.

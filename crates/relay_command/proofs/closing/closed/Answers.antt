@@ -7,9 +7,10 @@ use Rattle.relay_command.proofs.Telling.{told_end}
 use Rattle.relay_command.proofs.closing.closed.Goals as goal
 
 pub returns-clause-told : goal.returns-clause-told
-returns-clause-told g c = λ start front w.
+returns-clause-told g c =
+    let before : OutputSeen = output_seen (g.W.Sink.taken c.args.output.now) (g.W.Faulted.faults c.args.output.now) in
     let after : OutputSeen = output_seen (g.W.Sink.taken c.told-status.new.output) (g.W.Faulted.faults c.told-status.new.output) in
-    told_end c.last_lines-lines.result front (last_lines (revision (batches c.args.share.history)) c.args.links c.args.rounds.now c.args.fault) c.args.fault start after c.told-status.result
+    told_end c.last_lines-lines.result (last_lines (revision (batches c.args.share.history)) c.args.links c.args.rounds.now c.args.fault) c.args.fault before after c.told-status.result
     (subst (λ (t : ℕ × List (List LinkReport)). IfOk c.last_lines-lines.result (λ lines. lines.items ≡ last_lines t.0 t.1 c.args.rounds.now c.args.fault))
     (λ i. (c.revision.ensures i, c.as_slice.ensures i)) c.last_lines-lines.ensures)
-    (c.told-status.ensures start front w)
+    c.told-status.ensures

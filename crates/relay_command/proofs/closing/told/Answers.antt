@@ -1,39 +1,34 @@
-use Rattle.std.proofs.Common.{[], ◌++◌, List, ℕ, Some, sym, subst}
+use Rattle.std.proofs.Common.{List, ℕ, sym, subst}
 use Rattle.std.specs.Io.KnownBytes.{Appends}
 use Rattle.daap_outside.specs.Told.{AppendsPrefix}
 use Rattle.command_core.specs.Seen.{OutputSeen, output_seen}
-use Rattle.command_core.specs.declared.fault.Fault.TheVariants.{Memory}
-use Rattle.command_core.proofs.Appending.{written_more}
-use Rattle.relay_command.specs.Faults.{worse}
-use Rattle.relay_command.specs.Runs.{TellsBehind}
-use Rattle.relay_command.proofs.Telling.{TellsLines, cut_behind, ruled_behind}
+use Rattle.relay_command.specs.Runs.{TellsRuling}
+use Rattle.relay_command.proofs.Telling.{TellsLines, cut_in, ruled_behind}
 use Rattle.relay_command.proofs.closing.told.Goals as goal
 
 pub returns-in-Ok-put_all : goal.returns-in-Ok-put_all
-returns-in-Ok-put_all g c = λ start front w.
+returns-in-Ok-put_all g c =
     let old : OutputSeen = output_seen (g.W.Sink.taken c.args.output.now) (g.W.Faulted.faults c.args.output.now) in
     let mid : OutputSeen = output_seen (g.W.Sink.taken c.put_all.new.sink) (g.W.Faulted.faults c.put_all.new.sink) in
     let after : OutputSeen = output_seen (g.W.Sink.taken c.ruled.new.output) (g.W.Faulted.faults c.ruled.new.output) in
-    subst (TellsLines front c.args.fault start after c.ruled.result) (sym c.in-Ok.is)
-    (ruled_behind start mid after (front ++ c.in-Ok.lines.items) c.args.fault c.ruled.result
-    (written_more start old mid front c.in-Ok.lines.items w
-    (record { taken = subst (λ (l : List ℕ). Appends old.taken mid.taken l) c.as_slice.ensures.value c.in-Ok-put_all.ensures.all; faultless = c.in-Ok-put_all.ensures.count }))
+    subst (TellsLines c.args.fault old after c.ruled.result) (sym c.in-Ok.is)
+    (ruled_behind old mid after c.in-Ok.lines.items c.args.fault c.ruled.result
+    (record { taken = subst (λ (l : List ℕ). Appends old.taken mid.taken l) c.as_slice.ensures.value c.in-Ok-put_all.ensures.all; faultless = c.in-Ok-put_all.ensures.count })
     c.ruled.ensures)
 
 -- the output failed in the lines
 pub returns-in-Ok : goal.returns-in-Ok
-returns-in-Ok g c = λ start front w.
+returns-in-Ok g c =
     let old : OutputSeen = output_seen (g.W.Sink.taken c.args.output.now) (g.W.Faulted.faults c.args.output.now) in
     let after : OutputSeen = output_seen (g.W.Sink.taken c.put_all.new.sink) (g.W.Faulted.faults c.put_all.new.sink) in
-    subst (TellsLines front c.args.fault start after 5) (sym c.in-Ok.is)
-    (cut_behind start old after front c.in-Ok.lines.items c.args.fault w
+    subst (TellsLines c.args.fault old after 5) (sym c.in-Ok.is)
+    (cut_in old after c.in-Ok.lines.items c.args.fault
     (record { taken = subst (λ (l : List ℕ). AppendsPrefix old.taken after.taken l) c.as_slice.ensures.value c.in-Err-put_all.ensures.part; rose = c.in-Err-put_all.ensures.count }))
 
 -- there was no memory for them
 pub returns : goal.returns
-returns g c = λ start front w.
+returns g c =
     let old : OutputSeen = output_seen (g.W.Sink.taken c.args.output.now) (g.W.Faulted.faults c.args.output.now) in
     let after : OutputSeen = output_seen (g.W.Sink.taken c.ruled-in-Err.new.output) (g.W.Faulted.faults c.ruled-in-Err.new.output) in
-    subst (TellsLines front c.args.fault start after c.ruled-in-Err.result) (sym c.in-Err.is)
-    (ruled_behind start old after front (worse c.args.fault (Some Memory)) c.ruled-in-Err.result w
-    (subst (λ f. TellsBehind [] f old after c.ruled-in-Err.result) c.with_memory.ensures c.ruled-in-Err.ensures))
+    subst (TellsLines c.args.fault old after c.ruled-in-Err.result) (sym c.in-Err.is)
+    (subst (λ f. TellsRuling f old after c.ruled-in-Err.result) c.with_memory.ensures c.ruled-in-Err.ensures)

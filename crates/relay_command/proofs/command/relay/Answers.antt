@@ -7,15 +7,15 @@ use Rattle.relay_command.proofs.command.relay.Goals as goal
 pub relay_at-requires-clause-doors : goal.relay_at-requires-clause-doors
 relay_at-requires-clause-doors g c = λ κs bounds. sym (length-map c.in-Ok.places.doors.items g.N.D.Door.coming) ∙ c.in-Ok.ensures.opened.count
 
-pub returns-in-Ok : goal.returns-in-Ok
-returns-in-Ok g c =
+pub returns-in-Ok-clause-ends : goal.returns-in-Ok-clause-ends
+returns-in-Ok-clause-ends g c =
     let net = c.args.net.now in
     let start : NetSeen = net_seen (g.N.Net.asked net) (g.N.Net.written net) (g.N.Net.door_links net) (g.N.Net.next_input net) (g.N.Faulted.faults net) in
-    c.relay_at.ensures start c.in-Ok.ensures.opened c.in-Ok.ensures.doors
+    c.relay_at.ensures.ends start c.in-Ok.ensures.opened c.in-Ok.ensures.doors
 
 -- a place was not opened
-pub returns-in-Err : goal.returns-in-Err
-returns-in-Err g c =
+pub returns-in-Err-clause-ends : goal.returns-in-Err-clause-ends
+returns-in-Err-clause-ends g c =
     let old : OutputSeen = output_seen (g.W.Sink.taken c.args.output.now) (g.W.Faulted.faults c.args.output.now) in
     let new : OutputSeen = output_seen (g.W.Sink.taken c.refused.new.output) (g.W.Faulted.faults c.refused.new.output) in
     unopened c.in-Err.stop c.in-Err.ensures.failed (subst (TellsStop c.in-Err.stop old new) (sym c.unrelayed.ensures.status) c.refused.ensures.told) c.unrelayed.ensures.none

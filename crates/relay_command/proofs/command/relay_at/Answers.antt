@@ -5,16 +5,16 @@ use Rattle.relay_command.specs.Lines.{relaying_line}
 use Rattle.relay_command.specs.Runs.{served, unannounced}
 use Rattle.relay_command.proofs.command.relay_at.Goals as goal
 
-pub returns-in-Ok : goal.returns-in-Ok
-returns-in-Ok g c = λ start opens new.
+pub returns-in-Ok-clause-ends : goal.returns-in-Ok-clause-ends
+returns-in-Ok-clause-ends g c = λ start opens new.
     let old : OutputSeen = output_seen (g.W.Sink.taken c.args.output.now) (g.W.Faulted.faults c.args.output.now) in
     let first : OutputSeen = output_seen (g.W.Sink.taken c.begin.new.output) (g.W.Faulted.faults c.begin.new.output) in
-    served (c.relay_begun.ensures start old first (relaying_line c.args.relaying.now.name) c.in-Ok.ensures opens new c.in-Ok.ensures.written)
+    served (c.relay_begun.ensures.serves start old first (relaying_line c.args.relaying.now.name) c.in-Ok.ensures opens new c.in-Ok.ensures.written)
 
 -- the share did not come under its lock
-pub returns-in-Err : goal.returns-in-Err
-returns-in-Err g c = λ start opens new.
+pub returns-in-Err-clause-ends : goal.returns-in-Err-clause-ends
+returns-in-Err-clause-ends g c = λ start opens new.
     let old : OutputSeen = output_seen (g.W.Sink.taken c.args.output.now) (g.W.Faulted.faults c.args.output.now) in
     let after : OutputSeen = output_seen (g.W.Sink.taken c.begin.new.output) (g.W.Faulted.faults c.begin.new.output) in
     unannounced (subst (NotAnnounced (relaying_line c.args.relaying.now.name) old after) (sym c.unrelayed.ensures.status) c.in-Err.ensures)
-    (c.given_back.ensures start c.args.relaying.now opens new) c.unrelayed.ensures.none
+    (c.given_back.ensures.back start c.args.relaying.now opens new) c.unrelayed.ensures.none

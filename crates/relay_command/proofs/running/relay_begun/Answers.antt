@@ -28,8 +28,8 @@ use Rattle.relay_command.proofs.Staying.{relay_stays}
 use Rattle.relay_command.proofs.Success.{crew_done, end_none}
 use Rattle.relay_command.proofs.running.relay_begun.Goals as goal
 
-pub returns : goal.returns
-returns g c = λ start before first front begun opens new wrote.
+pub returns-clause-serves : goal.returns-clause-serves
+returns-clause-serves g c = λ start before first front begun opens new wrote.
     let coming = g.N.D.Door.coming in
     let written = g.N.D.Door.written in
     let faults = g.N.D.Faulted.faults in
@@ -82,15 +82,17 @@ returns g c = λ start before first front begun opens new wrote.
     let n3 = c.hang_up.new.self in
     let fault = worse (crew_fault (verdict_of ends)) (end_fault after.report.end) in
     let ruled : c.ruling.result ≡ fault = c.ruling.ensures ∙ ap (λ v. worse (crew_fault v) (end_fault after.report.end)) all.verdict_is in
+    let at_line : OutputSeen = output_seen (g.W.Sink.taken c.args.output.now) (g.W.Faulted.faults c.args.output.now) in
     let ending : OutputSeen = output_seen (g.W.Sink.taken c.closed.new.output) (g.W.Faulted.faults c.closed.new.output) in
-    let told : TellsEnd front (last_lines (revision (batches history)) c.closed.result.links after.report.rounds.items fault) fault before ending c.closed.result.status =
-    subst (λ f. TellsEnd front (last_lines (revision (batches history)) c.closed.result.links after.report.rounds.items f) f before ending c.closed.result.status) ruled
-    (subst (λ l. TellsEnd front (last_lines (revision (batches history)) l after.report.rounds.items c.ruling.result) c.ruling.result before ending c.closed.result.status) (sym c.closed.ensures.links)
-    (subst (λ rs. TellsEnd front (last_lines (revision (batches history)) c.worked-lock.result.links rs c.ruling.result) c.ruling.result before ending c.closed.result.status) c.as_slice.ensures.value
-    (c.closed.ensures.told before front wrote))) in
+    let told : TellsEnd (last_lines (revision (batches history)) c.closed.result.links after.report.rounds.items fault) fault at_line ending c.closed.result.status =
+    subst (λ f. TellsEnd (last_lines (revision (batches history)) c.closed.result.links after.report.rounds.items f) f at_line ending c.closed.result.status) ruled
+    (subst (λ l. TellsEnd (last_lines (revision (batches history)) l after.report.rounds.items c.ruling.result) c.ruling.result at_line ending c.closed.result.status) (sym c.closed.ensures.links)
+    (subst (λ rs. TellsEnd (last_lines (revision (batches history)) c.worked-lock.result.links rs c.ruling.result) c.ruling.result at_line ending c.closed.result.status) c.as_slice.ensures.value
+    c.closed.ensures.told)) in
     record {
       history = history;
       history_is = c.closed.ensures.history;
+      whole_history = c.closed.ensures.whole;
       crew = all.crew;
       roles = all.roles_are ∙ (e.roles ∙ sym (splat_is_map crew relaying.workers role.Listen crew_count));
       links = c.closed.ensures.links ∙ all.links_are;
@@ -117,8 +119,17 @@ returns g c = λ start before first front begun opens new wrote.
           counts_all (has_end AcceptFault ends) (is_fault after.report.end) start.faults (g.N.Faulted.faults n1) (g.N.Faulted.faults n2) (g.N.Faulted.faults n3)
           (g.N.L.Faulted.faults c.args.places.link) link.faults (subst (λ n. CountsShut n (g.N.Faulted.faults n1) ends) opens.faultless all.counts)
           (c.shut.ensures.count.faultless (w.4 ∙ last_door.faultless)) opens.fresh w.2 c.hang_up.ensures.count;
+      at_line = at_line;
+      line_written = wrote;
       told = told;
       whole = λ success.
           wholes_by history all.crew history_of.parts
-          (crew_done (verdict_of ends) (end_fault after.report.end) (end_none front (last_lines (revision (batches history)) c.closed.result.links after.report.rounds.items fault) fault before ending c.closed.result.status told success));
+          (crew_done (verdict_of ends) (end_fault after.report.end) (end_none (last_lines (revision (batches history)) c.closed.result.links after.report.rounds.items fault) fault at_line ending c.closed.result.status told success));
     }
+
+pub returns-clause-closes : goal.returns-clause-closes
+returns-clause-closes g c =
+    let doors = ap length c.staffed-begun.ensures.doors in
+    let crew = length-append (map (λ w. w.door) c.staffed-begun.result.0.room.crew.items) (c.staffed-begun.result.2 ∷ []) in
+    let count = length-map c.staffed-begun.result.0.room.crew.items (λ w. w.door) in
+    omega (arith, doors, crew, count, c.worked-lock.ensures.closes, c.shut.ensures.closes, c.hang_up.ensures.closes)

@@ -7,8 +7,9 @@ use Rattle.serve_command.proofs.Telling.{told_end}
 use Rattle.serve_command.proofs.closing.closed.Goals as goal
 
 pub returns-clause-told : goal.returns-clause-told
-returns-clause-told g c = λ start front w.
+returns-clause-told g c =
+    let before : OutputSeen = output_seen (g.W.Sink.taken c.args.output.now) (g.W.Faulted.faults c.args.output.now) in
     let after : OutputSeen = output_seen (g.W.Sink.taken c.told-status.new.output) (g.W.Faulted.faults c.told-status.new.output) in
-    told_end c.ended_line_of-line.result front (ended_line (revision (batches c.args.share.history)) c.args.links) c.args.verdict start after c.told-status.result
+    told_end c.ended_line_of-line.result (ended_line (revision (batches c.args.share.history)) c.args.links) c.args.verdict before after c.told-status.result
     (subst (λ (t : ℕ × List (List LinkReport)). IfOk c.ended_line_of-line.result (λ line. line.items ≡ ended_line t.0 t.1)) (λ i. (c.revision.ensures i, c.as_slice.ensures i)) c.ended_line_of-line.ensures)
-    (c.told-status.ensures start front w)
+    c.told-status.ensures

@@ -5,34 +5,33 @@ use Rattle.command_core.specs.Seen.{OutputSeen, output_seen}
 use Rattle.command_core.specs.Answers.{Tells}
 use Rattle.share_crew.specs.Verdicts.{verdict_line, verdict_status, with_memory}
 use Rattle.share_crew.proofs.Telling.{told_behind}
-use Rattle.serve_command.proofs.Telling.{TellsLine, told_line, told_cut}
+use Rattle.serve_command.proofs.Telling.{TellsLine, told_cut}
 use Rattle.serve_command.proofs.closing.told.Goals as goal
 
 pub returns-in-Ok-put_all : goal.returns-in-Ok-put_all
-returns-in-Ok-put_all g c = λ start front w.
+returns-in-Ok-put_all g c =
     let old : OutputSeen = output_seen (g.W.Sink.taken c.args.output.now) (g.W.Faulted.faults c.args.output.now) in
     let mid : OutputSeen = output_seen (g.W.Sink.taken c.put_all.new.sink) (g.W.Faulted.faults c.put_all.new.sink) in
     let after : OutputSeen = output_seen (g.W.Sink.taken c.ruled.new.output) (g.W.Faulted.faults c.ruled.new.output) in
-    subst (TellsLine front c.args.verdict start after c.ruled.result) (sym c.in-Ok.is)
-    (told_line start old mid after front c.in-Ok.line.items c.args.verdict c.ruled.result w
+    let verdict = c.args.verdict in
+    subst (TellsLine verdict old after c.ruled.result) (sym c.in-Ok.is)
+    (told_behind old mid after c.in-Ok.line.items (verdict_line verdict) (verdict_status verdict) c.ruled.result
     (record { taken = subst (λ (l : List ℕ). Appends old.taken mid.taken l) c.as_slice.ensures.value c.in-Ok-put_all.ensures.all; faultless = c.in-Ok-put_all.ensures.count })
     c.ruled.ensures)
 
 -- the output failed in the line
 pub returns-in-Ok : goal.returns-in-Ok
-returns-in-Ok g c = λ start front w.
+returns-in-Ok g c =
     let old : OutputSeen = output_seen (g.W.Sink.taken c.args.output.now) (g.W.Faulted.faults c.args.output.now) in
     let after : OutputSeen = output_seen (g.W.Sink.taken c.put_all.new.sink) (g.W.Faulted.faults c.put_all.new.sink) in
-    subst (TellsLine front c.args.verdict start after 5) (sym c.in-Ok.is)
-    (told_cut start old after front c.in-Ok.line.items (verdict_line c.args.verdict) (verdict_status c.args.verdict) w
+    subst (TellsLine c.args.verdict old after 5) (sym c.in-Ok.is)
+    (told_cut old after c.in-Ok.line.items (verdict_line c.args.verdict) (verdict_status c.args.verdict)
     (record { taken = subst (λ (l : List ℕ). AppendsPrefix old.taken after.taken l) c.as_slice.ensures.value c.in-Err-put_all.ensures.part; rose = c.in-Err-put_all.ensures.count }))
 
 -- there was no memory for the line
 pub returns : goal.returns
-returns g c = λ start front w.
+returns g c =
     let old : OutputSeen = output_seen (g.W.Sink.taken c.args.output.now) (g.W.Faulted.faults c.args.output.now) in
     let after : OutputSeen = output_seen (g.W.Sink.taken c.ruled-in-Err.new.output) (g.W.Faulted.faults c.ruled-in-Err.new.output) in
-    let verdict = with_memory c.args.verdict in
-    subst (TellsLine front c.args.verdict start after c.ruled-in-Err.result) (sym c.in-Err.is)
-    (told_behind start old after front (verdict_line verdict) (verdict_status verdict) c.ruled-in-Err.result w
-    (subst (λ v. Tells (verdict_status v) (verdict_line v) old after c.ruled-in-Err.result) c.with_memory.ensures c.ruled-in-Err.ensures))
+    subst (TellsLine c.args.verdict old after c.ruled-in-Err.result) (sym c.in-Err.is)
+    (subst (λ v. Tells (verdict_status v) (verdict_line v) old after c.ruled-in-Err.result) c.with_memory.ensures c.ruled-in-Err.ensures)

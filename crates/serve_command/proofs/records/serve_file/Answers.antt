@@ -20,8 +20,8 @@ pub serve_kept-outcome-requires-clause-opening : goal.serve_kept-outcome-require
 serve_kept-outcome-requires-clause-opening g c = λ κs bounds.
     let opened = c.in-Ok.ensures.opened in subst (λ (s : Shared). All (λ e. maker e ≡ 0) s.history) (sym opened.share_is) (opened_made (opened.before ++ if_filled c.args.first))
 
-pub returns-in-Ok : goal.returns-in-Ok
-returns-in-Ok g c = λ before after start read opens listen edit.
+pub returns-in-Ok-clause-ends : goal.returns-in-Ok-clause-ends
+returns-in-Ok-clause-ends g c = λ before after start read opens listen edit.
     let before_net = c.args.net.now in
     let after_net = c.serve_kept-outcome.new.net in
     let mid : NetSeen = net_seen (g.N.Net.asked before_net) (g.N.Net.written before_net) (g.N.Net.door_links before_net) (g.N.Net.next_input before_net) (g.N.Faulted.faults before_net) in
@@ -56,10 +56,10 @@ returns-in-Ok g c = λ before after start read opens listen edit.
           (left_back lost (λ bs. HasBatches g.F.D.Disk file' bs × (place_of g.F.D.Disk file' ≡ place)) (batches h) path (g.F.Files.contents f1) (g.F.Files.contents f2) k.keeps
           (λ none bs has. c.close_file.ensures.kept path bs (k.is_broken_so ∙ none) has.0 (placed has.1))
           (λ some bs has. c.close_file.ensures.lost path bs (k.is_broken_so ∙ some) has.0 (placed has.1)));
-    })) (c.serve_kept-outcome.ensures start opens listen edit))
+    })) (c.serve_kept-outcome.ensures.ends start opens listen edit))
 
-pub returns-in-Err : goal.returns-in-Err
-returns-in-Err g c = λ before after start read opens listen edit.
+pub returns-in-Err-clause-ends : goal.returns-in-Err-clause-ends
+returns-in-Err-clause-ends g c = λ before after start read opens listen edit.
     let before_net = c.args.net.now in
     let after_net = c.turned_away.new.net in
     let mid : NetSeen = net_seen (g.N.Net.asked before_net) (g.N.Net.written before_net) (g.N.Net.door_links before_net) (g.N.Net.next_input before_net) (g.N.Faulted.faults before_net) in

@@ -16,8 +16,8 @@ use Rattle.serve_command.proofs.records.serve_input.Goals as goal
 pub serve_share-requires-clause-opening : goal.serve_share-requires-clause-opening
 serve_share-requires-clause-opening g c = λ κs bounds. subst (λ (s : Shared). All (λ e. maker e ≡ 0) s.history) (sym c.in-Ok.ensures.opened) (opening_made c.args.first)
 
-pub returns-in-Ok : goal.returns-in-Ok
-returns-in-Ok g c = λ files before after start none read opens listen edit.
+pub returns-in-Ok-clause-ends : goal.returns-in-Ok-clause-ends
+returns-in-Ok-clause-ends g c = λ files before after start none read opens listen edit.
     let before_net = c.args.net.now in
     let after_net = c.serve_share.new.net in
     let mid : NetSeen = net_seen (g.N.Net.asked before_net) (g.N.Net.written before_net) (g.N.Net.door_links before_net) (g.N.Net.next_input before_net) (g.N.Faulted.faults before_net) in
@@ -30,10 +30,10 @@ returns-in-Ok g c = λ files before after start none read opens listen edit.
     subst (λ f. IsOpening f files.contents c.args.first history) (sym none) (ap (λ (s : Shared). s.history) c.in-Ok.ensures.opened, c.in-Ok.ensures.fits) in
     run_ends serving history c.args.first before after files files start now old new (left_of c.serve_share.result.0) read opening_is
     (ends_so serving history _ (AreKept serving.file files files) start now old new (left_of c.serve_share.result.0)
-    (λ h lost k. subst (λ f. AreKept f files files h lost) (sym none) (refl, sym k.is_lost)) (c.serve_share.ensures start opens listen edit))
+    (λ h lost k. subst (λ f. AreKept f files files h lost) (sym none) (refl, sym k.is_lost)) (c.serve_share.ensures.ends start opens listen edit))
 
-pub returns-in-Err : goal.returns-in-Err
-returns-in-Err g c = λ files before after start none read opens listen edit.
+pub returns-in-Err-clause-ends : goal.returns-in-Err-clause-ends
+returns-in-Err-clause-ends g c = λ files before after start none read opens listen edit.
     let before_net = c.args.net.now in
     let after_net = c.turned_away.new.net in
     let mid : NetSeen = net_seen (g.N.Net.asked before_net) (g.N.Net.written before_net) (g.N.Net.door_links before_net) (g.N.Net.next_input before_net) (g.N.Faulted.faults before_net) in

@@ -6,4 +6,4 @@ pub returns-in-None-clause-ends : goal.returns-in-None-clause-ends
 returns-in-None-clause-ends g c = λ before after start read opened listen edit.
     let files = c.args.files.now in
     let seen : FilesSeen = files_seen (g.F.Files.asked files) (g.F.Files.contents files) (g.F.Faulted.faults files) in
-    c.serve_input.ensures seen before after start (search rules) read opened listen edit
+    c.serve_input.ensures.ends seen before after start (search rules) read opened listen edit

@@ -81,8 +81,8 @@ closed-requires-clause-requests g c =
     let more = length-append r.0.room.crew.items (r.1 ∷ []) in
     c.gather-lock.ensures.requests (r.0.room.crew.items ++ r.1 ∷ []) zip (omega (arith, more, c.staffed-begun.ensures.len, c.requires.few))
 
-pub returns : goal.returns
-returns g c = λ serving opened start before front begun first opens new_listen new_edit wrote.
+pub returns-clause-serves : goal.returns-clause-serves
+returns-clause-serves g c = λ serving opened start before front begun first opens new_listen new_edit wrote.
     let coming = g.N.D.Door.coming in
     let written = g.N.D.Door.written in
     let faults = g.N.D.Faulted.faults in
@@ -98,6 +98,7 @@ returns g c = λ serving opened start before front begun first opens new_listen 
     let new = c.gather-lock.new.net in
     let mid : NetSeen = net_seen (g.N.Net.asked old) (g.N.Net.written old) (g.N.Net.door_links old) (g.N.Net.next_input old) (g.N.Faulted.faults old) in
     let now : NetSeen = net_seen (g.N.Net.asked new) (g.N.Net.written new) (g.N.Net.door_links new) (g.N.Net.next_input new) (g.N.Faulted.faults new) in
+    let at_line : OutputSeen = output_seen (g.W.Sink.taken c.args.output.now) (g.W.Faulted.faults c.args.output.now) in
     let after : OutputSeen = output_seen (g.W.Sink.taken c.closed.new.output) (g.W.Faulted.faults c.closed.new.output) in
     let staff = c.staffed-begun.ensures.staff in
     let len : length crew ≡ length listen + length edit = length-append r.0.room.crew.items (r.1 ∷ []) ∙ c.staffed-begun.ensures.len in
@@ -125,10 +126,15 @@ returns g c = λ serving opened start before front begun first opens new_listen 
     let last = last_of_all (IsHired id (known r.0.first)) r.0.room.crew.items r.1 staff.hired in
     let seen : (known r.1.pass).seen ≡ opened = ap (λ p. p.seen) last.pass ∙ ap (λ p. p.seen) (c.staffed-begun.ensures.pass ∙ begun.pass) in
     has_served serving opened (HasKept serving.editors (g.K.Keeps.keeps c.args.keeper) (g.K.Keeps.keeps c.keep_beside.new.keeper) (g.K.Keeps.is_lost c.keep_beside.new.keeper) (g.K.Keeps.faults c.args.keeper) (g.K.Keeps.faults c.keep_beside.new.keeper) opened)
-    front start mid now before after (left_of c.closed.result) coming listen edit (length crew) roles come
+    front start mid now before at_line after (left_of c.closed.result) coming listen edit (length crew) roles come
     k history c.gather-lock.result.links c.gather-lock.result.verdict opens all one
     (crew_keeps written faults history all.crew c.keep_beside.new.crew.items c.keep_beside.new.worker (workers_of serving) serving.workers serving.editors (known r.1.pass)
     (g.K.Keeps.keeps c.args.keeper) (g.K.Keeps.keeps c.keep_beside.new.keeper) (g.K.Keeps.is_lost c.keep_beside.new.keeper) (g.K.Keeps.faults c.args.keeper) (g.K.Keeps.faults c.keep_beside.new.keeper)
     (subst (λ l. AllZip (IsOf written faults) all.crew l) c.push_reserved.ensures.items both.1) c.keep_beside.ensures.whole (all.roles_are ∙ (staff.roles_are ∙ roles_are serving listen edit opens.listening opens.editing)) first one seen c.keep_beside.ensures.keeping)
-    staff.roles_are (sym (map-map coming (λ w. w.door) crew) ∙ ap (map coming) staff.doors_are) c.gather-lock.ensures.asked c.closed.ensures.history c.closed.ensures.links
-    (c.closed.ensures.told before front wrote)
+    staff.roles_are (sym (map-map coming (λ w. w.door) crew) ∙ ap (map coming) staff.doors_are) c.gather-lock.ensures.asked c.closed.ensures.history c.closed.ensures.whole c.closed.ensures.links
+    wrote c.closed.ensures.told
+
+pub returns-clause-closes : goal.returns-clause-closes
+returns-clause-closes g c =
+    let count = AllZip-long _ _ _ c.keep_beside.ensures.roles in
+    omega (arith, count, c.staffed-begun.ensures.len, c.push_reserved.ensures.len, c.gather-lock.ensures.closes)

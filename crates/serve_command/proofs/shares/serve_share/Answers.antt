@@ -4,14 +4,14 @@ use Rattle.serve_command.specs.Runs.{NotAnnounced, announced, first_line, not_an
 use Rattle.serve_command.proofs.Returning.{asked_still, faultless_still}
 use Rattle.serve_command.proofs.shares.serve_share.Goals as goal
 
-pub returns-in-Ok : goal.returns-in-Ok
-returns-in-Ok g c = λ start opens listen edit.
+pub returns-in-Ok-clause-ends : goal.returns-in-Ok-clause-ends
+returns-in-Ok-clause-ends g c = λ start opens listen edit.
     let begun = c.in-Ok.ensures in
     let old : OutputSeen = output_seen (g.W.Sink.taken c.args.output.now) (g.W.Faulted.faults c.args.output.now) in
-    announced (c.serve_begun.ensures c.args.serving.now c.args.share.history start old (first_line c.args.serving.now c.args.share.history) begun.begun_with c.requires.opening opens listen edit begun.written)
+    announced (c.serve_begun.ensures.serves c.args.serving.now c.args.share.history start old (first_line c.args.serving.now c.args.share.history) begun.begun_with c.requires.opening opens listen edit begun.written)
 
-pub returns-in-Err : goal.returns-in-Err
-returns-in-Err g c = λ start opens listen edit.
+pub returns-in-Err-clause-ends : goal.returns-in-Err-clause-ends
+returns-in-Err-clause-ends g c = λ start opens listen edit.
     let old : OutputSeen = output_seen (g.W.Sink.taken c.args.output.now) (g.W.Faulted.faults c.args.output.now) in
     let new : OutputSeen = output_seen (g.W.Sink.taken c.begin.new.output) (g.W.Faulted.faults c.begin.new.output) in
     let before = c.args.net.now in
@@ -19,7 +19,7 @@ returns-in-Err g c = λ start opens listen edit.
     let mid : NetSeen = net_seen (g.N.Net.asked before) (g.N.Net.written before) (g.N.Net.door_links before) (g.N.Net.next_input before) (g.N.Faulted.faults before) in
     let now : NetSeen = net_seen (g.N.Net.asked after) (g.N.Net.written after) (g.N.Net.door_links after) (g.N.Net.next_input after) (g.N.Faulted.faults after) in
     let coming = map g.N.D.Door.coming (c.args.doors.listen.items ++ c.args.doors.edit.items) in
-    let back = c.given_back.ensures start listen edit in
+    let back = c.given_back.ensures.back start listen edit in
     not_announced (subst (NotAnnounced (first_line c.args.serving.now c.args.share.history) old new) (sym c.unserved.ensures.status) c.in-Err.ensures)
     (asked_still c.args.serving.now start mid now (length c.args.doors.listen.items) (length c.args.doors.edit.items) coming opens back)
     (faultless_still c.args.serving.now start mid now (length c.args.doors.listen.items) (length c.args.doors.edit.items) coming opens back)

@@ -17,7 +17,7 @@ returns-in-Ok g c =
     let sink : OutputSeen = output_seen (g.W.Sink.taken c.args.output.now) (g.W.Faulted.faults c.args.output.now) in
     let sink' : OutputSeen = output_seen (g.W.Sink.taken c.replay.new.sink) (g.W.Faulted.faults c.replay.new.sink) in
     let is : c.of.result ≡ script_history s [] script =
-    c.of.ensures ∙ c.into_history.ensures ∙ c.in-Ok.ensures.history ∙ ap (λ (h : List Entry). script_history s h script) c.requires in
+    c.of.ensures ∙ c.into_history.ensures.history ∙ c.in-Ok.ensures.history ∙ ap (λ (h : List Entry). script_history s h script) c.requires in
     let written : Appends sink.taken sink'.taken (script_bytes s [] script) =
     subst (λ (h : List Entry). Appends sink.taken sink'.taken (script_bytes s h script)) c.requires c.in-Ok.ensures.written in
     (c.of.result, refl, inl (record { done = refl; left = is; written = record { taken = written; faultless = c.in-Ok.ensures.count } }))
@@ -29,7 +29,7 @@ returns-in-Err-Failed g c =
     let sink : OutputSeen = output_seen (g.W.Sink.taken c.args.output.now) (g.W.Faulted.faults c.args.output.now) in
     let sink' : OutputSeen = output_seen (g.W.Sink.taken c.replay.new.sink) (g.W.Faulted.faults c.replay.new.sink) in
     let left = c.of-in-Err-Failed.result in
-    let is : c.replay.new.share.history ≡ left = sym (c.of-in-Err-Failed.ensures ∙ c.into_history-in-Err-Failed.ensures) in
+    let is : c.replay.new.share.history ≡ left = sym (c.of-in-Err-Failed.ensures ∙ c.into_history-in-Err-Failed.ensures.history) in
     let broken : IsBrokenOff s [] script left sink.taken sink'.taken =
     subst (λ (h : List Entry). IsBrokenOff s h script left sink.taken sink'.taken) c.requires
     (subst (λ (h : List Entry). IsBrokenOff s c.args.share.history script h sink.taken sink'.taken) is c.in-Err-Failed.ensures.part) in
@@ -45,7 +45,7 @@ returns-in-Err-Memory g c =
     let sink : OutputSeen = output_seen (g.W.Sink.taken c.args.output.now) (g.W.Faulted.faults c.args.output.now) in
     let mid : OutputSeen = output_seen (g.W.Sink.taken c.replay.new.sink) (g.W.Faulted.faults c.replay.new.sink) in
     let left = c.of-in-Err-Memory.result in
-    let is : c.replay.new.share.history ≡ left = sym (c.of-in-Err-Memory.ensures ∙ c.into_history-in-Err-Memory.ensures) in
+    let is : c.replay.new.share.history ≡ left = sym (c.of-in-Err-Memory.ensures ∙ c.into_history-in-Err-Memory.ensures.history) in
     let broken : IsBrokenOff s [] script left sink.taken mid.taken =
     subst (λ (h : List Entry). IsBrokenOff s h script left sink.taken mid.taken) c.requires
     (subst (λ (h : List Entry). IsBrokenOff s c.args.share.history script h sink.taken mid.taken) is c.in-Err-Memory.ensures.part) in

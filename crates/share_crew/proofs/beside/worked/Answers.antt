@@ -21,6 +21,12 @@ pub returns-clause-gathered : goal.returns-clause-gathered
 returns-clause-gathered g c = λ settings opening kept start doors.
     (c.gather.ensures.gathered settings opening kept c.args.begun.room.crew.items start c.requires.hired doors c.work_beside.ensures.served c.work_beside.ensures.roles).0
 
+pub returns-clause-closes : goal.returns-clause-closes
+returns-clause-closes g c =
+    let count = AllZip-long _ _ _ c.work_beside.ensures.roles in
+    let closes = c.gather.ensures.closes in
+    omega (arith, count, closes)
+
 pub returns-clause-links : goal.returns-clause-links
 returns-clause-links g c = λ few. c.gather.ensures.links c.args.begun.room.crew.items c.work_beside.ensures.served few
 

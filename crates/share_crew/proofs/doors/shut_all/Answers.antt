@@ -1,4 +1,4 @@
-use Rattle.std.proofs.Common.{[], List, Option, ◌∙◌}
+use Rattle.std.proofs.Common.{[], List, length, Option, sym, ap, ◌∙◌, arith}
 use Rattle.daap_outside.specs.Places.{Returned}
 use Rattle.share_crew.specs.Doors.{IsNew, AreNew}
 use Rattle.share_crew.proofs.Joining.{all_head, all_tail}
@@ -17,4 +17,11 @@ loop-door-preserved g c =
           grows_told kept (written door) (written door) (g.N.Net.written c.loop-door.net) (g.N.Net.written c.shut.new.self) [] [] (one kept new).unwritten (grows_none (written door)) (inv.written kept new start) c.shut.ensures.written_grows;
       count = λ kept new. c.shut.ensures.count.faultless (one kept new).faultless ∙ inv.count kept new;
       rest = λ kept new. all_tail (IsNew written faults kept) door _ _ c.in-Some.ensures.steps.0 (inv.rest kept new);
+      open_so_far = let count = ap length c.in-Some.ensures.steps.0 in let so_far = inv.open_so_far in let closes = c.shut.ensures.closes in omega (arith, count, so_far, closes);
     }
+
+pub returns-clause-closes : goal.returns-clause-closes
+returns-clause-closes g c =
+    let none = sym c.loop-door.door-iterator.rest.ok.0 ∙ c.in-None.ensures.steps.0 in
+    let so_far = c.loop-door.invariant.open_so_far in
+    omega (arith, none, so_far)

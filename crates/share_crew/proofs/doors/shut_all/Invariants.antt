@@ -1,4 +1,4 @@
-use Rattle.std.proofs.Common.{◌≡◌, [], List, Option}
+use Rattle.std.proofs.Common.{◌≡◌, ◌-◌, [], List, length, Option}
 use Rattle.std.specs.Vec.Iter.{into_iter_items}
 use Rattle.daap_outside.specs.Places.{Returned}
 use Rattle.daap_outside.specs.Told.{Grows}
@@ -11,4 +11,5 @@ invariant-loop-door g l = record {
   written : (kept : Option (List Returned)) → AreNew g.N.D.Door.written g.N.D.Faulted.faults kept l.fn.doors.items → Grows kept (g.N.Net.written l.fn.net) [] → Grows kept (g.N.Net.written l.net) [];
   count : (kept : Option (List Returned)) → AreNew g.N.D.Door.written g.N.D.Faulted.faults kept l.fn.doors.items → g.N.Faulted.faults l.net ≡ g.N.Faulted.faults l.fn.net;
   rest : (kept : Option (List Returned)) → AreNew g.N.D.Door.written g.N.D.Faulted.faults kept l.fn.doors.items → AreNew g.N.D.Door.written g.N.D.Faulted.faults kept (into_iter_items l.door-iterator);
+  open_so_far : g.N.Net.open_count l.net - length (into_iter_items l.door-iterator) ≡ g.N.Net.open_count l.fn.net - length l.fn.doors.items;
 }

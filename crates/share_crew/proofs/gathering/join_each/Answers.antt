@@ -1,4 +1,4 @@
-use Rattle.std.proofs.Common.{rules, ◌≡◌, [], ◌∷◌, ◌++◌, map, length, refl, sym, subst, ap, ◌∙◌, arith, append_assoc, append-nil}
+use Rattle.std.proofs.Common.{rules, ◌≡◌, ◌-◌, [], ◌∷◌, ◌++◌, map, length, refl, sym, subst, ap, ◌∙◌, arith, append_assoc, append-nil}
 use Rattle.std.proofs.lemmas.List.{nil_from_length, map-append}
 use Rattle.std.specs.List.{AllZip}
 use Rattle.std.specs.Prelude.{All}
@@ -18,6 +18,7 @@ loop-worker-init g c =
       shut = λ settings opening stints zip. subst (HasShut (g.N.Net.written c.args.net.now) (g.N.Net.written c.args.net.now) (g.N.Faulted.faults c.args.net.now) (g.N.Faulted.faults c.args.net.now))
           (sym (none_zip (IsOf {settings = settings} {opening = opening} g.N.D.Door.written g.N.D.Faulted.faults) stints zip)) (none_shut (g.N.Net.written c.args.net.now) (g.N.Faulted.faults c.args.net.now));
       asked = refl;
+      open_so_far = ap (λ l. g.N.Net.open_count c.args.net.now - length l) all;
       kept = sym (append-nil (map (λ reports. reports.items) c.args.links.now.items));
       capacity = refl;
       room = search rules;
@@ -42,6 +43,7 @@ loop-worker-preserved g c =
           (g.N.Faulted.faults c.args.net.now) (g.N.Faulted.faults c.loop-worker.net) (g.N.Faulted.faults c.shut.new.self) (g.N.D.Faulted.faults worker.door) parts.before parts.last
           (inv.shut settings opening parts.before parts.fits) parts.fits_last.written_is parts.fits_last.faults_are c.shut.ensures.written_grows c.shut.ensures.count);
       asked = c.shut.ensures.asked_stays ∙ inv.asked;
+      open_so_far = let count = ap length c.in-Some.ensures.steps.0 in let so_far = inv.open_so_far in let closes = c.shut.ensures.closes in omega (arith, count, so_far, closes);
       kept = ap (map (λ reports. reports.items)) c.push_reserved.ensures.items
           ∙ map-append (λ reports. reports.items) c.loop-worker.links.items (worker.reports ∷ [])
           ∙ ap (λ l. l ++ worker.reports.items ∷ []) inv.kept
@@ -69,6 +71,12 @@ returns-clause-shut g c = λ settings opening stints zip.
     let none = nil_from_length _ (sym c.loop-worker.worker-iterator.rest.ok.0 ∙ c.in-None.ensures.steps.0) in
     let all = sym (append-nil c.loop-worker.yielded) ∙ (ap (λ l. c.loop-worker.yielded ++ l) (sym none) ∙ c.loop-worker.invariant.items) in
     c.loop-worker.invariant.shut settings opening stints (subst (AllZip (IsOf g.N.D.Door.written g.N.D.Faulted.faults) stints) (sym all) zip)
+
+pub returns-clause-closes : goal.returns-clause-closes
+returns-clause-closes g c =
+    let none = sym c.loop-worker.worker-iterator.rest.ok.0 ∙ c.in-None.ensures.steps.0 in
+    let so_far = c.loop-worker.invariant.open_so_far in
+    omega (arith, none, so_far)
 
 pub returns-clause-links : goal.returns-clause-links
 returns-clause-links g c =

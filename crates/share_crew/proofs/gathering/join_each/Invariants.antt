@@ -1,4 +1,4 @@
-use Rattle.std.proofs.Common.{◌≡◌, ◌+◌, ◌≤◌, ◌++◌, List, map, length}
+use Rattle.std.proofs.Common.{◌≡◌, ◌+◌, ◌-◌, ◌≤◌, ◌++◌, List, map, length}
 use Rattle.std.specs.List.{AllZip}
 use Rattle.std.specs.Prelude.{All, vec_len, vec_capacity}
 use Rattle.std.specs.Vec.Iter.{into_iter_items}
@@ -18,6 +18,7 @@ invariant-loop-worker g l = record {
   shut : (settings : Settings) (opening : List Entry) (stints : List (Stint settings opening)) → AllZip (IsOf g.N.D.Door.written g.N.D.Faulted.faults) stints l.yielded
       → HasShut (g.N.Net.written l.fn.net) (g.N.Net.written l.net) (g.N.Faulted.faults l.fn.net) (g.N.Faulted.faults l.net) stints;
   asked : g.N.Net.asked l.net ≡ g.N.Net.asked l.fn.net;
+  open_so_far : g.N.Net.open_count l.net - length (into_iter_items l.worker-iterator) ≡ g.N.Net.open_count l.fn.net - length l.fn.crew.items;
   kept : map (λ reports. reports.items) l.links.items ≡ map (λ reports. reports.items) l.fn.links.items ++ map (λ w. w.reports.items) l.yielded;
   capacity : vec_capacity l.links ≡ vec_capacity l.fn.links;
   room : vec_len l.links + length (into_iter_items l.worker-iterator) ≤ vec_capacity l.links;

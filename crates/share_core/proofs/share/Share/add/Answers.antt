@@ -1,9 +1,12 @@
 use Rattle.std.proofs.Common.{◌≡◌, ◌≤◌, ◌+◌, ◌∷◌, [], ◌++◌, List, ap, subst, sym, ◌∙◌, refl, arith}
+use Rattle.std.specs.List.{AllByRecursion}
 use Rattle.item_model.specs.declared.changes.Edit.{Edit}
 use Rattle.item_model.specs.declared.changes.Entry.TheVariants.{Edits}
 use Rattle.share_history.specs.Histories.{batches, edits, all_edits, revision}
 use Rattle.share_history.specs.Limits.{has_place, takes_batch}
+use Rattle.share_history.specs.Whole.{PutsWhole}
 use Rattle.share_history.proofs.EditFacts.{edits_more}
+use Rattle.share_history.proofs.WholeFacts.{edits_whole}
 use Rattle.share_replies.specs.Answers.{Shared}
 use Rattle.playlist_store.specs.Tests.{tests_of}
 use Rattle.share_core.specs.Held.{StandFor}
@@ -30,8 +33,10 @@ pub invariant_of-self-2 : goal.invariant_of-self-2
 invariant_of-self-2 g c =
     let a = c.self.inside in
     let bs : List (List Edit) = batches a.register.history in
+    let edits = c.as_slice-edits.ensures ∙ c.batch.view_is in
     sound_edit a.settings a.register.history c.enter.new.register.history c.args.by c.args.batch.now a.stores c.apply.new.self
     (c.enter.ensures.history ∙ (λ i. c.in_ok-reserve.ensures.history i ++ Edits c.args.by (c.in_ok-own.ensures i) ∷ []))
     (ap (λ (s : Shared). takes_batch s.history c.args.batch.now) c.self.view_is ∙ c.requires.takes)
-    (subst (λ (es : List Edit). StandFor (bs ++ es ∷ []) c.apply.new.self) (c.as_slice-edits.ensures ∙ c.batch.view_is) (c.in_ok-apply.ensures.stand bs c.self.invariant.held.stand))
+    (edits_whole c.args.batch.now c.requires.valid (subst (AllByRecursion PutsWhole) edits c.rows_are_whole.ensures))
+    (subst (λ (es : List Edit). StandFor (bs ++ es ∷ []) c.apply.new.self) edits (c.in_ok-apply.ensures.stand bs c.self.invariant.held.stand))
     c.in_ok-apply.ensures.items_keep c.in_ok-apply.ensures.lists_keep c.self.invariant

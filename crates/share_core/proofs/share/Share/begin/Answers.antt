@@ -1,8 +1,11 @@
 use Rattle.std.proofs.Common.{◌∷◌, [], ◌++◌, length, List, ap, subst, ◌∙◌, arith}
+use Rattle.std.specs.List.{AllByRecursion}
 use Rattle.item_model.specs.declared.changes.Edit.{Edit}
 use Rattle.item_model.specs.declared.changes.Entry.TheVariants.{Edits}
 use Rattle.share_history.specs.Histories.{batches}
 use Rattle.share_history.specs.Limits.{has_place, has_room_for}
+use Rattle.share_history.specs.Whole.{PutsWhole}
+use Rattle.share_history.proofs.WholeFacts.{edits_whole}
 use Rattle.share_replies.specs.Answers.{Shared}
 use Rattle.share_core.specs.Held.{StandFor}
 use Rattle.share_core.proofs.Sound.{sound_edit, sound_left, sound_on, taken, few_next_at, few_lists_by}
@@ -33,5 +36,6 @@ invariant_of-self-2 g c =
     (ap (λ (s : Shared). has_place s.history) c.self.view_is ∙ c.requires.place)
     (ap (λ (s : Shared). has_room_for s.history (length c.args.batch)) c.self.view_is ∙ c.requires.room)
     (few_lists_by h c.args.batch c.as_slice-edits.result.now c.in_ok-count_after.field-0 edits (c.in_ok-count_after.ensures bs c.self.invariant.held.stand.lists) c.if-branch-gt-MAX_LISTS.false))
+    (edits_whole c.args.batch c.requires.valid (subst (AllByRecursion PutsWhole) edits c.rows_are_whole.ensures))
     (subst (λ (es : List Edit). StandFor (bs ++ es ∷ []) c.apply.new.self) edits (c.in_ok-apply.ensures.stand bs c.self.invariant.held.stand))
     c.apply.ensures.items_keep c.apply.ensures.lists_keep c.self.invariant

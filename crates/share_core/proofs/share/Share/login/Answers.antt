@@ -1,6 +1,7 @@
 use Rattle.std.proofs.Common.{◌∙◌, sym, ap, refl}
 use Rattle.item_model.specs.declared.changes.Entry.TheVariants.{Login}
 use Rattle.share_history.specs.Limits.{has_place}
+use Rattle.share_history.proofs.WholeFacts.{whole_login}
 use Rattle.share_replies.specs.Answers.{Shared}
 use Rattle.share_replies.specs.Replies.{Nothing}
 use Rattle.share_core.proofs.Answered.{login_refused}
@@ -15,4 +16,5 @@ returns-then-not-has_place-clause-answered c =
 pub invariant_of-self-2 : goal.invariant_of-self-2
 invariant_of-self-2 c =
     let a = c.self.inside in
-    sound_quiet a.settings a.register.history c.log_in.new.register.history (Login c.args.by c.next_session-id.result) a.stores c.in_ok-reply.ensures.history refl c.self.invariant
+    sound_quiet a.settings a.register.history c.log_in.new.register.history (Login c.args.by c.next_session-id.result) a.stores c.in_ok-reply.ensures.history refl
+    (whole_login a.register.history c.args.by c.next_session-id.result (sym c.has_place.ensures ∙ c.if-not-has_place.false) c.self.invariant.whole) c.self.invariant

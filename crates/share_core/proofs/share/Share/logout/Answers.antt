@@ -7,13 +7,15 @@ use Rattle.share_core.proofs.Answered.{logout_answer, grown_is, shared}
 use Rattle.share_history.specs.Sessions.{is_live, is_stopped}
 use Rattle.share_replies.specs.Answers.{Shared}
 use Rattle.share_replies.specs.Replies.{Nothing}
+use Rattle.share_history.proofs.WholeFacts.{whole_logout}
 use Rattle.share_core.proofs.Sound.{sound_quiet}
 use Rattle.share_core.proofs.share.Share.logout.Goals as goal
 
 pub invariant_of-self : goal.invariant_of-self
 invariant_of-self c =
     let a = c.self.inside in
-    sound_quiet a.settings a.register.history c.log_out.new.register.history (Logout c.args.by c.args.session) a.stores c.log_out.ensures.history refl c.self.invariant
+    sound_quiet a.settings a.register.history c.log_out.new.register.history (Logout c.args.by c.args.session) a.stores c.log_out.ensures.history refl
+    (whole_logout a.register.history c.args.by c.args.session c.self.invariant.whole) c.self.invariant
 
 pub returns-clause-answered : goal.returns-clause-answered
 returns-clause-answered c =

@@ -7,13 +7,15 @@ use Rattle.share_core.proofs.Answered.{stop_answer, grown_is, shared}
 use Rattle.share_history.specs.Sessions.{is_stopped}
 use Rattle.share_replies.specs.Answers.{Shared}
 use Rattle.share_replies.specs.Replies.{Nothing}
+use Rattle.share_history.proofs.WholeFacts.{whole_stop}
 use Rattle.share_core.proofs.Sound.{sound_quiet}
 use Rattle.share_core.proofs.share.Share.stop.Goals as goal
 
 pub invariant_of-self : goal.invariant_of-self
 invariant_of-self c =
     let a = c.self.inside in
-    sound_quiet a.settings a.register.history c.end.new.register.history (Stop c.args.by) a.stores c.end.ensures.history refl c.self.invariant
+    sound_quiet a.settings a.register.history c.end.new.register.history (Stop c.args.by) a.stores c.end.ensures.history refl
+    (whole_stop a.register.history c.args.by c.self.invariant.whole) c.self.invariant
 
 pub returns-clause-answered : goal.returns-clause-answered
 returns-clause-answered c =

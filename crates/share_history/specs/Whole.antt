@@ -1,28 +1,20 @@
 -- Histories as a share has them: values are such as a program has, and no limit is passed.
 use Rattle.std.specs.Prelude.{◌≡◌, ◌≤◌, List, true, length, count_by}
 use Rattle.std.specs.List.{AllByRecursion}
-use Rattle.std.specs.Str.{is_utf8}
 use Rattle.item_model.specs.declared.changes.Edit.{Edit}
 use Rattle.item_model.specs.declared.changes.Edit.TheVariants.{PutItem, DropItem, PutList, PutRule, DropList, PutMember, DropMember}
 use Rattle.item_model.specs.declared.changes.Entry.{Entry}
-use Rattle.item_model.specs.declared.item.PropValue.{PropValue}
-use Rattle.item_model.specs.declared.item.PropValue.TheVariants.{Number, Text}
 use Rattle.item_model.specs.declared.item.Row.{Row}
-use Rattle.item_model.specs.Items.{is_item}
+use Rattle.item_model.specs.Items.{AreTexts, is_item}
 use Rattle.item_model.specs.Valid.{is_valid}
 use Rattle.share_history.specs.Histories.{all_edits}
 use Rattle.share_history.specs.Limits.{takes_place}
 use Rattle.share_history.specs.Numbers.{most_edits, most_entries}
 
--- a text is UTF-8
-abbrev pub IsText : PropValue → Type 0
-IsText (Number n) = Unit {0}
-IsText (Text bytes) = is_utf8 bytes ≡ true
-
--- an item has each property once, with a value of its kind
+-- an item has each property once, with a value of its kind, and its texts are UTF-8
 pub record IsWholeRow (row : Row) : Type 0 where
   pub item : is_item row.item ≡ true
-  pub texts : AllByRecursion (λ e. IsText e.1) row.item
+  pub texts : AreTexts row.item
 
 abbrev pub PutsWhole : Edit → Type 0
 PutsWhole (PutItem row) = IsWholeRow row

@@ -1,0 +1,201 @@
+//! A share and a relay of it, each a run of the program in a thread of its own, and one who watches the relay: a player that
+//! waits for each revision, and a mirror that follows the relay.
+
+use crate::loopback::{CHANGE, await_open, brings, free_place, player, serves, status_of};
+use daap_outside::{Link, MemSink, Net, TcpNet, put_all};
+use std::alloc::{AllocError, Global};
+use std::net::{TcpListener, TcpStream};
+use std::sync::Wait;
+use std::test::Fail;
+use std::thread::Threads;
+use std::time::Clock;
+use std::{net, thread};
+
+const LAST_CHANGE: &[u8] = b"op,kind,id\ndrop,item,9\n";
+
+// A relay has revision 2 before its first listing.
+const BEFORE_FIRST: &[u8] = b"GET /update?session-id=1&revision-number=2 HTTP/1.1\r\n\r\n";
+
+const BEHIND_FIRST: &[u8] = b"GET /update?session-id=1&revision-number=3 HTTP/1.1\r\n\r\n";
+
+// The reply to an update, up to the last byte of the revision.
+const UPDATED: &[u8] =
+    b"HTTP/1.1 200 OK\r\nContent-Type: application/x-dmap-tagged\r\nContent-Length: 32\r\n\r\n\
+mupd\0\0\0\x18mstt\0\0\0\x04\0\0\0\xc8musr\0\0\0\x04\0\0\0";
+
+const FOLLOWED: &[u8] = b"revision 4 full put 1 drop 0 rows 1\n\
+mlcl list\n  mlit list\n    miid u32 9\n    minm text \"B\"\n";
+
+const RELAYED: &[u8] = b"relaying Attic\n\
+upstream 3 full puts 1 drops 0 revision 3\n\
+upstream 4 delta puts 1 drops 1 revision 4\n\
+upstream 5 delta puts 0 drops 1 revision 5\n\
+ended at revision 5, links ";
+
+/// The places of a share, for players and for editors, and that of its relay.
+#[derive(Drop)]
+struct Places<'a> {
+    share: &'a str,
+    edit: &'a str,
+    relay: &'a str,
+}
+
+/// Whether the share takes a change and has this revision then.
+fn takes<R: Threads + Wait + Clock + Sync, N: Net>(
+    rt: &R,
+    alloc: Global,
+    net: &mut N,
+    place: &str,
+    change: &[u8],
+    told: &[u8],
+) -> bool {
+    let Ok(mut answer) = MemSink::new(alloc, 256, 256, &[]) else {
+        return false;
+    };
+    let status = status_of(rt, alloc, net, &["edit", place], change, &mut answer);
+    status == Some(0) && answer.taken() == told
+}
+
+/// Whether the relay sends its first revision to a player, and the next one after the share was changed.
+fn sends_both<R: Threads + Wait + Clock + Sync, N: Net, K: Link>(
+    rt: &R,
+    alloc: Global,
+    net: &mut N,
+    link: &mut K,
+    edit: &str,
+) -> bool {
+    brings(link, UPDATED)
+        && brings(link, b"\x03")
+        && takes(rt, alloc, net, edit, CHANGE, b"revision 4\n")
+        && put_all(link, BEHIND_FIRST).is_ok()
+        && brings(link, UPDATED)
+        && brings(link, b"\x04")
+}
+
+/// Whether a mirror of the relay has the share's item.
+fn shows<R: Threads + Wait + Clock + Sync, N: Net>(
+    rt: &R,
+    alloc: Global,
+    net: &mut N,
+    place: &str,
+) -> bool {
+    let Ok(mut rows) = MemSink::new(alloc, 256, 256, &[]) else {
+        return false;
+    };
+    let status = status_of(rt, alloc, net, &["follow", place, "1"], b"", &mut rows);
+    status == Some(0) && rows.taken() == FOLLOWED
+}
+
+/// Whether the relay has what the share has, change by change, until its last round.
+fn keeps_up<R: Threads + Wait + Clock + Sync, N: Net>(
+    rt: &R,
+    alloc: Global,
+    net: &mut N,
+    places: &Places<'_>,
+) -> bool {
+    await_open(rt, net, places.relay);
+    let Some(mut link) = player(net, places.relay, 1, BEFORE_FIRST) else {
+        return false;
+    };
+    let told = sends_both(rt, alloc, net, &mut link, places.edit);
+    net.hang_up(link);
+    told && shows(rt, alloc, net, places.relay)
+        && takes(rt, alloc, net, places.edit, LAST_CHANGE, b"revision 5\n")
+}
+
+/// The status of the editor that stops the share.
+fn stops<R>(rt: &R, alloc: Global, edit: &str) -> Option<u8>
+where
+    R: net::Net<Listener = TcpListener, Stream = TcpStream> + Threads + Wait + Clock + Sync,
+{
+    let mut answer = MemSink::new(alloc, 256, 256, &[]).ok()?;
+    let mut net = TcpNet::new(rt, alloc);
+    status_of(
+        rt,
+        alloc,
+        &mut net,
+        &["edit", edit, "--stop"],
+        b"",
+        &mut answer,
+    )
+}
+
+/// The same over sockets. A share whose relay is not as it should be is stopped, so that the relay ends.
+fn watches<R>(rt: &R, alloc: Global, places: &Places<'_>) -> bool
+where
+    R: net::Net<Listener = TcpListener, Stream = TcpStream> + Threads + Wait + Clock + Sync,
+{
+    let is_well = keeps_up(rt, alloc, &mut TcpNet::new(rt, alloc), places);
+    if !is_well {
+        stops(rt, alloc, places.edit);
+    }
+    is_well
+}
+
+/// The status of the relay, which begins once the share is open.
+fn relays<R>(rt: &R, alloc: Global, places: &Places<'_>, lines: &mut MemSink) -> Option<u8>
+where
+    R: net::Net<Listener = TcpListener, Stream = TcpStream> + Threads + Wait + Clock + Sync,
+{
+    let mut net = TcpNet::new(rt, alloc);
+    await_open(rt, &mut net, places.share);
+    let words = [
+        "relay",
+        places.share,
+        places.relay,
+        "3",
+        "--name=Attic",
+        "--workers=2",
+    ];
+    status_of(rt, alloc, &mut net, &words, b"", lines)
+}
+
+/// What the relay ends with, whether it kept up, and the status of the editor that stops the share behind it.
+fn relayed<R>(
+    rt: &R,
+    alloc: Global,
+    places: &Places<'_>,
+    lines: &mut MemSink,
+) -> (Option<u8>, bool, Option<u8>)
+where
+    R: net::Net<Listener = TcpListener, Stream = TcpStream> + Threads + Wait + Clock + Sync,
+{
+    let (relayed, is_well) = thread::join(
+        rt,
+        || relays(rt, alloc, places, lines),
+        || watches(rt, alloc, places),
+    );
+    (relayed, is_well, stops(rt, alloc, places.edit))
+}
+
+/// Whether a share, its relay and a mirror of the relay end as they should.
+fn is_relayed<R>(rt: &R, alloc: Global, places: &Places<'_>) -> Result<bool, AllocError>
+where
+    R: net::Net<Listener = TcpListener, Stream = TcpStream> + Threads + Wait + Clock + Sync,
+{
+    let words = ["serve", places.share, places.edit, "--workers=2"];
+    let mut served = MemSink::new(alloc, 256, 256, &[])?;
+    let mut lines = MemSink::new(alloc, 256, 256, &[])?;
+    let (status, behind) = thread::join(
+        rt,
+        || serves(rt, alloc, &words, &mut served),
+        || relayed(rt, alloc, places, &mut lines),
+    );
+    let is_well = status == Some(0) && behind == (Some(0), true, Some(0));
+    let is_told = lines.taken().starts_with(RELAYED) && lines.taken().ends_with(b", requests 7\n");
+    Ok(is_well && is_told && served.taken().ends_with(b", requests 11\n"))
+}
+
+#[test]
+fn a_relay_has_what_its_share_has_until_its_last_round(rt: HostRuntime) -> Result<(), Fail> {
+    let share = free_place(&rt, rt.alloc())?;
+    let edit = free_place(&rt, rt.alloc())?;
+    let relay = free_place(&rt, rt.alloc())?;
+    let places = Places {
+        share: share.as_str(),
+        edit: edit.as_str(),
+        relay: relay.as_str(),
+    };
+    assert!(rt; is_relayed(&rt, rt.alloc(), &places)?);
+    Ok(())
+}

@@ -1,0 +1,3 @@
+pub mod AskedMirrors
+pub mod Runs
+pub mod Relays

@@ -1,0 +1,83 @@
+-- What a mirror holds that followed a share over a connection which that share served: the bytes that the mirror wrote are those
+-- that the server read, and the bytes that the mirror had to read are those that the server wrote. The history may go on since.
+use Rattle.std.specs.Prelude.{◌≡◌, ◌≤◌, ◌⊎◌, ℕ, List, [], ◌++◌, Option, Some}
+use Rattle.std.specs.Io.KnownBytes.{Appends}
+use Rattle.item_model.specs.declared.changes.Entry.{Entry}
+use Rattle.daap_outside.specs.Places.{Returned}
+use Rattle.item_model.specs.declared.query.Query.{Query}
+use Rattle.item_model.specs.declared.request.Meta.{Meta}
+use Rattle.share_asks.specs.declared.ask.Role.{Role}
+use Rattle.share_history.specs.Listings.{Listing}
+use Rattle.share_replies.specs.Settings.{Settings}
+use Rattle.mirror_core.specs.declared.mirror.Applied.{Applied}
+use Rattle.mirror_core.specs.Mirrored.{Mirrored}
+use Rattle.mirror_client.specs.declared.refusal.FollowError.{FollowError}
+use Rattle.mirror_client.specs.declared.refusal.FollowError.TheVariants.{LinkFault, Memory}
+use Rattle.mirror_client.specs.Points.{Point}
+use Rattle.mirror_client.specs.Runs.{Followed}
+use Rattle.mirror_client.specs.Stages.{Begun, Stage, StopsFrom, Walks, listings_in}
+use Rattle.mirror_client.specs.Steps.{with_listings}
+use Rattle.share_server.specs.declared.report.LinkReport.{LinkReport}
+use Rattle.share_server.specs.declared.report.Served.{Served}
+use Rattle.share_server.specs.declared.report.LinkEnd.{LinkEnd}
+use Rattle.share_server.specs.Links.{LinkEnded}
+use Rattle.share_server.specs.Passes.{Pass}
+use Rattle.share_workers.specs.Works.{Works}
+use Rattle.followed_shares.specs.Laws.{last_revision, rows_at}
+use Rattle.share_history.specs.Whole.{IsWhole}
+use Rattle.served_mirrors.specs.Examples.{IsServedOnce, new_mirror}
+use Rattle.served_mirrors.specs.Links.{AnsweredAll, AreServedLinks, ServedLink}
+use Rattle.served_mirrors.specs.Mirrors.{CanBeAsked, HoldsTheShare}
+
+-- A mirror that began with nothing and followed to the end holds what the share had at the last listing. Its rows are those that the
+-- query selects at the revision of the last round
+abbrev pub FollowersHoldTheShare : Type 0
+FollowersHoldTheShare =
+    (host : List ℕ) (m : Mirrored) (rounds : ℕ) (p : Point) (taken : Option (List ℕ)) (applied : List Applied) (now : Mirrored)
+    (s : Settings) (by limit : ℕ) (role : Role) (h later : List Entry) (input output : List ℕ)
+    → (f : Followed host m rounds p taken applied now) → 1 ≤ rounds → m.held.revision ≡ 0 → CanBeAsked host m → IsWhole h
+    → p.taken ≡ Some [] → taken ≡ Some input → p.owed ≡ Some output → ServedLink s by limit role h input output
+    → HoldsTheShare s (h ++ later) m f.listings now × (now.held.rows ≡ rows_at (h ++ later) m.target m.query m.meta (last_revision applied))
+
+-- one that stopped somewhere, whatever stopped it, holds what the share had at the last listing that it applied
+abbrev pub StoppedMirrorsHoldTheShare : Type 0
+StoppedMirrorsHoldTheShare =
+    (host : List ℕ) (m : Mirrored) (rounds : ℕ) (p : Point) (taken : Option (List ℕ)) (e : FollowError) (now : Mirrored)
+    (s : Settings) (by limit : ℕ) (role : Role) (h later : List Entry) (input output : List ℕ)
+    → (x : StopsFrom host m rounds Begun p taken e now) → m.held.revision ≡ 0 → CanBeAsked host m → IsWhole h
+    → p.taken ≡ Some [] → taken ≡ Some input → p.owed ≡ Some output → ServedLink s by limit role h input output
+    → HoldsTheShare s (h ++ later) m (listings_in x.stage) now
+
+-- and so does one that is still at it, in any stage, and may have written a part of its next request
+abbrev pub WalkersHoldTheShare : Type 0
+WalkersHoldTheShare =
+    (host : List ℕ) (m : Mirrored) (rounds : ℕ) (p : Point) (t : Stage) (there : Point)
+    (s : Settings) (by limit : ℕ) (role : Role) (h later : List Entry) (sent part output : List ℕ)
+    → Walks host m rounds Begun p t there → m.held.revision ≡ 0 → CanBeAsked host m → IsWhole h
+    → p.taken ≡ Some [] → there.taken ≡ Some sent → p.owed ≡ Some output → ServedLink s by limit role h (sent ++ part) output
+    → HoldsTheShare s (h ++ later) m (listings_in t) (with_listings m (listings_in t))
+
+-- a connection with known bytes that was served to its end is such a one
+abbrev pub EndedLinksAreServed : Type 0
+EndedLinksAreServed =
+    (role : Role) (limit : ℕ) (k k' : Pass) (input output : List ℕ) (served : List Served) (end : LinkEnd)
+    → LinkEnded role limit k k' (Some input) (Some []) (Some output) served end → ServedLink k.settings k.number limit role k'.seen input output
+
+-- and so are those of a worker
+abbrev pub WorkersLinksAreServed : Type 0
+WorkersLinksAreServed =
+    (role : Role) (k k' : Pass) (coming coming' : Option (List (List ℕ))) (written written' : Option (List Returned)) (reports : List LinkReport)
+    → (w : Works role k k' coming coming' written written' reports) → AreServedLinks k.settings k.number role k'.seen w.inputs w.returns
+
+-- A mirror whose requests were all written whole and answered with success is stopped by nothing but a failed call on its connection
+-- or an allocation that failed
+abbrev pub FollowersAreNotStopped : Type 0
+FollowersAreNotStopped =
+    (host : List ℕ) (m : Mirrored) (rounds : ℕ) (p : Point) (taken : Option (List ℕ)) (e : FollowError) (now : Mirrored)
+    (s : Settings) (by limit : ℕ) (role : Role) (h : List Entry) (input output : List ℕ)
+    → (x : StopsFrom host m rounds Begun p taken e now) → Appends x.there.taken taken x.request → m.held.revision ≡ 0 → CanBeAsked host m → IsWhole h
+    → p.taken ≡ Some [] → taken ≡ Some input → p.owed ≡ Some output → AnsweredAll s by limit role h input output → (e ≡ LinkFault) ⊎ (e ≡ Memory)
+
+-- every mirror of all items that can be asked is served to its end by some share
+abbrev pub MirrorsAreServed : Type 0
+MirrorsAreServed = (host : List ℕ) (s : Settings) (by : ℕ) (query : Option Query) (meta : Meta) → CanBeAsked host (new_mirror query meta) → IsServedOnce host (new_mirror query meta) s by

@@ -1,0 +1,4 @@
+pub mod Links
+pub mod Mirrors
+pub mod Examples
+pub mod Laws

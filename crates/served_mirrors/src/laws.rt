@@ -1,0 +1,41 @@
+//! What holds of all mirrors and of all shares that they follow. Each function does nothing; its contract is a fact that follows
+//! from the definitions.
+
+ghost use Rattle.served_mirrors.specs.Laws.{EndedLinksAreServed, FollowersAreNotStopped, FollowersHoldTheShare, MirrorsAreServed, StoppedMirrorsHoldTheShare, WalkersHoldTheShare, WorkersLinksAreServed};
+
+/// A mirror that followed a share to the end holds all rows that its query selects, at the revision of its last round. Each listing
+/// that it applied is the share's at a point of the one history, and these points never fall.
+pub fn followers_hold_the_share()
+    ensures { FollowersHoldTheShare }
+{}
+
+/// A mirror that stopped holds what the share had at the last listing that it applied.
+pub fn stopped_mirrors_hold_the_share()
+    ensures { StoppedMirrorsHoldTheShare }
+{}
+
+/// So does a mirror that still follows, in each of its stages.
+pub fn walkers_hold_the_share()
+    ensures { WalkersHoldTheShare }
+{}
+
+/// A mirror whose requests were all answered with success is stopped only by a failed call on its connection or a failed
+/// allocation.
+pub fn followers_are_not_stopped()
+    ensures { FollowersAreNotStopped }
+{}
+
+/// A connection that was served to its end has the requests and the replies that these laws speak of.
+pub fn ended_links_are_served()
+    ensures { EndedLinksAreServed }
+{}
+
+/// So has each connection of a worker.
+pub fn workers_links_are_served()
+    ensures { WorkersLinksAreServed }
+{}
+
+/// There is a share that serves a mirror of all items to its end, whatever it asks for.
+pub fn mirrors_are_served()
+    ensures { MirrorsAreServed }
+{}

@@ -1,0 +1,11 @@
+mod Lines
+mod LineFeeds
+mod Utf8Bytes
+mod Search
+mod Cut
+mod Decided
+mod Stops
+mod Ways
+mod FromPlaces
+mod Heads
+mod Walked
