@@ -1,7 +1,6 @@
 -- Where cells start, and the bytes between two starts.
 use Rattle.std.proofs.Common.{◌≡◌, ◌≤◌, ◌<◌, ◌+◌, ◌-◌, ◌*◌, ◌++◌, ℕ, zero, suc, arith, List, [], ◌∷◌, length, get_or, take, drop, map, refl, sym, ap, ◌∙◌, subst, append_assoc, append-nil, length-append, ⊎_elim}
-use Rattle.std.specs.List.{flat_map}
-use Rattle.std.proofs.lemmas.List.{take_more, map_more, get_or_default, drop_all, take_at, drop_at, take-append-drop, take-take, drop-take, drop-drop, drop-append-le, take-append-le, drop-map, take-map, drop_more, length-map, length-take-le, length-drop}
+use Rattle.std.proofs.lemmas.List.{take_more, map_more, get_or_default, drop_all, take_at, drop_at, take-append-drop, take-take, drop-take, drop-drop, drop-append-le, take-append-le, drop-map, take-map, drop_more, length-map, length-drop}
 use Rattle.std.proofs.lemmas.List.Concat.{flat_map-append}
 use Rattle.std.proofs.lemmas.Bool.{cases_lt}
 use Rattle.std.proofs.Math.Nat.{suc-mul}
@@ -24,7 +23,7 @@ starts_more n (x ∷ cs) c =
 pub no_cells : (bytes starts : List ℕ) → bytes ≡ [] → starts ≡ 0 ∷ [] → AreCells [] bytes starts
 no_cells bytes starts e f = record { spelled = e; begin = f }
 
--- one cell more, whose bytes and end come behind
+-- one cell more, whose bytes and end come last
 pub cells_more : (done : List (List ℕ)) (c bytes starts bytes' starts' : List ℕ) (end : ℕ) → AreCells done bytes starts → bytes' ≡ bytes ++ c → end ≡ length bytes' → starts' ≡ starts ++ end ∷ [] → AreCells (done ++ c ∷ []) bytes' starts'
 cells_more done c bytes starts bytes' starts' end are e f g = record {
   spelled = e ∙ ap (λ bs. bs ++ c) are.spelled ∙ ap (λ cs. joined done ++ cs) (sym (append-nil c)) ∙ sym (joined_append done (c ∷ []));
@@ -99,7 +98,7 @@ rows_length ps (row ∷ rows) =
     ∙ (let e : length (row_cells ps row) + length (cells_of ps rows) ≡ length rows * length ps + length ps = omega (arith, length-map ps (cell row.item), rows_length ps rows) in e)
     ∙ sym (suc-mul (length rows) (length ps))
 
--- behind the cells of some rows come those of the others
+-- after the cells of some rows come those of the others
 rows_left : (ps : List Property) (rows : List Row) (i : ℕ) → drop (i * length ps) (cells_of ps rows) ≡ cells_of ps (drop i rows)
 rows_left ps rows zero = let e : 0 * length ps ≡ 0 = omega arith in ap (λ n. drop n (cells_of ps rows)) e
 rows_left ps [] (suc i) = drop_all (suc i * length ps) [] (omega arith)

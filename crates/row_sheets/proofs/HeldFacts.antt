@@ -15,7 +15,7 @@ use Rattle.item_model.specs.Projection.{default_projection, first_mentions, ment
 use Rattle.item_model.proofs.Ranks.{same_property}
 use Rattle.item_model.proofs.Distinct.{first_again}
 use Rattle.row_sheets.specs.Held.{sheet_order, is_held, held_properties}
-use Rattle.row_sheets.specs.Cells.{cell, HasNoOther, HasValue, HasValues}
+use Rattle.row_sheets.specs.Cells.{HasNoOther, HasValue, HasValues}
 
 -- the order of sheets as the code has it
 pub order_is : sheet_order ≡ Mikd ∷ Minm ∷ Asar ∷ Asal ∷ Astn ∷ Astm ∷ Mper ∷ Asaa ∷ Asgn ∷ Ascp ∷ Ascm ∷ Agrp ∷ Asfm ∷ Asyr ∷ Astc ∷ Asdn ∷ Asdc ∷ Asbr ∷ Asbt ∷ Assr ∷ Assz ∷ Asur ∷ Asco ∷ Aemk ∷ Asda ∷ Asdm ∷ []

@@ -1,4 +1,4 @@
--- Pairs in ascending order of the key, one list behind another: what is under a key, and how the order is kept.
+-- Pairs in ascending order of the key, one list after another: what is under a key, and how the order is kept.
 use Rattle.std.proofs.Common.{◌≡◌, ◌≤◌, ◌<◌, ◌+◌, ◌++◌, ◌≢◌, ⊎_elim, ℕ, arith, Bool, true, false, cond, List, [], ◌∷◌, refl, sym, ap, ◌∙◌, Option, Some, None, Less, nat_cmp, is_eq, is_some, length, get_or, take, drop, subst}
 use Rattle.std.specs.Option.{option_or}
 use Rattle.std.specs.List.{AllByRecursion}
@@ -52,8 +52,8 @@ module _ {A : Type 0} where
   pub none_before : (id : ℕ) (a b : List (ℕ × A)) → at id (a ++ b) ≡ None → at id a ≡ None
   none_before id a b h = none_first (at id a) (at id b) (sym (at-append id a b) ∙ h)
 
-  pub none_behind : (id : ℕ) (a b : List (ℕ × A)) → at id (a ++ b) ≡ None → at id b ≡ None
-  none_behind id a b h = none_second (at id a) (at id b) (sym (at-append id a b) ∙ h)
+  pub none_after : (id : ℕ) (a b : List (ℕ × A)) → at id (a ++ b) ≡ None → at id b ≡ None
+  none_after id a b h = none_second (at id a) (at id b) (sym (at-append id a b) ∙ h)
 
   none_in_tail : (t : Bool) (x : A) (o : Option A) → cond t (Some x) o ≡ None → o ≡ None
   none_in_tail true x o h = absurd (cc)
@@ -138,7 +138,7 @@ module _ {A : Type 0} where
   pub under_one : (k : ℕ) (x : A) → AreUnder (k + 1) ((k, x) ∷ [])
   under_one k x = λ id le. ap (λ t. cond t (Some x) None) (not_at id k (λ h. absurd (omega (arith, h, le))))
 
-  -- in an ascending list all keys behind one are above it
+  -- in an ascending list all keys after one are above it
   pub above_head : (e : ℕ × A) (es : List (ℕ × A)) → IsAscending (e ∷ es) → AreAbove (e.0 + 1) es
   unfolding IsStrictlySortedBy
   above_head e es s = λ id lt. none_at e.0 id es s.0 (omega arith)
@@ -161,7 +161,7 @@ module _ {A : Type 0} where
       let lt : x.0 < e.0 = key_before x e a b s.0 in
       ap (λ t. cond t (Some x.1) (at id (a ++ e ∷ []))) (not_at id x.0 (λ h. absurd (omega (arith, h, le, lt)))) ∙ under_last a e b s.1 id le
 
-  -- and those behind it
+  -- and those after it
   pub above_last : (a : List (ℕ × A)) (e : ℕ × A) (b : List (ℕ × A)) → IsAscending ((a ++ e ∷ []) ++ b) → AreAbove (e.0 + 1) b
   unfolding IsStrictlySortedBy
   above_last [] e b s = above_head e b s

@@ -1,11 +1,10 @@
 -- The steps of the code that applies changes, over rows as the code has them.
-use Rattle.std.proofs.Common.{◌≡◌, ◌≤◌, ◌<◌, ◌+◌, ◌++◌, ℕ, List, [], ◌∷◌, length, take, drop, refl, sym, ap, ◌∙◌, subst, get_or, append_assoc, Global, Option}
-use Rattle.std.proofs.lemmas.List.{take-append-drop, drop-drop, at_drop_more, nil_from_length}
+use Rattle.std.proofs.Common.{◌≡◌, ◌<◌, ◌+◌, ◌++◌, ℕ, List, [], ◌∷◌, length, take, drop, sym, ap, ◌∙◌, subst, get_or, append_assoc, Global, Option}
+use Rattle.std.proofs.lemmas.List.{take-append-drop, drop-drop, at_drop_more}
 use Rattle.std.specs.Arc.{arc_value}
-use Rattle.std.specs.List.Sorted.{IsStrictlySortedBy}
 use Rattle.std.specs.declared.sync.Arc.{Arc}
 use Rattle.item_model.specs.declared.item.Row.{Row}
-use Rattle.share_history.specs.Keyed.{at, IsAscending}
+use Rattle.share_history.specs.Keyed.{IsAscending}
 use Rattle.row_sheets.specs.Spelled.{Spelled}
 use Rattle.row_sheets.specs.Sheets.{by_id, rows_on, rows_in}
 use Rattle.row_sheets.specs.Changes.{changed, new_rows, own_rows, AreChanges}
@@ -34,10 +33,10 @@ row_step wanted old new changes below from own k m count row rest b f o e n ub a
     let ids : by_id new ≡ (by_id old ++ by_id (new_rows below)) ++ by_id (own_rows row own) = ap by_id e ∙ ids_append (old ++ new_rows below) (own_rows row own) ∙ ap (λ ps. ps ++ by_id (own_rows row own)) (ids_append old (new_rows below)) in
     let left : drop m from ≡ drop count changes = ap (drop m) f ∙ drop-drop m k changes ∙ ap (λ j. drop j changes) (sym n) in
     let ascends : IsAscending from = subst IsAscending (sym f) (left_ascends changes k t.changes_are.ascending) in
-    let behind : own ++ drop m from ≡ drop k changes = ap (λ cs. cs ++ drop m from) o ∙ take-append-drop m from ∙ f in
+    let later_is : own ++ drop m from ≡ drop k changes = ap (λ cs. cs ++ drop m from) o ∙ take-append-drop m from ∙ f in
     let done : IsTurned wanted ((by_id old ++ by_id (new_rows below)) ++ by_id (own_rows row own)) (drop m from) rest =
     row_turned wanted (by_id old) below own (drop m from) row rest (subst (λ cs. IsTurned wanted (by_id old) cs ((row.id, row) ∷ rest)) whole t) (subst (AreUnder row.id) (sym b) ub)
-    (subst (AreAbove row.id) (sym behind) (af t.changes_are.ascending)) (subst (AreUnder (row.id + 1)) (sym o) uo) (al ascends) in
+    (subst (AreAbove row.id) (sym later_is) (af t.changes_are.ascending)) (subst (AreUnder (row.id + 1)) (sym o) uo) (al ascends) in
     subst (λ ps. IsTurned wanted ps (drop count changes) rest) (sym ids) (subst (λ cs. IsTurned wanted ((by_id old ++ by_id (new_rows below)) ++ by_id (own_rows row own)) cs rest) left done)
 
 -- the next row of a loop over rows
@@ -65,7 +64,7 @@ next_sheet wanted old new sheets changes left next n i sheet rest l is lt step t
     let later : drop n left ≡ drop (next + n) changes = ap (drop n) l ∙ drop-drop n next changes in
     subst (λ cs. IsTurned wanted (by_id new) cs more) later (step more before)
 
--- the new rows of the changes that are left behind all rows
+-- the new rows of the changes that are left after all rows
 pub rest_step : (wanted : ℕ → Option Row) (old new : List Row) (changes : List (ℕ × Option Row)) → new ≡ old ++ new_rows changes → IsTurned wanted (by_id old) changes [] → AreTurned wanted (by_id new)
 rest_step wanted old new changes e t =
     subst (AreTurned wanted) (sym (ap by_id e ∙ ids_append old (new_rows changes))) (rest_turned wanted (by_id old) changes t)
@@ -102,12 +101,3 @@ sheets_start sheets front last old changes e none are s =
     let parts : by_id (rows_in sheets) ≡ by_id (rows_in front) ++ by_id (rows_on last) = ap (λ ss. by_id (rows_in ss)) e ∙ ap by_id (in_push front last) ∙ ids_append (rows_in front) (rows_on last) in
     subst (λ rows. IsTurned wanted (by_id rows) changes (by_id (rows_in front) ++ by_id (rows_on last))) (sym none)
     (subst (IsTurned wanted [] changes) parts (turned_start changes (by_id (rows_in sheets)) are s))
-
--- where there are no sheets, the rows are the new ones
-pub no_sheets : (sheets : List (Arc Spelled Global)) (old new piece : List Row) (changes : List (ℕ × Option Row)) → length sheets ≡ 0 → old ≡ [] → new ≡ old ++ piece → AreChanges changes
-    → (AreChanges changes → IsAscending (by_id []) → AreTurned (changed changes (by_id [])) (by_id piece)) → AreTurned (changed changes (by_id (rows_in sheets))) (by_id new)
-unfolding IsStrictlySortedBy
-no_sheets sheets old new piece changes none empty e are merged =
-    let ids : by_id new ≡ by_id piece = ap by_id (e ∙ ap (λ rows. rows ++ piece) empty) in
-    let nil : sheets ≡ [] = nil_from_length sheets none in
-    subst (λ ss. AreTurned (changed changes (by_id (rows_in ss))) (by_id new)) (sym nil) (subst (AreTurned (changed changes [])) (sym ids) (merged are tt))

@@ -10,7 +10,7 @@ use Rattle.row_sheets.specs.Sheets.{by_id}
 use Rattle.row_sheets.specs.Cells.{IsLast}
 use Rattle.row_sheets.specs.Changes.{changed, new_rows, own_rows, AreChanges}
 use Rattle.row_sheets.specs.Turns.{AreUnder, AreAbove, IsTurned, AreTurned}
-use Rattle.row_sheets.proofs.PairFacts.{at_first, at_second, none_before, none_behind, at_found, found_above, found_under, ascending_first, ascending_second, ascending_join, under_one, above_head, above_all, under_last, above_last}
+use Rattle.row_sheets.proofs.PairFacts.{at_first, at_second, none_before, none_after, at_found, found_above, found_under, ascending_first, ascending_second, ascending_join, under_one, above_head, above_all, under_last, above_last}
 
 -- an id that neither changes nor had a row has none
 changed_none : (id : ℕ) (c : List (ℕ × Option Row)) (r : List (ℕ × Row)) → at id c ≡ None → at id r ≡ None → changed c r id ≡ None
@@ -54,16 +54,16 @@ module _ (wanted : ℕ → Option Row) (done piece : List (ℕ × Row)) (c d : L
   piece_above : AreAbove t.bound piece
   piece_above = λ id lt. each id ∙ changed_none id c r (none_before id c d (t.changes_above id lt)) (none_before id r s (t.rows_above id lt))
 
-  -- one step: what the changes `c` leave of the rows `r` comes behind what is done
+  -- one step: what the changes `c` leave of the rows `r` comes after what is done
   pub turned_next : (next : ℕ) → AreUnder next c → AreUnder next r → AreAbove next d → AreAbove next s → IsAscending piece → IsTurned wanted (done ++ piece) d s
   turned_next next uc ur ad sa asc = record {
     bound = max t.bound next;
     ascending = ascending_join t.bound done piece t.ascending asc t.under piece_above;
     under = λ id le. at_second id done piece (t.under id (omega (arith, le))) ∙ each id ∙ changed_none id c r (uc id (omega (arith, le))) (ur id (omega (arith, le)));
     changes_are = later_changes next c d t.changes_are uc ad;
-    changes_above = λ id lt. ⊎_elim (λ l. none_behind id c d (t.changes_above id l)) (λ l. ad id (omega (arith, lt, l))) (cases_lt id t.bound);
+    changes_above = λ id lt. ⊎_elim (λ l. none_after id c d (t.changes_above id l)) (λ l. ad id (omega (arith, lt, l))) (cases_lt id t.bound);
     rows_ascend = ascending_second r s t.rows_ascend;
-    rows_above = λ id lt. ⊎_elim (λ l. none_behind id r s (t.rows_above id l)) (λ l. sa id (omega (arith, lt, l))) (cases_lt id t.bound);
+    rows_above = λ id lt. ⊎_elim (λ l. none_after id r s (t.rows_above id l)) (λ l. sa id (omega (arith, lt, l))) (cases_lt id t.bound);
     before = λ id lt.
         ⊎_elim (λ l. t.before id l ∙ sym (at_first id done piece (piece_above id l)))
         (λ l. let n : id < next = omega (arith, lt, l) in
@@ -171,7 +171,7 @@ module _ (wanted : ℕ → Option Row) (done : List (ℕ × Row)) (below own lef
       let are : AreOwn row own = own_facts row own (first_changes own left half.changes_are) (λ id lt. none_before id own left (af id lt)) uo in
       turned_next wanted (done ++ by_id (new_rows below)) (by_id (own_rows row own)) own left ((row.id, row) ∷ []) rest half are.each (row.id + 1) uo (under_one row.id row) al (above_head (row.id, row) rest t.rows_ascend) are.ascending
 
--- the changes that are left behind all rows
+-- the changes that are left after all rows
 pub rest_turned : (wanted : ℕ → Option Row) (done : List (ℕ × Row)) (c : List (ℕ × Option Row)) → IsTurned wanted done c [] → AreTurned wanted (done ++ by_id (new_rows c))
 rest_turned wanted done c t =
     let new : AreNew c = new_facts c t.changes_are in

@@ -33,7 +33,7 @@ pub record AreCells (cells : List (List ℕ)) (bytes starts : List ℕ) : Type 0
   pub spelled : bytes ≡ joined cells
   pub begin : starts ≡ starts_of 0 cells
 
--- the row has no property beside these
+-- the row has no other property
 abbrev pub HasNoOther : List Property → Row → Type 0
 HasNoOther ps row = (p : Property) → mentions ps p ≡ false → cell row.item p ≡ []
 

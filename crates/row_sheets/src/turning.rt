@@ -116,7 +116,7 @@ fn push_cut(
     push_sheet(alloc, turned, part)
 }
 
-// Puts a row behind a part, which becomes a sheet when it is full.
+// Puts a row after those of a part, which becomes a sheet when it is full.
 fn push_row(
     alloc: Global,
     turned: &mut Vec<Arc<Sheet, Global>>,

@@ -1,4 +1,4 @@
-use Rattle.std.proofs.Common.{◌≡◌, ◌+◌, ◌≤◌, ◌∷◌, [], length, drop, sym, ap, subst, ◌∙◌, arith}
+use Rattle.std.proofs.Common.{[], drop, sym, subst, arith}
 use Rattle.std.proofs.lemmas.List.{at_drop_all}
 use Rattle.row_sheets.specs.Sheets.{by_id}
 use Rattle.row_sheets.specs.Changes.{changed}

@@ -1,6 +1,5 @@
 -- A sheet with the changes of ids up to its last one, which it shares where there are none.
-use Rattle.std.proofs.Common.{◌≡◌, ◌+◌, ◌++◌, ◌<◌, [], length, take, drop, refl, sym, ap, subst, ◌∙◌}
-use Rattle.item_model.specs.declared.item.Row.{Row}
+use Rattle.std.proofs.Common.{◌≡◌, ◌+◌, ◌++◌, ◌<◌, [], length, take, drop, refl, ap, subst, ◌∙◌}
 use Rattle.share_history.specs.Keyed.{IsAscending}
 use Rattle.row_sheets.specs.Spelled.{Spelled}
 use Rattle.row_sheets.specs.Sheets.{by_id, rows_on, rows_in}

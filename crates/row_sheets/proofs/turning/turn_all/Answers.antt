@@ -1,4 +1,4 @@
-use Rattle.std.proofs.Common.{◌+◌, ◌≤◌, length, arith}
+use Rattle.std.proofs.Common.{arith}
 use Rattle.row_sheets.specs.Sheets.{rows_in}
 use Rattle.row_sheets.proofs.StepFacts.{next_sheet}
 use Rattle.row_sheets.proofs.turning.turn_all.Goals as goal

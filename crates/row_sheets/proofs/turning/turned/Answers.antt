@@ -1,6 +1,5 @@
 -- All sheets before the last one, and then that one with the changes that are left.
-use Rattle.std.proofs.Common.{◌≡◌, ℕ, List, sym, ap, subst, Option}
-use Rattle.item_model.specs.declared.item.Row.{Row}
+use Rattle.std.proofs.Common.{sym, ap, subst}
 use Rattle.row_sheets.specs.Sheets.{by_id, rows_on, rows_in}
 use Rattle.row_sheets.specs.Changes.{changed}
 use Rattle.row_sheets.specs.Turns.{IsTurned}

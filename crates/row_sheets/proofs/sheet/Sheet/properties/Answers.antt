@@ -1,4 +1,4 @@
-use Rattle.std.proofs.Common.{◌≡◌, All, sym, ap, ◌∙◌, subst}
+use Rattle.std.proofs.Common.{◌≡◌, All, sym, subst}
 use Rattle.item_model.specs.Projection.{first_mentions}
 use Rattle.row_sheets.specs.Held.{held_properties}
 use Rattle.row_sheets.specs.Cells.{HasNoOther}

@@ -1,5 +1,5 @@
 -- A sheet is seen as its rows and properties; between two starts are the bytes of the cells between them.
-use Rattle.std.proofs.Common.{◌≡◌, ◌<◌, ◌≤◌, ◌-◌, ◌+◌, ◌*◌, ℕ, length, take, drop, get_or, sym, ap, subst, ◌∙◌, arith, rules}
+use Rattle.std.proofs.Common.{◌≡◌, ◌<◌, ◌≤◌, ◌-◌, ◌+◌, ◌*◌, length, take, drop, get_or, sym, ap, subst, ◌∙◌, arith, rules}
 use Rattle.row_sheets.specs.Cells.{joined, row_cells}
 use Rattle.row_sheets.proofs.CellFacts.{part_within, part_order, part_end, part_is}
 use Rattle.row_sheets.proofs.sheet.Sheet.tags.Goals as goal

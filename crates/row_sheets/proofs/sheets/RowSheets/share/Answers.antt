@@ -1,5 +1,5 @@
 -- The same rows ascend, and are as many.
-use Rattle.std.proofs.Common.{◌≡◌, length, take, sym, ap, subst, ◌∙◌}
+use Rattle.std.proofs.Common.{◌≡◌, length, sym, ap, subst, ◌∙◌}
 use Rattle.std.proofs.lemmas.List.{take_all}
 use Rattle.share_history.specs.Keyed.{IsAscending}
 use Rattle.row_sheets.specs.Sheets.{by_id, rows_in}
