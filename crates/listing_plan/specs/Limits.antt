@@ -9,10 +9,18 @@ rows_limit = 262144
 abbrev pub row_limit : ℕ
 row_limit = 2581
 
+-- the tags of its properties alone
+abbrev pub shown_limit : ℕ
+shown_limit = 2549
+
 -- the payload of a listing, in bytes: as much as a mirror reads of one tag
 abbrev pub listing_limit : ℕ
 listing_limit = 1073741824
 
--- what is handed to a sink at a time, in bytes
+-- what is handed to a sink at a time, in bytes, of a long body
 abbrev pub page_limit : ℕ
-page_limit = 8192
+page_limit = 65536
+
+-- and of a body that has no more than this
+abbrev pub short_page_limit : ℕ
+short_page_limit = 8192

@@ -33,10 +33,14 @@ pub record AreGone (keys : List ℕ) : Type 0 where
   pub ascending : AreAscending keys
   pub few : length keys ≤ rows_limit
 
--- the full listing with these rows, of so many before the range, and the delta with these rows and deleted keys
+-- the full listing with these rows under their keys, of so many before the range
+abbrev pub full_keyed : Target → (revision total : ℕ) → List (ℕ × Row) → Meta → Listing
+full_keyed target revision total rows meta =
+    record { is_delta = false; revision = revision; total = total; rows = shown_rows target meta rows; gone = [] }
+
+-- the same with the rows of a plan, and the delta with these rows and deleted keys
 abbrev pub full_plan : Target → (revision total : ℕ) → List PlanRow → Meta → Listing
-full_plan target revision total rows meta =
-    record { is_delta = false; revision = revision; total = total; rows = shown_rows target meta (keyed rows); gone = [] }
+full_plan target revision total rows meta = full_keyed target revision total (keyed rows) meta
 
 abbrev pub delta_plan : Target → (revision : ℕ) → List PlanRow → List ℕ → Meta → Listing
 delta_plan target revision rows gone meta =

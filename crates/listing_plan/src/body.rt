@@ -8,7 +8,7 @@ ghost use Rattle.dmap_tags.specs.Tree.{leaf, trees_of, U8, U32};
 ghost use Rattle.item_model.specs.declared.request.Target.{Target};
 ghost use Rattle.share_history.specs.Bodies.{start_tags, key_code, gone_tags};
 ghost use Rattle.listing_plan.specs.Held.{is_delta_of, total_of, gone_of};
-ghost use Rattle.listing_plan.specs.Limits.{rows_limit, row_limit, page_limit};
+ghost use Rattle.listing_plan.specs.Limits.{rows_limit, row_limit};
 ghost use Rattle.listing_plan.specs.Pages.{Pushes};
 
 use crate::lengths::{HEAD_LEN, NUMBER_LEN};
@@ -46,8 +46,13 @@ fn gone_len(scope: &Scope) -> u64
 }
 
 // What every listing begins with.
-pub(crate) fn put_start(page: &mut Page, scope: &Scope, revision: u32, listed: u32)
-    requires { length page.old + 57 ≤ page_limit }
+pub(crate) fn put_start<const N: usize>(
+    page: &mut Page<N>,
+    scope: &Scope,
+    revision: u32,
+    listed: u32,
+)
+    requires { length page.old + 57 ≤ N }
     ensures put { page.new ≡ page.old ++ spellings (trees_of (start_tags (is_delta_of scope.now) revision (total_of scope.now listed) listed)) }
     ensures longer { length page.new ≡ length page.old + 57 }
 {
@@ -59,8 +64,8 @@ pub(crate) fn put_start(page: &mut Page, scope: &Scope, revision: u32, listed: u
 }
 
 // Whether it is a delta.
-fn put_mark(page: &mut Page, mark: u8)
-    requires { length page.old + 9 ≤ page_limit }
+fn put_mark<const N: usize>(page: &mut Page<N>, mark: u8)
+    requires { length page.old + 9 ≤ N }
     ensures put { page.new ≡ page.old ++ spelling (leaf (code "muty") (U8 mark)) }
     ensures longer { length page.new ≡ length page.old + 9 }
 {
@@ -69,13 +74,14 @@ fn put_mark(page: &mut Page, mark: u8)
 }
 
 // Behind the rows of a delta stand the keys that it deletes.
-pub(crate) fn push_gone<W: Sink>(
-    page: &mut Page,
+pub(crate) fn push_gone<W: Sink, const N: usize>(
+    page: &mut Page<N>,
     sink: &mut W,
     target: Target,
     scope: &Scope,
 ) -> Result<(), Failed>
-    requires { length (gone_of scope.now) ≤ rows_limit }
+    requires wide { row_limit ≤ N }
+    requires few { length (gone_of scope.now) ≤ rows_limit }
     ensures pushes { Pushes (spellings (trees_of (gone_tags target (is_delta_of scope.now) (gone_of scope.now)))) result (W.taken sink.old) (W.taken sink.new) page.old page.new (W.faults sink.old) (W.faults sink.new) }
     ensures beside { W.beside_taken sink.new ≡ W.beside_taken sink.old }
 {
@@ -85,13 +91,14 @@ pub(crate) fn push_gone<W: Sink>(
     }
 }
 
-fn push_deleted<W: Sink>(
-    page: &mut Page,
+fn push_deleted<W: Sink, const N: usize>(
+    page: &mut Page<N>,
     sink: &mut W,
     target: Target,
     keys: &[u32],
 ) -> Result<(), Failed>
-    requires { length keys.now ≤ rows_limit }
+    requires wide { row_limit ≤ N }
+    requires few { length keys.now ≤ rows_limit }
     ensures pushes { Pushes (spellings (trees_of (gone_tags target true keys.now))) result (W.taken sink.old) (W.taken sink.new) page.old page.new (W.faults sink.old) (W.faults sink.new) }
     ensures beside { W.beside_taken sink.new ≡ W.beside_taken sink.old }
 {
@@ -100,7 +107,13 @@ fn push_deleted<W: Sink>(
     push_keys(page, sink, key_code(target), keys)
 }
 
-fn push_keys<W: Sink>(page: &mut Page, sink: &mut W, of: Code, keys: &[u32]) -> Result<(), Failed>
+fn push_keys<W: Sink, const N: usize>(
+    page: &mut Page<N>,
+    sink: &mut W,
+    of: Code,
+    keys: &[u32],
+) -> Result<(), Failed>
+    requires { row_limit ≤ N }
     ensures pushes { Pushes (spellings (trees_of (map (λ key. leaf of (U32 key)) keys.now))) result (W.taken sink.old) (W.taken sink.new) page.old page.new (W.faults sink.old) (W.faults sink.new) }
     ensures beside { W.beside_taken sink.new ≡ W.beside_taken sink.old }
 {
@@ -110,7 +123,13 @@ fn push_keys<W: Sink>(page: &mut Page, sink: &mut W, of: Code, keys: &[u32]) -> 
     Ok(())
 }
 
-fn push_key<W: Sink>(page: &mut Page, sink: &mut W, of: Code, key: u32) -> Result<(), Failed>
+fn push_key<W: Sink, const N: usize>(
+    page: &mut Page<N>,
+    sink: &mut W,
+    of: Code,
+    key: u32,
+) -> Result<(), Failed>
+    requires { row_limit ≤ N }
     ensures pushes { Pushes (spelling (leaf of (U32 key))) result (W.taken sink.old) (W.taken sink.new) page.old page.new (W.faults sink.old) (W.faults sink.new) }
     ensures beside { W.beside_taken sink.new ≡ W.beside_taken sink.old }
 {

@@ -1,10 +1,10 @@
 //! What holds of all listings. Each function does nothing; its contract is a fact that follows from the definitions.
 
 ghost use Rattle.std.specs.Prelude.{◌≡◌};
-ghost use Rattle.listing_plan.specs.Limits.{rows_limit, page_limit};
+ghost use Rattle.listing_plan.specs.Limits.{rows_limit, page_limit, short_page_limit};
 ghost use Rattle.listing_plan.specs.Laws.{RowsAreShort, ListingsAreShort};
 
-use crate::page::PAGE_BYTES;
+use crate::page::{PAGE_BYTES, SHORT_PAGE_BYTES};
 use crate::plan::MAX_ROWS;
 
 /// The tag of a row can be spelled, in few bytes.
@@ -23,4 +23,5 @@ pub fn a_listing_is_short()
 pub fn the_constants()
     ensures rows { MAX_ROWS ≡ rows_limit }
     ensures page { PAGE_BYTES ≡ page_limit }
+    ensures short_page { SHORT_PAGE_BYTES ≡ short_page_limit }
 {}

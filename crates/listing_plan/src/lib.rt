@@ -5,10 +5,14 @@
 mod body;
 pub mod laws;
 mod lengths;
+mod listed;
 mod page;
 mod plan;
 mod row;
 mod rows;
+mod runs;
+mod sheet_row;
+mod sheets;
 mod tags;
 
 pub use plan::{MAX_ROWS, Plan, RowPlan};

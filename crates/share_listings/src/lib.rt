@@ -5,9 +5,11 @@
 mod answers;
 mod asked;
 mod changed;
+mod library;
 mod membership;
 mod plans;
 mod ranges;
+mod sheets;
 mod targets;
 mod uncounted;
 mod whole;

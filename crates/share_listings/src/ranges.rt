@@ -1,10 +1,65 @@
 //! The part of the rows that a range asks for.
 
-ghost use Rattle.std.specs.Prelude.{◌≡◌, ◌-◌, take, drop, length};
+ghost use Rattle.std.specs.Prelude.{◌≡◌, ◌-◌, ℕ, List, take, drop, length};
+ghost use Rattle.item_model.specs.declared.item.Row.{Row};
 ghost use Rattle.share_history.specs.Ranges.{in_range};
 
-use item_model::Range;
+use item_model::{Range, SharedRow};
 use listing_plan::PlanRow;
+
+/// The rows from one index on, up to another, as far as there are any.
+#[derive(Clone, Copy, Debug)]
+pub(crate) struct Window {
+    pub(crate) from: usize,
+    pub(crate) to: usize,
+}
+
+impl Window {
+    /// The same rows without the first ones.
+    pub(crate) fn past(self, count: usize) -> Window
+        ensures from { result.from ≡ self.from - count }
+        ensures to { result.to ≡ self.to - count }
+    {
+        Window {
+            from: self.from.saturating_sub(count),
+            to: self.to.saturating_sub(count),
+        }
+    }
+
+    pub(crate) fn of(self, rows: &[SharedRow]) -> &[SharedRow]
+        ensures { result.now ≡ drop self.from (take self.to rows.now) }
+    {
+        let (front, _) = rows.split_at(self.to.min(rows.len()));
+        let (_, part) = front.split_at(self.from.min(front.len()));
+        part
+    }
+}
+
+/// Where the rows of a range are, of a number of rows.
+pub(crate) fn window_of(range: Range, total: u32) -> Window
+    ensures { (rows : List (ℕ × Row)) → length rows ≡ total → in_range range rows ≡ drop result.from (take result.to rows) }
+{
+    let total = total as usize;
+    match range {
+        Range::All => Window { from: 0, to: total },
+        Range::One { at } => Window {
+            from: at as usize,
+            to: at as usize + 1,
+        },
+        Range::From { at } => Window {
+            from: at as usize,
+            to: total,
+        },
+        Range::Span { from, to } => Window {
+            from: from as usize,
+            to: to as usize + 1,
+        },
+        Range::Last { count } => Window {
+            from: total.saturating_sub(count as usize),
+            to: total,
+        },
+    }
+}
 
 /// The rows of a range, as far as there are any, without memory.
 pub(crate) fn in_range(range: Range, rows: Vec<PlanRow>) -> Vec<PlanRow>

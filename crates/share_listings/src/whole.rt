@@ -15,6 +15,7 @@ ghost use Rattle.share_listings.specs.Answers.{HasFew, HaveFew, AreCandidates, S
 ghost use Rattle.share_listings.specs.Memberships.{Tells, TellsFew};
 
 use crate::asked::{rows_at, rows_of};
+use crate::library::full_of_all;
 use crate::membership::Membership;
 use crate::plans::full_plan;
 use item_model::{Look, Target};
@@ -48,23 +49,6 @@ pub(crate) fn full<L: Ledger>(
         },
         Membership::Members { lists, list } => full_of_list(alloc, items, lists, list, look, steps),
     }
-}
-
-fn full_of_all<L: Ledger>(
-    alloc: Global,
-    items: &ItemStore,
-    target: Target,
-    look: Look,
-    steps: &mut Steps<L>,
-) -> Result<Plan, AllocError>
-    requires few { HasFew items.now }
-    requires all { is_library target ≡ true }
-    ensures listing { IfOk result (λ plan. (bs : List (List Edit)) → StandsFor bs items.now
-        → plan ≡ Rows (record { target = target; listing = full_listing bs target look })) }
-    ensures cost { (bs : List (List Edit)) → StandsFor bs items.now → steps.new ≤ steps.old + looked_at (edits bs) target None }
-{
-    let ids = items.ids()?;
-    full_from(alloc, items, target, look, ids.as_slice(), steps)
 }
 
 /// Those of the candidates that a look asks for, cut to its range.
