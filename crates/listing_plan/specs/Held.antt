@@ -46,7 +46,7 @@ abbrev pub listed_rows : Target → Listed → List PlanRow
 listed_rows target (Each rows len) = rows.items
 listed_rows target (Sheets rows) = map (plan_row target) rows
 
--- the length of the tags of rows that are there one by one is known
+-- if the rows come one by one, the length of their tags is known
 abbrev pub IsCounted : List Property → Listed → Type 0
 IsCounted ps (Each rows len) = (len ≡ rows_length ps rows.items) × (len ≤ row_limit * rows_limit)
 IsCounted ps (Sheets rows) = Unit {0}
@@ -55,7 +55,7 @@ abbrev pub is_delta_of : Scope → Bool
 is_delta_of (Full total) = false
 is_delta_of (Delta gone) = true
 
--- how many rows there are before the range, where so many are listed
+-- how many rows there are before the range, if `listed` rows are listed
 abbrev pub total_of : Scope → ℕ → ℕ
 total_of (Full total) listed = total
 total_of (Delta gone) listed = listed
@@ -68,7 +68,7 @@ gone_of (Delta gone) = gone.items
 abbrev pub rows_held : List Property → List PlanRow → List (ℕ × Tree)
 rows_held ps rows = map (λ row. (key_of row, row_tree ps row)) rows
 
--- what the listing says
+-- the listing
 abbrev pub listing_held : ℕ → Scope → List PlanRow → List Property → Listing
 listing_held revision scope rows ps = record {
   is_delta = is_delta_of scope;
@@ -85,7 +85,7 @@ planned_of a = record { target = a.target; listing = listing_held a.revision a.s
 abbrev pub listed_length : Planned → ℕ
 listed_length p = length (spellings (trees_of (map (λ row. row.1) p.listing.rows)))
 
--- what stands behind the head of the rows: their tags, and the keys that a delta deletes
+-- what comes after the head of the rows: their tags, and the keys that a delta deletes
 abbrev pub rest_of : Planned → List ℕ
 rest_of p =
     spellings (trees_of (map (λ row. row.1) p.listing.rows)) ++ spellings (trees_of (gone_tags p.target p.listing.is_delta p.listing.gone))

@@ -40,7 +40,7 @@ pub record Mentions (ps : List Property) (p : Property) (old new : List Run) : T
   pub within : All (IsWithin ps) new
   pub bytes : (row : Row) → HasNoOther ps row → runs_bytes ps row new ≡ runs_bytes ps row old ++ cell row.item p
 
--- the runs have what is asked for, and nothing else, of each row that has no properties beside the sheet's
+-- the runs have of each row the properties that are asked for and nothing else, if the row has no others than the sheet
 pub record AreRuns (ps asked : List Property) (runs : List Run) : Type 0 where
   pub within : All (IsWithin ps) runs
   pub spelled : (row : Row) → HasNoOther ps row → runs_bytes ps row runs ≡ spellings (trees_of (shown row.item asked))

@@ -1,4 +1,4 @@
-//! The parts of a listing's body, one behind the other.
+//! The parts of a listing's body, in their order.
 
 ghost use Rattle.std.specs.Prelude.{◌≡◌, ◌≤◌, ◌+◌, ◌*◌, ◌++◌, ℕ, [], true, length, map};
 ghost use Rattle.std.specs.Int.{w32, to_be_bytes};
@@ -20,10 +20,10 @@ use dmap_tags::Code;
 use item_model::Target;
 use share_history::key_code;
 
-/// How many bytes a body has before its rows, without its own head.
+/// How many bytes a body has before its rows, not counting its own head.
 const START_LEN: u64 = 65;
 
-// The body's payload, where the tags of its rows have so many bytes.
+// The length of the body's payload if the tags of its rows have `rows_len` bytes.
 pub(crate) fn payload_len(rows_len: u64, scope: &Scope) -> u64
     requires rows { rows_len ≤ row_limit * rows_limit }
     requires gone { length (gone_of scope.now) ≤ rows_limit }
@@ -45,7 +45,7 @@ fn gone_len(scope: &Scope) -> u64
     }
 }
 
-// What every listing begins with.
+// Puts the tags with which every listing begins.
 pub(crate) fn put_start<const N: usize>(
     page: &mut Page<N>,
     scope: &Scope,
@@ -63,7 +63,7 @@ pub(crate) fn put_start<const N: usize>(
     page.put_number(Code(*b"mrco"), listed);
 }
 
-// Whether it is a delta.
+// Puts the tag that says whether the listing is a delta.
 fn put_mark<const N: usize>(page: &mut Page<N>, mark: u8)
     requires { length page.old + 9 ≤ N }
     ensures put { page.new ≡ page.old ++ spelling (leaf (code "muty") (U8 mark)) }
@@ -73,7 +73,7 @@ fn put_mark<const N: usize>(page: &mut Page<N>, mark: u8)
     page.put(&mark.to_be_bytes());
 }
 
-// Behind the rows of a delta stand the keys that it deletes.
+// Pushes the keys that a delta deletes, which come after its rows.
 pub(crate) fn push_gone<W: Sink, const N: usize>(
     page: &mut Page<N>,
     sink: &mut W,

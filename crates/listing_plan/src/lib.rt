@@ -1,4 +1,4 @@
-//! Plans of answers: what a reply will write, made at one point of a share's history and written later. A plan owns what it
+//! Plans of replies: what a reply will write, made at one revision of a share and written later. A plan owns what it
 //! writes and knows its length before the first byte. Contracts see a plan of rows as the listing that it writes.
 #![tactic(auto)]
 

@@ -25,12 +25,12 @@ use row_sheets::RowSheets;
 pub(crate) enum Listed {
     /// One by one, with the length of their tags.
     Each { rows: Vec<PlanRow>, len: u64 },
-    /// On sheets, which nobody has read yet.
+    /// On sheets, whose tags are not measured yet.
     Sheets(RowSheets),
 }
 
 impl Listed {
-    /// Rows that are there one by one. Each is measured.
+    /// Rows that come one by one. It measures each.
     pub(crate) fn each(rows: Vec<PlanRow>, shown: &ShownProperties) -> Listed
         requires { length rows.items ≤ rows_limit }
         ensures rows { (target : Target) → listed_rows target result ≡ rows.items }
@@ -53,7 +53,7 @@ impl Listed {
         }
     }
 
-    /// How many bytes the tags of the rows have. Rows on sheets are measured here, so that no turn pays for it.
+    /// Returns the length of the tags of the rows. It measures rows on sheets here, so that no turn pays for it.
     pub(crate) fn bytes_len(&self, target: Target, shown: &ShownProperties) -> u64
         requires few { length (listed_rows target self.now) ≤ rows_limit }
         requires counted { IsCounted shown.now self.now }

@@ -11,13 +11,13 @@ use daap_outside::{Failed, Sink, put_all};
 use dmap_tags::Code;
 use std::marker::Model;
 
-/// How many bytes the page of a long body has room for. Each page is one write to a connection.
+/// The size of the page of a long body, in bytes. Each page is one write to a connection.
 pub(crate) const PAGE_BYTES: usize = 65_536;
 
-/// How many bytes the page of a short body has room for. It is smaller, since a page is cleared first.
+/// The size of the page of a short body, in bytes. It is smaller because a page is cleared before it is filled.
 pub(crate) const SHORT_PAGE_BYTES: usize = 8_192;
 
-/// Bytes that were pushed and that no sink has yet: `N` at most.
+/// Bytes that were pushed and that the sink does not have yet: at most `N`.
 #[derive(Drop)]
 pub(crate) struct Page<const N: usize> {
     room: [u8; N],
@@ -51,14 +51,14 @@ impl<const N: usize> Page<N> {
         bytes
     }
 
-    // For how many bytes more there is room.
+    // How many more bytes fit on the page.
     fn left(&self) -> usize
         ensures { result + length self.now ≡ N }
     {
         N - self.len
     }
 
-    // Puts bytes that there is room for.
+    // Puts bytes that fit on the page.
     #[tactic(auto, using(crate::proofs::Moves::filled))]
     pub(crate) fn put(&mut self, bytes: &[u8])
         requires { length self.old + length bytes.now ≤ N }
@@ -70,7 +70,7 @@ impl<const N: usize> Page<N> {
         self.len = end;
     }
 
-    // Puts a code, and the length of the payload that comes behind it.
+    // Puts a code and the length of the payload that follows.
     pub(crate) fn put_head(&mut self, of: Code, len: u32)
         requires { length self.old + 8 ≤ N }
         ensures put { self.new ≡ self.old ++ (code_bytes of ++ to_be_bytes w32 len) }
@@ -89,7 +89,7 @@ impl<const N: usize> Page<N> {
         self.put(&n.to_be_bytes());
     }
 
-    // Hands the page to the sink.
+    // Writes the page to the sink and empties it.
     pub(crate) fn flush<W: Sink>(&mut self, sink: &mut W) -> Result<(), Failed>
         ensures pushes { Pushes [] result (W.taken sink.old) (W.taken sink.new) self.old self.new (W.faults sink.old) (W.faults sink.new) }
         ensures empty { OnOk result (self.new ≡ []) }
@@ -100,7 +100,7 @@ impl<const N: usize> Page<N> {
         Ok(())
     }
 
-    // Hands the page on where it has no room for so many bytes more.
+    // Writes the page to the sink if `len` more bytes do not fit on it.
     pub(crate) fn make_room<W: Sink>(&mut self, sink: &mut W, len: usize) -> Result<(), Failed>
         requires { len ≤ N }
         ensures pushes { Pushes [] result (W.taken sink.old) (W.taken sink.new) self.old self.new (W.faults sink.old) (W.faults sink.new) }
@@ -114,7 +114,7 @@ impl<const N: usize> Page<N> {
     }
 }
 
-// A code with a length behind it.
+// A code, and then a length.
 fn head(of: Code, len: u32) -> [u8; 8]
     ensures { result ≡ code_bytes of ++ to_be_bytes w32 len }
 {

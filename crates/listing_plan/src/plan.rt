@@ -1,4 +1,4 @@
-//! Plans: how they are made and written.
+//! Makes plans and writes them.
 
 ghost use Rattle.std.specs.Prelude.{◌≡◌, ◌≤◌, ◌*◌, ◌++◌, [], length, true, OnOk, OnErr, if◌then◌else◌};
 ghost use Rattle.std.specs.Io.KnownBytes.{Appends};
@@ -37,12 +37,12 @@ pub enum Plan {
     Rows(RowPlan),
 }
 
-/// Whether a listing tells all rows or a change.
+/// Whether a listing has all rows or only what changed.
 #[derive(Debug, Drop)]
 pub(crate) enum Scope {
-    /// All rows are told, of so many before the range.
+    /// All rows in the range; `total` is how many there are before it.
     Full { total: u32 },
-    /// The rows that changed are told, and the keys that are deleted.
+    /// The rows that changed, and the deleted keys `gone`.
     Delta { gone: Vec<u32> },
 }
 
@@ -73,7 +73,7 @@ impl Model for RowPlan {
 }
 
 impl Scope {
-    // What `muty` tells.
+    // The value of `muty`.
     pub(crate) fn mark(&self) -> u8
         ensures { result ≡ (if is_delta_of self.now then 1 else 0) }
     {
@@ -94,7 +94,7 @@ impl Scope {
 }
 
 impl Plan {
-    /// The full listing with these rows, of so many before the range.
+    /// Plans the full listing with these rows. `total` is how many there are before the range.
     #[tactic(auto, using(crate::proofs::Writing::none_gone, crate::proofs::Bodies::same_rows))]
     pub fn full(target: Target, revision: u32, total: u32, rows: Vec<PlanRow>, meta: Meta) -> Plan
         requires rows { AreRowsOf target rows.items }
@@ -110,8 +110,8 @@ impl Plan {
         })
     }
 
-    /// The full listing of all rows on these sheets. It reads no sheet and asks for no memory, so it costs the same for
-    /// any number of rows. Their tags are measured by `body_len`, and again by `write`.
+    /// Plans the full listing of all rows on these sheets. It reads no sheet and does not allocate, so it costs the same
+    /// for any number of rows. `body_len` measures their tags, and `write` measures them again.
     #[tactic(auto, using(crate::proofs::Writing::none_gone))]
     pub fn sheets(target: Target, revision: u32, rows: RowSheets, meta: Meta) -> Plan
         requires { length rows ≤ rows_limit }
@@ -127,7 +127,7 @@ impl Plan {
         })
     }
 
-    /// The delta with these rows and deleted keys.
+    /// Plans the delta with these rows and deleted keys.
     #[tactic(auto, using(crate::proofs::Bodies::same_rows))]
     pub fn delta(
         target: Target,
@@ -150,7 +150,7 @@ impl Plan {
         })
     }
 
-    /// How many bytes the plan writes, told without memory.
+    /// Returns how many bytes the plan writes. Does not allocate.
     pub fn body_len(&self) -> u64
         requires { IsWritable self.now }
         ensures { result ≡ length (plan_bytes self.now) }
@@ -163,7 +163,11 @@ impl Plan {
         }
     }
 
-    /// Writes the plan, without memory. After `Failed` the sink may have taken some of the first bytes.
+    /// Writes the plan. Does not allocate, and has its page, of up to 65,536 bytes, on the stack.
+    ///
+    /// # Errors
+    ///
+    /// Returns `Failed` if the sink fails. It may then have taken some of the first bytes.
     #[tactic(auto, using(crate::proofs::Writing::nothing_appended))]
     pub fn write<W: Sink>(&self, sink: &mut W) -> Result<(), Failed>
         requires { IsWritable self.now }
@@ -189,7 +193,7 @@ impl RowPlan {
         HEAD_LEN + payload_len(self.rows_len(), &self.scope)
     }
 
-    // How many bytes the tags of the rows have. For rows on sheets it reads each sheet.
+    // The length of the tags of the rows. If the rows are on sheets, it reads each sheet.
     fn rows_len(&self) -> u64
         ensures counted { result ≡ listed_length self.now }
         ensures short { result ≤ row_limit * rows_limit }
@@ -213,7 +217,7 @@ impl RowPlan {
         self.write_by(&mut page, sink, rows_len)
     }
 
-    // Writes the body by way of an empty page. The tags of the rows have `rows_len` bytes.
+    // Writes the body through an empty page. The tags of the rows have `rows_len` bytes.
     fn write_by<W: Sink, const N: usize>(
         &self,
         page: &mut Page<N>,
@@ -235,7 +239,7 @@ impl RowPlan {
         page.flush(sink)
     }
 
-    // What stands before the rows: the body's head, what every listing begins with, and the head of the rows.
+    // Puts what comes before the rows: the body's head, the tags with which every listing begins, and the head of the rows.
     fn put_front<const N: usize>(&self, page: &mut Page<N>, rows_len: u64)
         requires wide { row_limit ≤ N }
         requires counted { rows_len ≡ listed_length self.now }
@@ -249,7 +253,7 @@ impl RowPlan {
         page.put_head(Code(*b"mlcl"), rows_len as u32);
     }
 
-    // The rows, and the keys that a delta deletes.
+    // Pushes the rows and the keys that a delta deletes.
     fn push_rest<W: Sink, const N: usize>(
         &self,
         page: &mut Page<N>,
@@ -281,7 +285,7 @@ fn write_tag<W: Sink>(sink: &mut W, tag: &Tag) -> Result<(), Failed>
     write_tag_by(&mut page, sink, tag, len)
 }
 
-// Writes a tag by way of an empty page. Its value has `len` bytes.
+// Writes a tag through an empty page. Its value has `len` bytes.
 fn write_tag_by<W: Sink, const N: usize>(
     page: &mut Page<N>,
     sink: &mut W,

@@ -1,4 +1,4 @@
-//! The tags of rows, put straight out of their items.
+//! Puts the tags of rows on a page, straight from their items.
 
 ghost use Rattle.std.specs.Prelude.{◌≡◌, ◌≤◌, ◌<◌, ◌+◌, ◌++◌, ◌∷◌, [], true, length, OnOk};
 ghost use Rattle.dmap_tags.specs.Spelling.{framed, spelling, spellings};
@@ -51,7 +51,7 @@ fn push_row<W: Sink, const N: usize>(
     Ok(())
 }
 
-// A row's tag, which has so many bytes.
+// Puts the tag of `row`, which has `len` bytes.
 fn put_row<const N: usize>(page: &mut Page<N>, row: &PlanRow, properties: &[Property], len: u64)
     requires counted { len ≡ length (spelling (row_tree properties.now row.now)) }
     requires short { len ≤ row_limit }
@@ -77,7 +77,7 @@ pub(crate) fn put_keys<const N: usize>(page: &mut Page<N>, member: Option<u32>, 
     }
 }
 
-// Those of the properties that the item has.
+// Puts the tags of those properties that the item has.
 fn put_shown<const N: usize>(page: &mut Page<N>, item: &Item, properties: &[Property])
     requires { length page.old + length (spellings (trees_of (shown item.now properties.now))) ≤ N }
     ensures { page.new ≡ page.old ++ spellings (trees_of (shown item.now properties.now)) }
@@ -108,7 +108,7 @@ fn put_value<const N: usize>(page: &mut Page<N>, property: Property, value: &Pro
     }
 }
 
-// The tag of a number of a kind.
+// Puts the tag of a number of kind `kind`.
 fn put_typed<const N: usize>(page: &mut Page<N>, of: Code, kind: Kind, n: u64)
     requires fits { n < numbers_of kind }
     requires room { length page.old + length (spelling (leaf of (number_leaf kind n))) ≤ N }
@@ -122,7 +122,7 @@ fn put_typed<const N: usize>(page: &mut Page<N>, of: Code, kind: Kind, n: u64)
     }
 }
 
-// A head, and the payload.
+// Puts a head and the payload.
 fn put_leaf<const N: usize>(page: &mut Page<N>, of: Code, payload: &[u8])
     requires short { length payload.now ≤ text_limit }
     requires room { length page.old + length payload.now + 8 ≤ N }

@@ -1,4 +1,4 @@
-//! Where a sheet has the tags that are asked for.
+//! Where a sheet has the tags that a listing shows.
 
 ghost use Rattle.std.specs.Prelude.{◌≡◌, ◌≤◌, ◌<◌, ◌+◌, [], length, false, All, IfSome, IfNone};
 ghost use Rattle.item_model.specs.Projection.{first_mentions, mentions};
@@ -7,14 +7,14 @@ ghost use Rattle.listing_plan.specs.Runs.{AreRuns, IsIndex, IsWithin, Joins, Men
 use item_model::Property;
 use std::marker::Model;
 
-/// Properties that are neighbours on a sheet and are all asked for: from one index up to another.
+/// Properties that are neighbours on a sheet and are all shown: from the index `from` up to the index `to`.
 #[derive(Clone, Copy, Debug, Drop)]
 pub(crate) struct Run {
     pub(crate) from: usize,
     pub(crate) to: usize,
 }
 
-/// The runs of a sheet, as few as there can be. They are found without memory, since there are 26 properties at most.
+/// The runs of a sheet. It does not allocate, since there are at most 26 properties.
 #[derive(Debug, Drop)]
 pub(crate) struct Runs {
     room: [Run; 26],
@@ -33,7 +33,7 @@ impl Model for Runs {
 }
 
 impl Runs {
-    /// The runs of what is asked for, in its order.
+    /// Returns the runs of the properties `asked`, in their order.
     pub(crate) fn of(properties: &[Property], asked: &[Property]) -> Runs
         requires { first_mentions asked.now ≡ asked.now }
         ensures { AreRuns properties.now asked.now result }

@@ -28,7 +28,7 @@ pub(crate) struct SheetRow<'a> {
 }
 
 impl<'a> SheetRow<'a> {
-    /// How many bytes the row's tag has in a listing of the target.
+    /// Returns the length of the row's tag in a listing of `target`.
     pub(crate) fn tag_len(&self, target: Target) -> u64
         requires { IsSheetRow self.now }
         ensures counted { result ≡ length (sheet_row_tag target self.now) }
@@ -69,7 +69,7 @@ impl<'a> SheetRow<'a> {
         self.put_shown(page);
     }
 
-    // The tags that the listing shows: a copy for each run.
+    // Puts the tags that the listing shows: a copy for each run.
     fn put_shown<const N: usize>(&self, page: &mut Page<N>)
         requires row { IsSheetRow self.now }
         requires room { length page.old + length (row_bytes self.now) ≤ N }
@@ -102,7 +102,7 @@ impl<'a> SheetRow<'a> {
     }
 }
 
-// The key that a row has as a member of a container.
+// The key of a row as a member of a container.
 fn member_of(target: Target, key: u32) -> Option<u32>
     ensures { result ≡ member_of target key }
 {

@@ -15,7 +15,7 @@ use daap_outside::{Failed, Sink};
 use item_model::{Property, Target};
 use row_sheets::{RowSheets, Sheet};
 
-/// How many bytes the tags of all rows have.
+/// Returns the length of the tags of all rows.
 pub(crate) fn sheets_len(rows: &RowSheets, target: Target, asked: &[Property]) -> u64
     requires few { length rows.now ≤ rows_limit }
     requires once { first_mentions asked.now ≡ asked.now }

@@ -1,4 +1,4 @@
-//! A tag, pushed by depth.
+//! Pushes a tag: its head, and then its payload, tag by tag if it is a list.
 
 ghost use Rattle.std.specs.Prelude.{◌≡◌, ◌≤◌, ◌++◌, [], true, length, OnOk};
 ghost use Rattle.std.specs.Int.{w32, to_be_bytes};
@@ -12,7 +12,7 @@ use crate::page::Page;
 use daap_outside::{Failed, Sink, put_all};
 use dmap_tags::{Code, Tag, Value, encoded_len};
 
-/// How many bytes a tag has that isn't too long to spell.
+/// Returns the encoded length of a tag that can be encoded.
 pub(crate) fn tag_len(tag: &Tag) -> u64
     requires { is_spellable tag.now ≡ true }
     ensures { result ≡ length (spelling tag.now) }
@@ -23,7 +23,7 @@ pub(crate) fn tag_len(tag: &Tag) -> u64
     }
 }
 
-/// How many bytes the value of such a tag has.
+/// Returns the length of the value of such a tag.
 pub(crate) fn value_len(tag: &Tag) -> u32
     requires { is_spellable tag.now ≡ true }
     ensures { result ≡ length (payload tag.now) }
@@ -31,7 +31,7 @@ pub(crate) fn value_len(tag: &Tag) -> u32
     (tag_len(tag) - 8) as u32
 }
 
-// Pushes a tag. Each list in it is measured anew, so this costs by the bytes and by the depth.
+// Pushes a tag. It measures each list in the tag again, so its cost grows with the bytes and with the depth.
 #[cycle(push_tag)]
 fn push_tag<W: Sink, const N: usize>(
     page: &mut Page<N>,
@@ -46,7 +46,7 @@ fn push_tag<W: Sink, const N: usize>(
     push_measured(page, sink, tag, value_len(tag))
 }
 
-/// Pushes a tag whose value has so many bytes.
+/// Pushes a tag whose value has `len` bytes.
 #[cycle(push_tag)]
 pub(crate) fn push_measured<W: Sink, const N: usize>(
     page: &mut Page<N>,
@@ -111,7 +111,7 @@ fn push_tags<W: Sink, const N: usize>(
     Ok(())
 }
 
-/// Pushes a code, and the length of the payload that comes behind it.
+/// Pushes a code and the length of the payload that follows.
 pub(crate) fn push_head<W: Sink, const N: usize>(
     page: &mut Page<N>,
     sink: &mut W,
@@ -127,7 +127,7 @@ pub(crate) fn push_head<W: Sink, const N: usize>(
     Ok(())
 }
 
-/// Pushes bytes: onto the page, or past it where no page has room for them.
+/// Pushes bytes: onto the page, or straight to the sink if they are more than a page holds.
 fn push_bytes<W: Sink, const N: usize>(
     page: &mut Page<N>,
     sink: &mut W,
