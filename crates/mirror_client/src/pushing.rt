@@ -105,14 +105,19 @@ fn edited(
     ensures { MatchResult result (λ pushed. IsEdited (status, text) pushed) (λ e. UndueEdit used (status, text) e) }
 {
     match status {
-        200 => revised(alloc, table, used, &text),
+        200 => pushed_revision(alloc, table, used, &text),
         204 => Ok(Pushed::Unchanged),
         _ => Ok(Pushed::Refused { status, text }),
     }
 }
 
 // Returns the revision in a success.
-fn revised(alloc: Global, table: &CodeTable, used: u64, text: &Bytes) -> Result<Pushed, FollowError>
+fn pushed_revision(
+    alloc: Global,
+    table: &CodeTable,
+    used: u64,
+    text: &Bytes,
+) -> Result<Pushed, FollowError>
     requires { table.now ≡ standard_rows }
     ensures { MatchResult result (λ pushed. IsEdited (200, text.now) pushed) (λ e. UndueEdit used (200, text.now) e) }
 {

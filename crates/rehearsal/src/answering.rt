@@ -13,7 +13,7 @@ ghost use Rattle.share_history.specs.Listings.{Listing, listing};
 ghost use Rattle.share_history.specs.Mirror.{mirror_after, mirror_look};
 ghost use Rattle.rehearsal.specs.Shares.{IsShare, MayAsk};
 
-use crate::carried::carried;
+use crate::carried::carry_plan;
 use code_table::CodeTable;
 use dmap_tags::Tag;
 use item_model::Look;
@@ -23,7 +23,7 @@ use share_listings::items_listing;
 use std::alloc::{AllocError, Global};
 
 // Brings a mirror up to date with the store. Returns whether the response was a delta.
-pub(crate) fn answered(
+pub(crate) fn update_mirror(
     alloc: Global,
     table: &CodeTable,
     store: &ItemStore,
@@ -60,7 +60,7 @@ fn body_for(
     ensures { IfOk result (λ body. (bs : List (List Edit)) → IsShare bs store.now → body ≡ body_tree Items (listing store.now.keep bs Items look)) }
 {
     let plan = items_listing(alloc, store, look)?;
-    carried(alloc, table, &plan)
+    carry_plan(alloc, table, &plan)
 }
 
 // Applies a body that is a listing and not an older one. Returns whether it was a delta.

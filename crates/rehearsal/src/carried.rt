@@ -17,17 +17,17 @@ use std::alloc::{AllocError, Global};
 const TOP_LIMIT: u32 = 1_073_741_824;
 
 /// Returns the tag that a plan writes, as a mirror reads it.
-pub(crate) fn carried(alloc: Global, table: &CodeTable, plan: &Plan) -> Result<Tag, AllocError>
+pub(crate) fn carry_plan(alloc: Global, table: &CodeTable, plan: &Plan) -> Result<Tag, AllocError>
     requires table { table.now ≡ standard_rows }
     requires writable { IsWritable plan.now }
     requires tag { (t : Tree) × IsCarried t (plan_bytes plan.now) }
     ensures { IfOk result (λ tag. (t : Tree) → IsCarried t (plan_bytes plan.now) → tag ≡ t) }
 {
-    let sink = written(alloc, plan)?;
+    let sink = write_plan(alloc, plan)?;
     read(alloc, table, sink.taken())
 }
 
-fn written(alloc: Global, plan: &Plan) -> Result<MemSink, AllocError>
+fn write_plan(alloc: Global, plan: &Plan) -> Result<MemSink, AllocError>
     requires { IsWritable plan.now }
     ensures { IfOk result (λ sink. ⟦<MemSink as Sink>⟧.taken sink ≡ Some (plan_bytes plan.now)) }
 {

@@ -7,7 +7,7 @@ ghost use Rattle.rehearsal.specs.Asks.{is_due};
 ghost use Rattle.rehearsal.specs.declared.plan.Rehearsal.{Rehearsal};
 ghost use Rattle.rehearsal.specs.Following.{IsAt, Follows, IsMirror};
 
-use crate::answering::answered;
+use crate::answering::update_mirror;
 use crate::plan::Rehearsal;
 use crate::summary::Standing;
 use code_table::CodeTable;
@@ -65,7 +65,7 @@ impl RehearsedMirror {
         if !is_due(self.period, plan.batches, n + 1) {
             return Ok(());
         }
-        let is_delta = answered(alloc, table, store, &mut self.mirror)?;
+        let is_delta = update_mirror(alloc, table, store, &mut self.mirror)?;
         self.count(is_delta);
         Ok(())
     }

@@ -42,14 +42,14 @@ pub(crate) fn begin<W: Sink, D: Drop>(
         (output_seen (W.taken output.new) (W.faults output.new))) }
 {
     let passes = serving.workers + serving.editors + 1;
-    match prepared(alloc, serving, &share) {
+    match prepare(alloc, serving, &share) {
         Ok((line, room)) => announced(alloc, output, line.as_slice(), share, passes, room),
         Err(AllocError) => Err(out_of_memory(output, None).status),
     }
 }
 
 // Returns the first line of the share, and the capacity for its workers.
-fn prepared<D: Drop>(
+fn prepare<D: Drop>(
     alloc: Global,
     serving: &Serving,
     share: &Share,

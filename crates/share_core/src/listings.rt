@@ -66,7 +66,7 @@ pub(crate) fn rows<L: Ledger>(
     if !is_there(&stores.lists, target) {
         return Ok(nothing(404));
     }
-    let plan = planned(alloc, stores, target, look, steps)?;
+    let plan = plan_listing(alloc, stores, target, look, steps)?;
     Ok(Said {
         status: 200,
         form: BodyForm::Dmap,
@@ -74,7 +74,7 @@ pub(crate) fn rows<L: Ledger>(
     })
 }
 
-fn planned<L: Ledger>(
+fn plan_listing<L: Ledger>(
     alloc: Global,
     stores: &Stores,
     target: Target,

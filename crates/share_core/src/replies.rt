@@ -45,7 +45,7 @@ pub(crate) fn read(register: &mut Register, said: Said, session: u32) -> Reply
 }
 
 /// Returns a reply after the entry that it added. `seen` is the session's last-answered length before.
-fn grown(register: &Register, said: Said, session: u32, seen: u64) -> Reply
+fn reply_with_entry(register: &Register, said: Said, session: u32, seen: u64) -> Reply
     ensures { result ≡ record { said = said; point = length register.now.history; session = session; seen = seen; added = true } }
 {
     Reply {
@@ -87,7 +87,7 @@ pub(crate) fn log_in(
 {
     let seen = mark_of(register, id);
     register.login(by)?;
-    Ok(grown(register, said, id, seen))
+    Ok(reply_with_entry(register, said, id, seen))
 }
 
 /// Appends the logout of a live session, and returns the reply. Does not allocate.
@@ -101,7 +101,7 @@ pub(crate) fn log_out(register: &mut Register, by: u32, id: u32, said: Said) -> 
 {
     let seen = mark_of(register, id);
     register.logout(by, id);
-    grown(register, said, id, seen)
+    reply_with_entry(register, said, id, seen)
 }
 
 /// Appends the stop, and returns the reply. Does not allocate.
@@ -115,7 +115,7 @@ pub(crate) fn end(register: &mut Register, by: u32, said: Said) -> Reply
     let seen = mark_of(register, 0);
     register.stop(by);
     register.touch(0);
-    grown(register, said, 0, seen)
+    reply_with_entry(register, said, 0, seen)
 }
 
 /// Appends a batch in capacity that the caller reserved, and returns the reply.
@@ -132,5 +132,5 @@ pub(crate) fn enter(register: &mut Register, by: u32, batch: Batch, said: Said) 
     let seen = mark_of(register, 0);
     register.edit(by, batch);
     register.touch(0);
-    grown(register, said, 0, seen)
+    reply_with_entry(register, said, 0, seen)
 }

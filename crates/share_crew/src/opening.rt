@@ -65,13 +65,13 @@ pub fn announced<W: Sink, D: Drop>(
         result }
 {
     match put_all(output, line) {
-        Ok(()) => locked(alloc, output, share, passes, room),
+        Ok(()) => lock_share(alloc, output, share, passes, room),
         Err(_) => Err(5),
     }
 }
 
 // Puts the share under a lock for `passes` handles.
-fn locked<W: Sink, D: Drop>(
+fn lock_share<W: Sink, D: Drop>(
     alloc: Global,
     output: &mut W,
     share: Share,

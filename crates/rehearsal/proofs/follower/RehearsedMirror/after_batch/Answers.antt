@@ -3,8 +3,8 @@ use Rattle.rehearsal.specs.Plan.{batches_of}
 use Rattle.rehearsal.proofs.FollowFacts.{not_due, may_ask, was_due, same_mirror}
 use Rattle.rehearsal.proofs.follower.RehearsedMirror.after_batch.Goals as goal
 
-pub answered-requires-clause-asks : goal.answered-requires-clause-asks
-answered-requires-clause-asks c = (
+pub update_mirror-requires-clause-asks : goal.update_mirror-requires-clause-asks
+update_mirror-requires-clause-asks c = (
   take (c.args.n + 1) (batches_of c.args.plan.now),
   c.requires.at.share,
   may_ask c.args.plan.now c.args.n c.args.self.now c.requires.follows,

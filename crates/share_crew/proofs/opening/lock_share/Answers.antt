@@ -2,7 +2,7 @@ use Rattle.std.proofs.Common.{refl}
 use Rattle.command_core.specs.Seen.{OutputSeen, output_seen}
 use Rattle.command_core.specs.Faults.{memory_line}
 use Rattle.share_crew.proofs.Telling.{told_behind}
-use Rattle.share_crew.proofs.opening.locked.Goals as goal
+use Rattle.share_crew.proofs.opening.lock_share.Goals as goal
 
 pub returns-in-Ok : goal.returns-in-Ok
 returns-in-Ok g c = λ start front w. (record { passes_are = c.in-Ok.ensures.lock; ready = c.in-Ok.ensures.ready; pass = c.in-Ok.ensures.pass; room_is = refl }, w)

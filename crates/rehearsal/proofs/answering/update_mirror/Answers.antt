@@ -4,7 +4,7 @@ use Rattle.share_history.specs.Listings.{listing}
 use Rattle.share_history.specs.Mirror.{mirror_look}
 use Rattle.share_listings.proofs.OnSuccess.{if_ok}
 use Rattle.rehearsal.proofs.ListingFacts.{asked_is, not_older, listing_marks}
-use Rattle.rehearsal.proofs.answering.answered.Goals as goal
+use Rattle.rehearsal.proofs.answering.update_mirror.Goals as goal
 
 pub take-requires : goal.take-requires
 take-requires c =

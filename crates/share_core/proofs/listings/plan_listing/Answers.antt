@@ -8,7 +8,7 @@ use Rattle.share_listings.specs.Answers.{StartFrom, most_ticks}
 use Rattle.share_core.specs.Ticks.{starts}
 use Rattle.share_core.proofs.Results.{if_ok}
 use Rattle.share_core.proofs.Standing.{start_same}
-use Rattle.share_core.proofs.listings.planned.Goals as goal
+use Rattle.share_core.proofs.listings.plan_listing.Goals as goal
 
 pub listing-requires-clause-start : goal.listing-requires-clause-start
 listing-requires-clause-start g c = λ bs stands.
