@@ -54,7 +54,7 @@ behind_head : (a b c d e f : List ℕ) → (a ++ (b ++ (c ++ (d ++ e)))) ++ f �
 behind_head a b c d e f = simp append_assoc
 
 text_is : (want : Want) (host : List ℕ) → request_text want host ≡ print_message (message_for want host)
-unfolding request_text, message_text
+unfolding request_text message_text
 text_is want host =
     let a = request_line (verb_for want) (target_of want) in
     let b = field (codes "Host") host in

@@ -1,4 +1,4 @@
-use Rattle.std.proofs.Common.{◌≡◌, ◌++◌, List, ℕ, ap, ◌∙◌, length}
+use Rattle.std.proofs.Common.{◌≡◌, ◌++◌, ap, ◌∙◌, length}
 use Rattle.std.specs.Prelude.{codes}
 use Rattle.http_front.specs.ReplyHeads.{field}
 use Rattle.http_client.specs.Requests.{length_line}

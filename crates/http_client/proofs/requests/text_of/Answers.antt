@@ -8,11 +8,11 @@ use Rattle.http_client.proofs.Pushes.{message_pushed}
 use Rattle.http_client.proofs.requests.text_of.Goals as goal
 
 pub returns-clause-text : goal.returns-clause-text
-unfolding request_text, message_text
+unfolding request_text message_text
 returns-clause-text c =
     let method : c.push_method.new.text.items ≡ c.new-text.result.items ++ (verb_text (verb_for c.args.want.now) ++ codes " ") =
     c.in_ok-push_method.ensures ∙ ap (λ (v : Verb). c.new-text.result.items ++ (verb_text v ++ codes " ")) c.verb_for.ensures in
-    let body : c.as_slice-2.result.now ≡ sent_body c.args.want.now = c.as_slice-2.ensures ∙ c.in_ok-body.ensures.body in
+    let body : c.as_slice.result.now ≡ sent_body c.args.want.now = c.as_slice.ensures ∙ c.in_ok-body.ensures.body in
     let rest : c.push_rest.new.text.items ≡ c.push_target.new.text.items ++ (codes " HTTP/1.1\r\n" ++ fields_and_body (verb_for c.args.want.now) c.args.host.now (sent_body c.args.want.now)) =
     c.in_ok-push_rest.ensures
     ∙ ap₂ (λ (v : Verb) (b : List ℕ). c.push_target.new.text.items ++ (codes " HTTP/1.1\r\n" ++ fields_and_body v c.args.host.now b)) c.verb_for-2.ensures body in
