@@ -1,8 +1,8 @@
 -- Runs of neighbours have what is asked for.
-use Rattle.std.proofs.Common.{◌≡◌, ◌≤◌, ◌<◌, ◌+◌, ◌-◌, ◌++◌, ℕ, suc, false, List, [], ◌∷◌, length, take, drop, get_or, flat_map, All, Option, Some, refl, sym, ap, subst, ◌∙◌, append_assoc, append-nil, length-append, take-append-drop, drop-drop, length-take-le, length-drop, arith}
+use Rattle.std.proofs.Common.{◌≡◌, ◌≤◌, ◌<◌, ◌+◌, ◌-◌, ◌++◌, ℕ, false, List, [], ◌∷◌, length, take, drop, get_or, All, Some, refl, sym, ap, subst, ◌∙◌, append_assoc, append-nil, take-append-drop, drop-drop, length-take-le, length-drop, arith}
 use Rattle.std.proofs.Math.Seq.{take-append-add}
 use Rattle.std.proofs.lemmas.Grind.{flat_map-append}
-use Rattle.std.proofs.lemmas.List.{map-append, drop_more, drop_all, take_more, take_more_set}
+use Rattle.std.proofs.lemmas.List.{map-append, drop_more, drop_all}
 use Rattle.std.proofs.lemmas.List.Elements.{All-push, All-pop}
 use Rattle.dmap_tags.specs.Spelling.{spellings}
 use Rattle.dmap_tags.specs.Tree.{trees_of}

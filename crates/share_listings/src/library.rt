@@ -1,4 +1,4 @@
-//! All items that a look asks for, read from the sheets of the store.
+//! Plans the full listing of all items from the sheets of the store.
 
 ghost use Rattle.std.specs.Prelude.{◌≡◌, ◌≤◌, ◌+◌, ◌↔◌, List, true, None, IsTrue, IfOk};
 ghost use Rattle.item_model.specs.declared.changes.Edit.{Edit};
@@ -18,7 +18,7 @@ use song_query::Steps;
 use std::alloc::{AllocError, Global};
 use std::sync::ledger::Ledger;
 
-/// All items that a look asks for, cut to its range. Only a query has the rows evaluated.
+/// Plans all items that a look selects, cut to its range. Only with a query does it read rows outside of the range.
 pub(crate) fn full_of_all<L: Ledger>(
     alloc: Global,
     items: &ItemStore,
@@ -41,7 +41,7 @@ pub(crate) fn full_of_all<L: Ledger>(
     }
 }
 
-// All of them. Their sheets are shared, and no row is read.
+// Plans all of them. It shares their sheets and reads no row.
 fn whole(items: &ItemStore, target: Target, look: Look) -> Result<Plan, AllocError>
     requires few { HasFew items.now }
     requires all { is_library target ≡ true }
@@ -54,7 +54,7 @@ fn whole(items: &ItemStore, target: Target, look: Look) -> Result<Plan, AllocErr
     Ok(Plan::sheets(target, items.revision(), rows, look.meta))
 }
 
-// Those in the range of the look.
+// Plans those in the range of the look.
 fn part(alloc: Global, items: &ItemStore, target: Target, look: Look) -> Result<Plan, AllocError>
     requires few { HasFew items.now }
     requires all { is_library target ≡ true }
@@ -68,7 +68,7 @@ fn part(alloc: Global, items: &ItemStore, target: Target, look: Look) -> Result<
     Ok(Plan::full(target, items.revision(), total, listed, look.meta))
 }
 
-// Those that the query of the look selects, cut to its range.
+// Plans those that the query of the look selects, cut to its range.
 fn matching<L: Ledger>(
     alloc: Global,
     items: &ItemStore,

@@ -7,7 +7,7 @@ ghost use Rattle.share_history.specs.Ranges.{in_range};
 use item_model::{Range, SharedRow};
 use listing_plan::PlanRow;
 
-/// The rows from one index on, up to another, as far as there are any.
+/// The rows from the index `from` up to the index `to`, as far as there are any.
 #[derive(Clone, Copy, Debug)]
 pub(crate) struct Window {
     pub(crate) from: usize,
@@ -15,7 +15,7 @@ pub(crate) struct Window {
 }
 
 impl Window {
-    /// The same rows without the first ones.
+    /// Returns where these rows are if the first `count` rows are left out.
     pub(crate) fn past(self, count: usize) -> Window
         ensures from { result.from ≡ self.from - count }
         ensures to { result.to ≡ self.to - count }
@@ -26,6 +26,7 @@ impl Window {
         }
     }
 
+    /// Returns those of `rows` that are in the window.
     pub(crate) fn of(self, rows: &[SharedRow]) -> &[SharedRow]
         ensures { result.now ≡ drop self.from (take self.to rows.now) }
     {
@@ -35,7 +36,7 @@ impl Window {
     }
 }
 
-/// Where the rows of a range are, of a number of rows.
+/// Returns where the rows of a range are among `total` rows.
 pub(crate) fn window_of(range: Range, total: u32) -> Window
     ensures { (rows : List (ℕ × Row)) → length rows ≡ total → in_range range rows ≡ drop result.from (take result.to rows) }
 {
@@ -61,7 +62,7 @@ pub(crate) fn window_of(range: Range, total: u32) -> Window
     }
 }
 
-/// The rows of a range, as far as there are any, without memory.
+/// Returns the rows of a range, as far as there are any. Does not allocate.
 pub(crate) fn in_range(range: Range, rows: Vec<PlanRow>) -> Vec<PlanRow>
     ensures { result.items ≡ in_range range rows.items }
 {
@@ -81,7 +82,7 @@ fn last(rows: Vec<PlanRow>, count: usize) -> Vec<PlanRow>
     back(rows, passed)
 }
 
-// The first ones.
+// The first `count` rows.
 fn front(mut rows: Vec<PlanRow>, count: usize) -> Vec<PlanRow>
     ensures { result.items ≡ take count rows.items }
 {
@@ -89,7 +90,7 @@ fn front(mut rows: Vec<PlanRow>, count: usize) -> Vec<PlanRow>
     rows
 }
 
-// All but the first ones.
+// All but the first `count` rows.
 fn back(mut rows: Vec<PlanRow>, count: usize) -> Vec<PlanRow>
     ensures { result.items ≡ drop count rows.items }
 {

@@ -1,4 +1,4 @@
-//! Rows taken from sheets.
+//! Rows from sheets.
 
 ghost use Rattle.std.specs.Prelude.{◌≡◌, ◌≤◌, ◌+◌, ◌++◌, ◌∷◌, [], All as AllOf, length, take, drop, filter, map, option_copied, IfOk, OnOk};
 ghost use Rattle.listing_plan.specs.Plans.{key_of, keyed};
@@ -15,7 +15,7 @@ use song_query::Steps;
 use std::alloc::{AllocError, Global};
 use std::sync::ledger::Ledger;
 
-/// The rows in a window. Those of other sheets are passed by their number.
+/// Returns the rows in a window. It passes sheets before the window by their number of rows, and stops after it.
 pub(crate) fn rows_within(
     alloc: Global,
     rows: &RowSheets,
@@ -39,7 +39,7 @@ pub(crate) fn rows_within(
     Ok(found)
 }
 
-/// The rows that a query selects, in order.
+/// Returns the rows that a query selects, in order.
 pub(crate) fn rows_asked<L: Ledger>(
     alloc: Global,
     rows: &RowSheets,

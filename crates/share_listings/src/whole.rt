@@ -1,4 +1,4 @@
-//! All rows of a target that a look asks for.
+//! Plans the full listings of targets.
 
 ghost use Rattle.std.specs.Prelude.{◌≡◌, ◌≤◌, ◌+◌, ◌==◌, List, None, true, false, length, map, option_copied, IfOk};
 ghost use Rattle.item_model.specs.declared.changes.Edit.{Edit};
@@ -26,7 +26,7 @@ use song_query::Steps;
 use std::alloc::{AllocError, Global};
 use std::sync::ledger::Ledger;
 
-/// All rows that a look asks for, cut to its range. Those of all items may start from candidates.
+/// Plans all rows that a look selects, cut to its range. For all items it may start from candidates.
 pub(crate) fn full<L: Ledger>(
     alloc: Global,
     items: &ItemStore,
@@ -51,7 +51,7 @@ pub(crate) fn full<L: Ledger>(
     }
 }
 
-/// Those of the candidates that a look asks for, cut to its range.
+/// Plans those of the candidates that a look selects, cut to its range.
 fn full_from<L: Ledger>(
     alloc: Global,
     items: &ItemStore,
@@ -72,7 +72,7 @@ fn full_from<L: Ledger>(
     Ok(full_plan(target, items.revision(), look, rows))
 }
 
-/// The members of a list that a look asks for, cut to its range.
+/// Plans the members of a list that a look selects, cut to its range.
 fn full_of_list<L: Ledger>(
     alloc: Global,
     items: &ItemStore,
@@ -101,7 +101,7 @@ fn full_of_list<L: Ledger>(
     Ok(full_plan(target, items.revision(), look, rows))
 }
 
-/// The members of a list whose items are there. A list that is not there has none.
+/// Returns the members of a list whose items exist. A list that does not exist has none.
 fn members_of(
     alloc: Global,
     items: &ItemStore,

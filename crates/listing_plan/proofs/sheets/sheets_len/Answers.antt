@@ -1,4 +1,4 @@
-use Rattle.std.proofs.Common.{◌≡◌, length, ap, ◌∙◌, sym, arith}
+use Rattle.std.proofs.Common.{length, ap, arith}
 use Rattle.std.proofs.lemmas.List.{at_drop_all}
 use Rattle.row_sheets.specs.Sheets.{rows_in}
 use Rattle.listing_plan.specs.Held.{sheet_bytes}

@@ -1,4 +1,4 @@
-use Rattle.std.proofs.Common.{◌≡◌, ◌≤◌, ◌+◌, ◌++◌, All, drop, filter, length, option_copied}
+use Rattle.std.proofs.Common.{◌≡◌, ◌≤◌, ◌+◌, ◌++◌, All, drop, filter, option_copied}
 use Rattle.listing_plan.specs.Plans.{key_of, keyed}
 use Rattle.row_sheets.specs.Sheets.{by_id}
 use Rattle.share_history.specs.Listings.{member_of}

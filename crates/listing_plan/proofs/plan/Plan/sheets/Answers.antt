@@ -1,7 +1,6 @@
-use Rattle.std.proofs.Common.{◌≤◌, length, map, arith}
+use Rattle.std.proofs.Common.{arith}
 use Rattle.std.proofs.lemmas.List.{length-map}
 use Rattle.listing_plan.specs.Held.{plan_row}
-use Rattle.listing_plan.specs.Limits.{rows_limit}
 use Rattle.listing_plan.proofs.Writing.{none_gone}
 use Rattle.listing_plan.proofs.plan.Plan.sheets.Goals as goal
 

@@ -1,4 +1,4 @@
-use Rattle.std.proofs.Common.{◌≡◌, ◌<◌, ◌+◌, ◌-◌, ◌++◌, List, [], ◌∷◌, length, take, get_or, slice_set, sym, ap, subst, ◌∙◌, length-take-le, arith, rules}
+use Rattle.std.proofs.Common.{◌≡◌, ◌<◌, ◌+◌, ◌-◌, ◌++◌, [], ◌∷◌, length, take, get_or, slice_set, sym, ap, subst, ◌∙◌, length-take-le, arith, rules}
 use Rattle.std.proofs.lemmas.List.{take_more, take_more_set}
 use Rattle.listing_plan.specs.declared.runs.Run.{Run}
 use Rattle.listing_plan.specs.Runs.{Joins}

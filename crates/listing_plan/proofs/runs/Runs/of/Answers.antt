@@ -1,6 +1,5 @@
-use Rattle.std.proofs.Common.{◌≡◌, get_or, refl, arith}
-use Rattle.item_model.specs.declared.property.Property.TheVariants.{Minm}
-use Rattle.listing_plan.proofs.RunFacts.{asked_all, asked_few, asked_next}
+use Rattle.std.proofs.Common.{arith}
+use Rattle.listing_plan.proofs.RunFacts.{asked_few}
 use Rattle.listing_plan.proofs.runs.Runs.of.Goals as goal
 
 pub mention-requires-clause-room : goal.mention-requires-clause-room

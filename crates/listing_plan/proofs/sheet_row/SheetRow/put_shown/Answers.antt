@@ -1,4 +1,4 @@
-use Rattle.std.proofs.Common.{◌++◌, length, drop, ap, length-append, arith, rules}
+use Rattle.std.proofs.Common.{length, drop, ap, length-append, arith, rules}
 use Rattle.listing_plan.specs.Runs.{runs_bytes, row_bytes}
 use Rattle.listing_plan.proofs.SheetFacts.{left_length}
 use Rattle.listing_plan.proofs.sheet_row.SheetRow.put_shown.Goals as goal
