@@ -131,6 +131,13 @@ stays_back true now kept only = ap (λ b. b && true) (kept refl)
 stays_back false true kept only = absurd (true≢false (sym (only refl)))
 stays_back false false kept only = refl
 
+-- one turn of many is settled
+pub settled_one : (held gone kept rest : Bool) → ((held && (not gone || kept)) && not rest) ≡ (held && not ((gone && not kept) || rest))
+settled_one false gone kept rest = refl
+settled_one true false kept rest = refl
+settled_one true true true rest = refl
+settled_one true true false rest = refl
+
 -- ---- the whole index
 
 its_id : (b c : Bool) → (b && c) ≡ true → c ≡ true

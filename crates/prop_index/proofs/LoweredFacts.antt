@@ -1,4 +1,4 @@
--- A text whose ASCII letters are lowered is UTF-8.
+-- A text whose ASCII letters are lowered is UTF-8, and an empty one folds to an empty one.
 use Rattle.std.proofs.Common.{◌≡◌, ◌<◌, ◌≤◌, ◌&&◌, ◌++◌, ℕ, Bool, true, false, suc, List, [], ◌∷◌, length, take, get_or, refl, sym, ap, ap₂, ◌∙◌, subst, inl, inr, IsUtf8, encode_utf8, encode_utf8_all, append-nil, true≢false, arith}
 use Rattle.std.specs.Char.{IsScalar, to_ascii_lowercase}
 use Rattle.std.specs.Str.{all_scalars}
@@ -9,6 +9,8 @@ use Rattle.std.proofs.lemmas.Str.{encode_ascii, inside_one, IsUtf8-nil, IsUtf8-a
 use Rattle.std.proofs.lemmas.Str.Ascii.{IsAscii-nil, IsAscii-cons, lowercase_ascii}
 use Rattle.std.proofs.Math.Seq.{take-append_seam}
 use Rattle.item_model.specs.Folding.{lowered}
+use Rattle.song_query.proofs.Folded.{nothing_searched}
+use Rattle.prop_index.specs.Forms.{Form, spelled, any_case, in_form}
 
 high_stays : (b : ℕ) → 128 ≤ b → to_ascii_lowercase b ≡ b
 high_stays b h = grind (arith, nat_tests)
@@ -49,3 +51,8 @@ lowered_front text front rest utf8 is =
     let len : length text ≡ length front = sym (ap length is ∙ length-map text to_ascii_lowercase) in
     subst IsUtf8 (sym (ap (λ n. take n (front ++ rest)) len ∙ take-append_seam front rest ∙ is ∙ ap lowered (sym utf8.1.1)))
     (lowered_chars utf8.0 utf8.1.0)
+
+-- nothing is folded to nothing
+pub nothing_in : (form : Form) → in_form form [] ≡ []
+nothing_in spelled = refl
+nothing_in any_case = sym nothing_searched

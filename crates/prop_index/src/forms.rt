@@ -30,7 +30,13 @@ impl FormIds {
     }
 
     /// Puts the id under both forms of the row's text. After an `Err` it may stand under one of them.
-    pub(crate) fn put(&mut self, alloc: Global, row: Option<&Row>, browse: Browse, id: u32) -> Result<(), AllocError>
+    pub(crate) fn put(
+        &mut self,
+        alloc: Global,
+        row: Option<&Row>,
+        browse: Browse,
+        id: u32,
+    ) -> Result<(), AllocError>
         ensures ok { OnOk result ((form : Form) → Puts (key_or_none form browse (option_copied row.entry)) id (texts_of self.old form) (texts_of self.new form)) }
         ensures part { (form : Form) → PutsAtMost (key_or_none form browse (option_copied row.entry)) id (texts_of self.old form) (texts_of self.new form) }
         ensures text { IsTextAt browse (option_copied row.entry) }

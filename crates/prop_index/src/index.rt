@@ -142,7 +142,7 @@ impl PropIndex {
     fn settle(&mut self, kept: Option<&Row>, gone: Option<&Row>, id: u32)
         ensures { (browse : Browse) (form : Form) →
             Settles (key_or_none form browse (option_copied kept.entry)) (key_or_none form browse (option_copied gone.entry)) id
-                (texts_in self.old browse form) (texts_in self.new browse form) }
+            (texts_in self.old browse form) (texts_in self.new browse form) }
     {
         self.artists.settle(kept, gone, Browse::Artists, id);
         self.albums.settle(kept, gone, Browse::Albums, id);

@@ -1,6 +1,6 @@
 //! The texts by which an item is found.
 
-ghost use Rattle.std.specs.Prelude.{◌≡◌, ◌≤◌, length, IfOk, IsUtf8, true, string_bytes, option_copied, []};
+ghost use Rattle.std.specs.Prelude.{◌≡◌, ◌≤◌, length, IfOk, IfSome, IsUtf8, true, string_bytes, option_copied, option_map, []};
 ghost use Rattle.item_model.specs.Items.{value_of};
 ghost use Rattle.item_model.specs.Folding.{folded};
 ghost use Rattle.item_model.specs.Folds.{IsKeptFor};
@@ -55,6 +55,16 @@ pub(crate) fn browsed(browse: Browse) -> Property
     }
 }
 
+fn text_of(row: &Row, browse: Browse) -> Option<&str>
+    ensures value { value_of (browsed browse) row.now.item ≡ option_map PropValue.Text (option_copied result) }
+    ensures short { IfSome result (λ text. length text.now ≤ text_limit) }
+{
+    match row.item.get(browsed(browse)) {
+        Some(PropValue::Text(text)) => Some(text.as_str()),
+        _ => None,
+    }
+}
+
 impl<'a> AnyCase<'a> {
     ghost use Rattle.prop_index.specs.Keys.{text_held};
 
@@ -93,17 +103,13 @@ impl<'a> Forms<'a> {
         }
     }
 
-    #[tactic(auto, using(song_query::proofs::Folded::nothing_searched))]
     fn of_row(row: &'a Row, browse: Browse) -> Forms<'a>
         ensures keys { (form : Form) → form_in result form ≡ key_of form browse row.now }
         ensures text { is_textual (value_of (browsed browse) row.now.item) ≡ true }
     {
-        let property = browsed(browse);
-        match row.item.get(property) {
-            Some(PropValue::Text(text)) => {
-                Forms::of_text(text.as_str(), row.item.kept_fold(property))
-            }
-            _ => Forms::none(),
+        match text_of(row, browse) {
+            Some(text) => Forms::of_text(text, row.item.kept_fold(browsed(browse))),
+            None => Forms::none(),
         }
     }
 
