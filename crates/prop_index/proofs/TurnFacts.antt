@@ -1,11 +1,9 @@
 -- What changes come to, id by id.
-use Rattle.std.proofs.Common.{◌≡◌, ℕ, Bool, true, false, cond, ◌==◌, eqb-true, eq-eqb, true≢false, List, [], ◌∷◌, map, Option, Some, None, option_copied, refl, sym, ap, ◌∙◌, subst, ⊎_elim, nat_cmp, is_eq}
-use Rattle.std.specs.Map.{keys_of}
+use Rattle.std.proofs.Common.{◌≡◌, ℕ, Bool, true, false, cond, List, [], ◌∷◌, Option, Some, None, option_copied, refl, sym, ap, ◌∙◌, subst, nat_cmp, is_eq}
 use Rattle.std.specs.List.Sorted.{IsStrictlySortedBy}
-use Rattle.std.proofs.lemmas.Bool.{cases_Bool, false_from_ne_true}
 use Rattle.item_model.specs.declared.item.Row.{Row}
-use Rattle.share_history.specs.Keyed.{at, put_in, IsAscending, AreAscending}
-use Rattle.share_history.proofs.KeyedFacts.{same_key, is_eq-cmp, at-put, ascending-put, at-out, ascending-out}
+use Rattle.share_history.specs.Keyed.{at, put_in, IsAscending}
+use Rattle.share_history.proofs.KeyedFacts.{same_key, at-put, ascending-put, at-out, ascending-out}
 use Rattle.prop_index.specs.declared.changes.Change.{Change}
 use Rattle.prop_index.specs.declared.changes.Turn.{Turn}
 use Rattle.prop_index.specs.Library.{after, Fits, after_all, FitInTurn}
