@@ -13,7 +13,7 @@ returns-in-Ok-edited-clause-pushed g c = (
   asked_as c.as_slice.result.now (push_text (Some c.args.records.now) c.args.host.now)
       (g.K.Sink.taken c.args.link.now) (g.K.Source.left c.args.link.now) c.new-incoming.result
       (place (g.K.Sink.taken c.exchange.new.link) (g.K.Source.left c.exchange.new.link) c.exchange.new.incoming)
-      (c.in-Ok.status, c.in-Ok.text) (c.as_slice.ensures.value ∙ c.in_ok-request.ensures) c.new-incoming.ensures c.in-Ok.ensures.exchanged,
+      (c.in-Ok.status, c.in-Ok.text) (c.as_slice.ensures ∙ c.in_ok-request.ensures) c.new-incoming.ensures c.in-Ok.ensures.exchanged,
   refl,
   c.in-Ok-edited.ensures,
 )
@@ -27,11 +27,11 @@ returns-in-Ok-clause-stops g c =
     (asked_as c.as_slice.result.now (push_text (Some c.args.records.now) c.args.host.now)
     (g.K.Sink.taken c.args.link.now) (g.K.Source.left c.args.link.now) c.new-incoming.result
     (place (g.K.Sink.taken c.exchange.new.link) (g.K.Source.left c.exchange.new.link) c.exchange.new.incoming)
-    (c.in-Ok.status, c.in-Ok.text) (c.as_slice.ensures.value ∙ c.in_ok-request.ensures) c.new-incoming.ensures c.in-Ok.ensures.exchanged)
+    (c.in-Ok.status, c.in-Ok.text) (c.as_slice.ensures ∙ c.in_ok-request.ensures) c.new-incoming.ensures c.in-Ok.ensures.exchanged)
     (subst (λ (n : ℕ). UndueEdit n (c.in-Ok.status, c.in-Ok.text) c.in-Err-edited.error) c.used.ensures c.in-Err-edited.ensures)
 
 pub returns-clause-stops : goal.returns-clause-stops
 unfolding push_text
 returns-clause-stops g c =
     stopped_as c.as_slice.result.now (push_text (Some c.args.records.now) c.args.host.now) UndueEdit (g.K.Sink.taken c.args.link.now) (g.K.Source.left c.args.link.now) (g.K.Sink.taken c.exchange.new.link)
-    c.new-incoming.result c.in-Err.error (c.as_slice.ensures.value ∙ c.in_ok-request.ensures) c.new-incoming.ensures c.in-Err.ensures.stops
+    c.new-incoming.result c.in-Err.error (c.as_slice.ensures ∙ c.in_ok-request.ensures) c.new-incoming.ensures c.in-Err.ensures.stops
