@@ -46,7 +46,7 @@ impl FormIds {
         self.any_case.put(alloc, forms.any_case.as_str(), id)
     }
 
-    /// Takes the id away from under the forms that it is no longer found by, without memory.
+    /// Takes the id away from under the forms that it is no longer found by. It does not allocate.
     pub(crate) fn settle(&mut self, kept: Option<&Row>, gone: Option<&Row>, browse: Browse, id: u32)
         ensures { (form : Form) → Settles (key_or_none form browse (option_copied kept.entry)) (key_or_none form browse (option_copied gone.entry)) id
             (texts_of self.old form) (texts_of self.new form) }

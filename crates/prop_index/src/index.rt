@@ -138,7 +138,7 @@ impl PropIndex {
         self.composers.put(self.alloc, row, Browse::Composers, id)
     }
 
-    // Takes the id away from under the texts that it is no longer found by, without memory.
+    // Takes the id away from under the texts that it is no longer found by. It does not allocate.
     fn settle(&mut self, kept: Option<&Row>, gone: Option<&Row>, id: u32)
         ensures { (browse : Browse) (form : Form) →
             Settles (key_or_none form browse (option_copied kept.entry)) (key_or_none form browse (option_copied gone.entry)) id
@@ -150,7 +150,7 @@ impl PropIndex {
         self.composers.settle(kept, gone, Browse::Composers, id);
     }
 
-    // Puts the ids under the texts of their new rows. After an `Err` some of them may stand.
+    // Puts the ids under the texts of their new rows. After an `Err` some of them may stand there.
     fn put_all(&mut self, turns: &BTreeMap<u32, Turn>) -> Result<(), AllocError>
         ensures ok { OnOk result ((browse : Browse) (form : Form) (text : List ℕ) (id : ℕ) →
             has id (found self.new browse form text) ≡ (has id (found self.old browse form text) || list_any (brings browse form text id) turns.now.entries)) }
@@ -166,7 +166,7 @@ impl PropIndex {
         Ok(())
     }
 
-    // Takes each id away from under the texts of its old row that its new one does not have, without memory.
+    // Takes each id away from under the texts of its old row that its new one does not have. It does not allocate.
     fn settle_all(&mut self, turns: &BTreeMap<u32, Turn>)
         ensures { (browse : Browse) (form : Form) (text : List ℕ) (id : ℕ) →
             has id (found self.new browse form text) ≡ (has id (found self.old browse form text) && not (list_any (leaves browse form text id) turns.now.entries)) }
@@ -176,7 +176,7 @@ impl PropIndex {
         }
     }
 
-    // Takes each id back from under the texts of its new row that its old one does not have, without memory.
+    // Takes each id back from under the texts of its new row that its old one does not have. It does not allocate.
     fn take_back(&mut self, turns: &BTreeMap<u32, Turn>)
         ensures { (browse : Browse) (form : Form) (text : List ℕ) (id : ℕ) →
             has id (found self.new browse form text) ≡ (has id (found self.old browse form text) && not (list_any (gives_back browse form text id) turns.now.entries)) }
@@ -186,7 +186,7 @@ impl PropIndex {
         }
     }
 
-    // Takes in the changes, one for each id. All that needs memory comes first, and is taken back where it fails.
+    // Takes in the changes, one for each id. All that allocates comes first, and is taken back if it fails.
     fn take_in(&mut self, turns: &BTreeMap<u32, Turn>) -> Result<(), AllocError>
         ensures ok { OnOk result ((rows later : List (ℕ × Row)) → TurnTo rows later turns.now.entries → StandsFor rows self.old → StandsFor later self.new) }
         ensures err { OnErr result ((rows later : List (ℕ × Row)) → TurnTo rows later turns.now.entries → StandsFor rows self.old → StandsFor rows self.new) }

@@ -92,7 +92,7 @@ impl<'a> AnyCase<'a> {
 impl<'a> Forms<'a> {
     ghost use Rattle.prop_index.specs.Keys.{form_in, key_or_none, IsTextAt};
 
-    /// The row's text of the property, without memory.
+    /// The row's text of the property. It does not allocate.
     pub(crate) fn of(row: Option<&'a Row>, browse: Browse) -> Forms<'a>
         ensures keys { (form : Form) → form_in result form ≡ key_or_none form browse (option_copied row.entry) }
         ensures text { IsTextAt browse (option_copied row.entry) }
