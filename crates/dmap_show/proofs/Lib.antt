@@ -2,8 +2,8 @@ pub mod Utf8
 pub mod Once
 pub mod EventLines
 pub mod TextLengths
-mod Taken
-mod Remaining
+pub mod Taken
+pub mod Remaining
 mod Stands
 mod Zipper
 mod Following

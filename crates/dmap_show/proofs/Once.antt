@@ -1,37 +1,18 @@
 -- A text that shows tags is not refused.
-use Rattle.std.proofs.Common.{◌≡◌, ℕ, zero, suc, List, [], ◌∷◌, ◌++◌, Bool, true, false, ◌==◌, ◌||◌, if◌then◌else◌, refl, sym, ap, subst, ◌∙◌, append_assoc, append-nil}
-use Rattle.std.proofs.lemmas.Bool.{eqb-true}
+use Rattle.std.proofs.Common.{◌≡◌, ℕ, zero, suc, List, [], ◌∷◌, ◌++◌, Bool, true, false, if◌then◌else◌, refl, sym, ap, subst, ◌∙◌, append_assoc, append-nil}
 use Rattle.dmap_tags.specs.Tree.{Tree}
 use Rattle.code_table.specs.declared.row.CodeRow.{CodeRow}
 use Rattle.dmap_show.specs.Readable.{Shows}
 use Rattle.dmap_show.specs.TextLines.{before, behind, has, first_line, behind_lines, first_lines, StopsBehind}
-
-parted_at : (mark b : ℕ) (text : List ℕ) (same : Bool) → (b == mark) ≡ same → (has mark text ≡ true → before mark text ++ mark ∷ behind mark text ≡ text)
-    → (same || has mark text) ≡ true → (if same then [] else b ∷ before mark text) ++ mark ∷ (if same then text else behind mark text) ≡ b ∷ text
-parted_at mark b text true is later h = ap (λ x. x ∷ text) (sym (eqb-true b mark is))
-parted_at mark b text false is later h = ap (λ l. b ∷ l) (later h)
-
--- a mark with what stands before and behind it
-parted : (mark : ℕ) (text : List ℕ) → has mark text ≡ true → before mark text ++ mark ∷ behind mark text ≡ text
-parted mark [] h = absurd (cc)
-parted mark (b ∷ text) h = parted_at mark b text (b == mark) refl (parted mark text) h
-
-none_at : (mark : ℕ) (text : List ℕ) (same : Bool) → (has mark text ≡ false → behind mark text ≡ []) → (same || has mark text) ≡ false
-    → (if same then text else behind mark text) ≡ []
-none_at mark text true later h = absurd (cc)
-none_at mark text false later h = later h
-
-none_behind : (mark : ℕ) (text : List ℕ) → has mark text ≡ false → behind mark text ≡ []
-none_behind mark [] h = refl
-none_behind mark (b ∷ text) h = none_at mark text (b == mark) (none_behind mark text) h
+use Rattle.dmap_show.proofs.Taken.{behind_none, split_again}
 
 first_and_rest : (text : List ℕ) (there : Bool) → has 10 text ≡ there
     → (if there then before 10 text ++ 10 ∷ [] else text) ++ behind 10 text ≡ text
-first_and_rest text true is = append_assoc (before 10 text) (10 ∷ []) (behind 10 text) ∙ parted 10 text is
-first_and_rest text false is = ap (λ l. text ++ l) (none_behind 10 text is) ∙ append-nil text
+first_and_rest text true is = append_assoc (before 10 text) (10 ∷ []) (behind 10 text) ∙ sym (split_again 10 text is)
+first_and_rest text false is = ap (λ l. text ++ l) (behind_none 10 text is) ∙ append-nil text
 
--- the first lines and those behind them are all of the text
-all_lines : (n : ℕ) (text : List ℕ) → first_lines n text ++ behind_lines n text ≡ text
+-- the first lines and those after them are all of the text
+pub all_lines : (n : ℕ) (text : List ℕ) → first_lines n text ++ behind_lines n text ≡ text
 all_lines zero text = refl
 all_lines (suc n) text =
     append_assoc (first_lines n text) (first_line (behind_lines n text)) (behind 10 (behind_lines n text))

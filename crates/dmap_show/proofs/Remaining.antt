@@ -8,7 +8,7 @@ use Rattle.dmap_show.specs.Readable.{AreBytes}
 use Rattle.dmap_show.specs.Parts.{piece}
 use Rattle.dmap_show.specs.declared.spelled.Form.{Form}
 
--- the bytes so far are the front of all, and what is left shows the others
+-- the bytes so far are a prefix of all bytes, and what is left shows the others
 abbrev pub Remains : Form → List ℕ → List ℕ → List ℕ → Type 0
 Remains form all bytes left = (others : List ℕ) × (AreBytes others × ((all ≡ bytes ++ others) × (left ≡ flat_map (piece form) others)))
 
@@ -33,7 +33,7 @@ append_bytes : (xs ys : List ℕ) → AreBytes xs → AreBytes ys → AreBytes (
 append_bytes [] ys h k = k
 append_bytes (x ∷ xs) ys h k = (h.0, append_bytes xs ys h.1 k)
 
--- a character is spelled in bytes
+-- a character is encoded in bytes
 char_bytes : (c : ℕ) → scalar c ≡ true → AreBytes (encode c)
 unfolding encode
 char_bytes c ok =

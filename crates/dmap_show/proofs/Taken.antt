@@ -20,7 +20,7 @@ use Rattle.dmap_show.specs.Readable.{IsCode, IsValue}
 use Rattle.dmap_show.specs.TextLines.{before, behind, has}
 use Rattle.dmap_show.specs.Parts.{bare_line, head_of, IsHead, head_value, pairs_in_front, behind_pairs, kind_named, Spells}
 
--- where a mark stands first, a text is split there
+-- a text is split at the first mark
 pub before_mark : (mark : ℕ) (xs ys : List ℕ) → has mark xs ≡ false → before mark (xs ++ mark ∷ ys) ≡ xs
 before_mark mark [] ys h = rw (eq-eqb mark mark refl) refl
 before_mark mark (x ∷ xs) ys h = elim (cases_Bool (x == mark)) [
@@ -35,7 +35,7 @@ behind_mark mark (x ∷ xs) ys h = elim (cases_Bool (x == mark)) [
   | inr e ↦ rw e (behind_mark mark xs ys (rw e at h))
 ]
 
--- and where there is none, all of it stands before
+-- without a mark, all of the text is before it
 pub before_none : (mark : ℕ) (xs : List ℕ) → has mark xs ≡ false → before mark xs ≡ xs
 before_none mark [] h = refl
 before_none mark (x ∷ xs) h = elim (cases_Bool (x == mark)) [
@@ -57,7 +57,7 @@ has_mark mark (x ∷ xs) ys = elim (cases_Bool (x == mark)) [
   | inr e ↦ rw e (has_mark mark xs ys)
 ]
 
--- a text with a mark is what stands before it, the mark, and what stands behind it
+-- a text with a mark is what is before it, the mark, and what follows it
 pub split_again : (mark : ℕ) (xs : List ℕ) → has mark xs ≡ true → xs ≡ before mark xs ++ mark ∷ behind mark xs
 split_again mark [] h = absurd (true≢false (sym h))
 split_again mark (x ∷ xs) h = elim (cases_Bool (x == mark)) [
@@ -136,7 +136,7 @@ word_has_space (leaf c (tree.Version n)) = refl
 word_has_space (leaf c (tree.Opaque bytes)) = refl
 word_has_space (list c ts) = refl
 
--- the level is told by the pairs of spaces in front
+-- the level is the number of pairs of spaces at the beginning
 pairs_none : (b : ℕ) (rest : List ℕ) → (b == 32) ≡ false → (pairs_in_front (b ∷ rest) ≡ 0) × (behind_pairs (b ∷ rest) ≡ b ∷ rest)
 pairs_none b [] h = (refl, refl)
 pairs_none b (r ∷ rest) h = (rw h refl, rw h refl)
@@ -214,7 +214,7 @@ pub head_code : (t : Tree) → IsHead t → IsCode (tree_code t)
 head_code (leaf c l) h = h.0
 head_code (list c ts) h = h
 
--- a head as the program has it is the tag without what is in it, and has the same line
+-- a head as the program has it is the tag without its members, and has the same line
 pub head_with : (t : Tree) → tree_with (tree_code t) (head_value t) ≡ head_of t
 head_with (leaf c l) = leaf_with c l
 head_with (list c ts) = refl
@@ -244,7 +244,7 @@ version_parts n text h e =
       patch = ap (behind 46) rest ∙ behind_mark 46 b c free_b;
     }
 
--- no line feed stands in a line
+-- a line has no line feed inside
 escaped_has : (b : ℕ) → has 10 (escaped b) ≡ false
 escaped_has b = elim (cases_Bool (b == 34)) [
   | inl e ↦ rw e refl

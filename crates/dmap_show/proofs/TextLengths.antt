@@ -17,11 +17,11 @@ code_long c = elim (cases_Bool (list_all is_ascii_graphic (code_bytes c))) [
 ]
 
 -- a byte of a text has at least one
-escaped_long : (b : ℕ) → 1 ≤ length (escaped b)
+pub escaped_long : (b : ℕ) → 1 ≤ length (escaped b)
 escaped_long b = grind (arith, nat_tests)
 
 -- and so bytes have at least as many as they are
-pieces_long : (f : ℕ → List ℕ) → ((b : ℕ) → 1 ≤ length (f b)) → (bytes : List ℕ) → length bytes ≤ length (flat_map f bytes)
+pub pieces_long : (f : ℕ → List ℕ) → ((b : ℕ) → 1 ≤ length (f b)) → (bytes : List ℕ) → length bytes ≤ length (flat_map f bytes)
 pieces_long f h [] = omega arith
 pieces_long f h (b ∷ bytes) = rw (length-append (f b) (flat_map f bytes)) (omega (arith, h b, pieces_long f h bytes))
 
@@ -41,7 +41,7 @@ leaf_long (Version n) = omega arith
 leaf_long (Opaque bytes) = omega (arith, pieces_long hex (λ b. omega arith) bytes)
 
 -- beside them a line has at least a code, a space and a line feed
-line_long : (level : ℕ) (t : Tree) → length (word_of t) + length (space_of t) + length (text_of t) + 6 ≤ length (shown_line level t)
+pub line_long : (level : ℕ) (t : Tree) → length (word_of t) + length (space_of t) + length (text_of t) + 6 ≤ length (shown_line level t)
 line_long level t = simp length-append (omega (arith, code_long (tree_code t)))
 
 -- with a code and a length, which are eight bytes, the spelling is no longer than that

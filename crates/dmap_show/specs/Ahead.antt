@@ -10,7 +10,7 @@ use Rattle.dmap_show.specs.Drafts.{parent_in}
 use Rattle.dmap_show.specs.Readable.{IsCode}
 use Rattle.dmap_show.specs.Standing.{AllStand}
 
--- the open lists and what stands before them fit
+-- the open lists and the members before them fit
 abbrev pub OpenStand : List CodeRow → List OpenList → Type 0
 OpenStand rows [] = Unit {0}
 OpenStand rows (o ∷ around) =
@@ -20,12 +20,12 @@ OpenStand rows (o ∷ around) =
 abbrev pub DraftStands : List CodeRow → List OpenList → List Tree → Type 0
 DraftStands rows around here = AllStand rows (length around) (parent_in around) (trees_of here) × OpenStand rows around
 
--- of what comes ahead in the lists around, that of the innermost
+-- of what comes ahead in the lists around, the part of the innermost list
 abbrev pub first_of : List (List Tree) → List Tree
 first_of [] = []
 first_of (m ∷ ms) = m
 
--- and that of the others
+-- and the parts of the others
 abbrev pub others_of : List (List Tree) → List (List Tree)
 others_of [] = []
 others_of (m ∷ ms) = ms
@@ -43,7 +43,7 @@ abbrev pub AheadStands : List CodeRow → List OpenList → List Tree → List (
 AheadStands rows [] m ms = AllStand rows 0 None (trees_of m)
 AheadStands rows (o ∷ around) m ms = AllStand rows (suc (length around)) (Some o.code) (trees_of m) × AheadStands rows around (first_of ms) (others_of ms)
 
--- the tags us go on with the text z behind these lines
+-- the tags us continue with the text z after these lines
 pub record Goes (rows : List CodeRow) (around : List OpenList) (here us : List Tree) (z : List ℕ) : Type 0 where
   pub m : List Tree
   pub ms : List (List Tree)

@@ -1,5 +1,5 @@
--- Tags as lines add to them: the lists that are open, the innermost first, each with the members that stood before
--- it around it, and the members of the innermost so far.
+-- Tags to which lines are still being added: the open lists, the innermost first, each with the members before it in
+-- the list around it, and the members of the innermost so far.
 use Rattle.std.specs.Prelude.{◌≡◌, ℕ, suc, List, [], ◌∷◌, ◌++◌, length, Bool, true, false, ◌||◌, nat_lt, nat_le, if◌then◌else◌, Option, Some, None}
 use Rattle.dmap_tags.specs.Codes.{Four}
 use Rattle.dmap_tags.specs.Tree.{Tree, leaf, list, trees_of, tree_code}
@@ -25,7 +25,7 @@ pub record State : Type 0 where
   pub around : List OpenList
   pub here : List Tree
 
--- with so many lists left open
+-- with `level` lists left open
 abbrev pub lowered : ℕ → List OpenList → List Tree → State
 lowered level [] here = record { around = []; here = here }
 lowered level (o ∷ around) here =
@@ -45,7 +45,7 @@ with_tag t s =
 abbrev pub fitted : List CodeRow → Tree → State → Option State
 fitted rows t s = if fits rows (parent_in s.around) t then Some (with_tag t s) else None
 
--- with the tag of a line of that level, unless no such tag may stand there
+-- with the tag of a line of that level, unless no such tag may be there
 abbrev pub taken : List CodeRow → ℕ → Tree → List OpenList → List Tree → Option State
 taken rows level t around here =
     if nat_lt (length around) level || nat_le 32 level then None

@@ -1,4 +1,4 @@
--- What is shown as a reader hands out events: the lists that are open count as levels.
+-- What is shown as a reader returns events: the open lists count as levels.
 use Rattle.std.specs.Prelude.{ℕ, suc, pred, List, [], ◌∷◌, ◌++◌}
 use Rattle.dmap_tags.specs.Tree.{list, none}
 use Rattle.dmap_tags.specs.Seen.{tree_with}
@@ -12,7 +12,7 @@ shown_event level (Open c len at) = shown_line level (list c none)
 shown_event level (Leaf c value at) = shown_tag level (tree_with c value)
 shown_event level (Close c at) = []
 
--- the level behind an event
+-- the level after an event
 abbrev pub level_after : ℕ → Event → ℕ
 level_after level (Open c len at) = suc level
 level_after level (Leaf c value at) = level

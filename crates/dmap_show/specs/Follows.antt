@@ -8,7 +8,7 @@ use Rattle.dmap_show.specs.Drafts.{closed}
 use Rattle.dmap_show.specs.Standing.{AllStand}
 use Rattle.dmap_show.specs.Ahead.{DraftStands, Goes}
 
--- the lines show the draft's tags, which fit; and all tags whose text begins with these lines go on from it
+-- the lines show the draft's tags, which fit; and all tags whose text begins with these lines continue from it
 pub record Follows (rows : List CodeRow) (lines : List ℕ) (around : List OpenList) (here : List Tree) : Type 0 where
   pub shown : lines ≡ shown_tags 0 (trees_of (closed around here))
   pub stands : DraftStands rows around here

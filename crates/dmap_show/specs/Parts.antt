@@ -1,5 +1,5 @@
--- How a line is taken apart: its level, its code, the word of its kind and its value. Taking apart asks for nothing;
--- whether a line is right is told by showing what was read.
+-- The parts of a line: its level, its code, the word of its kind and its value. Any line has parts; whether it is a
+-- shown line is checked by showing what was read.
 use Rattle.std.specs.Prelude.{◌≡◌, ◌<◌, ◌^◌, ℕ, suc, ℤ, List, [], ◌∷◌, ◌++◌, flat_map, Bool, true, false, ◌==◌, ◌&&◌, if◌then◌else◌, codes, decimal}
 use Rattle.std.specs.Fmt.{signed_decimal}
 use Rattle.std.specs.Int.{w8, w16, w32, w64}
@@ -20,7 +20,7 @@ use Rattle.dmap_show.specs.Readable.{AreBytes, IsCode, IsValue}
 abbrev pub bare_line : ℕ → Tree → List ℕ
 bare_line level t = indent level ++ shown_code (tree_code t) ++ 32 ∷ word_of t ++ space_of t ++ text_of t
 
--- a tag without what is in it, which has the same line
+-- a tag without its members, which has the same line
 abbrev pub head_of : Tree → Tree
 head_of (leaf c l) = leaf c l
 head_of (list c ts) = list c none
@@ -48,7 +48,7 @@ IsHeadValue (value.Version n) = n < 2 ^ 32
 IsHeadValue (value.List ts) = ts ≡ []
 IsHeadValue (value.Opaque bytes) = AreBytes bytes
 
--- the pairs of spaces in front, and what stands behind them
+-- the pairs of spaces at the beginning, and what follows them
 abbrev pub pairs_in_front : List ℕ → ℕ
 pairs_in_front [] = 0
 pairs_in_front (a ∷ []) = 0

@@ -19,12 +19,12 @@ abbrev pub IsValue : Leaf → Type 0
 IsValue (Opaque bytes) = AreBytes bytes
 IsValue l = IsProper l
 
--- what is no list has a value in range
+-- a tag that is not a list has a value in range
 abbrev pub HasValue : Tree → Type 0
 HasValue (leaf c l) = IsValue l
 HasValue (list c ts) = Unit {0}
 
--- what a tag can be: its codes are bytes and its values in range
+-- a tag that can be encoded: its codes are bytes and its values in range
 abbrev mutual
   pub IsTag : Tree → Type 0
   IsTag (leaf c l) = IsCode c × IsValue l
@@ -34,7 +34,7 @@ abbrev mutual
   AreTags none = Unit {0}
   AreTags (more t ts) = IsTag t × AreTags ts
 
--- a tag that can be and that, at the top, fits the table and is not too deep
+-- a tag that can be encoded and that, at the top, fits the table and is not too deep
 pub record IsReadable (rows : List CodeRow) (t : Tree) : Type 0 where
   pub tag : IsTag t
   pub fits : fits rows None t ≡ true

@@ -61,7 +61,7 @@ leaf_text (Date n) = decimal n
 leaf_text (Version n) = dotted n
 leaf_text (Opaque bytes) = 35 ∷ flat_map hex bytes
 
--- the word of the kind, and what stands behind it: a space and the value, but nothing for a list
+-- the word of the kind, and what follows it: a space and the value, but nothing for a list
 abbrev pub word_of : Tree → List ℕ
 word_of (leaf c l) = leaf_word l
 word_of (list c ts) = codes "list"
@@ -78,7 +78,7 @@ text_of (list c ts) = []
 abbrev pub shown_line : ℕ → Tree → List ℕ
 shown_line level t = indent level ++ shown_code (tree_code t) ++ 32 ∷ word_of t ++ space_of t ++ text_of t ++ 10 ∷ []
 
--- the lines of a tag and all in it
+-- the lines of a tag and of all tags in it
 abbrev mutual
   pub shown_tag : ℕ → Tree → List ℕ
   shown_tag level (leaf c l) = shown_line level (leaf c l)

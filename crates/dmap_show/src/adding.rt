@@ -1,5 +1,5 @@
-//! Pieces of text added at the end of a buffer. Want of memory leaves what stood there, and maybe a part of the
-//! piece behind it.
+//! Appends pieces of text to a buffer. If an allocation fails, the buffer has what it had before, and maybe a part of
+//! the piece after it.
 
 ghost use Rattle.std.specs.Prelude.{◌≡◌, ◌<◌, ◌≤◌, ◌∷◌, [], ◌++◌, OnOk, OnErr, IsAscii, flat_map, true};
 ghost use Rattle.std.specs.Str.{is_utf8};
@@ -14,13 +14,13 @@ use dmap_tags::{Code, Text};
 use itoa::Buffer;
 use std::alloc::AllocError;
 
-/// The spaces before a line with 32 lists around it, more than a reader opens.
+/// The spaces before a line with 32 lists around it: more lists than a reader opens.
 const SPACES: [u8; 64] = [b' '; 64];
 
-/// How many levels those spaces are for.
+/// The level of those spaces.
 const SPACED: u64 = 32;
 
-/// Adds a text as it is.
+/// Appends a text as it is.
 #[inline(always)]
 pub(crate) fn push_str(text: &str, out: &mut Vec<u8>) -> Result<(), AllocError>
     ensures shown { OnOk result (out.new.items ≡ out.old.items ++ text.now) }
@@ -31,7 +31,7 @@ pub(crate) fn push_str(text: &str, out: &mut Vec<u8>) -> Result<(), AllocError>
     Ok(())
 }
 
-/// Adds ASCII characters as they are.
+/// Appends ASCII characters as they are.
 #[inline(always)]
 fn push_ascii(bytes: &[u8], out: &mut Vec<u8>) -> Result<(), AllocError>
     requires { IsAscii bytes.now }
@@ -43,7 +43,7 @@ fn push_ascii(bytes: &[u8], out: &mut Vec<u8>) -> Result<(), AllocError>
     Ok(())
 }
 
-/// Adds the spaces before a line of that level.
+/// Appends the spaces before a line of that level.
 pub(crate) fn push_indent(level: u64, out: &mut Vec<u8>) -> Result<(), AllocError>
     ensures shown { OnOk result (out.new.items ≡ out.old.items ++ indent level) }
     ensures text { is_utf8 out.old.items ≡ true → OnOk result (is_utf8 out.new.items ≡ true) }
@@ -57,7 +57,7 @@ pub(crate) fn push_indent(level: u64, out: &mut Vec<u8>) -> Result<(), AllocErro
     push_ascii(spaces(left), out)
 }
 
-/// The spaces before a line of a level that is not too deep.
+/// Returns the spaces before a line of a level that is not too deep.
 #[inline(always)]
 fn spaces(level: u64) -> &'static [u8]
     requires { level ≤ 32 }
@@ -68,7 +68,7 @@ fn spaces(level: u64) -> &'static [u8]
     front
 }
 
-/// Adds a number in decimal.
+/// Appends a number in decimal.
 pub(crate) fn push_number(n: u64, out: &mut Vec<u8>) -> Result<(), AllocError>
     ensures shown { OnOk result (out.new.items ≡ out.old.items ++ decimal n) }
     ensures text { is_utf8 out.old.items ≡ true → OnOk result (is_utf8 out.new.items ≡ true) }
@@ -77,7 +77,7 @@ pub(crate) fn push_number(n: u64, out: &mut Vec<u8>) -> Result<(), AllocError>
     push_str(Buffer::new().format(n), out)
 }
 
-/// Adds a number in decimal, with a sign where it is negative.
+/// Appends a number in decimal, with a sign if it is negative.
 pub(crate) fn push_signed(n: i64, out: &mut Vec<u8>) -> Result<(), AllocError>
     ensures shown { OnOk result (out.new.items ≡ out.old.items ++ signed_decimal n) }
     ensures text { is_utf8 out.old.items ≡ true → OnOk result (is_utf8 out.new.items ≡ true) }
@@ -86,7 +86,7 @@ pub(crate) fn push_signed(n: i64, out: &mut Vec<u8>) -> Result<(), AllocError>
     push_str(Buffer::new().format(n), out)
 }
 
-/// The lower-case hex digit of a number below 16.
+/// Returns the lower-case hex digit of a number below 16.
 fn hex_digit(n: u8) -> u8
     requires { n < 16 }
     ensures digit { result ≡ digit_char n }
@@ -95,7 +95,7 @@ fn hex_digit(n: u8) -> u8
     if n < 10 { b'0' + n } else { b'a' + (n - 10) }
 }
 
-/// Adds a byte as two hex digits.
+/// Appends a byte as two hex digits.
 fn push_hex(byte: u8, out: &mut Vec<u8>) -> Result<(), AllocError>
     ensures shown { OnOk result (out.new.items ≡ out.old.items ++ hex byte) }
     ensures text { is_utf8 out.old.items ≡ true → OnOk result (is_utf8 out.new.items ≡ true) }
@@ -104,7 +104,7 @@ fn push_hex(byte: u8, out: &mut Vec<u8>) -> Result<(), AllocError>
     push_ascii(&[hex_digit(byte / 16), hex_digit(byte % 16)], out)
 }
 
-/// Adds each byte as two hex digits.
+/// Appends each byte as two hex digits.
 pub(crate) fn push_hex_digits(bytes: &[u8], out: &mut Vec<u8>) -> Result<(), AllocError>
     ensures shown { OnOk result (out.new.items ≡ out.old.items ++ flat_map hex bytes.now) }
     ensures text { is_utf8 out.old.items ≡ true → OnOk result (is_utf8 out.new.items ≡ true) }
@@ -116,14 +116,14 @@ pub(crate) fn push_hex_digits(bytes: &[u8], out: &mut Vec<u8>) -> Result<(), All
     Ok(())
 }
 
-/// Whether all characters are from `!` to `~`.
+/// Returns whether all characters are from `!` to `~`.
 fn is_graphic(bytes: &[u8]) -> bool
     ensures { result ≡ list_all is_ascii_graphic bytes.now }
 {
     bytes.iter().all(|byte| byte.is_ascii_graphic())
 }
 
-/// Adds a content code: its four characters, or its hex digits where not all are from `!` to `~`.
+/// Appends a content code: its four characters, or `x` and hex digits if not all are from `!` to `~`.
 #[tactic(auto, using(dmap_tags::proofs::Fronts::begins_more, crate::proofs::Utf8::graphic_ascii))]
 pub(crate) fn push_code(code: Code, out: &mut Vec<u8>) -> Result<(), AllocError>
     ensures held { IsCode code }
@@ -139,7 +139,7 @@ pub(crate) fn push_code(code: Code, out: &mut Vec<u8>) -> Result<(), AllocError>
     push_hex_digits(&bytes, out)
 }
 
-/// Adds a byte of a text within quotes.
+/// Appends a byte of a text within quotes.
 fn push_escaped(byte: u8, out: &mut Vec<u8>) -> Result<(), AllocError>
     ensures shown { OnOk result (out.new.items ≡ out.old.items ++ escaped byte) }
     ensures front { OnErr result (Begins out.old.items out.new.items) }
@@ -155,7 +155,7 @@ fn push_escaped(byte: u8, out: &mut Vec<u8>) -> Result<(), AllocError>
     }
 }
 
-/// No byte is escaped within quotes.
+/// Returns whether no byte is escaped within quotes.
 #[inline(always)]
 fn are_plain(bytes: &[u8]) -> bool
     ensures { result ≡ true → flat_map escaped bytes.now ≡ bytes.now }
@@ -175,7 +175,7 @@ fn is_plain(byte: u8) -> bool
     byte >= 32 && byte != b'"' && byte != b'\\' && byte != 127
 }
 
-/// Adds the bytes of a text as they stand within quotes, at once where none is escaped.
+/// Appends the bytes of a text as they are within quotes, at once if no byte is escaped.
 #[inline(always)]
 fn push_escaped_bytes(bytes: &[u8], out: &mut Vec<u8>) -> Result<(), AllocError>
     ensures shown { OnOk result (out.new.items ≡ out.old.items ++ flat_map escaped bytes.now) }
@@ -200,7 +200,7 @@ fn push_all_escaped(bytes: &[u8], out: &mut Vec<u8>) -> Result<(), AllocError>
     Ok(())
 }
 
-/// Adds a text as it stands within quotes.
+/// Appends a text as it is within quotes.
 fn push_escaped_text(text: &str, out: &mut Vec<u8>) -> Result<(), AllocError>
     ensures shown { OnOk result (out.new.items ≡ out.old.items ++ flat_map escaped text.now) }
     ensures text { is_utf8 out.old.items ≡ true → OnOk result (is_utf8 out.new.items ≡ true) }
@@ -217,7 +217,7 @@ fn str_of(text: &Text) -> &str
     text.as_str()
 }
 
-/// Adds a text in quotes.
+/// Appends a text in quotes.
 pub(crate) fn push_quoted(text: &Text, out: &mut Vec<u8>) -> Result<(), AllocError>
     ensures shown { OnOk result (out.new.items ≡ out.old.items ++ quoted text.now) }
     ensures held { is_utf8 text.now ≡ true }

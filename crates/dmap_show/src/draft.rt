@@ -1,4 +1,4 @@
-//! Tags as lines add to them.
+//! Tags to which lines are still being added.
 
 ghost use Rattle.std.specs.Prelude.{◌≡◌, ◌≤◌, [], ◌∷◌, length, option_map, IfOk, OnOk, OnErr, IfNone, IfSome};
 ghost use Rattle.dmap_show.specs.Drafts.{closed_in, closed, parent_in, State, lowered, is_group, with_tag, fitted, taken};
@@ -8,19 +8,19 @@ use dmap_tags::{Code, Tag, Tags, Value};
 use std::alloc::{AllocError, Global};
 use std::marker::Model;
 
-/// The most levels that a tag has.
+/// The most levels of a tag.
 const MOST_LEVELS: u64 = 32;
 
-/// A list that further lines may add to.
+/// A list to which further lines may add.
 #[derive(Debug, Drop)]
 pub(crate) struct OpenList {
     pub(crate) code: Code,
-    /// The members that stand before it in the list around it.
+    /// The members before it in the list around it.
     pub(crate) before: Tags,
 }
 
 impl OpenList {
-    /// The members of the list around it, with this list, closed, as the last.
+    /// Returns the members of the list around it, with this list, closed, as the last.
     fn closed(self, here: Tags) -> Result<Tags, AllocError>
         ensures { IfOk result (λ tags. tags ≡ closed_in self here) }
     {
@@ -74,7 +74,7 @@ impl Around {
         Ok(())
     }
 
-    /// The code of the innermost list.
+    /// Returns the code of the innermost list.
     fn parent(&self) -> Option<Code>
         ensures { result ≡ parent_in self.now }
     {
@@ -84,7 +84,7 @@ impl Around {
         }
     }
 
-    /// Takes the innermost list out where more than so many are open.
+    /// Removes the innermost list if more than `level` lists are open.
     fn pop_above(&mut self, level: u64) -> Option<OpenList>
         ensures none { IfNone result ((length self.old ≤ level) × (self.new ≡ self.old)) }
         ensures some { IfSome result (λ o. (self.old ≡ o ∷ self.new) × (level ≤ length self.new)) }
@@ -97,7 +97,7 @@ impl Around {
     }
 }
 
-/// Tags of which the last ones may still get members.
+/// Tags of which the last may still get members.
 #[derive(Debug, Drop)]
 pub(crate) struct Draft {
     pub(crate) around: Around,
@@ -114,7 +114,7 @@ impl Draft {
         }
     }
 
-    /// All tags, each list closed.
+    /// Returns all tags, with each list closed.
     pub(crate) fn finished(self) -> Result<Tags, AllocError>
         ensures { IfOk result (λ tags. tags ≡ closed self.around self.here) }
     {
@@ -128,7 +128,7 @@ impl Draft {
         Ok(here)
     }
 
-    /// Closes lists until no more than so many are open.
+    /// Closes lists until no more than `level` are open.
     #[tactic(auto, using(crate::proofs::Zipper::lowered_low))]
     fn lowered(self, level: u64) -> Result<Draft, AllocError>
         ensures { IfOk result (λ draft. record { around = draft.around; here = draft.here } ≡ lowered level self.around self.here) }
@@ -143,7 +143,7 @@ impl Draft {
         Ok(Draft { around, here })
     }
 
-    /// Adds a tag; a list opens.
+    /// Adds a tag. A list opens.
     fn with_tag(self, alloc: Global, tag: Tag) -> Result<Draft, AllocError>
         ensures { IfOk result (λ draft. record { around = draft.around; here = draft.here } ≡ with_tag tag (record { around = self.around; here = self.here })) }
     {
@@ -165,7 +165,7 @@ impl Draft {
         Ok(Draft { around, here })
     }
 
-    /// Adds the tag of a line of that level, unless no such tag may stand there.
+    /// Adds the tag of a line of that level, unless no such tag may be there.
     pub(crate) fn taken(
         self,
         alloc: Global,
@@ -191,7 +191,7 @@ impl Draft {
     }
 }
 
-/// Whether a tag is a list.
+/// Returns whether a tag is a list.
 fn is_group(tag: &Tag) -> bool
     ensures { result ≡ is_group tag.now }
 {

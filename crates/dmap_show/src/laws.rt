@@ -1,4 +1,4 @@
-//! What holds of all tags. Each function does nothing; its contract is a fact that follows from the definitions.
+//! Theorems about all tags. Each function has an empty body; its contract is the theorem.
 
 ghost use Rattle.std.specs.Prelude.{◌≡◌, ◌≤◌, ◌*◌, ℕ, List, [], length, true};
 ghost use Rattle.code_table.specs.declared.row.CodeRow.{CodeRow};
@@ -25,14 +25,14 @@ pub fn shown_texts_are_not_refused()
     ensures { (rows : List CodeRow) (text : List ℕ) (n : ℕ) (ts : List Tree) → StopsBehind rows text n → Shows rows text ts → ⊥ }
 {}
 
-/// A tag's spelling is at most twice as long as its lines, at any level.
+/// A tag's encoding is at most twice as long as its lines, at any level.
 #[tactic(auto, using(crate::proofs::TextLengths::spelling_by_text, crate::proofs::TextLengths::spellings_by_text))]
 pub fn a_spelling_is_at_most_twice_its_text()
     ensures tag { (level : ℕ) (t : Tree) → length (spelling t) ≤ 2 * length (shown_tag level t) }
     ensures tags { (level : ℕ) (ts : Trees) → length (spellings ts) ≤ 2 * length (shown_tags level ts) }
 {}
 
-/// Tags whose lines have at most 64 MiB have spellings: no payload is too long.
+/// Tags whose lines have at most 64 MiB have encodings: no payload is too long.
 #[tactic(auto, using(crate::proofs::TextLengths::spellable_by_text))]
 pub fn short_text_has_short_tags()
     ensures { (ts : List Tree) → length (shown_tags 0 (trees_of ts)) ≤ 67108864 → are_spellable (trees_of ts) ≡ true }

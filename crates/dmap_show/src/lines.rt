@@ -16,7 +16,7 @@ use dmap_stream::Event;
 use dmap_tags::{Code, Tag, Text, Value};
 use std::alloc::{AllocError, Global};
 
-/// The lines of tags, the first of them at the top. `read_show` reads the tags back under a table that they fit.
+/// Returns the lines of tags at the top level. `read_show` reads the tags back under a table that they fit.
 #[tactic(auto, using(crate::proofs::Utf8::nothing_is_utf8))]
 pub fn show(alloc: Global, tags: &[Tag]) -> Result<Text, AllocError>
     ensures shown { IfOk result (λ text. text ≡ shown_tags 0 (trees_of tags.now)) }
@@ -32,8 +32,8 @@ pub fn show(alloc: Global, tags: &[Tag]) -> Result<Text, AllocError>
     }
 }
 
-/// Adds the line of an event at the end of `out`, nothing for a `Close`. `level` counts the lists that are open
-/// around the tag; at the top it is 0.
+/// Appends the line of an event to `out`: nothing for a `Close`. `level` is the number of open lists around the tag,
+/// 0 at the top.
 pub fn show_event(event: &Event, level: u32, out: &mut Vec<u8>) -> Result<(), AllocError>
     ensures shown { OnOk result (out.new.items ≡ out.old.items ++ shown_event level event.now) }
     ensures unchanged { OnErr result (out.new.items ≡ out.old.items) }
@@ -46,7 +46,7 @@ pub fn show_event(event: &Event, level: u32, out: &mut Vec<u8>) -> Result<(), Al
     Ok(())
 }
 
-/// Adds a content code at the end of `out`, as a line has it.
+/// Appends a content code to `out`, as a line has it.
 pub fn show_code(code: Code, out: &mut Vec<u8>) -> Result<(), AllocError>
     ensures shown { OnOk result (out.new.items ≡ out.old.items ++ shown_code code) }
     ensures unchanged { OnErr result (out.new.items ≡ out.old.items) }
@@ -70,8 +70,8 @@ fn push_event(level: u64, event: &Event, out: &mut Vec<u8>) -> Result<(), AllocE
     }
 }
 
-/// Adds the lines of a tag and of all in it. No tag is deeper than 64 bits count, and its spaces would not have
-/// room either.
+/// Appends the lines of a tag and of all tags in it. No tag is deeper than 64 bits count: its indentation would not fit
+/// in memory either.
 #[cycle(push_tag)]
 fn push_tag(level: u64, code: Code, value: &Value, out: &mut Vec<u8>) -> Result<(), AllocError>
     ensures shown { OnOk result (out.new.items ≡ out.old.items ++ shown_tag level (tree_with code value.now)) }
@@ -91,7 +91,7 @@ fn push_tag(level: u64, code: Code, value: &Value, out: &mut Vec<u8>) -> Result<
     }
 }
 
-/// Adds the lines of tags in order.
+/// Appends the lines of tags in order.
 #[cycle(push_tag)]
 #[tactic(auto, using(dmap_tags::proofs::Sizes::member_falls, dmap_tags::proofs::Fronts::begins_more))]
 fn push_tags(level: u64, tags: &[Tag], out: &mut Vec<u8>) -> Result<(), AllocError>

@@ -1,4 +1,4 @@
-//! Lines taken apart.
+//! The parts of lines.
 
 ghost use Rattle.std.specs.Prelude.{◌≡◌, ◌<◌, ◌≤◌, ◌+◌, ◌^◌, ◌∷◌, ◌++◌, ◌/◌, ◌%◌, ℕ, ℤ, List, decimal, flat_map, length, IfOk, IfSome, Some, None, ◌≢◌, MatchOption, true, false};
 ghost use Rattle.std.specs.Char.{digit_char};
@@ -14,7 +14,7 @@ ghost use Rattle.dmap_show.specs.Parts.{pairs_in_front, behind_pairs, kind_named
 use dmap_tags::{Code, Kind};
 use std::str::from_utf8;
 
-/// The bytes before the first `mark` and those behind it; `None` where there is none.
+/// Returns the bytes before the first `mark` and those after it, or `None` if there is no `mark`.
 pub(crate) fn split_once_at(bytes: &[u8], mark: u8) -> Option<(&[u8], &[u8])>
     ensures { MatchOption result (has mark bytes.now ≡ false)
         (λ r. (has mark bytes.now ≡ true) × ((r.0.now ≡ before mark bytes.now) × (r.1.now ≡ behind mark bytes.now))) }
@@ -27,7 +27,7 @@ pub(crate) fn split_once_at(bytes: &[u8], mark: u8) -> Option<(&[u8], &[u8])>
     None
 }
 
-/// The bytes before the first `mark` and those behind it; all and none where there is none.
+/// Returns the bytes before the first `mark` and those after it. If there is no `mark`, these are all bytes and none.
 #[tactic(auto, using(crate::proofs::Taken::before_none, crate::proofs::Taken::behind_none))]
 pub(crate) fn split_at_byte(bytes: &[u8], mark: u8) -> (&[u8], &[u8])
     ensures { (result.0.now ≡ before mark bytes.now) × (result.1.now ≡ behind mark bytes.now) }
@@ -38,7 +38,7 @@ pub(crate) fn split_at_byte(bytes: &[u8], mark: u8) -> (&[u8], &[u8])
     }
 }
 
-/// The number of pairs of spaces in front, and what stands behind them.
+/// Returns the number of pairs of spaces at the beginning, and what follows them.
 pub(crate) fn split_indent(bytes: &[u8]) -> (u64, &[u8])
     ensures { (result.0 ≡ pairs_in_front bytes.now) × (result.1.now ≡ behind_pairs bytes.now) }
 {
@@ -51,7 +51,7 @@ pub(crate) fn split_indent(bytes: &[u8]) -> (u64, &[u8])
     (level, left)
 }
 
-/// The kind of a word.
+/// Returns the kind of a word.
 pub(crate) fn kind_named(word: &[u8]) -> Kind
     ensures { result ≡ kind_named word.now }
 {
@@ -84,7 +84,7 @@ pub(crate) fn kind_named(word: &[u8]) -> Kind
     }
 }
 
-/// The number whose decimal the bytes are.
+/// Returns the number whose decimal the bytes are.
 pub(crate) fn number(bytes: &[u8]) -> Option<u64>
     ensures { (n : ℕ) → n < 2 ^ 64 → bytes.now ≡ decimal n → result ≡ Some n }
 {
@@ -100,7 +100,7 @@ fn number_in(text: &str) -> Option<u64>
     text.parse().ok()
 }
 
-/// The number, with a sign where it is negative, whose decimal the bytes are.
+/// Returns the number, with a sign if it is negative, whose decimal the bytes are.
 pub(crate) fn signed_number(bytes: &[u8]) -> Option<i64>
     ensures { (z : ℤ) → FitsSigned w64 z → bytes.now ≡ signed_decimal z → result ≡ Some z }
 {
@@ -116,7 +116,7 @@ fn signed_number_in(text: &str) -> Option<i64>
     text.parse().ok()
 }
 
-/// The byte that two hex digits tell.
+/// Returns the byte of two hex digits.
 fn byte_of(high: u8, low: u8) -> u8
     ensures { (b : ℕ) → b < 256 → high ≡ digit_char (b / 16) → low ≡ digit_char (b % 16) → result ≡ b }
 {
@@ -125,7 +125,7 @@ fn byte_of(high: u8, low: u8) -> u8
         .wrapping_add(hex_value(low))
 }
 
-/// The value of a lower-case hex digit.
+/// Returns the value of a lower-case hex digit.
 fn hex_value(digit: u8) -> u8
     ensures { (n : ℕ) → n < 16 → digit ≡ digit_char n → result ≡ n }
 {
@@ -136,7 +136,7 @@ fn hex_value(digit: u8) -> u8
     }
 }
 
-/// The byte that two hex digits in front tell, and what stands behind them.
+/// Returns the byte of two hex digits at the beginning, and what follows them.
 pub(crate) fn first_hex(bytes: &[u8]) -> Option<(u8, &[u8])>
     ensures shown { (b : ℕ) (more : List ℕ) → b < 256 → bytes.now ≡ hex b ++ more → IfSome result (λ r. (r.0 ≡ b) × (r.1.now ≡ more)) }
     ensures there { (b : ℕ) (more : List ℕ) → bytes.now ≡ hex b ++ more → result ≢ None }
@@ -148,7 +148,7 @@ pub(crate) fn first_hex(bytes: &[u8]) -> Option<(u8, &[u8])>
     }
 }
 
-/// The byte of a quoted text that stands in front, and what stands behind it.
+/// Returns the first byte of a quoted text, and what follows it.
 pub(crate) fn first_quoted(bytes: &[u8]) -> Option<(u8, &[u8])>
     ensures shown { (b : ℕ) (more : List ℕ) → b < 256 → bytes.now ≡ escaped b ++ more → IfSome result (λ r. (r.0 ≡ b) × (r.1.now ≡ more)) }
     ensures there { (b : ℕ) (more : List ℕ) → bytes.now ≡ escaped b ++ more → result ≢ None }
@@ -162,7 +162,7 @@ pub(crate) fn first_quoted(bytes: &[u8]) -> Option<(u8, &[u8])>
     }
 }
 
-/// The content code that is shown so.
+/// Returns the content code that is shown so.
 pub(crate) fn read_code(bytes: &[u8]) -> Option<Code>
     ensures only { (c : Four) → IsCode c → bytes.now ≡ shown_code c → result ≡ Some c }
     ensures held { IfSome result IsCode }

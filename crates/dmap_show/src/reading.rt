@@ -1,4 +1,4 @@
-//! Shown text read back.
+//! Reads shown text back.
 
 ghost use Rattle.std.specs.Prelude.{◌≡◌, ℕ, List, option_map, IfOk, IfErr, IfSome, MatchResult};
 ghost use Rattle.dmap_tags.specs.Tree.{Tree};
@@ -16,10 +16,11 @@ use dmap_tags::{Tag, Tags};
 use std::alloc::{AllocError, Global};
 use thiserror::Error;
 
-/// Why a text was not read.
+/// Why a text was not read back.
 #[derive(Debug, Drop, PartialEq, Eq, Error)]
 pub enum ShowError {
-    /// The first line, counted from 1, with which no shown text goes on. A last line without a line feed is one.
+    /// The first line, counted from 1, with which no shown text continues. A last line without a line feed is such a
+    /// line.
     #[error("line {line} is no line of shown tags")]
     Line { line: u64 },
     #[error("out of memory")]
@@ -37,7 +38,7 @@ impl From<AllocError> for ShowError {
     }
 }
 
-/// The tags whose lines a text is. They fit the table and have at most 32 levels.
+/// Returns the tags whose lines `text` is. They fit the table and have at most 32 levels.
 pub fn read_show(alloc: Global, text: &str, table: &CodeTable) -> Result<Tags, ShowError>
     ensures read { IfOk result (λ tags. Shows table.now text.now tags) }
     ensures complete { (ts : List Tree) → Shows table.now text.now ts → MatchResult result (λ tags. tags ≡ ts) (λ e. e ≡ ShowError.Memory) }
@@ -47,7 +48,7 @@ pub fn read_show(alloc: Global, text: &str, table: &CodeTable) -> Result<Tags, S
     Ok(draft.finished()?)
 }
 
-/// The draft behind all lines.
+/// Returns the draft after all lines.
 fn read_lines(alloc: Global, text: &[u8], table: &CodeTable) -> Result<Draft, ShowError>
     ensures { MatchResult result (λ draft. Follows table.now text.now draft.around draft.here) (λ e. Explains table.now text.now e) }
 {
@@ -68,7 +69,7 @@ fn read_lines(alloc: Global, text: &[u8], table: &CodeTable) -> Result<Draft, Sh
     Ok(draft)
 }
 
-/// The draft with a line's tag, unless no such tag may stand there.
+/// Returns the draft with a line's tag, unless no such tag may be there.
 fn take_line(
     alloc: Global,
     table: &CodeTable,

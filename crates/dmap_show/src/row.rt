@@ -1,4 +1,4 @@
-//! One line read.
+//! Reads one line.
 
 ghost use Rattle.std.specs.Prelude.{◌≡◌, ◌++◌, ◌∷◌, ℕ, [], IfOk, IfSome, Some, Decides};
 ghost use Rattle.dmap_tags.specs.Codes.{Four};
@@ -23,7 +23,7 @@ pub(crate) struct Row {
     pub(crate) value: Value,
 }
 
-/// What a line shows, if it is a shown line. Whatever the line was taken for counts only if it is shown so again.
+/// Returns what a line shows, if it is a shown line. A guess counts only if it is shown as that line.
 pub(crate) fn read_row(alloc: Global, bare: &[u8]) -> Result<Option<Row>, AllocError>
     ensures row { IfOk result (λ r. IfSome r (λ row. (bare.now ≡ bare_line row.level (tree_with row.code row.value)) × (IsCode row.code × IsHeadValue row.value))) }
     ensures only { (level : ℕ) (t : Tree) → IsHead t → bare.now ≡ bare_line level t → IfOk result (λ r. r ≡ Some (record { level = level; code = tree_code t; value = head_value t })) }
@@ -38,7 +38,7 @@ pub(crate) fn read_row(alloc: Global, bare: &[u8]) -> Result<Option<Row>, AllocE
     }
 }
 
-/// Whether a row is shown as that line.
+/// Returns whether a row is shown as that line.
 fn is_shown(alloc: Global, row: &Row, bare: &[u8]) -> Result<bool, AllocError>
     ensures { IfOk result (λ r. Decides r (shown_line row.now.level (tree_with row.now.code row.now.value) ≡ bare.now ++ 10 ∷ [])) }
 {
@@ -49,7 +49,7 @@ fn is_shown(alloc: Global, row: &Row, bare: &[u8]) -> Result<bool, AllocError>
     Ok(shown.as_slice() == line.as_slice())
 }
 
-/// What a line may show.
+/// Returns what a line may show.
 fn guess(alloc: Global, bare: &[u8]) -> Result<Option<Row>, AllocError>
     ensures held { IfOk result (λ r. IfSome r (λ row. IsCode row.code × IsHeadValue row.value)) }
     ensures only { (level : ℕ) (t : Tree) → IsHead t → bare.now ≡ bare_line level t → IfOk result (λ r. r ≡ Some (record { level = level; code = tree_code t; value = head_value t })) }
@@ -60,7 +60,7 @@ fn guess(alloc: Global, bare: &[u8]) -> Result<Option<Row>, AllocError>
     guess_by(alloc, level, code, word, text)
 }
 
-/// What a line may show, by its parts.
+/// Returns what a line may show, by its parts.
 fn guess_by(
     alloc: Global,
     level: u64,

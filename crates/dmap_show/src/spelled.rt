@@ -1,4 +1,4 @@
-//! Values read from the texts that show them.
+//! Reads values from the texts that show them.
 
 ghost use Rattle.std.specs.Prelude.{◌≡◌, ◌≢◌, ◌<◌, ◌^◌, ◌/◌, ◌%◌, ◌++◌, ◌∷◌, ℕ, ℤ, List, [], length, flat_map, decimal, IfOk, IfSome, Some, None, true};
 ghost use Rattle.std.specs.Fmt.{signed_decimal};
@@ -20,7 +20,7 @@ pub(crate) enum Form {
     Hex,
 }
 
-/// The value that a word and a text show.
+/// Returns the value that a word and a text show.
 pub(crate) fn read_value(
     alloc: Global,
     word: &[u8],
@@ -40,7 +40,7 @@ pub(crate) fn read_value(
     }
 }
 
-/// The value of a number, a date or a version.
+/// Returns the value of a number, a date or a version.
 fn read_number(kind: Kind, text: &[u8]) -> Option<Value>
     ensures only { (v : Value) → is_number kind ≡ true → Spells kind text.now v → result ≡ Some v }
     ensures held { IfSome result IsHeadValue }
@@ -114,7 +114,7 @@ fn i32_of(text: &[u8]) -> Option<i32>
     }
 }
 
-/// The version whose three parts stand between points.
+/// Returns the version whose three parts are separated by points.
 fn version_of(text: &[u8]) -> Option<u32>
     ensures { (n : ℕ) → n < 2 ^ 32 → text.now ≡ dotted n → result ≡ Some n }
 {
@@ -132,7 +132,7 @@ fn version_by(major: &[u8], minor: &[u8], patch: &[u8]) -> Option<u32>
     Some(major * 65_536 + minor * 256 + patch)
 }
 
-/// The byte that stands in front, and what stands behind it.
+/// Returns the first byte that is shown, and what follows it.
 fn first(form: Form, bytes: &[u8]) -> Option<(u8, &[u8])>
     ensures shown { (b : ℕ) (more : List ℕ) → b < 256 → bytes.now ≡ piece form b ++ more → IfSome result (λ r. (r.0 ≡ b) × (r.1.now ≡ more)) }
     ensures there { (b : ℕ) (more : List ℕ) → bytes.now ≡ piece form b ++ more → result ≢ None }
@@ -144,7 +144,7 @@ fn first(form: Form, bytes: &[u8]) -> Option<(u8, &[u8])>
     }
 }
 
-/// The bytes that are shown so.
+/// Returns the bytes that are shown so.
 fn unshown(alloc: Global, form: Form, shown: &[u8]) -> Result<Vec<u8>, AllocError>
     ensures { (bytes : List ℕ) → AreBytes bytes → shown.now ≡ flat_map (piece form) bytes → IfOk result (λ v. v.items ≡ bytes) }
 {
@@ -157,7 +157,7 @@ fn unshown(alloc: Global, form: Form, shown: &[u8]) -> Result<Vec<u8>, AllocErro
     Ok(bytes)
 }
 
-/// What stands between the first byte and the last.
+/// Returns what is between the first byte and the last.
 fn within(text: &[u8]) -> &[u8]
     ensures { (a b : ℕ) (inner : List ℕ) → text.now ≡ a ∷ inner ++ b ∷ [] → result.now ≡ inner }
 {
@@ -167,7 +167,7 @@ fn within(text: &[u8]) -> &[u8]
     }
 }
 
-/// What stands behind the first byte.
+/// Returns what follows the first byte.
 fn behind_first(text: &[u8]) -> &[u8]
     ensures { (a : ℕ) (inner : List ℕ) → text.now ≡ a ∷ inner → result.now ≡ inner }
 {
@@ -177,7 +177,7 @@ fn behind_first(text: &[u8]) -> &[u8]
     }
 }
 
-/// The text in quotes.
+/// Returns the text in quotes.
 fn read_text(alloc: Global, text: &[u8]) -> Result<Option<Value>, AllocError>
     ensures only { (v : Value) → Spells Kind.Text text.now v → IfOk result (λ r. r ≡ Some v) }
     ensures held { IfOk result (λ r. IfSome r IsHeadValue) }
@@ -188,7 +188,7 @@ fn read_text(alloc: Global, text: &[u8]) -> Result<Option<Value>, AllocError>
     }
 }
 
-/// The bytes behind a `#`.
+/// Returns the bytes after a `#`.
 fn read_opaque(alloc: Global, text: &[u8]) -> Result<Option<Value>, AllocError>
     ensures only { (v : Value) → Spells Kind.Opaque text.now v → IfOk result (λ r. r ≡ Some v) }
     ensures held { IfOk result (λ r. IfSome r IsHeadValue) }

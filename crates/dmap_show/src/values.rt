@@ -14,7 +14,7 @@ use crate::adding::{
 use dmap_tags::{Code, Value};
 use std::alloc::AllocError;
 
-/// The word of a value's kind with the spaces around it: none stands behind that of a list.
+/// Returns the word of a value's kind with the spaces around it. No space follows that of a list.
 #[inline(always)]
 fn word(value: &Value) -> &'static str
     ensures { (c : Four) → result.now ≡ 32 ∷ word_of (tree_with c value.now) ++ space_of (tree_with c value.now) }
@@ -36,7 +36,7 @@ fn word(value: &Value) -> &'static str
     }
 }
 
-/// Adds bytes that have no meaning of their own.
+/// Appends bytes that have no meaning.
 fn push_opaque(bytes: &[u8], out: &mut Vec<u8>) -> Result<(), AllocError>
     ensures shown { OnOk result (out.new.items ≡ out.old.items ++ 35 ∷ flat_map hex bytes.now) }
     ensures held { AreBytes bytes.now }
@@ -47,7 +47,7 @@ fn push_opaque(bytes: &[u8], out: &mut Vec<u8>) -> Result<(), AllocError>
     push_hex_digits(bytes, out)
 }
 
-/// Adds the three parts of a version.
+/// Appends the three parts of a version.
 fn push_version(n: u32, out: &mut Vec<u8>) -> Result<(), AllocError>
     ensures shown { OnOk result (out.new.items ≡ out.old.items ++ dotted n) }
     ensures text { is_utf8 out.old.items ≡ true → OnOk result (is_utf8 out.new.items ≡ true) }
@@ -61,7 +61,7 @@ fn push_version(n: u32, out: &mut Vec<u8>) -> Result<(), AllocError>
     push_number(version % 256, out)
 }
 
-/// Adds what a tag's line says of its value: nothing for a list.
+/// Appends a tag's value as its line has it: nothing for a list.
 #[inline(always)]
 fn push_value(value: &Value, out: &mut Vec<u8>) -> Result<(), AllocError>
     ensures shown { (c : Four) → OnOk result (out.new.items ≡ out.old.items ++ text_of (tree_with c value.now)) }
@@ -86,7 +86,7 @@ fn push_value(value: &Value, out: &mut Vec<u8>) -> Result<(), AllocError>
     }
 }
 
-/// Adds what stands behind the word of a value's kind.
+/// Appends what follows the word of a value's kind.
 #[inline(always)]
 fn push_rest(value: &Value, out: &mut Vec<u8>) -> Result<(), AllocError>
     ensures shown { (c : Four) → OnOk result (out.new.items ≡ out.old.items ++ (text_of (tree_with c value.now) ++ 10 ∷ [])) }
@@ -98,7 +98,7 @@ fn push_rest(value: &Value, out: &mut Vec<u8>) -> Result<(), AllocError>
     push_str("\n", out)
 }
 
-/// Adds the front of a line: the spaces of its level, the code, and a word with the spaces around it.
+/// Appends the beginning of a line: the spaces of its level, the code, and a word with the spaces around it.
 #[inline(always)]
 pub(crate) fn push_front(
     level: u64,
@@ -116,7 +116,7 @@ pub(crate) fn push_front(
     push_str(word, out)
 }
 
-/// Adds the line of a tag itself.
+/// Appends the line of a tag itself.
 pub(crate) fn push_line(
     level: u64,
     code: Code,

@@ -16,7 +16,7 @@ use Rattle.dmap_tags.specs.Kinds.{is_list}
 use Rattle.dmap_tags.specs.Proper.{IsProperTag}
 use Rattle.code_table.specs.declared.row.CodeRow.{CodeRow}
 use Rattle.code_table.specs.Rows.{kind_in}
-use Rattle.code_table.specs.Fits.{fits, all_fit, leaf_fits}
+use Rattle.code_table.specs.Fits.{fits, leaf_fits}
 use Rattle.dmap_stream.specs.declared.containers.Container.{Container}
 use Rattle.dmap_stream.specs.declared.refusal.StreamError.{StreamError}
 use Rattle.dmap_stream.specs.declared.refusal.StreamError.TheVariants.{TooLarge, TooDeep, Overrun, ShortHead, Truncated, Memory}

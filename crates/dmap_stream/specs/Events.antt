@@ -1,4 +1,4 @@
--- The events of tags: a value's tag has one, and a list's members stand between its opening and its closing.
+-- The events of tags: a value's tag has one, and a list's members come between its opening and its closing.
 use Rattle.std.specs.Prelude.{ℕ, ◌+◌, List, ◌∷◌, length}
 use Rattle.dmap_tags.specs.Tree.{Tree, leaf, list, Trees, none, more}
 use Rattle.dmap_tags.specs.Spelling.{payload, spellings}
@@ -6,7 +6,7 @@ use Rattle.dmap_tags.specs.Typed.{value_of}
 use Rattle.dmap_stream.specs.declared.event.Event.{Event}
 use Rattle.dmap_stream.specs.declared.event.Event.TheVariants.{Open, Leaf, Close}
 
--- the events of a tag whose head stands at that offset, and then others
+-- the events of a tag whose head is at that offset, and then others
 abbrev mutual
   pub events_of : ℕ → Tree → List Event → List Event
   events_of at (leaf c l) rest = Leaf c (value_of l) at ∷ rest

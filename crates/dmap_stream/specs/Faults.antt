@@ -1,4 +1,4 @@
--- Which errors are faults of the bytes themselves: all but their end inside a tag and want of memory.
+-- Which errors are faults of the bytes themselves: all but their end inside a tag and allocation failures.
 use Rattle.std.specs.Prelude.{◌≡◌, Bool, true, false}
 use Rattle.dmap_stream.specs.declared.refusal.StreamError.{StreamError}
 use Rattle.dmap_stream.specs.declared.refusal.StreamError.TheVariants.{TooLarge, TooDeep, Overrun, ShortHead, Truncated, Memory}
@@ -12,7 +12,7 @@ is_fault (ShortHead at) = true
 is_fault (Truncated at) = false
 is_fault Memory = false
 
--- bytes are broken by faults alone
+-- bytes are broken only by faults
 abbrev pub BreaksByFault : Ending → Type 0
 BreaksByFault between = Unit {0}
 BreaksByFault inside = Unit {0}

@@ -1,5 +1,5 @@
--- Where a reader stands: which events are ready, and what further bytes will say.
-use Rattle.std.specs.Prelude.{◌≡◌, ◌≢◌, ℕ, ◌+◌, ◌<◌, ◌≤◌, List, [], ◌++◌, length, take, Bool, true, false, not, ◌&&◌, nat_lt, option_to_list, Result, Ok, Err}
+-- The position of a reader: which events are ready, and what further bytes will say.
+use Rattle.std.specs.Prelude.{◌≡◌, ◌≢◌, ℕ, ◌+◌, ◌<◌, ◌≤◌, List, [], ◌∷◌, ◌++◌, length, take, Bool, true, false, not, ◌&&◌, nat_lt, option_to_list, Option, IfSome, IfNone, Result, Ok, Err}
 use Rattle.dmap_tags.specs.Kinds.{is_list}
 use Rattle.code_table.specs.declared.row.CodeRow.{CodeRow}
 use Rattle.dmap_stream.specs.declared.event.Event.{Event}
@@ -13,7 +13,7 @@ use Rattle.dmap_stream.specs.Walk.{Walk, broken, ends, behind, is_empty, closes,
 abbrev pub ready_at : Position → List Event
 ready_at p = option_to_list p.ready ++ closes p.start p.around
 
--- what is said behind them where further bytes follow
+-- what is said after them if further bytes follow
 abbrev pub resumed : List CodeRow → ℕ → Position → List ℕ → Walk
 resumed rows limit p rest =
     elim p.phase [
@@ -21,7 +21,7 @@ resumed rows limit p rest =
       | Payload c kind len ↦ at_payload (walk_from rows limit) p.start (open_after p.start p.around) c kind len (p.part ++ rest)
     ]
 
--- what has come is a part of a head, or of a payload that is no list's
+-- what has come is a part of a head, or of a payload of a tag that is not a list
 abbrev pub is_due : Position → Bool
 is_due p =
     elim p.phase [ Head ↦ nat_lt (length p.part) 8 | Payload c kind len ↦ not (is_list kind) && nat_lt (length p.part) len ]
@@ -39,7 +39,7 @@ abbrev pub is_between : Position → Bool
 is_between p =
     elim p.phase [ Head ↦ is_empty (open_after p.start p.around) && is_empty p.part | Payload c kind len ↦ false ]
 
--- an event comes next, and then what the new position goes on with; or the fault that bytes show
+-- an event comes next, and then what the new position continues with; or the fault that bytes show
 abbrev pub Moves : List CodeRow → ℕ → (List ℕ → Walk) → Position → Result (Unit {0}) StreamError → Type 0
 Moves rows limit before new (Ok _) =
     (is_due new ≡ true) × (ready_at new ≢ []) × ((rest : List ℕ) → before rest ≡ behind (ready_at new) (resumed rows limit new rest))
@@ -50,7 +50,7 @@ Moves rows limit before new (Err e) =
 abbrev pub AreQuiet : (List ℕ → Walk) → List ℕ → ℕ → Type 0
 AreQuiet before piece n = (m : ℕ) → m < n → (before (take m piece)).events ≡ []
 
--- the same, for a call that takes bytes from the front of a piece until an event is ready, and none behind it
+-- the same, for a call that takes bytes from the beginning of a piece until an event is ready, and none after it
 abbrev pub Takes : List CodeRow → ℕ → (List ℕ → Walk) → List ℕ → Position → Result ℕ StreamError → Type 0
 Takes rows limit before piece new (Ok n) =
     (n ≤ length piece) × (n < length piece → ready_at new ≢ []) × (is_due new ≡ true)
@@ -58,3 +58,11 @@ Takes rows limit before piece new (Ok n) =
     × AreQuiet before piece n
 Takes rows limit before piece new (Err e) =
     (e ≡ Memory → ready_at new ≡ []) × (e ≢ Memory → (rest : List ℕ) → before (piece ++ rest) ≡ behind (ready_at new) (ends (broken e)))
+
+-- the next event that was ready is returned, or there was none; what further bytes will say is as before
+pub record HandsOut (old new : Position) (event : Option Event) : Type 0 where
+  pub none : IfNone event ((ready_at old ≡ []) × (new ≡ old))
+  pub some : IfSome event (λ e. ready_at old ≡ e ∷ ready_at new)
+  pub rest : (rows : List CodeRow) (limit : ℕ) (rest : List ℕ) → resumed rows limit new rest ≡ resumed rows limit old rest
+  pub due : is_due new ≡ is_due old
+  pub taken : bytes_taken new ≡ bytes_taken old

@@ -1,5 +1,5 @@
--- What bytes of DMAP tags say, place by place. A place is an offset where a tag's head is due, with the lists that
--- are open around it, the innermost first. Nothing here depends on how the bytes come.
+-- What bytes of DMAP tags say, place by place. A place is an offset at which a tag's head is expected, with the
+-- lists that are open around it, the innermost first. Nothing here depends on how the bytes come.
 use Rattle.std.specs.Prelude.{ℕ, zero, suc, ◌+◌, List, [], ◌∷◌, ◌++◌, length, take, drop, Bool, true, false, ◌&&◌, ◌==◌, nat_lt, nat_le, if◌then◌else◌, Option, Some, None}
 use Rattle.std.specs.Int.{from_be_bytes, w32}
 use Rattle.dmap_tags.specs.Codes.{Four, code_of}
@@ -14,7 +14,7 @@ use Rattle.dmap_stream.specs.declared.event.Event.TheVariants.{Open, Leaf, Close
 use Rattle.dmap_stream.specs.declared.refusal.StreamError.{StreamError}
 use Rattle.dmap_stream.specs.declared.refusal.StreamError.TheVariants.{TooLarge, TooDeep, Overrun, ShortHead}
 
--- how bytes end: between two top tags, inside one, or broken at the first faulty place
+-- how bytes end: between two top tags, inside one, or broken at the first malformed tag
 pub data Ending : Type 0 where
   between : Ending
   inside : Ending
@@ -57,7 +57,7 @@ abbrev pub parent_of : List Container → Option Four
 parent_of [] = None
 parent_of (c ∷ around) = Some c.code
 
--- what ends there passes the end of the innermost list
+-- a tag that ends there passes the end of the innermost list
 abbrev pub passes : ℕ → List Container → Bool
 passes end [] = false
 passes end (c ∷ around) = nat_lt c.end end
@@ -69,7 +69,7 @@ fault_at limit at around c len =
     else (if nat_le 32 (length around) then Some (TooDeep at)
     else (if passes (at + 8 + len) around then Some (Overrun at c) else None))
 
--- the length that a head tells, behind its code
+-- the length that a head states, after its code
 abbrev pub told_length : List ℕ → ℕ
 told_length head = from_be_bytes w32 (take 4 (drop 4 head))
 
@@ -77,7 +77,7 @@ told_length head = from_be_bytes w32 (take 4 (drop 4 head))
 abbrev pub Onward : Type 0
 Onward = ℕ → List Container → List ℕ → Walk
 
--- a tag that is no list stands at its last byte
+-- a tag that is not a list has its event at its last byte
 abbrev pub at_payload : Onward → ℕ → List Container → Four → Kind → ℕ → List ℕ → Walk
 at_payload onward at around c kind len bytes =
     if nat_lt (length bytes) len then ends inside
@@ -86,7 +86,7 @@ at_payload onward at around c kind len bytes =
 abbrev pub container : Four → ℕ → ℕ → Container
 container c at len = record { code = c; at = at; end = at + 8 + len }
 
--- a list opens at its eighth head byte, and the next place is right there, in it
+-- a list opens at its eighth head byte, and the next place is right after it, inside the list
 abbrev pub at_body : Onward → ℕ → List Container → Four → Kind → ℕ → List ℕ → Walk
 at_body onward at around c kind len bytes =
     if is_list kind then behind (Open c len at ∷ []) (onward (at + 8) (container c at len ∷ around) bytes)
@@ -100,13 +100,13 @@ unfoldable pub behind_head : Onward → List CodeRow → ℕ → ℕ → List Co
 behind_head onward rows limit at around c len bytes =
     unless_fault (fault_at limit at around c len) (at_body onward at around c (kind_in rows (parent_of around) c) len bytes)
 
--- a head has eight bytes; before them the bytes end between two tags only where no list is open
+-- a head has eight bytes; before them the bytes end between two tags only if no list is open
 unfoldable pub at_head : Onward → List CodeRow → ℕ → ℕ → List Container → List ℕ → Walk
 at_head onward rows limit at around bytes =
     if nat_lt (length bytes) 8 then ends (if is_empty around && is_empty bytes then between else inside)
     else behind_head onward rows limit at around (code_of bytes) (told_length bytes) (drop 8 bytes)
 
--- at a place the lists that end there are closed first; then a head is due, if there is room for one
+-- at a place the lists that end there are closed first; then a head is expected, if there is space for one
 unfoldable pub at_place : Onward → List CodeRow → ℕ → ℕ → List Container → List ℕ → Walk
 at_place onward rows limit at around bytes =
     behind (closes at around)
@@ -121,6 +121,6 @@ walk rows limit (suc n) at around bytes = at_place (walk rows limit n) rows limi
 unfoldable pub walk_from : List CodeRow → ℕ → Onward
 walk_from rows limit at around bytes = walk rows limit (suc (length bytes)) at around bytes
 
--- the walk over whole bytes, of which a top tag's payload has at most that many
+-- the walk over whole bytes, with that maximum payload of a top tag
 abbrev pub walk_of : List CodeRow → ℕ → List ℕ → Walk
 walk_of rows limit bytes = walk_from rows limit 0 [] bytes

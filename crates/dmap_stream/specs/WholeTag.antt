@@ -1,4 +1,4 @@
--- Reading one whole tag off the front of bytes: which tags are accepted, and what a refusal tells.
+-- Reading one whole tag at the beginning of bytes: which tags are accepted, and what a refusal means.
 use Rattle.std.specs.Prelude.{◌≡◌, ◌≢◌, ℕ, ◌+◌, ◌<◌, ◌≤◌, ◌^◌, List, [], ◌∷◌, ◌++◌, length, Bool, true, ◌&&◌, nat_le, Some, None}
 use Rattle.std.specs.List.{AllByRecursion}
 use Rattle.dmap_tags.specs.Codes.{Four}
@@ -12,7 +12,7 @@ use Rattle.dmap_stream.specs.declared.refusal.StreamError.{StreamError}
 use Rattle.dmap_stream.specs.declared.refusal.StreamError.TheVariants.{Truncated, Memory}
 use Rattle.dmap_stream.specs.Walk.{Ending, between, inside, broken, parent_of, fault_at, at_head, walk_from}
 
--- a top tag that is accepted: it fits the table, has 32 levels at most, and its payload is within the limit
+-- a top tag that is accepted: it fits the table, has at most 32 levels, and its payload is within the limit
 abbrev pub is_accepted : List CodeRow → ℕ → Tree → Bool
 is_accepted rows limit t = fits rows None t && (nat_le (levels t) 32 && nat_le (length (payload t)) limit)
 
@@ -20,7 +20,7 @@ is_accepted rows limit t = fits rows None t && (nat_le (levels t) 32 && nat_le (
 abbrev pub AreAccepted : List CodeRow → ℕ → List Tree → Type 0
 AreAccepted rows limit ts = AllByRecursion (λ t. (is_accepted rows limit t ≡ true) × IsProperTag t) ts
 
--- the error of bytes that are that many and end so, where the first tag of them is not whole
+-- the error of bytes of that number that end so, if their first tag is not whole
 abbrev pub refusal : ℕ → Ending → StreamError
 refusal total between = Truncated total
 refusal total inside = Truncated total
@@ -48,7 +48,7 @@ pub record AreRest (rows : List CodeRow) (at : ℕ) (around : List Container) (c
   pub told : length (spellings ts) < 2 ^ 32
   pub ends : at + length (spellings ts) ≡ end_of around
 
--- the tag whose head is due at that place was read, and those bytes are left
+-- the tag whose head is expected at that place was read, and those bytes are left
 pub record ReadsTag (rows : List CodeRow) (limit at : ℕ) (around : List Container) (bytes : List ℕ) (t : Tree) (rest : List ℕ) : Type 0 where
   pub spelled : bytes ≡ spelling t ++ rest
   pub fit : fits rows (parent_of around) t ≡ true

@@ -57,7 +57,7 @@ impl Buffer {
         self.bytes.clear();
     }
 
-    /// Takes bytes from the front of the piece until there are `wanted` in all, and answers how many it took.
+    /// Takes bytes from the beginning of `piece` until there are `wanted` in all, and returns how many it took.
     pub fn fill(&mut self, wanted: usize, piece: &[u8]) -> Result<usize, AllocError>
         requires { length self.old ≤ wanted }
         ensures took { IfOk result
@@ -71,7 +71,7 @@ impl Buffer {
         Ok(missing)
     }
 
-    /// The code and the payload's length in a head.
+    /// Returns the code and the payload's length in a head.
     pub fn head(&self) -> (Code, u32)
         requires { length self.now ≡ 8 }
         ensures code { result.0 ≡ code_of self.now }

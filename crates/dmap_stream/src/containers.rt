@@ -12,9 +12,9 @@ use std::marker::Model;
 #[derive(Clone, Copy, Debug)]
 pub struct Container {
     pub code: Code,
-    /// Where its head stands.
+    /// The offset of its head.
     pub at: u64,
-    /// Where it ends. The end of a top tag that is never read whole may be past 64 bits.
+    /// The offset of its end. The end of a top tag that is never read whole may be past 64 bits.
     pub end: u128,
 }
 
@@ -50,14 +50,14 @@ impl Containers {
         Ok(())
     }
 
-    /// Takes the innermost list out.
+    /// Removes the innermost list.
     pub fn leave(&mut self)
         ensures { self.new ≡ drop 1 self.old }
     {
         self.outermost_first.pop();
     }
 
-    /// The code of the innermost list.
+    /// Returns the code of the innermost list.
     #[inline(always)]
     pub fn parent(&self) -> Option<Code>
         ensures { result ≡ parent_of self.now }
@@ -68,7 +68,7 @@ impl Containers {
         }
     }
 
-    /// The innermost list ends there.
+    /// Returns whether the innermost list ends at `at`.
     #[inline(always)]
     pub fn ends_at(&self, at: u64) -> bool
         ensures { result ≡ not (is_empty (closes at self.now)) }
@@ -79,7 +79,7 @@ impl Containers {
         }
     }
 
-    /// Takes the innermost list out if it ends there.
+    /// Removes the innermost list if it ends at `at`.
     #[inline(always)]
     pub fn pop_ended(&mut self, at: u64) -> Option<Container>
         ensures none { IfNone result ((closes at self.old ≡ []) × (self.new ≡ self.old)) }
@@ -92,7 +92,7 @@ impl Containers {
         }
     }
 
-    /// All lists end there.
+    /// Returns whether all lists end at `at`.
     pub fn all_end_at(&self, at: u64) -> bool
         ensures { result ≡ is_empty (open_after at self.now) }
     {
@@ -102,7 +102,7 @@ impl Containers {
         }
     }
 
-    /// Once the lists that end there are closed, 1 to 7 bytes are left in the innermost.
+    /// Returns whether 1 to 7 bytes are left in the innermost list, once the lists that end at `at` are closed.
     #[inline(always)]
     pub fn is_short(&self, at: u64) -> bool
         ensures { result ≡ is_short at (open_after at self.now) }
@@ -123,7 +123,7 @@ impl Containers {
         }
     }
 
-    /// The innermost list that does not end there.
+    /// Returns the innermost list that does not end at `at`.
     fn open_at(&self, at: u64) -> Option<Container>
         ensures { result ≡ first_of (open_after at self.now) }
     {
@@ -138,7 +138,7 @@ impl Containers {
         None
     }
 
-    /// The fault of a head that tells that code and length, among lists none of which ends at it.
+    /// Returns the fault of a head with that code and length, if no list ends at it.
     #[inline(always)]
     pub fn fault(&self, top: u32, at: u64, code: Code, len: u32) -> Option<StreamError>
         ensures { result ≡ fault_at top at self.now code len }

@@ -1,4 +1,4 @@
-//! What a reader hands out.
+//! What a reader returns.
 
 use dmap_tags::{Code, Value};
 
@@ -7,7 +7,7 @@ use dmap_tags::{Code, Value};
 pub enum Event {
     /// A list's head was read; its payload has `len` bytes.
     Open { code: Code, len: u32, at: u64 },
-    /// A tag that is no list was read whole.
+    /// A tag that is not a list was read whole.
     Leaf { code: Code, value: Value, at: u64 },
     /// A list's last byte was read.
     Close { code: Code, at: u64 },

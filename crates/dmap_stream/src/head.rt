@@ -7,7 +7,7 @@ ghost use Rattle.dmap_stream.specs.Walk.{told_length};
 
 use dmap_tags::{Code, Kind};
 
-/// The code and the payload's length in a head.
+/// Returns the code and the payload's length in a head.
 #[inline(always)]
 pub fn head_of(bytes: &[u8]) -> (Code, u32)
     requires { 8 ≤ length bytes.now }
@@ -19,7 +19,7 @@ pub fn head_of(bytes: &[u8]) -> (Code, u32)
     (code, len)
 }
 
-/// Whether a tag of the kind holds tags.
+/// Returns whether a tag of the kind contains tags.
 #[inline(always)]
 pub fn is_list(kind: Kind) -> bool
     ensures { result ≡ is_list kind }

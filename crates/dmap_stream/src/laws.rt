@@ -1,5 +1,4 @@
-//! What holds of all bytes and tags. Each function does nothing; its contract is a fact that follows from the
-//! definitions.
+//! Theorems about all bytes and tags. Each function has an empty body; its contract is the theorem.
 
 ghost use Rattle.std.specs.Prelude.{◌≡◌, ◌<◌, ◌^◌, ◌++◌, ℕ, List, [], length, true};
 ghost use Rattle.std.specs.List.{AllByRecursion};
@@ -11,7 +10,7 @@ ghost use Rattle.dmap_stream.specs.Walk.{between, behind, walk_from, walk_of};
 ghost use Rattle.dmap_stream.specs.WholeTag.{is_accepted, AreAccepted};
 ghost use Rattle.dmap_stream.specs.Events.{events_of, events_of_all};
 
-/// Bytes that begin with an accepted tag tell its events, and then what the bytes behind it tell.
+/// The events of bytes that begin with an accepted tag are the tag's events, and then those of the bytes after it.
 pub fn a_tag_in_front_is_read()
     ensures { (rows : List CodeRow) (limit : ℕ) (t : Tree) (rest : List ℕ) → limit < 2 ^ 32
         → is_accepted rows limit t ≡ true → IsProperTag t
@@ -19,14 +18,14 @@ pub fn a_tag_in_front_is_read()
         ≡ behind (events_of 0 t []) (walk_from rows limit (length (spelling t)) [] rest) }
 {}
 
-/// Bytes that are accepted tags tell the events of the tags, and end between two.
+/// The events of bytes that are accepted tags are those of the tags, and the bytes end between two tags.
 pub fn tags_are_read()
     ensures { (rows : List CodeRow) (limit : ℕ) (ts : List Tree) → limit < 2 ^ 32 → AreAccepted rows limit ts
         → walk_of rows limit (spellings (trees_of ts))
         ≡ record { events = events_of_all 0 (trees_of ts) []; ending = between } }
 {}
 
-/// Bytes that end between two top tags are accepted tags, one behind another.
+/// Bytes that end between two top tags are accepted tags, one after another.
 pub fn sound_bytes_are_tags()
     ensures { (rows : List CodeRow) (limit : ℕ) (bytes : List ℕ) → AllByRecursion (λ b. b < 256) bytes
         → (walk_of rows limit bytes).ending ≡ between

@@ -1,7 +1,7 @@
-//! Reads DMAP tags as bytes come, in pieces of any size: a `DmapReader` hands out an event where a list opens, a
-//! value is whole or a list closes, and refuses at the first faulty place. What bytes say is told by places
-//! (`specs/Walk.antt`) and does not depend on how they were cut. `read_tag` reads one tag whole off the front of
-//! bytes, by the same rules, and `write_tag` writes one.
+//! Reads DMAP tags as bytes come, in chunks of any size: a `DmapReader` returns an event when a list opens, a
+//! value is whole or a list closes, and refuses at the first malformed tag. The definitions (`specs/Walk.antt`) do not
+//! depend on how the bytes were split. `read_tag` reads one whole tag at the beginning of bytes, by the same rules, and
+//! `write_tag` writes one.
 #![tactic(auto)]
 
 mod buffer;

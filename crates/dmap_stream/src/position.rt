@@ -1,10 +1,10 @@
-//! Where a reader stands between two calls.
+//! The state of a reader between two calls.
 
-ghost use Rattle.std.specs.Prelude.{◌≡◌, ◌+◌, ◌^◌, ◌<◌, ◌≤◌, ◌∷◌, [], ◌++◌, length, true, false, not, List, ℕ, None, IfOk, IfSome, IfNone, MatchResult};
+ghost use Rattle.std.specs.Prelude.{◌≡◌, ◌+◌, ◌^◌, ◌<◌, ◌≤◌, ◌∷◌, [], ◌++◌, length, true, false, not, List, ℕ, None, IfOk, MatchResult};
 ghost use Rattle.code_table.specs.declared.row.CodeRow.{CodeRow};
 ghost use Rattle.dmap_tags.specs.Kinds.{is_list};
 ghost use Rattle.dmap_stream.specs.Walk.{behind, is_empty, closes, open_after, is_short, at_head, behind_head, at_payload, at_body, walk_from};
-ghost use Rattle.dmap_stream.specs.Reading.{ready_at, resumed, is_due, bytes_kept, bytes_taken, Moves, Takes, is_between};
+ghost use Rattle.dmap_stream.specs.Reading.{ready_at, resumed, is_due, bytes_kept, bytes_taken, Moves, Takes, HandsOut, is_between};
 
 use crate::buffer::Buffer;
 use crate::containers::{Container, Containers};
@@ -15,12 +15,15 @@ use code_table::CodeTable;
 use dmap_tags::{Code, Kind, Value, leaf};
 use std::alloc::Global;
 
+/// The number of bytes of a piece that were taken.
+type Taken = Result<usize, StreamError>;
+
 /// What the reader takes next.
 #[derive(Clone, Copy, Debug)]
 pub enum Phase {
     /// The eight bytes of a head.
     Head,
-    /// The payload of a tag that is no list.
+    /// The payload of a tag that is not a list.
     Payload { code: Code, kind: Kind, len: u32 },
 }
 
@@ -29,17 +32,17 @@ pub enum Phase {
 pub struct Position {
     /// The place's offset.
     pub start: u64,
-    /// The lists around the place. Those that end at it were not closed yet.
+    /// The lists around the place. Those that end at it are not yet closed.
     pub around: Containers,
     pub phase: Phase,
     /// The bytes of the head, or of the payload, so far.
     pub part: Buffer,
-    /// The list's opening or the value that led to the place, until it is handed out.
+    /// The list's opening or the value that led to the place, until it is returned.
     pub ready: Option<Event>,
 }
 
 impl Position {
-    /// Before the first byte.
+    /// Returns the position before the first byte.
     pub fn new(alloc: Global) -> Position
         ensures { result
             ≡ record { start = 0; around = []; phase = Phase.Head; part = []; ready = None } }
@@ -53,7 +56,7 @@ impl Position {
         }
     }
 
-    /// An event waits to be handed out.
+    /// Returns whether an event is ready.
     #[inline(always)]
     pub fn is_ready(&self) -> bool
         ensures { result ≡ not (is_empty (ready_at self.now)) }
@@ -61,15 +64,9 @@ impl Position {
         self.ready.is_some() || self.around.ends_at(self.start)
     }
 
-    /// Takes bytes up to the one that makes an event ready, or all, and answers how many.
+    /// Takes bytes up to the one that makes an event ready, or all, and returns how many.
     #[inline(always)]
-    pub fn take(
-        &mut self,
-        alloc: Global,
-        table: &CodeTable,
-        top: u32,
-        piece: &[u8],
-    ) -> Result<usize, StreamError>
+    pub fn take(&mut self, alloc: Global, table: &CodeTable, top: u32, piece: &[u8]) -> Taken
         requires quiet { ready_at self.old ≡ [] }
         requires due { is_due self.old ≡ true }
         requires counted { bytes_taken self.old + length piece.now < 2 ^ 64 }
@@ -78,47 +75,19 @@ impl Position {
     {
         let phase = self.phase;
         match phase {
-            Phase::Head => self.take_head(alloc, table, top, piece),
+            Phase::Head if self.part.is_empty() && piece.len() >= 8 => {
+                self.read_head(alloc, table, top, piece)
+            }
+            Phase::Head => self.gather_head(alloc, table, top, piece),
             Phase::Payload { code, kind, len } => {
                 self.gather_payload(alloc, code, kind, len, piece)
             }
         }
     }
 
-    /// Takes bytes of the head that is due: at once where all of it lies in the piece.
+    /// Reads a head that is whole in the piece.
     #[inline(always)]
-    fn take_head(
-        &mut self,
-        alloc: Global,
-        table: &CodeTable,
-        top: u32,
-        piece: &[u8],
-    ) -> Result<usize, StreamError>
-        requires quiet { ready_at self.old ≡ [] }
-        requires head { self.old.phase ≡ Phase.Head }
-        requires due { length self.old.part < 8 }
-        requires counted { self.old.start + length self.old.part + length piece.now < 2 ^ 64 }
-        ensures takes { Takes table.now top
-            (λ rest. at_head (walk_from table.now top) table.now top self.old.start self.old.around (self.old.part ++ rest))
-            piece.now self.new result }
-        ensures count { IfOk result (λ n. bytes_taken self.new ≡ self.old.start + length self.old.part + n) }
-    {
-        if self.part.is_empty() && piece.len() >= 8 {
-            self.read_head(alloc, table, top, piece)
-        } else {
-            self.gather_head(alloc, table, top, piece)
-        }
-    }
-
-    /// Reads a head where it lies in the piece.
-    #[inline(always)]
-    fn read_head(
-        &mut self,
-        alloc: Global,
-        table: &CodeTable,
-        top: u32,
-        piece: &[u8],
-    ) -> Result<usize, StreamError>
+    fn read_head(&mut self, alloc: Global, table: &CodeTable, top: u32, piece: &[u8]) -> Taken
         requires quiet { ready_at self.old ≡ [] }
         requires head { self.old.phase ≡ Phase.Head }
         requires empty { self.old.part ≡ [] }
@@ -133,16 +102,10 @@ impl Position {
         Ok(8 + more)
     }
 
-    /// Takes bytes of a head that lies in several pieces.
+    /// Takes bytes of a head that is split over several pieces.
     #[cold]
     #[inline(never)]
-    fn gather_head(
-        &mut self,
-        alloc: Global,
-        table: &CodeTable,
-        top: u32,
-        piece: &[u8],
-    ) -> Result<usize, StreamError>
+    fn gather_head(&mut self, alloc: Global, table: &CodeTable, top: u32, piece: &[u8]) -> Taken
         requires quiet { ready_at self.old ≡ [] }
         requires head { self.old.phase ≡ Phase.Head }
         requires due { length self.old.part < 8 }
@@ -163,7 +126,7 @@ impl Position {
         Ok(taken + more)
     }
 
-    /// Goes on behind a whole head.
+    /// Continues after a whole head.
     #[inline(always)]
     fn enter(
         &mut self,
@@ -173,7 +136,7 @@ impl Position {
         code: Code,
         len: u32,
         piece: &[u8],
-    ) -> Result<usize, StreamError>
+    ) -> Taken
         requires quiet { ready_at self.old ≡ [] }
         requires head { self.old.phase ≡ Phase.Head }
         requires empty { self.old.part ≡ [] }
@@ -216,7 +179,7 @@ impl Position {
         self.arrive(inside)
     }
 
-    /// Takes bytes of the payload behind a head: at once where all of it lies in the piece.
+    /// Takes bytes of the payload after a head: at once if all of it is in the piece.
     #[inline(always)]
     fn take_payload(
         &mut self,
@@ -225,7 +188,7 @@ impl Position {
         kind: Kind,
         len: u32,
         piece: &[u8],
-    ) -> Result<usize, StreamError>
+    ) -> Taken
         requires quiet { ready_at self.old ≡ [] }
         requires value { is_list kind ≡ false }
         requires head { self.old.phase ≡ Phase.Head }
@@ -235,41 +198,17 @@ impl Position {
             → Takes rows limit (at_payload (walk_from rows limit) self.old.start self.old.around code kind len) piece.now self.new result }
         ensures count { IfOk result (λ n. bytes_taken self.new ≡ self.old.start + 8 + n) }
     {
-        if piece.len() >= len as usize {
-            self.read_payload(alloc, code, kind, len, piece)
-        } else {
+        if piece.len() < len as usize {
             self.phase = Phase::Payload { code, kind, len };
-            self.gather_payload(alloc, code, kind, len, piece)
+            return self.gather_payload(alloc, code, kind, len, piece);
         }
-    }
-
-    /// Reads a payload where it lies in the piece.
-    #[inline(always)]
-    fn read_payload(
-        &mut self,
-        alloc: Global,
-        code: Code,
-        kind: Kind,
-        len: u32,
-        piece: &[u8],
-    ) -> Result<usize, StreamError>
-        requires quiet { ready_at self.old ≡ [] }
-        requires value { is_list kind ≡ false }
-        requires head { self.old.phase ≡ Phase.Head }
-        requires empty { self.old.part ≡ [] }
-        requires there { len ≤ length piece.now }
-        requires counted { self.old.start + 8 + length piece.now < 2 ^ 64 }
-        ensures takes { (rows : List CodeRow) (limit : ℕ)
-            → Takes rows limit (at_payload (walk_from rows limit) self.old.start self.old.around code kind len) piece.now self.new result }
-        ensures count { IfOk result (λ n. bytes_taken self.new ≡ self.old.start + 8 + n) }
-    {
         let (payload, _) = piece.split_at(len as usize);
         let value = leaf(alloc, kind, payload)?;
         self.end_leaf(code, value, len)?;
         Ok(len as usize)
     }
 
-    /// Takes bytes of a payload that lies in several pieces.
+    /// Takes bytes of a payload that is split over several pieces.
     #[cold]
     #[inline(never)]
     fn gather_payload(
@@ -279,7 +218,7 @@ impl Position {
         kind: Kind,
         len: u32,
         piece: &[u8],
-    ) -> Result<usize, StreamError>
+    ) -> Taken
         requires quiet { ready_at self.old ≡ [] }
         requires value { is_list kind ≡ false }
         requires payload { self.old.phase ≡ Phase.Payload code kind len }
@@ -302,7 +241,7 @@ impl Position {
         Ok(taken)
     }
 
-    /// Stands behind a leaf.
+    /// Moves to the place after a leaf.
     #[inline(always)]
     fn end_leaf(&mut self, code: Code, value: Value, len: u32) -> Result<(), StreamError>
         requires head { self.old.phase ≡ Phase.Head }
@@ -323,7 +262,7 @@ impl Position {
         self.arrive(end)
     }
 
-    /// Stands at the next place.
+    /// Moves to the next place.
     #[inline(always)]
     fn arrive(&mut self, at: u64) -> Result<(), StreamError>
         requires head { self.old.phase ≡ Phase.Head }
@@ -349,15 +288,10 @@ impl Position {
         }
     }
 
-    /// The next event that is ready.
+    /// Returns the next event that is ready.
     #[inline(always)]
     pub fn next(&mut self) -> Option<Event>
-        ensures none { IfNone result ((ready_at self.old ≡ []) × (self.new ≡ self.old)) }
-        ensures some { IfSome result (λ event. ready_at self.old ≡ event ∷ ready_at self.new) }
-        ensures rest { (rows : List CodeRow) (limit : ℕ) (rest : List ℕ)
-            → resumed rows limit self.new rest ≡ resumed rows limit self.old rest }
-        ensures due { is_due self.new ≡ is_due self.old }
-        ensures taken { bytes_taken self.new ≡ bytes_taken self.old }
+        ensures { HandsOut self.old self.new result }
     {
         if self.ready.is_none() {
             return self.close();
@@ -367,12 +301,7 @@ impl Position {
 
     fn close(&mut self) -> Option<Event>
         requires { self.old.ready ≡ None }
-        ensures none { IfNone result ((ready_at self.old ≡ []) × (self.new ≡ self.old)) }
-        ensures some { IfSome result (λ event. ready_at self.old ≡ event ∷ ready_at self.new) }
-        ensures rest { (rows : List CodeRow) (limit : ℕ) (rest : List ℕ)
-            → resumed rows limit self.new rest ≡ resumed rows limit self.old rest }
-        ensures due { is_due self.new ≡ is_due self.old }
-        ensures taken { bytes_taken self.new ≡ bytes_taken self.old }
+        ensures { HandsOut self.old self.new result }
     {
         match self.around.pop_ended(self.start) {
             Some(container) => Some(Event::Close {
@@ -383,7 +312,7 @@ impl Position {
         }
     }
 
-    /// No tag has begun that is not whole.
+    /// Returns whether no tag has begun that is not whole.
     pub fn is_between(&self) -> bool
         ensures { result ≡ is_between self.now }
     {
@@ -394,7 +323,7 @@ impl Position {
         }
     }
 
-    /// How many bytes of a leaf's payload are kept until it is whole.
+    /// Returns the number of bytes of a leaf's payload that are kept until it is whole.
     pub fn kept(&self) -> u64
         ensures { result ≡ bytes_kept self.now }
     {
@@ -405,7 +334,7 @@ impl Position {
         }
     }
 
-    /// How many bytes were taken.
+    /// Returns the number of bytes taken.
     pub fn taken(&self) -> u64
         requires { bytes_taken self.now < 2 ^ 64 }
         ensures { result ≡ bytes_taken self.now }

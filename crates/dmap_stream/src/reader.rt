@@ -15,7 +15,7 @@ use std::marker::Model;
 /// What a reader accepts.
 #[derive(Clone, Copy, Debug)]
 pub struct Limits {
-    /// The greatest payload length of a top tag.
+    /// The maximum payload length of a top tag.
     pub top: u32,
 }
 
@@ -44,7 +44,7 @@ impl Model for DmapReader {
 }
 
 impl DmapReader {
-    /// A reader that was fed nothing. It knows the kinds of values by the table.
+    /// Returns a reader that was fed nothing. It knows the kinds of values by the table.
     pub fn new(alloc: Global, table: &CodeTable, limits: Limits) -> Result<DmapReader, AllocError>
         ensures table { IfOk result (λ r. (r.rows ≡ table.now) × (r.limit ≡ limits.top)) }
         ensures idle { IfOk result (λ r. (r.error ≡ None) × (ready r ≡ []) × (taken r ≡ 0)) }
@@ -59,8 +59,8 @@ impl DmapReader {
         })
     }
 
-    /// Takes bytes up to the one that makes an event ready, or all, and answers how many. While an event is
-    /// ready it takes none. After an error it answers that error again.
+    /// Takes bytes up to the one that makes an event ready, or all, and returns how many. While an event is
+    /// ready it takes none. After an error it returns that error again.
     #[inline]
     pub fn feed(&mut self, piece: &[u8]) -> Result<usize, StreamError>
         requires { self.old.error ≡ None → taken self.old + length piece.now < 2 ^ 64 }
@@ -98,7 +98,7 @@ impl DmapReader {
         }
     }
 
-    /// The next event that is ready.
+    /// Returns the next event that is ready.
     #[inline]
     pub fn next(&mut self) -> Option<Event>
         ensures none { IfNone result ((ready self.old ≡ []) × (self.new ≡ self.old)) }
@@ -112,8 +112,8 @@ impl DmapReader {
         self.position.next()
     }
 
-    /// How many bytes of a leaf's payload the reader keeps until the leaf is whole: those that came since its head,
-    /// whatever length the head tells. It keeps none where no leaf is unfinished.
+    /// Returns the number of bytes of a leaf's payload that the reader keeps until the leaf is whole: those that came
+    /// since its head, whatever length the head states. It keeps none if no leaf is unfinished.
     pub fn held(&self) -> u64
         ensures value { result ≡ kept self.now }
         ensures came { (fed : List ℕ) (handed : List Event) → HasRead fed handed self.now → self.now.error ≡ None
@@ -122,7 +122,7 @@ impl DmapReader {
         self.position.kept()
     }
 
-    /// The end of the bytes: refused where they end inside a top tag.
+    /// Ends the bytes. Refuses them if they end inside a top tag.
     pub fn finish(self) -> Result<(), StreamError>
         ensures end { result ≡ ended self }
         ensures told { (fed : List ℕ) (handed : List Event) → HasRead fed handed self → self.error ≡ None

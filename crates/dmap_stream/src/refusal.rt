@@ -6,7 +6,7 @@ use dmap_tags::Code;
 use std::alloc::AllocError;
 use thiserror::Error;
 
-/// Why bytes were refused. `at` is the offset of the faulty tag's head.
+/// Why bytes were refused. `at` is the offset of the malformed tag's head.
 #[derive(Debug, Drop, PartialEq, Eq, Error)]
 pub enum StreamError {
     #[error("the tag at {at} is longer than the limit")]
@@ -19,7 +19,7 @@ pub enum StreamError {
     /// 1 to 7 bytes are left in the list, too few for a head.
     #[error("the list ends inside a head at {at}")]
     ShortHead { at: u64 },
-    /// The bytes ended inside a top tag; `at` is how many there were.
+    /// The bytes ended inside a top tag; `at` is their number.
     #[error("the bytes end inside a tag at {at}")]
     Truncated { at: u64 },
     #[error("out of memory")]
@@ -27,7 +27,7 @@ pub enum StreamError {
 }
 
 impl StreamError {
-    /// The same error once more.
+    /// Returns the same error.
     pub fn copy(&self) -> StreamError
         ensures { result ≡ self.now }
     {

@@ -1,4 +1,4 @@
-//! Reading one tag whole.
+//! Reads one whole tag.
 
 ghost use Rattle.std.specs.Prelude.{◌≡◌, ◌≢◌, ◌⊎◌, ◌+◌, ◌≤◌, ◌++◌, ℕ, List, length, take, true, Err, IfOk, IfErr, OnOk, MatchResult};
 ghost use Rattle.dmap_tags.specs.Tree.{Tree, trees_of};
@@ -15,9 +15,18 @@ use code_table::CodeTable;
 use dmap_tags::{Tag, Tags, Value, leaf};
 use std::alloc::Global;
 
-/// The first top tag of the bytes, and how many of them it has. What follows it is not looked at.
+/// What tags are read by: the kinds of values, the maximum payload of a top tag, and the total number of bytes.
+#[derive(Drop)]
+struct Rules<'a> {
+    alloc: Global,
+    table: &'a CodeTable,
+    top: u32,
+    total: u64,
+}
+
+/// Returns the first top tag of `bytes`, and its number of bytes. What follows it is not read.
 ///
-/// Bytes that end before it is whole are `Truncated` at their length, no bytes at all at 0.
+/// Returns `Truncated` at the length of `bytes` if they end before it is whole; for no bytes at all this is 0.
 pub fn read_tag(
     alloc: Global,
     bytes: &[u8],
@@ -39,44 +48,46 @@ pub fn read_tag(
         → ((walk_of table.now limits.top bytes.now).ending ≡ between)
         ⊎ ((walk_of table.now limits.top bytes.now).ending ≡ inside) }
 {
-    let total = bytes.len() as u64;
+    let rules = Rules {
+        alloc,
+        table,
+        top: limits.top,
+        total: bytes.len() as u64,
+    };
     let mut around = Containers::new(alloc);
-    match tag_at(alloc, table, limits.top, total, &mut around, 0, bytes) {
+    match tag_at(&rules, &mut around, 0, bytes) {
         Ok((tag, rest)) => Ok((tag, bytes.len() - rest.len())),
         Err(error) => Err(error),
     }
 }
 
-/// The tag whose head is due at `at`, and the bytes behind it. `total` is how many bytes there are in all.
+/// Returns the tag whose head is expected at `at`, and the bytes after it.
 #[cycle(whole)]
 fn tag_at<'a>(
-    alloc: Global,
-    table: &CodeTable,
-    top: u32,
-    total: u64,
+    rules: &Rules<'_>,
     around: &mut Containers,
     at: u64,
     bytes: &'a [u8],
 ) -> Result<(Tag, &'a [u8]), StreamError>
-    requires { at + length bytes.now ≤ total }
+    requires { at + length bytes.now ≤ rules.now.total }
     ensures tells { MatchResult result
-        (λ r. ReadsTag table.now top at around.old bytes.now r.0 r.1.now)
-        (λ e. RefusesTag table.now top total at around.old bytes.now e) }
+        (λ r. ReadsTag rules.now.table.now rules.now.top at around.old bytes.now r.0 r.1.now)
+        (λ e. RefusesTag rules.now.table.now rules.now.top rules.now.total at around.old bytes.now e) }
     ensures same { OnOk result (around.new ≡ around.old) }
 {
     if bytes.len() < 8 {
-        return Err(StreamError::Truncated { at: total });
+        return Err(StreamError::Truncated { at: rules.total });
     }
     let (head, rest) = bytes.split_at(8);
     let (code, len) = head_of(head);
-    if let Some(error) = around.fault(top, at, code, len) {
+    if let Some(error) = around.fault(rules.top, at, code, len) {
         return Err(error);
     }
-    let kind = table.kind_of(around.parent(), code);
+    let kind = rules.table.kind_of(around.parent(), code);
     if is_list(kind) {
         let end = at as u128 + 8 + len as u128;
         around.push(Container { code, at, end })?;
-        return match members_at(alloc, table, top, total, around, at + 8, rest) {
+        return match members_at(rules, around, at + 8, rest) {
             Ok((members, later)) => {
                 around.leave();
                 let value = Value::List(members);
@@ -86,39 +97,36 @@ fn tag_at<'a>(
         };
     }
     if rest.len() < len as usize {
-        return Err(StreamError::Truncated { at: total });
+        return Err(StreamError::Truncated { at: rules.total });
     }
     let (payload, later) = rest.split_at(len as usize);
-    let value = leaf(alloc, kind, payload)?;
+    let value = leaf(rules.alloc, kind, payload)?;
     Ok((Tag { code, value }, later))
 }
 
-/// The tags from `at` up to the end of the innermost list, and the bytes behind them.
+/// Returns the tags from `at` up to the end of the innermost list, and the bytes after them.
 #[cycle(whole)]
 fn members_at<'a>(
-    alloc: Global,
-    table: &CodeTable,
-    top: u32,
-    total: u64,
+    rules: &Rules<'_>,
     around: &mut Containers,
     at: u64,
     bytes: &'a [u8],
 ) -> Result<(Tags, &'a [u8]), StreamError>
-    requires within { at + length bytes.now ≤ total }
+    requires within { at + length bytes.now ≤ rules.now.total }
     requires deep { length around.old ≤ 32 }
     ensures tells { MatchResult result
-        (λ r. ReadsRest table.now top at around.old bytes.now (trees_of r.0) r.1.now)
-        (λ e. RefusesRest table.now top total at around.old bytes.now e) }
+        (λ r. ReadsRest rules.now.table.now rules.now.top at around.old bytes.now (trees_of r.0) r.1.now)
+        (λ e. RefusesRest rules.now.table.now rules.now.top rules.now.total at around.old bytes.now e) }
     ensures same { OnOk result (around.new ≡ around.old) }
 {
-    let mut members = Tags::new(alloc);
+    let mut members = Tags::new(rules.alloc);
     let mut here = at;
     let mut rest = bytes;
     while !around.ends_at(here) {
         if around.is_short(here) {
             return Err(StreamError::ShortHead { at: here });
         }
-        match tag_at(alloc, table, top, total, around, here, rest) {
+        match tag_at(rules, around, here, rest) {
             Ok((tag, later)) => {
                 here += (rest.len() - later.len()) as u64;
                 rest = later;

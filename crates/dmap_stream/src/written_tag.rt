@@ -1,4 +1,4 @@
-//! Writing one tag whole.
+//! Writes one whole tag.
 
 ghost use Rattle.std.specs.Prelude.{◌≡◌, ◌≢◌, ◌↔◌, false, Err, IfErr, OnOk};
 ghost use Rattle.std.specs.Io.KnownBytes.{Appends};
@@ -14,7 +14,7 @@ use thiserror::Error;
 /// Why a tag was not written whole.
 #[derive(Debug, Drop, PartialEq, Eq, Error)]
 pub enum WriteError {
-    /// A payload is longer than its four bytes of length can tell.
+    /// A payload is longer than its four bytes of length can state.
     #[error("a payload is longer than 4,294,967,295 bytes")]
     TooLong,
     /// The sink failed; it may have taken some of the first bytes.
@@ -24,7 +24,7 @@ pub enum WriteError {
     Memory,
 }
 
-/// Writes a tag's spelling. It is made whole in memory before the first byte is written.
+/// Writes a tag's encoding, which is complete in memory before the first byte is written.
 pub fn write_tag<W: Sink>(alloc: Global, tag: &Tag, sink: &mut W) -> Result<(), WriteError>
     ensures written { OnOk result (Appends (W.taken sink.old) (W.taken sink.new) (spelling tag.now)) }
     ensures count { OnOk result (W.faults sink.new ≡ W.faults sink.old) }

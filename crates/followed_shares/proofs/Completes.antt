@@ -151,7 +151,7 @@ asked_on s m rounds session k ls l bytes more answer b is rest tells = record {
         (subst (λ (a : Reply). Tells standard_rows a tag) (sym is)
         (refl, listing_body_read s.keep b.r.0 m.target m.query m.meta (held_after m.held ls).revision b.whole.0)))
 
--- behind a round the logout is due where it was the last, and else the next revision
+-- after a round the client requests the logout if it was the last, otherwise the next revision
 behind_count : (s : Settings) (m : Mirrored) (rounds session : ℕ) (k : Known) (ls : List Listing) (bytes : List ℕ) (rs : List Round) → length ls + length rs ≡ rounds
     → (last : Bool) → (length ls == rounds) ≡ last → ((last ≡ true) × (rs ≡ [])) ⊎ ((last ≡ false) × ((r : Round) × (others : List Round) × (rs ≡ r ∷ others)))
 behind_count s m rounds session k ls bytes [] count last is = inl (sym is ∙ eq-eqb (length ls) rounds (omega (arith, count)), refl)
@@ -235,7 +235,7 @@ begins_whole p bytes rest told (Codes error) owed b none = absurd none
 begins_whole p bytes rest told LinkFault owed b none = inl refl
 begins_whole p bytes rest told Memory owed b none = inr refl
 
--- what is answered is due
+-- the answer is the expected one
 pub stops_outside : (request : List ℕ) (Undue : ℕ → Reply → FollowError → Type 0) (p : Point) (taken : Option (List ℕ)) (e : FollowError) (bytes rest : List ℕ) (told : Reply)
     → p.owed ≡ Some bytes → Begins bytes rest told → ((used : ℕ) → Undue used told e → IsOutside e) → Stops request Undue p taken e → IsOutside e
 stops_outside request Undue p taken e bytes rest told owed b never (inl s) = begins_whole p bytes rest told e owed b s.cause

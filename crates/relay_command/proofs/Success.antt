@@ -14,7 +14,7 @@ use Rattle.relay_command.specs.Runs.{TellsBehind, TellsEnd}
 use Rattle.relay_command.specs.declared.fault.RelayFault.{RelayFault}
 use Rattle.relay_command.specs.declared.fault.RelayFault.TheVariants.{Network, Requests, Library, Row, Peer}
 
--- no fault has the status of success
+-- no error has status 0
 no_success : (f : Fault RelayFault) → fault_status relay_status f ≡ 0 → ⊥
 no_success (fault.Own Network) is = let e : 6 ≡ 0 = is in omega (arith, e)
 no_success (fault.Own Requests) is = let e : 8 ≡ 0 = is in omega (arith, e)
@@ -40,7 +40,7 @@ behind_none text (Some f) before after status (inl (inr h)) zero = absurd (omega
 behind_none text (Some f) before after status (inr (inl h)) zero = absurd (omega (arith, h.0, zero))
 behind_none text (Some f) before after status (inr (inr h)) zero = absurd (omega (arith, h.0, zero))
 
--- where the worse of two is none, the first is
+-- if the worse of two is `None`, the first is `None`
 first_none : (one other : Option (Fault RelayFault)) → worse one other ≡ None → one ≡ None
 first_none None other is = refl
 first_none (Some f) None is =

@@ -28,8 +28,8 @@ use Rattle.relay_command.specs.Lines.{relaying_line}
 use Rattle.relay_command.specs.Runs.{HasServed, RelayEnds}
 use Rattle.relay_command.specs.declared.terms.Relaying.{Relaying}
 
--- At each point of the history that a run leaves, the library is one that the relay read on its link, or the empty one. At a later point
--- it is that one, or one that the relay read later
+-- At each length of the history that a run leaves, the library is one that the relay read on its connection, or the
+-- empty one. At a later length it is that one, or one that the relay read later.
 abbrev pub RunsShowWhatTheyRead : Type 0
 RunsShowWhatTheyRead =
     (relaying : Relaying) (front : List ℕ) (net net' : NetSeen) (output output' : OutputSeen) (left : Outcome) (first middle rest : List Entry)

@@ -1,9 +1,9 @@
-//! What holds of all runs. Each function does nothing; its contract is a fact that follows from the definitions.
+//! Laws of all runs. Each function has an empty body; its contract is a theorem.
 
 ghost use Rattle.relay_command.specs.Laws.{RunsAreNotStopped, RunsShowWhatTheyRead, RunsSucceed, ServedRelaysGoOn, ServedRunsSucceed, SuccessesMakeAllRounds};
 
-/// What the players of a relay can see at any point is one library that the relay read, or none, and they never see an earlier one
-/// behind a later one.
+/// What the players of a relay can see at any length of the history is a library that the relay read, or the empty one.
+/// They never see an earlier one after a later one.
 pub fn runs_show_what_they_read()
     ensures { RunsShowWhatTheyRead }
 {}

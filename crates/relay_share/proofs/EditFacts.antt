@@ -18,11 +18,11 @@ use Rattle.share_server.specs.declared.report.Served.{Served}
 use Rattle.share_server.specs.Served.{IsGivenUp, IsReplied, IsServed, added_part, answered_on, at_point}
 use Rattle.relay_share.specs.Rounds.{made_status}
 
--- an edit was made, or the share was stopped, has no room, or there was no memory
+-- an edit was made, or the share was stopped or at a limit, or an allocation failed
 abbrev pub IsStatus : List OneEdit → ℕ → Type 0
 IsStatus batch status = (status ≡ made_status batch) ⊎ ((status ≡ 503) ⊎ ((status ≡ 507) ⊎ (status ≡ 500)))
 
--- the entry of an edit, where it has records
+-- the entry of an edit, if it has records
 abbrev pub entry_of : ℕ → List OneEdit → List Entry
 entry_of by [] = []
 entry_of by (e ∷ es) = entry.Edits by (e ∷ es) ∷ []

@@ -37,7 +37,7 @@ use Rattle.relay_share.proofs.StopFacts.{edit_stopped, other_stop, stops_come_la
 
 -- ---- the steps
 
--- what stands of a relay before its stop: no more entries than the steps
+-- a relay before its stop: its entries are exactly the steps
 record Stepped (host : List ℕ) (rounds : ℕ) (p : Point) (taken : Option (List ℕ)) (number : ℕ) (seen : List Entry) : Type 0 where
   stage : Stage
   there : Point
@@ -113,12 +113,12 @@ module _ (host : List ℕ) (rounds : ℕ) (p : Point) (taken : Option (List ℕ)
   ended k' done Memory (inr (inl x)) = left k' done x
   ended k' done Memory (inr (inr x)) = refused k' done 500 x (not_made 500 (λ (e : 500 ≡ 200). omega (arith, e)) (λ (e : 500 ≡ 204). omega (arith, e)))
 
--- edits alone stop nothing
+-- edits stop nothing
 unstopped : (number : ℕ) (bs : List (List Edit)) → is_stopped (edits_by number bs) ≡ false
 unstopped number [] = refl
 unstopped number (b ∷ bs) = unstopped number bs
 
--- the pass of a relay keeps its number up to its end
+-- the handle of a relay keeps its number to its end
 ends_numbered : (host : List ℕ) (rounds : ℕ) (p : Point) (taken : Option (List ℕ)) (k k' : Pass) (done : List Relayed) (end : RelayEnd)
     → EndsRelay host rounds p taken k k' done end → k'.number ≡ k.number
 ends_numbered host rounds p taken k k' done Done x = ap (λ (n : Pass). n.number) x.relays.serves.stays
@@ -182,7 +182,7 @@ none_in false number = refl
 number_itself : (n : ℕ) → (n == n) ≡ true
 number_itself n = eq-eqb n n refl
 
--- the batches of a history are those of the one pass that edits
+-- the batches of a history are those of the one handle that edits
 module _ (number : ℕ) where
   one_more : (mine : Bool) (e : Entry) (h : List Entry) → (is_edit e ≡ true → maker e ≡ number) → (maker e == number) ≡ mine
       → batches h ≡ batches (entries_of maker number h) → batches (e ∷ h) ≡ batches (cond mine (e ∷ entries_of maker number h) (entries_of maker number h))

@@ -81,7 +81,7 @@ whole_library es whole = record {
       (λ k row is. found_own k (item_at es k) row (sym (at-library es k) ∙ is) (found_says k (last_said (says_item k) es) (all_say k es whole)));
 }
 
--- ---- points
+-- ---- histories
 
 falls_on : (point : List Entry) (points : List (List Entry)) → NeverFall point points → (later : List Entry) × (last_point point points ≡ point ++ later)
 falls_on point [] fall = ([], sym (append-nil point))

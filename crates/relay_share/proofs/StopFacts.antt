@@ -25,7 +25,7 @@ use Rattle.relay_share.specs.Turns.{IsTold}
 use Rattle.relay_share.specs.declared.turns.Told.{Told}
 use Rattle.relay_share.proofs.EditFacts.{stopped_edit}
 
--- ---- a history at a point, in two parts
+-- ---- a history at a length, in two parts
 
 parts : (added : Bool) (p : List Entry) → p ≡ answered_on added p ++ added_part added p
 parts true p = sym (take-append-drop (length p - 1) p)
@@ -41,7 +41,7 @@ stop_by by stopped = cond (is_some (refused stopped)) None (Some (entry.Stop by)
 stop_added : (h : List Entry) (by : ℕ) → adds h by Stop ≡ stop_by by (is_stopped h)
 stop_added h by = refl
 
--- ---- the share is stopped behind it
+-- ---- the share is stopped afterwards
 
 stopped_both : (xs ys : List Entry) (p : List Entry) → p ≡ xs ++ ys → is_stopped p ≡ (is_stopped xs || is_stopped ys)
 stopped_both xs ys p is = ap is_stopped is ∙ list_any-append is_stop xs ys
@@ -92,7 +92,7 @@ any_of : (b : Bool) (xs ys : List Entry) → is_stopped (cond b xs ys) ≡ cond 
 any_of true xs ys = refl
 any_of false xs ys = refl
 
--- where a number made no stop, another one did
+-- if a number made no stop, another one did
 pub other_stop : (n : ℕ) (h : List Entry) → is_stopped h ≡ true → is_stopped (entries_of maker n h) ≡ false → list_any (is_stop_beside n) h ≡ true
 other_stop n [] stopped none = absurd (cc)
 other_stop n (e ∷ h) stopped none =
@@ -115,7 +115,7 @@ none_beside n (e ∷ h) none = by_stop (is_stop e) none (none_beside n h)
     by_stop true none rest = absurd (cc)
     by_stop false none rest = rest none
 
--- its own stop, behind none, is no other's
+-- its own stop, in a history without one, is not another's
 own_stop : (n : ℕ) (h p : List Entry) → p ≡ h ++ entry.Stop n ∷ [] → is_stopped h ≡ false → list_any (is_stop_beside n) p ≡ false
 own_stop n h p is none =
     ap (list_any (is_stop_beside n)) is ∙ list_any-append (is_stop_beside n) h (entry.Stop n ∷ [])
@@ -123,7 +123,7 @@ own_stop n h p is none =
 
 module _ (k k' : Pass) (s : Served) (unstopped : is_stopped (entries_of maker k.number k.seen) ≡ false) (one : Serves k k' (stop_ask ∷ []) (s ∷ []))
     (latest : s.point ≡ length k'.seen) (stopped : is_stopped k'.seen ≡ true) where
-  -- no stop was added, so that another pass's is there
+  -- no stop was added, so there is another handle's
   nothing_added : added_part s.added (at_point k'.seen s) ≡ [] → added_part s.added (at_point k'.seen s) ++ [] ≡ stop_behind k.number k'.seen
   nothing_added none =
       let same : entries_of maker k.number k'.seen ≡ entries_of maker k.number k.seen =

@@ -64,7 +64,7 @@ or_right : (a b : Bool) → (a || b) ≡ false → b ≡ false
 or_right true b is = absurd (cc)
 or_right false b is = is
 
--- where none of the entries of a number is an edit, each of that number is none
+-- if the entries of a number have no edit, no entry with that number is an edit
 abbrev pub IsQuiet : ℕ → Entry → Type 0
 IsQuiet n e = maker e ≡ n → is_edit e ≡ false
 

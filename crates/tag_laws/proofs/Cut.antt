@@ -1,4 +1,4 @@
--- The first lines of shown tags show tags: what is left of the tags where the text is cut behind a line feed.
+-- The first lines of shown tags show tags: the tags that are left if the text is split after a line feed.
 use Rattle.std.proofs.Common.{◌≡◌, ◌⊎◌, inl, inr, ℕ, suc, ◌≤◌, true, false, ◌==◌, List, [], ◌∷◌, ◌++◌, Option, Some, None, refl, sym, ap, ap₂, ◌∙◌, arith, append-nil}
 use Rattle.std.proofs.lemmas.Bool.{and_parts, and_from, or_from, or_parts, true≢false}
 use Rattle.std.specs.List.{AllByRecursion}
@@ -12,7 +12,7 @@ use Rattle.dmap_show.specs.Shown.{shown_line, shown_tag, shown_tags}
 use Rattle.dmap_show.specs.Readable.{IsTag, AreTags, IsReadable, Shows}
 use Rattle.dmap_show.specs.TextLines.{has}
 use Rattle.dmap_show.specs.Parts.{bare_line}
-use Rattle.tag_laws.proofs.LineFeeds.{has_mark, line_has}
+use Rattle.dmap_show.proofs.Taken.{has_mark, line_has}
 
 -- tags that each fit the table at the top and are not too deep
 abbrev pub TopFits : List CodeRow → Trees → Type 0

@@ -1,31 +1,15 @@
 -- Whether a text shows tags is decided: they are no larger than the text.
 use Rattle.std.proofs.Common.{◌≡◌, inl, inr, ℕ, suc, ◌+◌, ◌≤◌, true, List, [], ◌∷◌, flat_map, length, None, sym, subst, ◌∙◌, arith, length-append}
 use Rattle.std.proofs.lemmas.Bool.{cases_Bool, cases_lt, true≢false}
-use Rattle.std.proofs.lemmas.Bool.Decides.{nat_tests}
 use Rattle.std.proofs.lemmas.Slice.Eq.{bytes_eq-Decides}
-use Rattle.std.specs.Char.{is_ascii_graphic}
-use Rattle.std.specs.List.{list_all}
 use Rattle.std.specs.Str.{bytes_eq}
-use Rattle.dmap_tags.specs.Codes.{Four, code_bytes}
-use Rattle.dmap_tags.specs.Tree.{Leaf, U8, I8, U16, I16, U32, I32, U64, I64, Text, Date, Version, Opaque, Tree, leaf, list, Trees, none, more, trees_of, levels, tree_code}
+use Rattle.dmap_tags.specs.Tree.{Leaf, U8, I8, U16, I16, U32, I32, U64, I64, Text, Date, Version, Opaque, Tree, leaf, list, Trees, none, more, trees_of, levels}
 use Rattle.code_table.specs.declared.row.CodeRow.{CodeRow}
 use Rattle.code_table.specs.Fits.{fits}
-use Rattle.dmap_show.specs.Shown.{hex, escaped, shown_code, leaf_text, word_of, space_of, text_of, shown_line, shown_tag, shown_tags}
+use Rattle.dmap_show.specs.Shown.{hex, escaped, leaf_text, shown_line, shown_tag, shown_tags}
+use Rattle.dmap_show.proofs.TextLengths.{escaped_long, pieces_long, line_long}
 use Rattle.tag_laws.proofs.Search.{Decided, dec_bool, dec_both, dec_as, Has, leaf_size, extent, extents, AreSmall, some_tags}
 use Rattle.tag_laws.proofs.Cut.{TopFits, HasText, are_tags, tops_of, of_trees}
-
-code_long : (c : Four) → 4 ≤ length (shown_code c)
-code_long c = elim (cases_Bool (list_all is_ascii_graphic (code_bytes c))) [
-  | inl e ↦ rw e (omega arith)
-  | inr e ↦ rw e (omega arith)
-]
-
-escaped_long : (b : ℕ) → 1 ≤ length (escaped b)
-escaped_long b = grind (arith, nat_tests)
-
-pieces_long : (f : ℕ → List ℕ) → ((b : ℕ) → 1 ≤ length (f b)) → (bytes : List ℕ) → length bytes ≤ length (flat_map f bytes)
-pieces_long f h [] = omega arith
-pieces_long f h (b ∷ bytes) = rw (length-append (f b) (flat_map f bytes)) (omega (arith, h b, pieces_long f h bytes))
 
 leaf_small : (l : Leaf) → leaf_size l ≤ length (leaf_text l)
 leaf_small (U8 n) = omega arith
@@ -40,9 +24,6 @@ leaf_small (Text bytes) = rw (length-append (flat_map escaped bytes) (34 ∷ [])
 leaf_small (Date n) = omega arith
 leaf_small (Version n) = omega arith
 leaf_small (Opaque bytes) = omega (arith, pieces_long hex (λ b. omega arith) bytes)
-
-line_long : (level : ℕ) (t : Tree) → length (word_of t) + length (space_of t) + length (text_of t) + 6 ≤ length (shown_line level t)
-line_long level t = simp length-append (omega (arith, code_long (tree_code t)))
 
 mutual
   extent_short : (level : ℕ) (t : Tree) → extent t + 2 ≤ length (shown_tag level t)

@@ -1,6 +1,4 @@
 mod Lines
-mod LineFeeds
-mod Utf8Bytes
 mod Search
 mod Cut
 mod Decided

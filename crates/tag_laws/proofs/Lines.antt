@@ -1,13 +1,14 @@
 -- The first lines of a text are the beginning of its further lines, so a text stops at one line.
-use Rattle.std.proofs.Common.{◌≡◌, ◌≢◌, ℕ, zero, suc, ◌+◌, ◌<◌, ◌≤◌, List, [], ◌∷◌, ◌++◌, Bool, true, false, ◌==◌, ◌||◌, nat_lt, nat_le, if◌then◌else◌, refl, sym, ap, subst, ◌∙◌, arith, append_assoc, append-nil}
+use Rattle.std.proofs.Common.{◌≡◌, ◌≢◌, ℕ, zero, suc, ◌+◌, ◌<◌, ◌≤◌, List, [], ◌++◌, Bool, true, false, nat_lt, nat_le, refl, sym, ap, subst, ◌∙◌, arith, append_assoc, append-nil}
 use Rattle.std.proofs.lemmas.Bool.{ltb-true, ltb-false, leb-true, leb-false}
 use Rattle.code_table.specs.declared.row.CodeRow.{CodeRow}
 use Rattle.dmap_show.specs.Readable.{Shows}
 use Rattle.dmap_show.specs.declared.reading.ShowError.{ShowError}
 use Rattle.dmap_show.specs.declared.reading.ShowError.TheVariants.{Line, Memory}
 use Rattle.dmap_show.specs.TextLines.{behind, has, first_line, behind_lines, first_lines, StopsBehind, Explains}
+use Rattle.dmap_show.proofs.Taken.{behind_none}
 
--- the first lines begin what is further lines
+-- the text begins with these bytes
 abbrev pub Begins : List ℕ → List ℕ → Type 0
 Begins text front = (more : List ℕ) × (text ≡ front ++ more)
 
@@ -29,17 +30,7 @@ lines_begin text m (suc n) le = by (nat_le m n) refl (lines_begin text m n)
         let same : m ≡ suc n = omega arith in
         subst (λ k. Begins (first_lines k text) (first_lines m text)) same (begins_itself (first_lines m text))
 
-none_at : (mark : ℕ) (text : List ℕ) (same : Bool) → (has mark text ≡ false → behind mark text ≡ []) → (same || has mark text) ≡ false
-    → (if same then text else behind mark text) ≡ []
-none_at mark text true later h = absurd (cc)
-none_at mark text false later h = later h
-
--- behind a last line without a line feed there is nothing
-pub none_behind : (mark : ℕ) (text : List ℕ) → has mark text ≡ false → behind mark text ≡ []
-none_behind mark [] h = refl
-none_behind mark (b ∷ text) h = none_at mark text (b == mark) (none_behind mark text) h
-
--- so further lines are the same lines
+-- after a last line without a line feed there is nothing, so further lines are the same lines
 abbrev pub IsAll : List ℕ → ℕ → ℕ → Type 0
 IsAll text m n = (first_lines n text ≡ first_lines (suc m) text) × (behind_lines n text ≡ [])
 
@@ -54,9 +45,9 @@ lines_end text m (suc n) le is = by (nat_le (suc m) n) refl (lines_end text m n)
     by false at earlier =
         let above = leb-false (suc m) n at in
         let same : m ≡ n = omega arith in
-        subst (λ k. IsAll text m (suc k)) same (refl, none_behind 10 (behind_lines m text) is)
+        subst (λ k. IsAll text m (suc k)) same (refl, behind_none 10 (behind_lines m text) is)
 
--- no text stops at a line and goes on behind it
+-- no text stops at two lines
 none_further : (rows : List CodeRow) (text : List ℕ) (m n : ℕ) → m < n → StopsBehind rows text m → StopsBehind rows text n → ⊥
 none_further rows text m n less stops later = by (has 10 (behind_lines m text)) refl
   where

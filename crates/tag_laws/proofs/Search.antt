@@ -1,4 +1,4 @@
--- What is decided is decided of some tags of a size, too: there are so many.
+-- Whether some tags of a size have a decided property is decided, since there are finitely many of them.
 use Rattle.std.proofs.Common.{◌≡◌, ◌⊎◌, inl, inr, ℕ, zero, suc, ◌<◌, ◌≤◌, ◌^◌, max, List, [], ◌∷◌, length, Bool, true, false, refl, subst, arith}
 use Rattle.std.proofs.lemmas.Bool.{cases_eq, cases_lt}
 use Rattle.std.specs.Int.{Width, w8, w16, w32, w64}
@@ -8,7 +8,7 @@ use lib.IntN.{ℤ, pos, negsuc}
 use Rattle.dmap_tags.specs.Codes.{Four}
 use Rattle.dmap_tags.specs.Tree.{Leaf, U8, I8, U16, I16, U32, I32, U64, I64, Text, Date, Version, Opaque, Tree, leaf, list, Trees, none, more}
 use Rattle.dmap_show.specs.Readable.{AreBytes, IsCode, IsValue, IsTag, AreTags}
-use Rattle.tag_laws.proofs.Utf8Bytes.{utf8_bytes}
+use Rattle.dmap_show.proofs.Remaining.{utf8_bytes}
 
 abbrev pub Decided : Type 0 → Type 0
 Decided P = P ⊎ (P → ⊥)

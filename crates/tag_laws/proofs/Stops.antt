@@ -1,36 +1,13 @@
--- A text that shows no tags stops at some line: at the first with which its lines show none.
-use Rattle.std.proofs.Common.{◌≡◌, ◌⊎◌, inl, inr, ℕ, zero, suc, ◌<◌, ◌≤◌, Bool, true, false, ◌==◌, ◌||◌, if◌then◌else◌, List, [], ◌∷◌, ◌++◌, length, refl, sym, ap, subst, ◌∙◌, arith, append_assoc, append-nil}
-use Rattle.std.proofs.lemmas.Bool.{eqb-true, cond-true}
+-- A text that shows no tags stops at some line: at the first with which its lines show no tags.
+use Rattle.std.proofs.Common.{◌≡◌, ◌⊎◌, inl, inr, ℕ, zero, suc, ◌<◌, ◌≤◌, Bool, true, false, ◌==◌, if◌then◌else◌, List, [], ◌∷◌, ◌++◌, length, refl, sym, ap, subst, ◌∙◌, arith, append_assoc, append-nil}
+use Rattle.std.proofs.lemmas.Bool.{cond-true}
 use Rattle.dmap_tags.specs.Tree.{Tree}
 use Rattle.code_table.specs.declared.row.CodeRow.{CodeRow}
 use Rattle.dmap_show.specs.Readable.{Shows}
-use Rattle.dmap_show.specs.TextLines.{before, behind, has, first_line, behind_lines, first_lines, StopsBehind}
-use Rattle.tag_laws.proofs.Lines.{none_behind}
+use Rattle.dmap_show.specs.TextLines.{before, behind, has, behind_lines, first_lines, StopsBehind}
+use Rattle.dmap_show.proofs.Once.{all_lines}
 use Rattle.tag_laws.proofs.Cut.{HasText, IsWhole, cut_shows}
 use Rattle.tag_laws.proofs.Decided.{shown_or_not}
-
-parted_at : (mark b : ℕ) (text : List ℕ) (same : Bool) → (b == mark) ≡ same → (has mark text ≡ true → before mark text ++ mark ∷ behind mark text ≡ text)
-    → (same || has mark text) ≡ true → (if same then [] else b ∷ before mark text) ++ mark ∷ (if same then text else behind mark text) ≡ b ∷ text
-parted_at mark b text true is later h = ap (λ x. x ∷ text) (sym (eqb-true b mark is))
-parted_at mark b text false is later h = ap (λ l. b ∷ l) (later h)
-
--- a mark with what stands before and behind it
-parted : (mark : ℕ) (text : List ℕ) → has mark text ≡ true → before mark text ++ mark ∷ behind mark text ≡ text
-parted mark [] h = absurd (cc)
-parted mark (b ∷ text) h = parted_at mark b text (b == mark) refl (parted mark text) h
-
-first_and_rest : (text : List ℕ) (there : Bool) → has 10 text ≡ there
-    → (if there then before 10 text ++ 10 ∷ [] else text) ++ behind 10 text ≡ text
-first_and_rest text true is = append_assoc (before 10 text) (10 ∷ []) (behind 10 text) ∙ parted 10 text is
-first_and_rest text false is = ap (λ l. text ++ l) (none_behind 10 text is) ∙ append-nil text
-
--- the first lines and those behind them are all of the text
-all_lines : (n : ℕ) (text : List ℕ) → first_lines n text ++ behind_lines n text ≡ text
-all_lines zero text = refl
-all_lines (suc n) text =
-    append_assoc (first_lines n text) (first_line (behind_lines n text)) (behind 10 (behind_lines n text))
-    ∙ ap (λ l. first_lines n text ++ l) (first_and_rest (behind_lines n text) (has 10 (behind_lines n text)) refl)
-    ∙ all_lines n text
 
 abbrev Stops : List CodeRow → List ℕ → Type 0
 Stops rows text = (n : ℕ) × StopsBehind rows text n

@@ -16,8 +16,8 @@ abbrev pub Passes : ℕ → List Container → Type 0
 Passes end [] = ⊥
 Passes end (c ∷ around) = c.end < end
 
--- the place has that fault: a top tag longer than the limit, a tag inside 32 lists, one of at most 32 levels that passes
--- the end of its list, or too few bytes for a head in the list
+-- the place has that fault: a top tag longer than the limit, a tag inside 32 lists, a tag of at most 32 levels that
+-- passes the end of its list, or too few bytes for a head in the list
 abbrev pub HasFault : ℕ → List ℕ → Place → StreamError → Type 0
 HasFault limit bytes p (TooLarge at) = (at ≡ p.at) × HasHead bytes p × (p.around ≡ []) × (limit < length_at bytes p)
 HasFault limit bytes p (TooDeep at) = (at ≡ p.at) × HasHead bytes p × (32 ≤ length p.around)
@@ -27,7 +27,7 @@ HasFault limit bytes p (ShortHead at) = (at ≡ p.at) × IsShort p.at p.around
 HasFault limit bytes p (Truncated at) = ⊥
 HasFault limit bytes p Memory = ⊥
 
--- a place of the bytes has that fault, and none before it has any
+-- a place of the bytes has that fault, and no place before it has a fault
 pub record IsFirstFault (rows : List CodeRow) (limit : ℕ) (bytes : List ℕ) (e : StreamError) : Type 0 where
   pub place : Place
   pub reached : IsPlace rows bytes place

@@ -1,5 +1,4 @@
-//! What holds of all bytes and texts. Each function does nothing; its contract is a fact that follows from the
-//! definitions.
+//! Theorems about all bytes and texts. Each function has an empty body; its contract is the theorem.
 
 ghost use Rattle.std.specs.Prelude.{◌≡◌, ◌≢◌, ◌⊎◌, ℕ, List, Some, None};
 ghost use Rattle.dmap_tags.specs.Tree.{Tree};
@@ -42,8 +41,8 @@ pub fn bytes_have_one_first_fault()
         → HasFault limit bytes p e → HasFault limit bytes p f → e ≡ f }
 {}
 
-/// A reader that refuses the bytes that it was fed tells their first fault, unless memory failed. One that does not
-/// refuse them was fed bytes without any.
+/// A reader that refuses the bytes that it was fed returns their first fault, unless an allocation failed. A reader
+/// that does not refuse them was fed bytes without a fault.
 pub fn readers_refuse_the_first_fault()
     ensures refused { (fed : List ℕ) (handed : List Event) (r : Reader) (e : StreamError) → Tells fed handed r
         → r.error ≡ Some e → e ≢ stream.Memory → IsFirstFault r.rows r.limit fed e }
@@ -51,7 +50,7 @@ pub fn readers_refuse_the_first_fault()
         → r.error ≡ None → HasNoFault r.rows r.limit fed }
 {}
 
-/// A text that is not shown tags has one line at which it stops being so, and one cause of a refusal, unless memory
+/// A text that is not shown tags stops being so at one line, and has one cause of a refusal, unless an allocation
 /// failed.
 pub fn a_text_stops_at_one_line()
     ensures line { (rows : List CodeRow) (text : List ℕ) (m n : ℕ)

@@ -9,13 +9,13 @@ decreases-tag_at l = 2 * length l.bytes.now
 abbrev pub decreases-members_at : goal.decreases-members_at
 decreases-members_at l = 2 * length l.bytes.now + 1
 
-abbrev pub invariant-members_at-loop-alloc : goal.invariant-members_at-loop-alloc
-invariant-members_at-loop-alloc l = record {
-  passed : Passed l.table l.top l.at l.fn.around l.bytes l.members l.here l.rest;
+abbrev pub invariant-members_at-loop-around : goal.invariant-members_at-loop-around
+invariant-members_at-loop-around l = record {
+  passed : Passed l.rules.table.now l.rules.top l.at l.fn.around l.bytes l.members l.here l.rest;
   same : l.around ≡ l.fn.around;
-  within : l.here + length l.rest ≤ l.total;
+  within : l.here + length l.rest ≤ l.rules.total;
   fewer : length l.rest ≤ length l.bytes;
 }
 
-abbrev pub decreases-members_at-loop-alloc : goal.decreases-members_at-loop-alloc
-decreases-members_at-loop-alloc l = length l.rest
+abbrev pub decreases-members_at-loop-around : goal.decreases-members_at-loop-around
+decreases-members_at-loop-around l = length l.rest

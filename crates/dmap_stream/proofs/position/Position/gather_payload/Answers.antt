@@ -1,4 +1,4 @@
-use Rattle.std.proofs.Common.{◌<◌, ◌+◌, ◌∷◌, [], ◌++◌, length, Ok, Err, ap, ◌∙◌, arith}
+use Rattle.std.proofs.Common.{◌<◌, length, Ok, Err, ap, ◌∙◌, arith}
 use Rattle.std.proofs.lemmas.Result.{err_from_is_err_and}
 use Rattle.dmap_tags.specs.Typed.{leaf_at, value_of}
 use Rattle.dmap_stream.specs.declared.position.Position.{Position}

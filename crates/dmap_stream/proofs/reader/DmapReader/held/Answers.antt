@@ -1,5 +1,5 @@
 use Rattle.std.proofs.Common.{◌<◌, ◌++◌, sym, ap, ◌∙◌, subst}
-use Rattle.dmap_stream.specs.Reader.{Reader, ready, kept, EndInLeaf}
+use Rattle.dmap_stream.specs.Reader.{ready, kept, EndInLeaf}
 use Rattle.dmap_stream.proofs.Readings.{held_in_leaf}
 use Rattle.dmap_stream.proofs.reader.DmapReader.held.Goals as goal
 
