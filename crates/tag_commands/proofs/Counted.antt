@@ -32,6 +32,10 @@ pub none_left : (bytes : List ℕ) → length bytes ≡ 0 → bytes ≡ []
 none_left [] h = refl
 none_left (b ∷ bytes) h = absurd (cc)
 
+-- a front of a piece is all of it if nothing follows
+pub whole_piece : (piece front behind : List ℕ) → piece ≡ front ++ behind → length behind ≡ 0 → piece ≡ front
+whole_piece piece front behind split end = split ∙ ap (λ l. front ++ l) (none_left behind end) ∙ append-nil front
+
 -- the counts are far below the end of their type
 pub few_counted_tops : (fed : List ℕ) (r : Reader) (tops : Tops) → HasCounted fed r tops → length fed < 2 ^ 63 → tops.depth + tops.ended < 2 ^ 63
 few_counted_tops fed r tops h few = omega (arith, few_tops fed h.handed r h.read, ap total h.counted)
@@ -223,13 +227,7 @@ ended_checked before after bytes line counter count counted within read end faul
     let found = some_tags bytes counted.small ends.0 in
     let many : count ≡ length found.0 = ends.1 ∙ tags_counted found.0 bytes found.1 in
     record {
-      bytes = bytes;
-      read = read;
-      end = end;
-      faultless = faultless;
-      within = within;
-      tags = found.0;
-      sound = found.1;
+      input = record { bytes = bytes; read = read; end = end; faultless = faultless; within = within; tags = found.0; sound = found.1 };
       unopened = refl;
       written =
           told ∙ ap (λ n. codes "ok " ++ decimal n ++ codes " tags " ++ decimal counter.bytes ++ codes " bytes" ++ 10 ∷ []) many

@@ -35,10 +35,10 @@ use Rattle.tag_commands.proofs.Tagged.{tags_walked}
 
 -- ---- commands that read their input, write once, at its end, and open no share
 
-abbrev reading : Meaning → Meaning
+abbrev pub reading : Meaning → Meaning
 reading m = record m { is_begun = m.is_done; is_front = writes_nothing_before; leaves = leaves_no_share; may_want = may_read }
 
-reads_once : (m : Meaning) → ((input : List ℕ) (one other : m.fault) → Says (m.cause one) input → Says (m.cause other) input → m.status one ≡ m.status other)
+pub reads_once : (m : Meaning) → ((input : List ℕ) (one other : m.fault) → Says (m.cause one) input → Says (m.cause other) input → m.status one ≡ m.status other)
     → ((input : List ℕ) (own : m.fault) → Says (m.cause own) input → m.gives input → ⊥)
     → ((input : List ℕ) (before after : Seen) (share : ShareSeen) (output : List ℕ) → before.input.left ≡ Some input → m.is_done before after share output → m.gives input)
     → WritesOnce (reading m)
@@ -89,7 +89,7 @@ no_tags_fault input tags.TooLong says sound = let within = sound.0 in let long =
 
 pub check_sense : WritesOnce check_meaning
 check_sense = reads_once check_meaning one_tags_status no_tags_fault (λ input before after share output told done.
-    subst IsSound (sym (read_whole input done.bytes before.input.left after.input.left told done.read done.end)) (done.within, (done.tags, done.sound)))
+    subst IsSound (sym (read_whole input done.input.bytes before.input.left after.input.left told done.input.read done.input.end)) (done.input.within, (done.input.tags, done.input.sound)))
 
 pub show_sense : IsSensible show_meaning
 show_sense = record {
@@ -102,7 +102,7 @@ show_sense = record {
   one_status = one_tags_status;
   not_both = no_tags_fault;
   given = λ input before after share output told done.
-      subst IsSound (sym (read_whole input done.bytes before.input.left after.input.left told done.read done.end)) (done.within, (done.tags, done.sound));
+      subst IsSound (sym (read_whole input done.input.bytes before.input.left after.input.left told done.input.read done.input.end)) (done.input.within, (done.input.tags, done.input.sound));
 }
 
 -- ---- show --back

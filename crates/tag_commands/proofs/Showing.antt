@@ -358,13 +358,7 @@ pub ended_whole : (before after : InputSeen) (fed written : List ℕ) (shower : 
 ended_whole before after fed written shower count h empty within read end faultless ends =
     let found = some_tags fed h.small ends.0 in
     record {
-      bytes = fed;
-      read = read;
-      end = end;
-      faultless = faultless;
-      within = within;
-      tags = found.0;
-      sound = found.1;
+      input = record { bytes = fed; read = read; end = end; faultless = faultless; within = within; tags = found.0; sound = found.1 };
       unopened = refl;
       written = written_text fed written shower h empty within ∙ within_whole fed within ∙ tags_shown found.0 fed found.1;
     }

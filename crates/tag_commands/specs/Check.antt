@@ -1,27 +1,20 @@
--- The command `check`: how many top tags the input's bytes are, or the first fault in them.
-use Rattle.std.specs.Prelude.{◌≡◌, ◌≤◌, ◌++◌, ◌∷◌, [], ℕ, List, length, true, codes, decimal}
-use Rattle.std.specs.Io.KnownBytes.{Consumes, IsAtEnd}
+-- The command `check`: how many top tags the input's bytes are, or the first error in them.
+use Rattle.std.specs.Prelude.{◌≡◌, ◌++◌, ◌∷◌, [], ℕ, List, length, true, codes, decimal}
 use Rattle.dmap_tags.specs.Tree.{Tree}
 use Rattle.command_core.specs.Seen.{InputSeen, ShareSeen, no_share}
 use Rattle.command_core.specs.Meanings.{Meaning, writes_nothing_before, leaves_no_share, may_read}
 use Rattle.tag_commands.specs.declared.tags_fault.TagsFault.{TagsFault}
-use Rattle.tag_commands.specs.TopTags.{tags_limit, AreTopTags, IsSound, IsSoundSoFar, tags_line, tags_status, tags_cause}
+use Rattle.tag_commands.specs.TopTags.{HasReadTags, IsSound, IsSoundSoFar, tags_line, tags_status, tags_cause}
 
--- how many tags and how many bytes there are
+-- the number of tags and of bytes
 abbrev pub check_text : List Tree → List ℕ → List ℕ
 check_text tags bytes = codes "ok " ++ decimal (length tags) ++ codes " tags " ++ decimal (length bytes) ++ codes " bytes" ++ 10 ∷ []
 
--- the input was read to its end, without a fault, and is tags, which the output counts
+-- the input was read to its end, without an error, and is tags, which the output counts
 pub record IsChecked (before after : InputSeen) (share : ShareSeen) (output : List ℕ) : Type 0 where
-  pub bytes : List ℕ
-  pub read : Consumes before.left after.left bytes
-  pub end : IsAtEnd after.left
-  pub faultless : after.faults ≡ before.faults
-  pub within : length bytes ≤ tags_limit
-  pub tags : List Tree
-  pub sound : AreTopTags tags bytes
+  pub input : HasReadTags before after
   pub unopened : share ≡ no_share
-  pub written : output ≡ check_text tags bytes
+  pub written : output ≡ check_text input.tags input.bytes
 
 abbrev pub check_meaning : Meaning
 check_meaning = record {

@@ -14,13 +14,13 @@ code_line row = shown_code row.code ++ 32 ∷ decimal (type_of row.kind) ++ 32 �
 abbrev pub code_lines : List CodeRow → List ℕ
 code_lines rows = flat_map code_line rows
 
--- the input was left as it was, and the output is the standard table
+-- the input is unchanged, and the output is the standard table
 pub record IsTable (before after : InputSeen) (share : ShareSeen) (output : List ℕ) : Type 0 where
   pub unread : IsUnread before after
   pub unopened : share ≡ no_share
   pub written : output ≡ code_lines standard_rows
 
--- it has no fault of its own
+-- it has no error of its own
 abbrev pub codes_meaning : Meaning
 codes_meaning = record {
   fault = ⊥;

@@ -20,7 +20,7 @@ use Rattle.tag_commands.specs.TopTags.{tags_limit, tag_limit, walked, IsTooLong}
 abbrev pub no_tops : Tops
 no_tops = record { depth = 0; ended = 0 }
 
--- a tag ends that stands in as many open lists
+-- a tag ends inside `depth` open lists
 abbrev pub with_tag : ℕ → ℕ → Tops
 with_tag depth ended = record { depth = depth; ended = if depth == 0 then ended + 1 else ended }
 
@@ -33,7 +33,7 @@ after_event tops (Close code at) = with_tag (tops.depth - 1) tops.ended
 abbrev pub top_tags : List Event → ℕ
 top_tags events = (fold after_event no_tops events).ended
 
--- the reader was fed these bytes, and all events that it handed out are counted
+-- the reader was fed these bytes, and all events that it returned are counted
 pub record HasCounted (fed : List ℕ) (reader : Reader) (tops : Tops) : Type 0 where
   pub handed : List Event
   pub read : HasRead fed handed reader
@@ -49,11 +49,11 @@ pub record IsCounted (fed : List ℕ) (counter : Counter) : Type 0 where
   pub bytes : counter.bytes ≡ length fed
   pub small : AreBytes fed
 
--- the fault is that of all bytes that begin with these
+-- the error is that of all bytes that begin with these
 abbrev pub IsShown : List ℕ → StreamError → Type 0
 IsShown bytes error = (error ≢ stream.Memory) → (rest : List ℕ) → (walked (bytes ++ rest)).ending ≡ broken error
 
--- the fault of these bytes, whatever follows them
+-- the error of these bytes, whatever follows them
 abbrev pub StopsAt : List ℕ → Fault TagsFault → Type 0
 StopsAt bytes (Own (Broken error)) = (error ≢ stream.Memory) × ((rest : List ℕ) → (walked (take tags_limit (bytes ++ rest))).ending ≡ broken error)
 StopsAt bytes (Own TooLong) = IsTooLong bytes

@@ -1,4 +1,4 @@
--- The command `codes --learn`: the rows of the table that the input, a reply to `/content-codes`, tells.
+-- The command `codes --learn`: the rows of the table that the input, a reply to `/content-codes`, states.
 use Rattle.std.specs.Prelude.{◌≡◌, ◌≢◌, ◌⊎◌, ◌++◌, ◌∷◌, [], ℕ, List, length, true, Ok, Err, codes, decimal}
 use Rattle.std.specs.Io.KnownBytes.{Consumes, IsAtEnd}
 use Rattle.dmap_tags.specs.Spelling.{spelling}
@@ -22,7 +22,7 @@ use Rattle.tag_commands.specs.declared.learn.LearnFault.TheVariants.{Broken, Tab
 use Rattle.tag_commands.specs.TopTags.{tag_limit, HasNoFault, walked, tags_text}
 use Rattle.tag_commands.specs.Codes.{code_lines}
 
--- the bytes begin with a whole tag of the standard table, within the limit of a top tag, and go on with others
+-- the bytes begin with a whole tag of the standard table, within the limit of a top tag, and continue with others
 pub record BeginsWith (tag : Tree) (rest bytes : List ℕ) : Type 0 where
   pub spelled : bytes ≡ spelling tag ++ rest
   pub accepted : is_accepted standard_rows tag_limit tag ≡ true
@@ -32,18 +32,18 @@ pub record BeginsWith (tag : Tree) (rest bytes : List ℕ) : Type 0 where
 abbrev pub HasNoTag : List ℕ → Type 0
 HasNoTag bytes = (tag : Tree) (rest : List ℕ) → BeginsWith tag rest bytes → ⊥
 
--- the input is one tag, which tells a table of these rows
+-- the input is one tag, which states a table of these rows
 pub record IsReply (rows : List CodeRow) (input : List ℕ) : Type 0 where
   pub tag : Tree
   pub whole : BeginsWith tag [] input
   pub told : table_of tag ≡ Ok rows
 
--- the input begins with no whole tag: it has a faulty place, or it ends too early
+-- the input begins with no whole tag: it has a malformed tag, or it ends too early
 pub record HasNoReply (error : StreamError) (input : List ℕ) : Type 0 where
   pub none : HasNoTag input
   pub told : error ≡ refusal (length input) (walked input).ending
 
--- a tag in front of other bytes tells no table for this; or it tells one, and is not the whole input
+-- a tag before other bytes states no table, for this reason; or it states one, and is not the whole input
 abbrev pub TellsNone : (error : CodeError) → (tag : Tree) → (rest : List ℕ) → Type 0
 TellsNone error tag rest =
     (table_of tag ≡ Err error) ⊎ ((error ≡ table.NotReply) × ((rest ≢ []) × ((rows : List CodeRow) × (table_of tag ≡ Ok rows))))
@@ -55,16 +55,16 @@ pub record IsReplyRefused (error : CodeError) (input : List ℕ) : Type 0 where
   pub whole : BeginsWith tag rest input
   pub refused : TellsNone error tag rest
 
--- no whole tag stands in front of the bytes yet, and no place in them is faulty
+-- the bytes begin with no whole tag yet, and no tag in them is malformed
 pub record IsUnfinished (bytes : List ℕ) : Type 0 where
   pub open_ : HasNoTag bytes
   pub sound : HasNoFault bytes
 
--- nothing in the bytes is refused so far: they are no whole tag yet, or just a reply
+-- nothing in the bytes is refused so far: they are not yet a whole tag, or just a reply
 abbrev pub IsReplySoFar : List ℕ → Type 0
 IsReplySoFar bytes = IsUnfinished bytes ⊎ ((rows : List CodeRow) × IsReply rows bytes)
 
--- the input was read to its end, without a fault, and is a reply; the output is the table that it tells
+-- the input was read to its end, without an error, and is a reply; the output is the table that it states
 pub record IsLearned (before after : InputSeen) (share : ShareSeen) (output : List ℕ) : Type 0 where
   pub bytes : List ℕ
   pub read : Consumes before.left after.left bytes
@@ -109,11 +109,11 @@ learn_meaning = record {
   leaves_net = true;
 }
 
--- reading stops so; memory may be wanted at any time
+-- reading stops so; an allocation may fail at any time
 abbrev pub StopsReading : InputSeen → InputSeen → Fault LearnFault → Type 0
 StopsReading before after stop = StopsBy learn_cause IsReplySoFar (Unit {0}) before after stop
 
--- the faults that refusals of the tag and of its table are
+-- the errors for refusals of the tag and of its table
 abbrev pub broken_fault : StreamError → Fault LearnFault
 broken_fault (stream.TooLarge at) = fault.Own (Broken (stream.TooLarge at))
 broken_fault (stream.TooDeep at) = fault.Own (Broken (stream.TooDeep at))

@@ -1,4 +1,4 @@
--- What was read of a reply of content codes before it is whole.
+-- What was read of a response of content codes before it is whole.
 use Rattle.std.specs.Prelude.{◌≡◌, ◌≢◌, ◌++◌, ◌&&◌, nat_le, ℕ, List, length, take, drop, Bool}
 use Rattle.dmap_stream.specs.Walk.{told_length, broken}
 use Rattle.code_table.specs.declared.reply.CodeError.TheVariants as table
@@ -12,24 +12,24 @@ use Rattle.tag_commands.specs.TopTags.{walked}
 use Rattle.tag_commands.specs.Counting.{IsCounted}
 use Rattle.tag_commands.specs.LearnCodes.{HasNoTag, HasNoReply, IsReplyRefused}
 
--- a whole head, and as many bytes behind it as it tells
+-- a whole head, and after it as many bytes as it states
 abbrev pub is_whole : List ℕ → Bool
 is_whole bytes = nat_le 8 (length bytes) && nat_le (told_length (take 8 bytes)) (length (drop 8 bytes))
 
--- the learner has these bytes, in front of which no whole tag stands, and its reader was fed them
+-- the learner has these bytes, which begin with no whole tag, and its reader was fed them
 pub record IsLearning (fed : List ℕ) (learner : Learner) : Type 0 where
   pub bytes : learner.bytes.items ≡ fed
   pub counted : IsCounted fed learner.counter
   pub open_ : HasNoTag fed
 
--- the fault of these bytes alone
+-- the error of just these bytes
 abbrev pub IsRefusal : List ℕ → Fault LearnFault → Type 0
 IsRefusal bytes (Own (Broken error)) = HasNoTag bytes × ((error ≢ stream.Memory) × ((walked bytes).ending ≡ broken error))
 IsRefusal bytes (Own (Table error)) = (error ≢ table.Memory) × IsReplyRefused error bytes
 IsRefusal bytes Read = ⊥
 IsRefusal bytes Memory = Unit {0}
 
--- the fault of all bytes that begin with these
+-- the error of all bytes that begin with these
 abbrev pub LearnStops : List ℕ → Fault LearnFault → Type 0
 LearnStops bytes (Own (Broken error)) = (error ≢ stream.Memory) × ((rest : List ℕ) → HasNoReply error (bytes ++ rest))
 LearnStops bytes (Own (Table error)) = (error ≢ table.Memory) × ((rest : List ℕ) → IsReplyRefused error (bytes ++ rest))

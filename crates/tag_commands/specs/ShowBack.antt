@@ -18,7 +18,7 @@ use Rattle.command_core.specs.Meanings.{Meaning, writes_nothing_before, leaves_n
 use Rattle.tag_commands.specs.declared.show_back.TextFault.{TextFault}
 use Rattle.tag_commands.specs.declared.show_back.TextFault.TheVariants.{Line, TooLong}
 
--- as many bytes of text are read: 64 MiB
+-- the limit of the text: 64 MiB
 abbrev pub text_limit : ℕ
 text_limit = 67108864
 
@@ -31,11 +31,11 @@ pub record ShowsBack (tags : List Tree) (input : List ℕ) : Type 0 where
   pub text : is_utf8 input ≡ true
   pub shows : Shows standard_rows input tags
 
--- the line that a place stands on, counted from 1
+-- the line of an offset, counted from 1
 abbrev pub line_at : ℕ → List ℕ → ℕ
 line_at place text = 1 + length (filter (λ byte. byte == 10) (take place text))
 
--- the line of the first byte that is no UTF-8, or else the first line with which no shown text goes on
+-- the line of the first byte that is not UTF-8, or else the first line with which no shown text continues
 abbrev pub StopsOn : (line : ℕ) → (input : List ℕ) → Type 0
 StopsOn line input =
     ((is_utf8 input ≡ false) × (line ≡ line_at (utf8_valid_len input) input))
@@ -46,7 +46,7 @@ pub record IsTextRefused (line : ℕ) (input : List ℕ) : Type 0 where
   pub within : IsWithin input
   pub stops : StopsOn line input
 
--- the input was read to its end, without a fault, and shows the tags whose bytes are the output
+-- the input was read to its end, without an error, and shows the tags whose bytes are the output
 pub record IsShownBack (before after : InputSeen) (share : ShareSeen) (output : List ℕ) : Type 0 where
   pub bytes : List ℕ
   pub read : Consumes before.left after.left bytes
@@ -87,18 +87,18 @@ show_back_meaning = record {
   leaves_net = true;
 }
 
--- reading stops so; memory may be wanted at any time
+-- reading stops so; an allocation may fail at any time
 abbrev pub StopsReading : InputSeen → InputSeen → Fault TextFault → Type 0
 StopsReading before after stop = StopsBy text_cause IsWithin (Unit {0}) before after stop
 
--- the fault of a text that shows no tags
+-- the error of a text that shows no tags
 abbrev pub IsTextFault : List ℕ → Fault TextFault → Type 0
 IsTextFault input (fault.Own (Line line)) = StopsOn line input
 IsTextFault input (fault.Own TooLong) = ⊥
 IsTextFault input fault.Read = ⊥
 IsTextFault input fault.Memory = Unit {0}
 
--- the faults that refusals of the text are
+-- the errors for refusals of the text
 abbrev pub show_fault : ShowError → Fault TextFault
 show_fault (show.Line line) = fault.Own (Line line)
 show_fault show.Memory = fault.Memory

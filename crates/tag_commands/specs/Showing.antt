@@ -22,7 +22,7 @@ use Rattle.tag_commands.specs.Counting.{after_event, no_tops}
 use Rattle.tag_commands.specs.Show.{shown_text, BeginsShown, IsShownCut, IsShownBefore}
 use Rattle.command_core.specs.Endings.{IsWritten, IsCut}
 
--- the reader was fed these bytes, and the lines of all events that it handed out are those written and those that wait
+-- the reader was fed these bytes, and the lines of all events that it returned are those written and those not yet written
 pub record HasShown (fed written : List ℕ) (reader : Reader) (tops : Tops) (lines : List ℕ) : Type 0 where
   pub handed : List Event
   pub read : HasRead fed handed reader
@@ -43,16 +43,16 @@ pub record IsShowing (fed written : List ℕ) (shower : Shower) : Type 0 where
 abbrev pub ShowsSome : (bytes lines : List ℕ) → Type 0
 ShowsSome bytes lines = (rest : List ℕ) → (count : ℕ) × (lines ≡ shown_events 0 (take count (walked (bytes ++ rest)).events))
 
--- the fault of all bytes that begin with these, and the lines of all events before it
+-- the error of all bytes that begin with these, and the lines of all events before it
 abbrev pub ShowsBroken : (bytes lines : List ℕ) → StreamError → Type 0
 ShowsBroken bytes lines error = (rest : List ℕ) → ((walked (bytes ++ rest)).ending ≡ broken error) × (lines ≡ shown_events 0 (walked (bytes ++ rest)).events)
 
--- where a reader refused
+-- the lines when a reader refused
 pub record IsLast (bytes lines : List ℕ) (error : StreamError) : Type 0 where
   pub some : ShowsSome bytes lines
   pub all : error ≢ stream.Memory → ShowsBroken bytes lines error
 
--- the fault of these bytes, whatever follows them, and the lines before it
+-- the error of these bytes, whatever follows them, and the lines before it
 abbrev pub StopsShowing : (bytes lines : List ℕ) → Fault TagsFault → Type 0
 StopsShowing bytes lines (Own (Broken error)) =
     (error ≢ stream.Memory)
@@ -66,7 +66,7 @@ abbrev pub StepStops : (bytes lines more : List ℕ) → OutputSeen → OutputSe
 StepStops bytes lines more before after (Input fault) = StopsShowing bytes lines fault × IsWritten before after more
 StepStops bytes lines more before after Output = BeginsShown bytes lines × IsCut before after more
 
--- showing stopped: by a fault, with the lines before it written, or within lines that the output did not take
+-- showing stopped: by an error, with the lines before it written, or within lines that the output did not take
 abbrev pub ShowStops : InputSeen → InputSeen → OutputSeen → OutputSeen → Stop → Type 0
 ShowStops input_before input_after output_before output_after (Input fault) =
     StopsReading input_before input_after fault

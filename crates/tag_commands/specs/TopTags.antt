@@ -1,6 +1,7 @@
--- Bytes that are read as tags of the standard table, one behind another, as `check` and `show` read them: the first
--- fault in them, with its line, its status and its cause.
+-- Bytes that are read as tags of the standard table, one after another, as `check` and `show` read them: the first
+-- error in them, with its line, its status and its cause.
 use Rattle.std.specs.Prelude.{◌≡◌, ◌≢◌, ◌<◌, ◌≤◌, ◌⊎◌, ◌++◌, ◌∷◌, [], ℕ, List, length, take, codes, decimal}
+use Rattle.std.specs.Io.KnownBytes.{Consumes, IsAtEnd}
 use Rattle.dmap_tags.specs.Spelling.{spellings}
 use Rattle.dmap_tags.specs.Tree.{Tree, trees_of}
 use Rattle.code_table.specs.Standard.{standard_rows}
@@ -15,7 +16,7 @@ use Rattle.command_core.specs.Causes.{Cause, OfInput, StopsBy}
 use Rattle.tag_commands.specs.declared.tags_fault.TagsFault.{TagsFault}
 use Rattle.tag_commands.specs.declared.tags_fault.TagsFault.TheVariants.{Broken, TooLong}
 
--- as many bytes are read: 4 GiB
+-- the limit of the input: 4 GiB
 abbrev pub tags_limit : ℕ
 tags_limit = 4294967296
 
@@ -36,11 +37,21 @@ pub record AreTopTags (tags : List Tree) (bytes : List ℕ) : Type 0 where
 abbrev pub IsSound : List ℕ → Type 0
 IsSound bytes = (length bytes ≤ tags_limit) × ((tags : List Tree) × AreTopTags tags bytes)
 
--- no place in the bytes is faulty
+-- the input was read to its end, without an error, and is tags, within its limit
+pub record HasReadTags (before after : InputSeen) : Type 0 where
+  pub bytes : List ℕ
+  pub read : Consumes before.left after.left bytes
+  pub end : IsAtEnd after.left
+  pub faultless : after.faults ≡ before.faults
+  pub within : length bytes ≤ tags_limit
+  pub tags : List Tree
+  pub sound : AreTopTags tags bytes
+
+-- no tag in the bytes is malformed
 abbrev pub HasNoFault : List ℕ → Type 0
 HasNoFault bytes = (error : StreamError) → (walked bytes).ending ≢ broken error
 
--- nor is there one so far, within the limit
+-- so far no tag is malformed, within the limit
 pub record IsSoundSoFar (bytes : List ℕ) : Type 0 where
   pub within : length bytes ≤ tags_limit
   pub sound : HasNoFault bytes
@@ -51,11 +62,11 @@ pub record IsCutShort (error : StreamError) (input : List ℕ) : Type 0 where
   pub ending : (walked input).ending ≡ inside
   pub told : error ≡ Truncated (length input)
 
--- the fault of an input: that of the first faulty place in as many bytes as are read, or of its end
+-- the error of an input: that of the first malformed tag within the limit, or of its end
 abbrev pub HasTagFault : StreamError → List ℕ → Type 0
 HasTagFault error input = ((walked (take tags_limit input)).ending ≡ broken error) ⊎ IsCutShort error input
 
--- there are more bytes than are read, and no faulty place in those
+-- the input is past the limit, and has no malformed tag within it
 pub record IsTooLong (input : List ℕ) : Type 0 where
   pub long : tags_limit < length input
   pub sound : HasNoFault (take tags_limit input)
@@ -80,11 +91,11 @@ abbrev pub tags_cause : TagsFault → Cause
 tags_cause (Broken error) = OfInput (error ≢ Memory) (HasTagFault error)
 tags_cause TooLong = OfInput (Unit {0}) IsTooLong
 
--- reading stops so; memory may be wanted at any time
+-- reading stops so; an allocation may fail at any time
 abbrev pub StopsReading : InputSeen → InputSeen → Fault TagsFault → Type 0
 StopsReading before after stop = StopsBy tags_cause IsSoundSoFar (Unit {0}) before after stop
 
--- the fault that a refusal of the reader is
+-- the error for a refusal of the reader
 abbrev pub tags_fault : StreamError → Fault TagsFault
 tags_fault (TooLarge at) = fault.Own (Broken (TooLarge at))
 tags_fault (TooDeep at) = fault.Own (Broken (TooDeep at))

@@ -15,7 +15,7 @@ use daap_outside::{Sink, Source};
 use fault_lines::push_number;
 use std::alloc::{AllocError, Global};
 
-/// Does `check`: one line tells how many top tags and bytes the input has.
+/// Runs `check`: one line states the number of top tags and bytes of the input.
 pub fn check_tags<I: Source, W: Sink>(alloc: Global, input: &mut I, output: &mut W) -> Outcome
     ensures { (around : Around) → IsAnswered check_meaning
         (told_beside around
@@ -57,7 +57,7 @@ fn counted<I: Source>(alloc: Global, input: &mut I) -> Result<Counter, Fault<Tag
     }
 }
 
-/// Reads the input to its end, and answers the line that tells how many top tags and bytes it has.
+/// Reads the input to its end, and returns the line that states its number of top tags and bytes.
 fn checked<I: Source>(alloc: Global, input: &mut I) -> Result<Vec<u8>, Fault<TagsFault>>
     ensures checked { IfOk result (λ line. IsChecked
         (input_seen (I.left input.old) (I.faults input.old))

@@ -13,7 +13,7 @@ use dmap_show::show_code;
 use fault_lines::push_number;
 use std::alloc::{AllocError, Global};
 
-/// Does `codes`: the lines of the standard table. It reads nothing.
+/// Runs `codes`: writes the lines of the standard table. It reads nothing.
 pub fn list_codes<W: Sink>(alloc: Global, output: &mut W) -> Outcome
     ensures { (around : Around) (input : InputSeen) → IsAnswered codes_meaning
         (told_beside around input input
@@ -27,7 +27,7 @@ pub fn list_codes<W: Sink>(alloc: Global, output: &mut W) -> Outcome
     }
 }
 
-/// The lines of the standard table.
+/// Returns the lines of the standard table.
 fn standard_lines(alloc: Global) -> Result<Vec<u8>, AllocError>
     ensures { IfOk result (λ lines. lines.items ≡ code_lines standard_rows) }
 {
@@ -35,7 +35,7 @@ fn standard_lines(alloc: Global) -> Result<Vec<u8>, AllocError>
     lines_of(alloc, &table)
 }
 
-/// The lines of a table. A name stands as it is, whatever characters it has.
+/// Returns the lines of a table. A name is written as it is, whatever characters it has.
 pub fn lines_of(alloc: Global, table: &CodeTable) -> Result<Vec<u8>, AllocError>
     ensures { IfOk result (λ lines. lines.items ≡ code_lines table.now) }
 {

@@ -12,13 +12,13 @@ use command_core::Fault;
 use dmap_stream::{DmapReader, Event, Limits, StreamError};
 use std::alloc::{AllocError, Global};
 
-/// The most bytes of tags that the input may have.
+/// The maximum number of bytes of the input.
 pub const TAGS_LIMIT: u64 = 4_294_967_296;
 
-/// The greatest payload of a top tag, in bytes.
+/// The maximum payload of a top tag, in bytes.
 pub const TAG_LIMIT: u32 = 1_073_741_824;
 
-/// How many bytes one read asks for.
+/// The maximum number of bytes of one read.
 pub const PIECE: usize = 65_536;
 
 /// What was read and counted so far.
@@ -30,7 +30,7 @@ pub struct Counter {
 }
 
 impl Counter {
-    /// Before the first byte.
+    /// Returns a counter that was given no byte.
     pub fn new(alloc: Global) -> Result<Counter, AllocError>
         ensures { IfOk result (λ counter. IsCounted [] counter) }
     {
@@ -42,7 +42,7 @@ impl Counter {
         })
     }
 
-    /// Counts what more bytes bring, up to the limit of the input.
+    /// Counts the tags of further bytes, up to the limit of the input.
     pub fn take(&mut self, piece: &[u8]) -> Result<(), Fault<TagsFault>>
         requires { (fed : List ℕ) × IsCounted fed self.old × (length fed ≤ tags_limit) }
         ensures took { (fed : List ℕ) → IsCounted fed self.old
@@ -50,13 +50,23 @@ impl Counter {
         ensures stopped { (fed : List ℕ) → IsCounted fed self.old
             → IfErr result (λ fault. StopsAt (fed ++ piece.now) fault) }
     {
-        let room = (TAGS_LIMIT - self.bytes) as usize;
-        let (front, behind) = piece.split_at(piece.len().min(room));
+        let (front, behind) = self.up_to_limit(piece);
         match self.feed(front) {
             Ok(()) if behind.is_empty() => Ok(()),
             Ok(()) => Err(Fault::Own(TagsFault::TooLong)),
             Err(error) => Err(tags_fault(error)),
         }
+    }
+
+    /// Returns the bytes of `piece` up to the limit of the input, and those past it.
+    pub fn up_to_limit<'a>(&self, piece: &'a [u8]) -> (&'a [u8], &'a [u8])
+        requires { self.now.bytes ≤ tags_limit }
+        ensures split { piece.now ≡ result.0.now ++ result.1.now }
+        ensures within { self.now.bytes + length result.0.now ≤ tags_limit }
+        ensures full { 0 < length result.1.now → self.now.bytes + length result.0.now ≡ tags_limit }
+    {
+        let room = (TAGS_LIMIT - self.bytes) as usize;
+        piece.split_at(piece.len().min(room))
     }
 
     /// Feeds all bytes to the reader, and counts their events.
@@ -68,7 +78,7 @@ impl Counter {
             → IfErr result (λ error. IsShown (fed ++ piece.now) error) }
     {
         let mut rest = piece;
-        // until a list opens, any tag may be the last one in its list
+        // until a list opens, any tag may be the last in its list
         let mut list_end = usize::MAX;
         while !rest.is_empty() {
             let taken = match self.step(rest, &mut list_end) {
@@ -83,8 +93,9 @@ impl Counter {
         Ok(())
     }
 
-    /// Feeds bytes up to an event and counts it, and counts what is ready behind it where a list may end. Answers how many
-    /// bytes were taken. `list_end` is how many bytes stand behind the list that was opened last: before it nothing ends.
+    /// Feeds bytes up to an event and counts it, and counts what is ready after it if a list may end there. Returns the
+    /// number of bytes taken. `list_end` is the number of bytes after the list that was opened last: before them no list
+    /// ends.
     #[inline(always)]
     fn step(&mut self, piece: &[u8], list_end: &mut usize) -> Result<usize, StreamError>
         requires { (fed : List ℕ) × HasCounted fed self.old.reader self.old.tops × (length fed + length piece.now < 2 ^ 63) }
@@ -110,7 +121,7 @@ impl Counter {
         Ok(taken)
     }
 
-    /// Counts the next event, if one is ready. Answers the length of the list that it opens.
+    /// Counts the next event, if one is ready. Returns the length of the list that it opens.
     #[inline(always)]
     fn count_next(&mut self) -> Option<usize>
         requires { (fed : List ℕ) × HasCounted fed self.old.reader self.old.tops × (length fed < 2 ^ 63) }
@@ -128,7 +139,7 @@ impl Counter {
         }
     }
 
-    /// Counts all events that are ready, where there may be one.
+    /// Counts all events that are ready, if there may be one.
     #[inline(always)]
     fn count_more(&mut self, may_be_ready: bool)
         requires { (fed : List ℕ) × HasCounted fed self.old.reader self.old.tops × (length fed < 2 ^ 63) }
@@ -156,7 +167,7 @@ impl Counter {
         }
     }
 
-    /// The end of the bytes: how many top tags they are.
+    /// Ends the bytes. Returns the number of their top tags.
     pub fn end(self) -> Result<u64, StreamError>
         ensures { (fed : List ℕ) → IsCounted fed self → EndsCounted fed result }
     {
@@ -168,7 +179,7 @@ impl Counter {
     }
 }
 
-/// The length of a list that is opened.
+/// Returns the length of the list that `event` opens.
 #[inline(always)]
 fn opened_len(event: &Event) -> Option<usize> {
     match event {

@@ -1,4 +1,4 @@
-//! The command `codes --learn`: the table that a reply to `/content-codes` tells.
+//! The command `codes --learn`: the table that a reply to `/content-codes` states.
 
 ghost use Rattle.std.specs.Prelude.{◌≡◌, ◌++◌, ◌∷◌, [], ℕ, List, length, IfOk, IfErr, OnOk, MatchOption};
 ghost use Rattle.std.specs.Io.KnownBytes.{Consumes};
@@ -17,12 +17,12 @@ use dmap_stream::{Limits, StreamError, read_tag};
 use fault_lines::push_number;
 use std::alloc::{AllocError, Global};
 
-/// Why an input is not taken as a reply. Want of memory is none of these.
+/// Why an input is not accepted as a reply. An allocation failure is not a `LearnFault`.
 #[derive(Debug, Drop)]
 pub enum LearnFault {
     /// It begins with no whole tag.
     Broken(StreamError),
-    /// Its tag tells no table, or is not all of it.
+    /// Its tag states no table, or is not the whole input.
     Table(CodeError),
 }
 
@@ -63,7 +63,7 @@ fn push_table(line: &mut Vec<u8>, error: &CodeError) -> Result<(), AllocError>
     }
 }
 
-/// What a refusal of the reply's tag is to `codes --learn`.
+/// Returns the error of `codes --learn` for a refusal of the reply's tag.
 fn broken_fault(error: StreamError) -> Fault<LearnFault>
     ensures { result ≡ broken_fault error }
 {
@@ -73,7 +73,7 @@ fn broken_fault(error: StreamError) -> Fault<LearnFault>
     }
 }
 
-/// What a refusal of its table is.
+/// Returns the error for a refusal of its table.
 fn table_fault(error: CodeError) -> Fault<LearnFault>
     ensures { result ≡ table_fault error }
 {
@@ -83,7 +83,7 @@ fn table_fault(error: CodeError) -> Fault<LearnFault>
     }
 }
 
-/// Does `codes --learn`: the lines of the table that the input tells.
+/// Runs `codes --learn`: writes the lines of the table that the input states.
 pub fn learn_codes<I: Source, W: Sink>(alloc: Global, input: &mut I, output: &mut W) -> Outcome
     ensures { (around : Around) → IsAnswered learn_meaning
         (told_beside around
@@ -97,7 +97,7 @@ pub fn learn_codes<I: Source, W: Sink>(alloc: Global, input: &mut I, output: &mu
     write_result(alloc, output, answer)
 }
 
-/// The front of a reply: its bytes, and a reader that was fed them and finds each faulty place as it comes.
+/// The beginning of a reply: its bytes, and a reader that was fed them and reports a malformed tag as soon as it comes.
 #[derive(Debug, Drop)]
 pub struct Learner {
     pub counter: Counter,
@@ -105,7 +105,7 @@ pub struct Learner {
 }
 
 impl Learner {
-    /// Before the first byte.
+    /// Returns a learner that was given no byte.
     fn new(alloc: Global) -> Result<Learner, AllocError>
         ensures { IfOk result (λ learner. IsLearning [] learner) }
     {
@@ -115,7 +115,7 @@ impl Learner {
         })
     }
 
-    /// Takes more bytes, and answers the table where they end its reply.
+    /// Takes further bytes, and returns the table if they end its reply.
     fn take(&mut self, alloc: Global, piece: &[u8]) -> Result<Option<CodeTable>, Fault<LearnFault>>
         requires { (fed : List ℕ) × IsLearning fed self.old }
         ensures took { (fed : List ℕ) → IsLearning fed self.old → IfOk result (λ learned. MatchOption learned
@@ -129,13 +129,13 @@ impl Learner {
             Ok(()) if !is_whole(self.bytes.as_slice()) => Ok(None),
             Ok(()) => judged(alloc, self.bytes.as_slice()),
             Err(StreamError::Memory) => Err(Fault::Memory),
-            // The faulty place may lie behind the first tag.
+            // The malformed tag may be after the first tag.
             Err(_) => judged(alloc, self.bytes.as_slice()),
         }
     }
 }
 
-/// As many bytes are there as their head tells of the first tag.
+/// Returns whether all bytes of the first tag have come, by its head.
 fn is_whole(bytes: &[u8]) -> bool
     ensures { result ≡ is_whole bytes.now }
 {
@@ -147,7 +147,7 @@ fn is_whole(bytes: &[u8]) -> bool
     told as usize <= payload.len()
 }
 
-/// The table that the first tag of the bytes tells, where the tag is whole and nothing stands behind it.
+/// Returns the table that the first tag states, if the tag is whole and nothing follows it.
 fn judged(alloc: Global, bytes: &[u8]) -> Result<Option<CodeTable>, Fault<LearnFault>>
     ensures told { IfOk result (λ learned. MatchOption learned (IsUnfinished bytes.now) (λ table. IsReply table bytes.now)) }
     ensures refused { IfErr result (λ fault. IsRefusal bytes.now fault) }
@@ -169,7 +169,7 @@ fn judged(alloc: Global, bytes: &[u8]) -> Result<Option<CodeTable>, Fault<LearnF
     }
 }
 
-/// Reads the input to the end of its first tag, and answers the table that the tag tells.
+/// Reads the input to the end of its first tag, and returns the table that the tag states.
 fn told_table<I: Source>(alloc: Global, input: &mut I) -> Result<CodeTable, Fault<LearnFault>>
     ensures told { IfOk result (λ table. (fed : List ℕ) × IsReply table fed × Consumes (I.left input.old) (I.left input.new) fed) }
     ensures faultless { IfOk result (λ _. I.faults input.new ≡ I.faults input.old) }
@@ -198,7 +198,7 @@ fn told_table<I: Source>(alloc: Global, input: &mut I) -> Result<CodeTable, Faul
     }
 }
 
-/// Reads the input to its end, and answers the lines of the table that it tells.
+/// Reads the input to its end, and returns the lines of the table that it states.
 fn learned<I: Source>(alloc: Global, input: &mut I) -> Result<Vec<u8>, Fault<LearnFault>>
     ensures learned { IfOk result (λ lines. IsLearned
         (input_seen (I.left input.old) (I.faults input.old))

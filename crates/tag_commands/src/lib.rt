@@ -1,6 +1,6 @@
 //! The commands on tags: `check` counts them, `show` shows them as text and `show --back` reads that back, `codes`
-//! tells the standard table of content codes and `codes --learn` the one that a reply tells. Each has its meaning in a
-//! file of `specs/`, and its function ends as that says, however the input comes in pieces.
+//! writes the standard table of content codes and `codes --learn` the one that a reply states. Each has its
+//! specification in a file of `specs/`, and its function meets it however the input is split into reads.
 #![tactic(auto)]
 
 mod check;

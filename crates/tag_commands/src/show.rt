@@ -1,7 +1,6 @@
-//! The command `show`: tags are read as they come, and their lines are written piece by piece.
+//! The command `show`: tags are read as they come, and their lines are written after each read.
 
 ghost use Rattle.std.specs.Prelude.{◌≡◌, ◌+◌, ◌≤◌, ◌++◌, [], ℕ, List, length, IfOk, IfErr, OnOk};
-ghost use Rattle.std.specs.Io.KnownBytes.{Consumes, Appends, IsAtEnd};
 ghost use Rattle.dmap_stream.specs.Reader.{ready};
 ghost use Rattle.command_core.specs.Seen.{Around, input_seen, output_seen, told_beside, no_share};
 ghost use Rattle.command_core.specs.Endings.{IsWritten, IsAnswered};
@@ -9,7 +8,7 @@ ghost use Rattle.tag_commands.specs.TopTags.{tags_limit};
 ghost use Rattle.tag_commands.specs.Show.{show_meaning, IsInStep, IsShownWhole};
 ghost use Rattle.tag_commands.specs.Showing.{HasShown, IsShowing, ShowsSome, IsLast, StopsShowing, StepStops, ShowStops};
 
-use crate::counting::{Counter, PIECE, TAGS_LIMIT};
+use crate::counting::{Counter, PIECE};
 use crate::tags_fault::{TagsFault, tags_fault};
 use command_core::{Fault, Outcome, write_error};
 use daap_outside::{Failed, Sink, Source, put_all};
@@ -17,7 +16,7 @@ use dmap_show::show_event;
 use dmap_stream::StreamError;
 use std::alloc::{AllocError, Global};
 
-/// Does `show`: the lines of the input's tags, written as they are read.
+/// Runs `show`: writes the lines of the input's tags as they are read.
 pub fn show_tags<I: Source, W: Sink>(alloc: Global, input: &mut I, output: &mut W) -> Outcome
     ensures answered { (around : Around) → IsAnswered show_meaning
         (told_beside around
@@ -48,13 +47,13 @@ pub fn show_tags<I: Source, W: Sink>(alloc: Global, input: &mut I, output: &mut 
 /// Why showing ended early.
 #[derive(Debug, Drop)]
 pub enum Stop {
-    /// The input, or want of memory. The lines before it were written.
+    /// An error of the input, or an allocation failure. The lines before it were written.
     Input(Fault<TagsFault>),
-    /// The output took no more.
+    /// An error of the output.
     Output,
 }
 
-/// What was read so far, and the lines that are not written yet.
+/// What was read so far, and the lines that are not yet written.
 #[derive(Debug, Drop)]
 pub struct Shower {
     pub counter: Counter,
@@ -62,7 +61,7 @@ pub struct Shower {
 }
 
 impl Shower {
-    /// Before the first byte.
+    /// Returns a shower that was given no byte.
     fn new(alloc: Global) -> Result<Shower, AllocError>
         ensures showing { IfOk result (λ shower. IsShowing [] [] shower) }
         ensures idle { IfOk result (λ shower. shower.lines.items ≡ []) }
@@ -73,7 +72,7 @@ impl Shower {
         })
     }
 
-    /// Takes more bytes, and writes the lines that they bring.
+    /// Takes further bytes, and writes the lines of their events.
     fn step<W: Sink>(&mut self, piece: &[u8], output: &mut W) -> Result<(), Stop>
         requires { (fed written : List ℕ) × IsShowing fed written self.old × (length fed ≤ tags_limit) }
         ensures went { (fed written : List ℕ) → IsShowing fed written self.old
@@ -98,7 +97,7 @@ impl Shower {
         }
     }
 
-    /// Makes the lines of what more bytes bring, up to the limit of the input.
+    /// Makes the lines of the events of further bytes, up to the limit of the input.
     fn take(&mut self, piece: &[u8]) -> Result<(), Fault<TagsFault>>
         requires { (fed written : List ℕ) × IsShowing fed written self.old × (length fed ≤ tags_limit) }
         ensures took { (fed written : List ℕ) → IsShowing fed written self.old
@@ -106,8 +105,7 @@ impl Shower {
         ensures stopped { (fed written : List ℕ) → IsShowing fed written self.old
             → IfErr result (λ fault. StopsShowing (fed ++ piece.now) (written ++ self.new.lines.items) fault) }
     {
-        let room = (TAGS_LIMIT - self.counter.bytes) as usize;
-        let (front, behind) = piece.split_at(piece.len().min(room));
+        let (front, behind) = self.counter.up_to_limit(piece);
         match self.feed(front) {
             Ok(()) if behind.is_empty() => Ok(()),
             Ok(()) => Err(Fault::Own(TagsFault::TooLong)),
@@ -115,7 +113,7 @@ impl Shower {
         }
     }
 
-    /// Feeds all bytes to the reader, and makes the lines of their events, also of those before a faulty place.
+    /// Feeds all bytes to the reader, and makes the lines of their events, also of those before a malformed tag.
     fn feed(&mut self, piece: &[u8]) -> Result<(), StreamError>
         requires { (fed written : List ℕ) × IsShowing fed written self.old × (length fed + length piece.now ≤ tags_limit) }
         ensures fed { (fed written : List ℕ) → IsShowing fed written self.old
@@ -164,16 +162,15 @@ impl Shower {
     }
 }
 
-/// Reads the input to its end, within its limit, and writes the lines of its events.
-fn streamed<I: Source, W: Sink>(
-    alloc: Global,
-    input: &mut I,
-    output: &mut W,
-) -> Result<Shower, Stop>
-    ensures read { IfOk result (λ shower. (fed written : List ℕ) × IsShowing fed written shower × (length fed ≤ tags_limit)
-        × Consumes (I.left input.old) (I.left input.new) fed × Appends (W.taken output.old) (W.taken output.new) written) }
-    ensures end { IfOk result (λ shower. IsAtEnd (I.left input.new) × (shower.lines.items ≡ [])) }
-    ensures faultless { OnOk result ((I.faults input.new ≡ I.faults input.old) × (W.faults output.new ≡ W.faults output.old)) }
+/// Reads the input to its end, and writes the lines of its tags as it reads them.
+///
+/// If the input is refused, its lines up to there have been written.
+fn shown<I: Source, W: Sink>(alloc: Global, input: &mut I, output: &mut W) -> Result<(), Stop>
+    ensures shown { OnOk result ((lines : List ℕ)
+        × IsShownWhole (input_seen (I.left input.old) (I.faults input.old))
+        (input_seen (I.left input.new) (I.faults input.new)) no_share lines
+        × IsWritten (output_seen (W.taken output.old) (W.faults output.old))
+        (output_seen (W.taken output.new) (W.faults output.new)) lines) }
     ensures stopped { IfErr result (λ stop. ShowStops
         (input_seen (I.left input.old) (I.faults input.old))
         (input_seen (I.left input.new) (I.faults input.new))
@@ -197,42 +194,14 @@ fn streamed<I: Source, W: Sink>(
             Err(Failed) => return Err(Stop::Input(Fault::Read)),
         };
         if n == 0 {
-            return Ok(shower);
+            match shower.counter.end() {
+                Ok(_) => return Ok(()),
+                Err(error) => return Err(Stop::Input(tags_fault(error))),
+            }
         }
         let (read, _) = piece.split_at(n);
         if let Err(stop) = shower.step(read, output) {
             return Err(stop);
         }
-    }
-}
-
-/// Reads the input to its end, and writes the lines of its tags as it reads them.
-///
-/// Where the input is refused, its lines up to there have been written.
-fn shown<I: Source, W: Sink>(alloc: Global, input: &mut I, output: &mut W) -> Result<(), Stop>
-    ensures shown { OnOk result ((lines : List ℕ)
-        × IsShownWhole (input_seen (I.left input.old) (I.faults input.old))
-        (input_seen (I.left input.new) (I.faults input.new)) no_share lines
-        × IsWritten (output_seen (W.taken output.old) (W.faults output.old))
-        (output_seen (W.taken output.new) (W.faults output.new)) lines) }
-    ensures stopped { IfErr result (λ stop. ShowStops
-        (input_seen (I.left input.old) (I.faults input.old))
-        (input_seen (I.left input.new) (I.faults input.new))
-        (output_seen (W.taken output.old) (W.faults output.old))
-        (output_seen (W.taken output.new) (W.faults output.new))
-        stop) }
-    ensures in_step { IsInStep
-        (input_seen (I.left input.old) (I.faults input.old))
-        (input_seen (I.left input.new) (I.faults input.new))
-        (output_seen (W.taken output.old) (W.faults output.old))
-        (output_seen (W.taken output.new) (W.faults output.new)) }
-{
-    let shower = match streamed(alloc, input, output) {
-        Ok(shower) => shower,
-        Err(stop) => return Err(stop),
-    };
-    match shower.counter.end() {
-        Ok(_) => Ok(()),
-        Err(error) => Err(Stop::Input(tags_fault(error))),
     }
 }

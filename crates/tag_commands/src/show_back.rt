@@ -19,13 +19,13 @@ use fault_lines::push_number;
 use std::alloc::{AllocError, Global};
 use std::str;
 
-/// The most bytes of shown text that the input may have.
+/// The maximum number of bytes of the input.
 const TEXT_LIMIT: u64 = 67_108_864;
 
-/// Why an input is not taken as shown text.
+/// Why an input is not accepted as shown text.
 #[derive(Debug, Drop)]
 pub enum TextFault {
-    /// It is none from this line on, counted from 1.
+    /// It is not shown text from this line on, counted from 1.
     Line { line: u64 },
     /// It has more bytes than are read.
     TooLong,
@@ -60,7 +60,7 @@ fn numbered_line(alloc: Global, number: u64) -> Result<Vec<u8>, AllocError>
     Ok(line)
 }
 
-/// What a refusal of its text is.
+/// Returns the error for a refusal of its text.
 fn show_fault(error: ShowError) -> Fault<TextFault>
     ensures { result ≡ show_fault error }
 {
@@ -70,7 +70,7 @@ fn show_fault(error: ShowError) -> Fault<TextFault>
     }
 }
 
-/// Does `show --back`: the bytes of the tags that the input shows.
+/// Runs `show --back`: writes the bytes of the tags that the input shows.
 pub fn read_shown<I: Source, W: Sink>(alloc: Global, input: &mut I, output: &mut W) -> Outcome
     ensures { (around : Around) → IsAnswered show_back_meaning
         (told_beside around
@@ -84,7 +84,7 @@ pub fn read_shown<I: Source, W: Sink>(alloc: Global, input: &mut I, output: &mut
     write_result(alloc, output, answer)
 }
 
-/// Reads the input to its end, and answers the bytes of the tags that it shows.
+/// Reads the input to its end, and returns the bytes of the tags that it shows.
 fn unshown<I: Source>(alloc: Global, input: &mut I) -> Result<Vec<u8>, Fault<TextFault>>
     ensures shown { IfOk result (λ bytes. IsShownBack
         (input_seen (I.left input.old) (I.faults input.old))
@@ -106,7 +106,7 @@ fn unshown<I: Source>(alloc: Global, input: &mut I) -> Result<Vec<u8>, Fault<Tex
     Ok(bytes_of(alloc, tags.as_slice())?)
 }
 
-/// The tags that a text shows.
+/// Returns the tags that a text shows.
 fn tags_shown(alloc: Global, bytes: &[u8]) -> Result<Tags, Fault<TextFault>>
     requires { length bytes.now ≤ text_limit }
     ensures text { IfOk result (λ _. is_utf8 bytes.now ≡ true) }
@@ -127,7 +127,7 @@ fn tags_shown(alloc: Global, bytes: &[u8]) -> Result<Tags, Fault<TextFault>>
     }
 }
 
-/// The line, counted from 1, that a place of a text stands on.
+/// Returns the line, counted from 1, of an offset in a text.
 fn line_at(text: &[u8], place: usize) -> u64
     requires within { length text.now ≤ text_limit }
     requires there { place ≤ length text.now }
@@ -143,7 +143,7 @@ fn line_at(text: &[u8], place: usize) -> u64
     line
 }
 
-/// The bytes of tags, none of which is too long.
+/// Returns the bytes of tags, none of which is too long.
 #[tactic(auto, using(dmap_tags::proofs::Lengths::spellable_at))]
 fn bytes_of(alloc: Global, tags: &[Tag]) -> Result<Vec<u8>, AllocError>
     requires { are_spellable (trees_of tags.now) ≡ true }

@@ -1,4 +1,4 @@
-//! Why bytes are not taken as tags: the faults of `check` and of `show`.
+//! Why bytes are not accepted as tags: the errors of `check` and `show`.
 
 ghost use Rattle.std.specs.Prelude.{◌≡◌, ◌++◌, ◌∷◌, [], IfOk, OnOk};
 ghost use Rattle.tag_commands.specs.TopTags.{tags_text, tags_fault};
@@ -8,10 +8,10 @@ use dmap_stream::StreamError;
 use fault_lines::push_number;
 use std::alloc::{AllocError, Global};
 
-/// Why an input is not taken as tags.
+/// Why an input is not accepted as tags.
 #[derive(Debug, Drop)]
 pub enum TagsFault {
-    /// Its bytes are no tags. Want of memory is none of these.
+    /// Its bytes are not tags. An allocation failure is not one of these errors.
     Broken(StreamError),
     /// It has more bytes than are read.
     TooLong,
@@ -39,7 +39,7 @@ impl Refusal for TagsFault {
     }
 }
 
-/// What a refusal of the reader is to `check` and to `show`.
+/// Returns the error of `check` and `show` for a refusal of the reader.
 pub fn tags_fault(error: StreamError) -> Fault<TagsFault>
     ensures { result ≡ tags_fault error }
 {
@@ -49,7 +49,7 @@ pub fn tags_fault(error: StreamError) -> Fault<TagsFault>
     }
 }
 
-/// The line of a refusal of tags.
+/// Returns the line of a refusal of tags.
 pub fn broken_line(alloc: Global, error: &StreamError) -> Result<Vec<u8>, AllocError>
     ensures { IfOk result (λ line. line.items ≡ tags_text error.now ++ 10 ∷ []) }
 {

@@ -13,14 +13,14 @@ pub struct Tops {
 }
 
 impl Tops {
-    /// Before the first tag.
+    /// Returns the counts before the first tag.
     pub fn new() -> Tops
         ensures { result ≡ no_tops }
     {
         Tops { depth: 0, ended: 0 }
     }
 
-    /// One event more.
+    /// Counts an event.
     #[inline(always)]
     pub fn count(&mut self, event: Event)
         requires { self.old.depth + self.old.ended < 2 ^ 63 }
@@ -36,7 +36,7 @@ impl Tops {
         }
     }
 
-    /// A tag ended, in the lists that are open.
+    /// Counts the end of a tag in the open lists.
     #[inline(always)]
     fn end_tag(&mut self)
         requires { self.old.ended < 2 ^ 63 }

@@ -41,15 +41,14 @@ loop-rest-smaller c =
 
 pub loop-rest-preserved : goal.loop-rest-preserved
 loop-rest-preserved c =
-    let front = c.loop-rest.invariant.front in
-    let rest = c.loop-rest.rest.now in
-    let more = take c.in-Ok.taken rest in
+    let inv = c.loop-rest.invariant in
+    let more = take c.in-Ok.taken c.loop-rest.rest.now in
     record {
-      front = front ++ more;
-      split = taken_more c.args.piece.now front rest c.split_at.result.1.now c.in-Ok.taken c.loop-rest.invariant.split c.split_at.ensures.back;
-      counted = λ fed h. subst (λ l. HasCounted l c.step.new.self.reader c.step.new.self.tops) (append_assoc fed front more)
-          (c.in-Ok.ensures.counted (fed ++ front) (c.loop-rest.invariant.counted fed h));
-      bytes = c.step.ensures.bytes ∙ c.loop-rest.invariant.bytes;
+      front = inv.front ++ more;
+      split = taken_more c.args.piece.now inv.front c.loop-rest.rest.now c.split_at.result.1.now c.in-Ok.taken inv.split c.split_at.ensures.back;
+      counted = λ fed h. subst (λ l. HasCounted l c.step.new.self.reader c.step.new.self.tops) (append_assoc fed inv.front more)
+          (c.in-Ok.ensures.counted (fed ++ inv.front) (inv.counted fed h));
+      bytes = c.step.ensures.bytes ∙ inv.bytes;
     }
 
 pub count_ready-requires : goal.count_ready-requires

@@ -1,48 +1,30 @@
-use Rattle.std.proofs.Common.{rules, ◌≡◌, ◌≤◌, ◌<◌, ◌++◌, length, drop, sym, subst, ap, ◌∙◌, arith, length-append}
-use Rattle.std.proofs.lemmas.List.{append-nil, take-append-drop}
-use Rattle.tag_commands.specs.TopTags.{tags_limit}
+use Rattle.std.proofs.Common.{rules, ◌≡◌, ◌<◌, ◌++◌, length, sym, subst, ap, arith, length-append}
 use Rattle.tag_commands.specs.Counting.{IsCounted, StopsAt}
-use Rattle.tag_commands.proofs.Counted.{none_left, stops, too_long}
+use Rattle.tag_commands.proofs.Counted.{whole_piece, stops, too_long}
 use Rattle.tag_commands.proofs.counting.Counter.take.Goals as goal
 
 pub returns-in-Ok-clause-took : goal.returns-in-Ok-clause-took
 returns-in-Ok-clause-took c =
-    let piece = c.args.piece.now in
-    let front = c.split_at.result.0.now in
-    let behind = c.split_at.result.1.now in
-    let n = c.min.result in
-    let split : piece ≡ front ++ behind =
-    sym (take-append-drop n piece) ∙ ap (λ l. l ++ drop n piece) (sym c.split_at.ensures.front) ∙ ap (λ l. front ++ l) (sym c.split_at.ensures.back) in
-    let end : length behind ≡ 0 = search rules in
-    let same : piece ≡ front = split ∙ ap (λ l. front ++ l) (none_left behind end) ∙ append-nil front in
-    λ fed h.
-    let within : length (fed ++ piece) ≤ tags_limit =
-    omega (arith, h.bytes, c.requires.1.bytes, c.requires.2, c.min.ensures, c.split_at.ensures.front_len, ap length same, length-append fed piece) in
-    (subst (λ l. IsCounted (fed ++ l) c.feed.new.self) (sym same) (c.in-Ok.ensures.fed fed h), within)
+    let front = c.up_to_limit.result.0.now in
+    let end : length c.up_to_limit.result.1.now ≡ 0 = search rules in
+    let same = whole_piece c.args.piece.now front c.up_to_limit.result.1.now c.up_to_limit.ensures.split end in
+    λ fed h. (
+      subst (λ l. IsCounted (fed ++ l) c.feed.new.self) (sym same) (c.in-Ok.ensures.fed fed h),
+      omega (arith, h.bytes, c.up_to_limit.ensures.within, ap length same, length-append fed c.args.piece.now),
+    )
 
 pub returns-in-Ok-2-clause-stopped : goal.returns-in-Ok-2-clause-stopped
 returns-in-Ok-2-clause-stopped c =
-    let piece = c.args.piece.now in
-    let front = c.split_at.result.0.now in
-    let behind = c.split_at.result.1.now in
-    let n = c.min.result in
-    let split : piece ≡ front ++ behind =
-    sym (take-append-drop n piece) ∙ ap (λ l. l ++ drop n piece) (sym c.split_at.ensures.front) ∙ ap (λ l. front ++ l) (sym c.split_at.ensures.back) in
-    let more : 0 < length behind = search rules in
+    let front = c.up_to_limit.result.0.now in
+    let more : 0 < length c.up_to_limit.result.1.now = search rules in
     λ fed h.
-    let full : length (fed ++ front) ≡ tags_limit =
-    omega (arith, h.bytes, c.requires.1.bytes, c.requires.2, c.min.ensures, c.split_at.ensures.front_len, ap length split, length-append front behind, more, length-append fed front) in
-    too_long fed front behind piece c.feed.new.self.reader c.feed.new.self.tops full more split (c.in-Ok-2.ensures.fed fed h).counted
+    too_long fed front c.up_to_limit.result.1.now c.args.piece.now c.feed.new.self.reader c.feed.new.self.tops
+    (omega (arith, h.bytes, c.up_to_limit.ensures.full more, length-append fed front)) more c.up_to_limit.ensures.split (c.in-Ok-2.ensures.fed fed h).counted
 
 pub returns-in-Err-clause-stopped : goal.returns-in-Err-clause-stopped
 returns-in-Err-clause-stopped c =
-    let piece = c.args.piece.now in
-    let front = c.split_at.result.0.now in
-    let behind = c.split_at.result.1.now in
-    let n = c.min.result in
-    let split : piece ≡ front ++ behind =
-    sym (take-append-drop n piece) ∙ ap (λ l. l ++ drop n piece) (sym c.split_at.ensures.front) ∙ ap (λ l. front ++ l) (sym c.split_at.ensures.back) in
+    let front = c.up_to_limit.result.0.now in
     λ fed h.
-    let within : length (fed ++ front) ≤ tags_limit =
-    omega (arith, h.bytes, c.requires.1.bytes, c.requires.2, c.min.ensures, c.split_at.ensures.front_len, length-append fed front) in
-    subst (StopsAt (fed ++ piece)) (sym c.tags_fault.ensures) (stops fed front piece c.in-Err.error within (c.in-Err.ensures.stopped fed h) (behind, split))
+    subst (StopsAt (fed ++ c.args.piece.now)) (sym c.tags_fault.ensures)
+    (stops fed front c.args.piece.now c.in-Err.error (omega (arith, h.bytes, c.up_to_limit.ensures.within, length-append fed front))
+    (c.in-Err.ensures.stopped fed h) (c.up_to_limit.result.1.now, c.up_to_limit.ensures.split))

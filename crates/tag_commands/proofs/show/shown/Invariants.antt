@@ -3,7 +3,7 @@ use Rattle.std.specs.Io.KnownBytes.{Consumes}
 use Rattle.tag_commands.specs.TopTags.{tags_limit}
 use Rattle.command_core.specs.Endings.{IsWritten}
 use Rattle.tag_commands.specs.Showing.{IsShowing}
-use Rattle.tag_commands.proofs.show.streamed.Given as goal
+use Rattle.tag_commands.proofs.show.shown.Given as goal
 
 -- what was read is shown and written, within the limit, and no fault was counted
 abbrev pub invariant-loop-n : goal.invariant-loop-n
