@@ -74,10 +74,6 @@ pub pushes_cut : (a b : List ℕ) (e : Failed) (r : Result Unit Failed) (t0 t1 :
 pushes_cut a b e (Ok u) t0 t1 p0 p1 p2 f0 f1 h first = absurd (cc)
 pushes_cut a b e (Err d) t0 t1 p0 p1 p2 f0 f1 h first = record { ok = tt; err = cut_less p0 a b t0 t1 first.err; count = tt; failed = first.failed }
 
--- room was made, and bytes were put there
-pub pushes_put : (bytes : List ℕ) (t0 t1 : Option (List ℕ)) (p0 p1 p2 : List ℕ) (f0 f1 : ℕ) → Pushes [] (Ok tt) t0 t1 p0 p1 f0 f1 → p2 ≡ p1 ++ bytes → Pushes bytes (Ok tt) t0 t1 p0 p2 f0 f1
-pushes_put bytes t0 t1 p0 p1 p2 f0 f1 room h = pushes_then [] bytes (Ok tt) t0 t1 t1 p0 p1 p2 f0 f1 f1 room (record { ok = moved_put bytes t1 p1 p2 h; err = tt; count = refl; failed = tt })
-
 -- of some pieces that are pushed in turn, those are left
 pub record Left (rest all : List ℕ) (told now : Option (List ℕ)) (page page' : List ℕ) (faults faults' : ℕ) : Type 0 where
   pub done : List ℕ

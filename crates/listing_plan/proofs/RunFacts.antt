@@ -1,19 +1,18 @@
 -- Runs of neighbours have what is asked for.
-use Rattle.std.proofs.Common.{◌≡◌, ◌≤◌, ◌<◌, ◌+◌, ◌-◌, ◌++◌, ℕ, false, List, [], ◌∷◌, length, take, drop, get_or, All, Some, refl, sym, ap, subst, ◌∙◌, append_assoc, append-nil, take-append-drop, drop-drop, length-take-le, length-drop, arith}
+use Rattle.std.proofs.Common.{◌≡◌, ◌≤◌, ◌+◌, ◌-◌, ◌++◌, ℕ, List, [], ◌∷◌, length, take, drop, All, Some, refl, sym, ap, subst, ◌∙◌, append_assoc, append-nil, take-append-drop, drop-drop, length-take-le, length-drop, arith}
 use Rattle.std.proofs.Math.Seq.{take-append-add}
 use Rattle.std.proofs.lemmas.Grind.{flat_map-append}
-use Rattle.std.proofs.lemmas.List.{map-append, drop_more, drop_all}
+use Rattle.std.proofs.lemmas.List.{map-append, drop_more}
 use Rattle.std.proofs.lemmas.List.Elements.{All-push, All-pop}
 use Rattle.dmap_tags.specs.Spelling.{spellings}
 use Rattle.dmap_tags.specs.Tree.{trees_of}
 use Rattle.item_model.specs.declared.item.Row.{Row}
 use Rattle.item_model.specs.declared.property.Property.{Property}
-use Rattle.item_model.specs.Projection.{shown, first_mentions, mentions}
+use Rattle.item_model.specs.Projection.{shown, first_mentions}
 use Rattle.item_model.proofs.Few.{first_few}
 use Rattle.row_sheets.specs.Cells.{cell, row_cells, joined, HasNoOther}
 use Rattle.listing_plan.specs.declared.runs.Run.{Run}
-use Rattle.listing_plan.specs.Runs.{AreRuns, IsIndex, IsWithin, Joins, Mentions, run_bytes, runs_bytes}
-use Rattle.listing_plan.proofs.Short.{shown_at}
+use Rattle.listing_plan.specs.Runs.{IsIndex, IsWithin, Joins, run_bytes, runs_bytes}
 
 -- a front of some length, and a front of what is behind it
 take_parts : {X : Type 0} (a b : ℕ) (xs : List X) → a ≤ length xs → take (a + b) xs ≡ take a xs ++ take b (drop a xs)
@@ -73,47 +72,11 @@ joins_last front last run h = record {
       ∙ ap (λ bytes. bytes ++ run_bytes ps row run) (sym (runs_push ps row front last));
 }
 
--- a property that is at a index of the sheet is mentioned
-pub mentions_at : (ps : List Property) (p : Property) (index : ℕ) (old new : List Run) → All (IsWithin ps) old → IsIndex ps index p → Joins (record { from = index; to = index + 1 }) old new → Mentions ps p old new
-mentions_at ps p index old new all at joins =
-    let one : IsWithin ps (record { from = index; to = index + 1 }) = record { order = omega arith; end = omega (arith, at.below) } in
-    record {
-      within = joins.within ps all one;
-      bytes = λ row others. joins.bytes ps row all one ∙ ap (λ bytes. runs_bytes ps row old ++ bytes) (one_cell ps row index p at);
-    }
-
--- and of one that the sheet lacks no row has a tag
-pub mentions_none : (ps : List Property) (p : Property) (old : List Run) → All (IsWithin ps) old → mentions ps p ≡ false → Mentions ps p old old
-mentions_none ps p old all none = record {
-  within = all;
-  bytes = λ row others. sym (ap (λ bytes. runs_bytes ps row old ++ bytes) (others p none) ∙ append-nil (runs_bytes ps row old));
-}
-
 -- of what is asked for the properties from an index on are left
 pub record AskedFrom (ps asked : List Property) (i : ℕ) (runs : List Run) : Type 0 where
   pub few : length runs ≤ i
   pub within : All (IsWithin ps) runs
   pub bytes : (row : Row) → HasNoOther ps row → runs_bytes ps row runs ++ spellings (trees_of (shown row.item (drop i asked))) ≡ spellings (trees_of (shown row.item asked))
-
-pub asked_next : (ps asked : List Property) (i : ℕ) (p : Property) (old new : List Run) → i < length asked → p ≡ get_or asked i p → AskedFrom ps asked i old → length new ≤ length old + 1 → Mentions ps p old new → AskedFrom ps asked (i + 1) new
-asked_next ps asked i p old new lt at from few mention = record {
-  few = omega (arith, from.few, few);
-  within = mention.within;
-  bytes = λ row others.
-      let rest = spellings (trees_of (shown row.item (drop (i + 1) asked))) in
-      let next : spellings (trees_of (shown row.item (drop i asked))) ≡ cell row.item p ++ rest =
-      shown_at row.item asked i p lt ∙ ap (λ q. cell row.item q ++ rest) (sym at) in
-      ap (λ bytes. bytes ++ rest) (mention.bytes row others) ∙ append_assoc (runs_bytes ps row old) (cell row.item p) rest
-      ∙ ap (λ bytes. runs_bytes ps row old ++ bytes) (sym next) ∙ from.bytes row others;
-}
-
-pub asked_all : (ps asked : List Property) (i : ℕ) (runs : List Run) → length asked ≤ i → AskedFrom ps asked i runs → AreRuns ps asked runs
-asked_all ps asked i runs h from = record {
-  within = from.within;
-  spelled = λ row others.
-      sym (append-nil (runs_bytes ps row runs)) ∙ ap (λ qs. runs_bytes ps row runs ++ spellings (trees_of (shown row.item qs))) (sym (drop_all i asked h))
-      ∙ from.bytes row others;
-}
 
 -- there are 26 properties at most
 pub asked_few : (asked : List Property) → first_mentions asked ≡ asked → length asked ≤ 26

@@ -74,10 +74,6 @@ most_few Version = omega arith
 most_few Members = omega arith
 most_few Opaque = omega arith
 
--- no value of a property has more bytes than a text may have
-pub value_few : (p : Property) (v : PropValue) → is_value_of p v ≡ true → length (leaf_payload (value_leaf (property_kind p) v)) ≤ 255
-value_few p v h = omega (arith, value_short (property_kind p) v h, most_few (property_kind p))
-
 -- the tag of a property has at most a head and what its kind has
 pub property_short : (p : Property) (v : PropValue) → is_value_of p v ≡ true → length (spelling (property_tag p v)) ≤ tag_most p
 property_short p v h =

@@ -1,5 +1,5 @@
 -- The changes of the touched keys are the delta.
-use Rattle.std.proofs.Common.{◌≡◌, ◌++◌, ℕ, List, [], ◌∷◌, Bool, true, false, cond, not, ◌&&◌, Option, Some, None, is_some, is_none, filter, length, unwrap_or, refl, sym, ap, ◌∙◌, append-nil}
+use Rattle.std.proofs.Common.{◌≡◌, ◌++◌, ℕ, List, [], ◌∷◌, Bool, true, false, cond, not, ◌&&◌, Option, Some, None, is_some, is_none, filter, length, unwrap_or, refl, sym, ap, ◌∙◌}
 use Rattle.std.specs.Option.{option_map, option_and_then}
 use Rattle.std.specs.List.{cons_option}
 use Rattle.std.specs.Map.{keys_of}
@@ -139,10 +139,6 @@ pub listed_more : (bs : List (List Edit)) (t : Target) (look : Look) (key : ℕ)
     → new ≡ old ++ (key, row) ∷ [] → new ≡ old ++ pairs_at (listed_at bs t look) (key ∷ [])
 listed_more bs t look key row old new h pushed = pushed ∙ ap (λ o. old ++ cons_option (option_map (λ x. (key, x)) o) []) h
 
-pub unlisted_more : (bs : List (List Edit)) (t : Target) (look : Look) (key : ℕ) (old : List (ℕ × Row)) → None ≡ listed_at bs t look key
-    → old ≡ old ++ pairs_at (listed_at bs t look) (key ∷ [])
-unlisted_more bs t look key old h = sym (append-nil old) ∙ ap (λ o. old ++ cons_option (option_map (λ x. (key, x)) o) []) h
-
 keyed_more : (rs : List PlanRow) (r : PlanRow) → keyed (rs ++ r ∷ []) ≡ keyed rs ++ (key_of r, r.row) ∷ []
 keyed_more [] r = refl
 keyed_more (first ∷ rs) r = ap (λ l. (key_of first, first.row) ∷ l) (keyed_more rs r)
@@ -154,10 +150,3 @@ shared_more es t key row member found old new is there same pushed =
     let one : found ≡ row = cc in
     let its_key : unwrap_or member found.id ≡ key = (λ i. unwrap_or (is i) (one i).id) ∙ key_shown es t key row there in
     ap keyed pushed ∙ keyed_more old (record { member = member; row = found }) ∙ (λ i. keyed old ++ (its_key i, one i) ∷ [])
-
--- and itself, if it is deleted
-pub deleted_more : (p : ℕ → Bool) (key : ℕ) (old new : List ℕ) → true ≡ p key → new ≡ old ++ key ∷ [] → new ≡ old ++ filter p (key ∷ [])
-deleted_more p key old new h pushed = pushed ∙ ap (λ b. old ++ cond b (key ∷ []) []) h
-
-pub undeleted_more : (p : ℕ → Bool) (key : ℕ) (old : List ℕ) → false ≡ p key → old ≡ old ++ filter p (key ∷ [])
-undeleted_more p key old h = sym (append-nil old) ∙ ap (λ b. old ++ cond b (key ∷ []) []) h

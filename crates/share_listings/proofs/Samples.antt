@@ -7,7 +7,7 @@ use Rattle.item_store.specs.Stands.{StandsFor}
 use Rattle.share_history.specs.Histories.{edits}
 use Rattle.playlist_store.specs.Stands as lists_stand
 use Rattle.playlist_store.specs.Store as lists_kept
-use Rattle.share_listings.specs.Answers.{HasEdits, HasFew, HaveEdits, HaveFew}
+use Rattle.share_listings.specs.Answers.{HasEdits, HaveEdits, HaveFew}
 
 pub none_yet : (store : Store) → StandsFor [] store → HasEdits 0 store
 none_yet store stands = record { bs = []; stands = stands; few = omega arith }
@@ -20,9 +20,6 @@ more_edits most more batch old new had short stands = record {
   stands = stands had.bs had.stands;
   few = omega (arith, ap length (flat_map-append (λ (b : List Edit). b) had.bs (batch ∷ [])), length-append (edits had.bs) (batch ++ []), length-append batch [], had.few, short);
 }
-
-pub still_few : (most : ℕ) (store : Store) → HasEdits most store → most ≤ 262144 → HasFew store
-still_few most store had h = record { bs = had.bs; stands = had.stands; few = omega (arith, had.few, h) }
 
 -- the same of both stores
 pub none_in_both : (items : Store) (lists : lists_kept.Store) → StandsFor [] items → lists_stand.StandsFor [] lists → lists.keep ≡ items.keep → HaveEdits 0 items lists
