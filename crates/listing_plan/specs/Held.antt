@@ -46,7 +46,7 @@ abbrev pub listed_rows : Target → Listed → List PlanRow
 listed_rows target (Each rows len) = rows.items
 listed_rows target (Sheets rows) = map (plan_row target) rows
 
--- if the rows come one by one, the length of their tags is known
+-- if the rows come one by one, the length of their tags is kept with them; rows on sheets are measured later
 abbrev pub IsCounted : List Property → Listed → Type 0
 IsCounted ps (Each rows len) = (len ≡ rows_length ps rows.items) × (len ≤ row_limit * rows_limit)
 IsCounted ps (Sheets rows) = Unit {0}

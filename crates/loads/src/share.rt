@@ -1,4 +1,4 @@
-//! A share that is asked the same over and over, behind a history of any length.
+//! A share that gets the same request over and over, after a history of any length.
 
 mod asking;
 mod wants;
@@ -9,6 +9,7 @@ pub use crate::share::wants::Step;
 /// How many songs there are if no argument says it.
 pub const SONGS: u32 = 1000;
 
+/// The steps by their names.
 pub const STEPS: [(&str, Step); 8] = [
     ("edit", Step::Edit),
     ("login", Step::Login),
@@ -20,6 +21,7 @@ pub const STEPS: [(&str, Step); 8] = [
     ("tenth", Step::Tenth),
 ];
 
+/// Returns the step with this name.
 pub fn step_named(word: &str) -> Option<Step> {
     for (name, step) in STEPS {
         if name == word {
@@ -29,7 +31,7 @@ pub fn step_named(word: &str) -> Option<Step> {
     None
 }
 
-/// A step that is taken three times, behind few entries.
+/// A step that is taken three times, after a few entries.
 pub fn few(step: Step) -> Load {
     Load {
         step,

@@ -44,6 +44,7 @@ pub enum Step {
     Deltas,
 }
 
+/// The steps by their names.
 pub const STEPS: [(&str, Step); 15] = [
     ("rows", Step::Rows),
     ("plan", Step::Plan),
@@ -79,6 +80,7 @@ pub const FEW: Load = Load {
     size: 3,
 };
 
+/// Returns the step with this name.
 pub fn step_named(word: &str) -> Option<Step> {
     for (name, step) in STEPS {
         if name == word {

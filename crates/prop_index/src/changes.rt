@@ -43,7 +43,7 @@ fn id_of(old: Option<&Row>, new: Option<&Row>) -> Option<u32>
     }
 }
 
-/// Adds a change behind the others.
+/// Adds a change after the others.
 pub(crate) fn add<'a>(
     turns: &mut BTreeMap<u32, Turn<'a>>,
     old: Option<&'a Row>,

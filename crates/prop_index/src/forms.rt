@@ -29,7 +29,7 @@ impl FormIds {
         }
     }
 
-    /// Puts the id under both forms of the row's text. After an `Err` it may stand under one of them.
+    /// Puts the id under both forms of the row's text. After an `Err` the id may be under one of them.
     pub(crate) fn put(
         &mut self,
         alloc: Global,

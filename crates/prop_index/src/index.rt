@@ -150,7 +150,7 @@ impl PropIndex {
         self.composers.settle(kept, gone, Browse::Composers, id);
     }
 
-    // Puts the ids under the texts of their new rows. After an `Err` some of them may stand there.
+    // Puts the ids under the texts of their new rows. After an `Err` some of the ids may be there.
     fn put_all(&mut self, turns: &BTreeMap<u32, Turn>) -> Result<(), AllocError>
         ensures ok { OnOk result ((browse : Browse) (form : Form) (text : List ℕ) (id : ℕ) →
             has id (found self.new browse form text) ≡ (has id (found self.old browse form text) || list_any (brings browse form text id) turns.now.entries)) }

@@ -87,8 +87,8 @@ impl RowSheets {
         })
     }
 
-    /// The rows after the changes: for each id its new row, or none if it is dropped. Sheets that no change touches are
-    /// shared with this list, which stays as it is.
+    /// Returns the rows after the changes: for each id its new row, or none if it is dropped. The ids of the changes
+    /// ascend, and each new row has its id. Sheets that no change touches are shared with this list, which stays as it is.
     ///
     /// # Errors
     ///
