@@ -1,21 +1,23 @@
-//! Shares, links that may wait for another worker's links, and workers that have not begun.
-ghost use Rattle.std.specs.Prelude.{◌≡◌, ◌<◌, [], All, IfOk, OnOk};
+//! Shares, connections that may wait for another worker's, and workers that have not begun.
+ghost use Rattle.std.specs.Prelude.{◌≡◌, ◌<◌, [], All, IfOk};
 ghost use Rattle.share_lock.specs.Passes.{lock_id, IsReady};
 ghost use Rattle.share_replies.specs.Laws.{maker};
 
-use crate::gated::{Gated, GatedDoor};
+use crate::gated::{Gated, GatedDoor, Watch};
 use daap_outside::{MemLink, MemSink, MemSource};
-use item_model::{Batch, Edits};
+use item_model::{Batch, Edits, Entry};
 use share_asks::Role;
 use share_core::Share;
-use share_lock::{Pass, ShareLock};
-use share_workers::{Worker, WorkerEnd};
+use share_lock::{Bell, Pass, ShareLock};
+use share_workers::{Worker, WorkerEnd, serve_all};
 use std::alloc::{AllocError, Global};
 use std::collections::VecDeque;
 use std::sync::Wait;
 use std::sync::atomic::AtomicU64;
+use std::thread::Threads;
+use std::time::Clock;
 
-/// How many bytes one read gives at most: as many as a request for the server's info has.
+/// The maximum number of bytes of one read: the length of a request for the server's info.
 pub const PIECE: usize = 29;
 
 pub const INFO: &str = "GET /server-info HTTP/1.1\r\n\r\n";
@@ -24,12 +26,12 @@ pub const TWO_INFOS: &str = "GET /server-info HTTP/1.1\r\n\r\nGET /server-info H
 
 pub const STOP: &str = "POST /stop HTTP/1.1\r\n\r\n";
 
-/// How often a call checks whether it may go on, if it should never give up: longer than any turn takes, and not as long as
-/// a test may take.
+/// How often a call checks whether it may continue, if it should never give up: this takes longer than any turn, and less
+/// than a test may.
 pub const MANY_LOOKS: u64 = 10_000_000;
 
-/// A link that comes to a worker: what comes on it; for how many bytes on the other worker's links each read waits, and each
-/// write; and which read and which write fail, counted from 1.
+/// A connection that comes to a worker: its input; for how many bytes on the other worker's connections each read and each
+/// write waits; and which read and which write fail, counted from 1.
 #[derive(Clone, Copy)]
 pub struct LinkPlan {
     pub input: &'static str,
@@ -39,7 +41,7 @@ pub struct LinkPlan {
     pub failing_write: u64,
 }
 
-/// A worker: what its links may ask, and the one or two links that come.
+/// A worker: its role, and the one or two connections that come.
 #[derive(Clone, Copy)]
 pub struct WorkerPlan {
     pub role: Role,
@@ -47,7 +49,7 @@ pub struct WorkerPlan {
     pub second: Option<LinkPlan>,
 }
 
-/// How many bytes were written on the links of one worker, and of the other.
+/// The number of bytes written on the connections of one worker, and of the other.
 #[derive(Drop)]
 pub struct Written {
     pub first: AtomicU64,
@@ -59,6 +61,24 @@ impl Written {
         Written {
             first: AtomicU64::new(0),
             second: AtomicU64::new(0),
+        }
+    }
+
+    /// Returns what the calls of the first worker wait for. Each checks `looks` times.
+    pub fn watch_of_first(&self, looks: u64) -> Watch<'_> {
+        Watch {
+            own: &self.first,
+            other: &self.second,
+            looks,
+        }
+    }
+
+    /// Returns what the calls of the second worker wait for.
+    pub fn watch_of_second(&self, looks: u64) -> Watch<'_> {
+        Watch {
+            own: &self.second,
+            other: &self.first,
+            looks,
         }
     }
 }
@@ -75,7 +95,7 @@ pub fn new_share(alloc: Global) -> Result<Share, AllocError>
     }
 }
 
-/// A link that waits for nobody, and does not fail.
+/// Returns a connection that does not wait and does not fail.
 pub fn plain(input: &'static str) -> LinkPlan {
     LinkPlan {
         input,
@@ -86,7 +106,7 @@ pub fn plain(input: &'static str) -> LinkPlan {
     }
 }
 
-/// A worker of one link.
+/// Returns a worker of one connection.
 pub fn of_one(role: Role, first: LinkPlan) -> WorkerPlan {
     WorkerPlan {
         role,
@@ -98,9 +118,7 @@ pub fn of_one(role: Role, first: LinkPlan) -> WorkerPlan {
 fn coming_link<'a>(
     alloc: Global,
     plan: &LinkPlan,
-    looks: u64,
-    own: &'a AtomicU64,
-    other: &'a AtomicU64,
+    watch: Watch<'a>,
 ) -> Result<Gated<'a>, AllocError> {
     let source = MemSource::new(alloc, plan.input.as_bytes(), PIECE, &[plan.failing_read])?;
     let sink = MemSink::new(alloc, 4096, 50, &[plan.failing_write])?;
@@ -108,24 +126,20 @@ fn coming_link<'a>(
         link: MemLink::new(source, sink),
         reads_wait: plan.reads_wait,
         writes_wait: plan.writes_wait,
-        other,
-        own,
-        looks,
+        watch,
     })
 }
 
-/// The door to which the links of a worker come.
+/// Returns the listener at which the connections of a worker come.
 fn door_of<'a>(
     alloc: Global,
     plan: &WorkerPlan,
-    looks: u64,
-    own: &'a AtomicU64,
-    other: &'a AtomicU64,
+    watch: Watch<'a>,
 ) -> Result<GatedDoor<'a>, AllocError> {
     let mut coming = VecDeque::new(alloc);
-    coming.push_back(coming_link(alloc, &plan.first, looks, own, other)?)?;
+    coming.push_back(coming_link(alloc, &plan.first, watch)?)?;
     if let Some(second) = &plan.second {
-        coming.push_back(coming_link(alloc, second, looks, own, other)?)?;
+        coming.push_back(coming_link(alloc, second, watch)?)?;
     }
     Ok(GatedDoor {
         coming,
@@ -133,7 +147,7 @@ fn door_of<'a>(
     })
 }
 
-/// Its own pass for a worker that has not begun.
+/// Returns a lock handle for a worker that has not begun.
 fn drawn<R: Wait>(rt: &R, lock: &ShareLock<Share>, first: &mut Pass<Share>) -> Pass<Share>
     requires ready { IsReady (lock_id lock.now) first.old }
     ensures first { IsReady (lock_id lock.now) first.new }
@@ -142,7 +156,7 @@ fn drawn<R: Wait>(rt: &R, lock: &ShareLock<Share>, first: &mut Pass<Share>) -> P
     lock.split(rt, first).unwrap()
 }
 
-/// A worker at a door, which has not begun.
+/// Returns a worker at `door` that has not begun.
 pub fn worker_at<D: Drop, R: Wait>(
     rt: &R,
     alloc: Global,
@@ -166,39 +180,14 @@ pub fn worker_at<D: Drop, R: Wait>(
     }
 }
 
-/// Adds a worker at a door.
-pub fn hire<D: Drop, R: Wait>(
-    rt: &R,
-    alloc: Global,
-    lock: &ShareLock<Share>,
-    first: &mut Pass<Share>,
-    role: Role,
-    door: D,
-    workers: &mut Vec<Worker<D>>,
-) -> Result<(), AllocError>
-    requires first { IsReady (lock_id lock.now) first.old }
-    requires ready { All (λ w. IsReady (lock_id lock.now) w.pass) workers.old.items }
-    requires running { All (λ w. w.end ≡ WorkerEnd.Running) workers.old.items }
-    requires unreported { All (λ w. w.reports.items ≡ []) workers.old.items }
-    ensures first { IsReady (lock_id lock.now) first.new }
-    ensures ready { OnOk result (All (λ w. IsReady (lock_id lock.now) w.pass) workers.new.items) }
-    ensures running { OnOk result (All (λ w. w.end ≡ WorkerEnd.Running) workers.new.items) }
-    ensures unreported { OnOk result (All (λ w. w.reports.items ≡ []) workers.new.items) }
-{
-    workers.push(worker_at(rt, alloc, lock, first, role, door))?;
-    Ok(())
-}
-
-/// A worker whose links may wait for those of another one.
+/// Returns a worker whose connections may wait for those of another worker.
 pub fn planned<'a, R: Wait>(
     rt: &R,
     alloc: Global,
     lock: &ShareLock<Share>,
     first: &mut Pass<Share>,
     plan: &WorkerPlan,
-    looks: u64,
-    own: &'a AtomicU64,
-    other: &'a AtomicU64,
+    watch: Watch<'a>,
 ) -> Result<Worker<GatedDoor<'a>>, AllocError>
     requires first { IsReady (lock_id lock.now) first.old }
     ensures first { IsReady (lock_id lock.now) first.new }
@@ -206,37 +195,12 @@ pub fn planned<'a, R: Wait>(
     ensures running { IfOk result (λ w. w.end ≡ WorkerEnd.Running) }
     ensures unreported { IfOk result (λ w. w.reports.items ≡ []) }
 {
-    let door = door_of(alloc, plan, looks, own, other)?;
+    let door = door_of(alloc, plan, watch)?;
     Ok(worker_at(rt, alloc, lock, first, plan.role, door))
 }
 
-/// Adds a worker whose links may wait for those of another one.
-pub fn hire_planned<'a, R: Wait>(
-    rt: &R,
-    alloc: Global,
-    lock: &ShareLock<Share>,
-    first: &mut Pass<Share>,
-    plan: &WorkerPlan,
-    looks: u64,
-    own: &'a AtomicU64,
-    other: &'a AtomicU64,
-    workers: &mut Vec<Worker<GatedDoor<'a>>>,
-) -> Result<(), AllocError>
-    requires first { IsReady (lock_id lock.now) first.old }
-    requires ready { All (λ w. IsReady (lock_id lock.now) w.pass) workers.old.items }
-    requires running { All (λ w. w.end ≡ WorkerEnd.Running) workers.old.items }
-    requires unreported { All (λ w. w.reports.items ≡ []) workers.old.items }
-    ensures first { IsReady (lock_id lock.now) first.new }
-    ensures ready { OnOk result (All (λ w. IsReady (lock_id lock.now) w.pass) workers.new.items) }
-    ensures running { OnOk result (All (λ w. w.end ≡ WorkerEnd.Running) workers.new.items) }
-    ensures unreported { OnOk result (All (λ w. w.reports.items ≡ []) workers.new.items) }
-{
-    let door = door_of(alloc, plan, looks, own, other)?;
-    hire(rt, alloc, lock, first, plan.role, door, workers)
-}
-
-/// Two workers, whose links may wait for each other.
-pub fn hired<'a, R: Wait>(
+/// Returns two workers whose connections may wait for each other.
+fn hired<'a, R: Wait>(
     rt: &R,
     alloc: Global,
     lock: &ShareLock<Share>,
@@ -250,29 +214,26 @@ pub fn hired<'a, R: Wait>(
     ensures running { IfOk result (λ ws. All (λ w. w.end ≡ WorkerEnd.Running) ws.items) }
     ensures unreported { IfOk result (λ ws. All (λ w. w.reports.items ≡ []) ws.items) }
 {
+    let watch = written.watch_of_first(MANY_LOOKS);
+    let one = planned(rt, alloc, lock, first, &plans.0, watch)?;
+    let watch = written.watch_of_second(MANY_LOOKS);
+    let two = planned(rt, alloc, lock, first, &plans.1, watch)?;
     let mut workers = Vec::new(alloc);
-    let (one, two) = (&written.first, &written.second);
-    hire_planned(
-        rt,
-        alloc,
-        lock,
-        first,
-        &plans.0,
-        MANY_LOOKS,
-        one,
-        two,
-        &mut workers,
-    )?;
-    hire_planned(
-        rt,
-        alloc,
-        lock,
-        first,
-        &plans.1,
-        MANY_LOOKS,
-        two,
-        one,
-        &mut workers,
-    )?;
+    workers.push(one)?;
+    workers.push(two)?;
     Ok(workers)
+}
+
+/// Lets two workers serve at one share, each in its own thread. Returns both, and the share's history.
+pub fn served_in_threads<'a, R: Threads + Wait + Clock + Sync>(
+    rt: &R,
+    alloc: Global,
+    plans: &(WorkerPlan, WorkerPlan),
+    written: &'a Written,
+) -> Result<(Vec<Worker<GatedDoor<'a>>>, Vec<Entry>), AllocError> {
+    let (lock, mut first) = ShareLock::open(alloc, new_share(alloc)?, 3)?;
+    let mut workers = hired(rt, alloc, &lock, &mut first, plans, written)?;
+    serve_all(rt, alloc, &lock, &Bell::new(), &mut workers);
+    let turn = lock.take(rt, &mut first);
+    Ok((workers, lock.end(turn).into_history()))
 }
