@@ -1,4 +1,4 @@
-//! `item_model`: projections byte for byte, texts of the `meta` parameter, refusals, and one call of each function that
+//! `item_model`: projections byte for byte, texts of the `meta` parameter, errors, and one call of each function that
 //! allocates.
 
 use dmap_tags::{Code, Kind, Text, encode_into};
@@ -11,7 +11,7 @@ use std::alloc::{AllocError, Global};
 use std::process::Abort;
 use std::test::Fail;
 
-// Without clauses, so that a test's proof looks into no call of `put` or `read`.
+// Without clauses, so that a test's proof unfolds no call of `put` or `read`.
 fn put(item: &mut Item, property: Property, value: PropValue) -> Result<(), ItemError> {
     item.put(property, value)
 }
@@ -39,7 +39,7 @@ fn song(alloc: Global) -> Result<Row, ItemError> {
     Ok(Row { id: 7, item })
 }
 
-/// The bytes of a row's tag.
+/// Returns the bytes of a row's tag.
 fn encoded(
     alloc: Global,
     row: &Row,
@@ -75,7 +75,7 @@ fn a_named_item_is_listed_by_id_and_name(rt: HostRuntime) -> Result<(), Fail> {
 const CHANGED_AND_NAMED: &[u8] =
     b"mlit\0\0\0\x21miid\0\0\0\x04\0\0\0\x07asdm\0\0\0\x04\xff\xff\xff\xffminm\0\0\0\x01A";
 
-/// The tag of the song with all that it has.
+/// The tag of the song with all its properties.
 const WHOLE_SONG: &[u8] =
     b"mlit\0\0\0\x44miid\0\0\0\x04\0\0\0\x07minm\0\0\0\x01Amikd\0\0\0\x01\x02mper\0\0\0\x08\0\0\0\0\0\0\0\x01asyr\0\0\0\x02\x07\xbfasdm\0\0\0\x04\xff\xff\xff\xff";
 
@@ -99,7 +99,7 @@ fn all_properties_come_in_their_order(rt: HostRuntime) -> Result<(), Fail> {
     Ok(())
 }
 
-/// A property with a number, or else with a text.
+/// A property with a number, or with a text if there is none.
 type Value = (Property, Option<u64>, &'static str);
 
 /// A number that is too great, an empty text, and a number for a text.
@@ -142,7 +142,7 @@ fn put_values(alloc: Global, item: &mut Item, values: &[Value]) -> Result<(), It
     Ok(())
 }
 
-/// The value of a property, as it is shown.
+/// Returns the value of a property, as it is shown.
 fn value_shown(alloc: Global, item: &Item, property: Property) -> Result<String, AllocError> {
     let value = item.get(property);
     format!(in alloc; "{value:?}")
@@ -186,7 +186,7 @@ const FOLDINGS: [(&str, &str); 12] = [
     ("\u{212a}elvin", "kelvin"),
 ];
 
-/// The name that an item gives to be searched.
+/// Returns whether the item's name is to be searched by a text that lowers to `folded`.
 fn is_sought(item: &Item, folded: &str) -> bool {
     match item.sought(Property::Minm) {
         Some(Sought::Text(name)) => name.eq_ignore_ascii_case(folded),
@@ -234,7 +234,7 @@ fn names_and_codes_find_their_properties(rt: HostRuntime) -> Result<(), Fail> {
     Ok(())
 }
 
-/// Texts of the parameter, what each is read as, and the text that is printed for it.
+/// Texts of the parameter, what each reads as, and the text that is printed for it.
 const METAS: [(&str, &str, &str); 5] = [
     ("", "Ok(Default)", ""),
     ("all", "Ok(All)", "all"),
@@ -247,7 +247,7 @@ const METAS: [(&str, &str, &str); 5] = [
     (",", "Ok(Names(Properties { items: [] }))", ","),
 ];
 
-/// What a text is read as, as it is shown.
+/// Returns what a text reads as, as it is shown.
 fn meta_shown(alloc: Global, text: &str) -> Result<String, AllocError> {
     let meta = read(alloc, text);
     format!(in alloc; "{meta:?}")
@@ -337,7 +337,7 @@ fn copied_batch(alloc: Global) -> Result<Batch, ItemError> {
     Ok(Batch { edits }.copy()?)
 }
 
-/// The row that is put by the first of two edits, of which the second puts the rule of list 2.
+/// Returns the row that is put by the first of two edits, of which the second puts the rule of list 2.
 fn row_before_rule(batch: &Batch) -> Result<Option<SharedRow>, AllocError> {
     match batch.edits.as_slice() {
         [Edit::PutItem { row }, Edit::PutRule { list: 2, .. }] => Ok(Some(row.share()?)),

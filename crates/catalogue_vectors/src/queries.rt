@@ -1,4 +1,4 @@
-//! `song_query`: texts and rows whose answers are known from the rules of queries.
+//! `song_query`: texts and rows whose results are known from the rules of queries.
 
 ghost use Rattle.std.specs.Prelude.{◌≡◌, ◌<◌};
 
@@ -11,7 +11,7 @@ use std::process::Abort;
 use std::sync::ledger::{Blank, Ledger};
 use std::test::Fail;
 
-/// A song's id, name, artist, album and media kind, each absent where it is empty or 0.
+/// A song's id, name, artist, album and media kind, each absent if it is empty or 0.
 type Song = (u32, &'static str, &'static str, &'static str, u64);
 
 const SONGS: [Song; 6] = [
@@ -62,7 +62,7 @@ fn does_hold(query: &Query, row: &Row) -> bool {
     does_hold_by::<Brand>(Blank::new(1), query, row)
 }
 
-/// The ids of the rows of which the query holds, as digits.
+/// Returns the ids of the rows that match the query, as digits.
 fn listed(alloc: Global, text: &str, rows: &[Row]) -> Result<String, Fail> {
     let query = read(alloc, text)?;
     let mut ids = String::new(alloc);
@@ -74,7 +74,7 @@ fn listed(alloc: Global, text: &str, rows: &[Row]) -> Result<String, Fail> {
     Ok(ids)
 }
 
-/// Queries with the ids of the songs of which they hold.
+/// Queries with the ids of the songs that match.
 const LISTINGS: [(&str, &str); 26] = [
     (
         "(('com.apple.itunes.mediakind:1','com.apple.itunes.mediakind:32') 'daap.songalbum!:')",
@@ -121,7 +121,8 @@ fn a_query_lists_the_rows_of_which_it_holds(rt: HostRuntime) -> Result<(), Fail>
     are_listed(&rt, rt.alloc(), &LISTINGS)
 }
 
-/// A name, what is asked for and whether both fold to one text, as bench/casefold prints them; and then runs in a name.
+/// A name, the text of a condition, and whether both fold to one text, as bench/casefold prints them; and then runs
+/// in a name.
 const ASKED_NAMES: [(&str, &str, bool); 23] = [
     ("Straße", "STRASSE", true),
     ("GROẞE FREIHEIT", "große freiheit", true),
@@ -148,7 +149,7 @@ const ASKED_NAMES: [(&str, &str, bool); 23] = [
     ("éé", "*\u{301}", false),
 ];
 
-/// A song of this name is found by it.
+/// Returns whether a song of this name matches a condition on the name.
 fn is_found(alloc: Global, name: &str, asked: &str) -> Result<bool, Fail> {
     let mut item = Item::new(alloc);
     put_text(alloc, &mut item, Property::Minm, name)?;
@@ -204,12 +205,12 @@ fn a_text_reads_as_the_query_that_is_printed(rt: HostRuntime) -> Result<(), Fail
     are_printed(&rt, rt.alloc(), &REPRINTS)
 }
 
-/// Why a text is refused.
+/// Returns the error of a text.
 fn refusal(alloc: Global, text: &str) -> Option<QueryError> {
     read(alloc, text).err()
 }
 
-/// Texts with the place where no query goes on, and why.
+/// Texts with the offset from which no query continues, and why.
 const STUCK: [(&str, u64, QueryWhy); 20] = [
     ("", 0, QueryWhy::End),
     (" + ", 3, QueryWhy::End),
@@ -248,7 +249,7 @@ fn a_refusal_states_where_no_query_goes_on(rt: HostRuntime) {
     are_stuck(&rt, rt.alloc(), &STUCK)
 }
 
-/// A condition in that many parentheses.
+/// Returns a condition in `levels` parentheses.
 fn nested(alloc: Global, levels: usize) -> Result<String, Fail> {
     let mut text = String::new(alloc);
     for _level in 0..levels {
@@ -261,7 +262,7 @@ fn nested(alloc: Global, levels: usize) -> Result<String, Fail> {
     Ok(text)
 }
 
-/// A condition of that many bytes.
+/// Returns a condition of `bytes` bytes.
 fn long(alloc: Global, bytes: usize) -> Result<String, Fail> {
     let mut text = String::from_str(alloc, "'a:")?;
     for _byte in 4..bytes {

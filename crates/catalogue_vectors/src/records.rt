@@ -1,4 +1,4 @@
-//! `records_import`: records with the batches and the refusals that they are known to give.
+//! `records_import`: records with their batches, and with their errors.
 
 use csv::ByteRecord;
 use dmap_tags::Bytes;
@@ -11,8 +11,8 @@ use std::alloc::{AllocError, Global};
 use std::process::Abort;
 use std::test::Fail;
 
-/// The marks that the default form knows: a byte order mark, three ends of line, a blank line, quotes, and a last row
-/// with no end.
+/// What the default form handles: a byte order mark, three ends of line, a blank line, quotes, and a last row without
+/// an end.
 const MARKED: &[u8] = b"\xEF\xBB\xBFop,kind\r\n\r\nput,\"a,\"\"b\"\"\"\rx\n,";
 
 /// Cells of these rows, by row and column, and the bytes.
@@ -47,7 +47,7 @@ fn rows_are_cut_as_csv_does(rt: HostRuntime) -> Result<(), Fail> {
     Ok(())
 }
 
-/// How many rows are read at most, and how many there are.
+/// The maximum number of rows to read, and how many are returned.
 const MOST_ROWS: [(usize, usize); 5] = [(0, 0), (1, 1), (3, 3), (4, 4), (5, 4)];
 
 fn are_bounded(rt: &impl Abort, alloc: Global, cases: &[(usize, usize)]) -> Result<(), Fail> {
@@ -64,7 +64,7 @@ fn no_more_rows_than_asked_for(rt: HostRuntime) -> Result<(), Fail> {
     Ok(())
 }
 
-/// Cells with the numbers that they write.
+/// Cells with their numbers.
 const NUMBERS: [(&[u8], Option<u128>); 10] = [
     (b"0", Some(0)),
     (b"007", Some(7)),
@@ -89,7 +89,7 @@ fn numbers_are_one_to_twenty_digits(rt: HostRuntime) {
     are_numbers(&rt, &NUMBERS);
 }
 
-/// What is written of these rows below a row of `drop` and an empty cell.
+/// Returns the text of these rows, after a row of `drop` and an empty cell.
 fn written_below(alloc: Global, rows: &[ByteRecord]) -> Result<Vec<u8>, AllocError> {
     let mut writer = table_writer(alloc);
     let cells = [b"drop".as_slice(), b"".as_slice()];
@@ -121,18 +121,18 @@ fn below(alloc: Global, header: &str, records: &str) -> Result<String, AllocErro
     Ok(text)
 }
 
-/// Why a text is refused. Without clauses, so that a test's proof looks into no batch.
+/// Returns the error of a text. It has no clauses, so that a test's proof unfolds no batch.
 fn refusal(alloc: Global, text: &[u8]) -> Option<RecordError> {
     read_batch(alloc, text).err()
 }
 
-/// Why a record below the header above is refused.
+/// Returns the error of a record below the header above.
 fn refusal_below(alloc: Global, record: &str) -> Result<Option<RecordError>, AllocError> {
     let text = below(alloc, HEADER, record)?;
     Ok(refusal(alloc, text.as_bytes()))
 }
 
-/// A cell is refused, and for this.
+/// Returns whether the error is of this cell, for this reason.
 fn is_field(error: &Option<RecordError>, at: (u64, u64), reason: &RecordWhy) -> bool {
     match error {
         Some(RecordError::Field { row, column, why }) => {
@@ -142,7 +142,7 @@ fn is_field(error: &Option<RecordError>, at: (u64, u64), reason: &RecordWhy) -> 
     }
 }
 
-/// Records with the column that is refused, and why.
+/// Records with the column of the error, and the reason.
 const BAD_RECORDS: [(&str, u64, RecordWhy); 22] = [
     ("add,item,7,,,,,\n", 1, RecordWhy::Op),
     ("put,thing,7,,,,,\n", 2, RecordWhy::Kind),
@@ -196,7 +196,7 @@ fn each_cause_has_its_column(rt: HostRuntime) -> Result<(), Fail> {
     are_refused(&rt, rt.alloc(), &BAD_RECORDS)
 }
 
-/// Texts with the row and the column that are refused, and why.
+/// Texts with the row and the column of the error, and the reason.
 type BadCell = (&'static [u8], (u64, u64), RecordWhy);
 
 /// A needed column is missing, after the last one.
@@ -209,7 +209,7 @@ const MISSING: [BadCell; 2] = [
     ),
 ];
 
-/// Five years, of which the third is refused, and two records after it would be too.
+/// Five years, of which the third is malformed, and two records after it too.
 const YEARS: [BadCell; 2] = [
     (
         b"op,kind,id,daap.songyear\nput,item,1,1\nput,item,2,2\nput,item,3,19x\nput,item,4\nput,item,0,5\n",
@@ -246,7 +246,7 @@ fn the_first_bad_record_refuses_all(rt: HostRuntime) {
     assert!(rt; short == Some(RecordError::Length { row: 2 }));
 }
 
-/// Headers with the column that is refused.
+/// Headers with the column of the error.
 const BAD_HEADERS: [(&[u8], u64); 8] = [
     (b"x,kind,id\n", 1),
     (b"op\n", 2),
@@ -270,7 +270,7 @@ fn each_error_of_a_header_has_its_column(rt: HostRuntime) {
     have_bad_headers(&rt, rt.alloc(), &BAD_HEADERS);
 }
 
-/// A text of `count` bytes.
+/// Returns a text of `count` bytes.
 fn letters(alloc: Global, count: usize) -> Result<String, AllocError> {
     let mut text = String::new(alloc);
     for _byte in 0..count {
@@ -279,7 +279,7 @@ fn letters(alloc: Global, count: usize) -> Result<String, AllocError> {
     Ok(text)
 }
 
-/// A record whose name has `bytes` bytes.
+/// Returns a record whose name has `bytes` bytes.
 fn named_long(alloc: Global, bytes: usize) -> Result<String, AllocError> {
     let name = letters(alloc, bytes)?;
     format!(in alloc; "put,item,7,{name},,,,\n")
@@ -295,17 +295,17 @@ fn texts_end_at_255_bytes(rt: HostRuntime) -> Result<(), Fail> {
     Ok(())
 }
 
-/// A batch, or why there is none. Without clauses, so that a test's proof looks into no batch.
+/// Returns the batch of a text, or its error. It has no clauses, so that a test's proof unfolds no batch.
 fn batch_of(alloc: Global, text: &[u8]) -> Result<Batch, RecordError> {
     read_batch(alloc, text)
 }
 
-/// How many edits a text has.
+/// Returns the number of edits of a text.
 fn edit_count(alloc: Global, text: &[u8]) -> Result<usize, RecordError> {
     Ok(batch_of(alloc, text)?.edits.as_slice().len())
 }
 
-/// The id and the name of an item that is put.
+/// Returns the id and the name of an item that is put.
 fn named(batch: &Batch, place: usize) -> Option<(u32, Option<&str>)> {
     match batch.edits.as_slice().get(place)? {
         Edit::PutItem { row } => match row.row().item.get(Property::Minm) {
@@ -374,7 +374,7 @@ fn numbers(edit: &Edit) -> Numbers {
     }
 }
 
-/// Those of the edits of these records.
+/// The numbers of the edits of these records.
 const NUMBERS_OF_EACH_KIND: [Numbers; 7] = [
     (0, 1, 0, 0),
     (1, 2, 0, 0),
@@ -403,13 +403,13 @@ fn each_line_of_the_table_makes_its_edit(rt: HostRuntime) -> Result<(), Fail> {
 const WRITTEN_HEADER: &str =
     "op,kind,id,dmap.itemname,dmap.itemkind,dmap.persistentid,daap.songartist,daap.songalbum,daap.songalbumartist,daap.songgenre,daap.songcomposer,daap.songcomment,daap.songgrouping,daap.songformat,daap.songyear,daap.songtracknumber,daap.songtrackcount,daap.songdiscnumber,daap.songdisccount,daap.songbitrate,daap.songbeatsperminute,daap.songtime,daap.songsamplerate,daap.songsize,daap.songuserrating,daap.songcompilation,com.apple.itunes.mediakind,daap.songdateadded,daap.songdatemodified,query,list,item\n";
 
-/// What is written for the batch that a text is read as.
+/// Returns the text that is written for the batch of a text.
 fn rewritten(alloc: Global, text: &[u8]) -> Result<Bytes, Fail> {
     let batch = read_batch(alloc, text)?;
     Ok(write_batch(alloc, &batch)?)
 }
 
-/// Records below the short header, and what is written for them.
+/// Records below the short header, and their written text.
 const WRITTEN_RECORDS: [(&str, &str); 14] = [
     (
         "put,item,7,A,,,,\n",
@@ -469,7 +469,7 @@ const WRITTEN_RECORDS: [(&str, &str); 14] = [
     ),
 ];
 
-/// A text is written as that, and that as itself.
+/// Checks that a text is written as `want`, and `want` as itself.
 fn is_written(rt: &impl Abort, alloc: Global, text: &str, want: &str) -> Result<(), Fail> {
     let got = rewritten(alloc, text.as_bytes())?;
     assert!(rt; got.as_slice() == want.as_bytes(), "{text}");

@@ -1,4 +1,4 @@
--- A table is read back out of the reply that tells it.
+-- A table is read back from its reply.
 use Rattle.std.proofs.Common.{◌≡◌, ℕ, suc, List, [], ◌∷◌, ◌++◌, map, true, false, not, Option, Some, Result, Ok, Err, refl, sym, ap, subst, ◌∙◌, append_assoc}
 use Rattle.std.specs.List.{All}
 use Rattle.std.proofs.lemmas.Bool.{and_parts, or_parts, or_from, not-true, cond-false}
@@ -15,7 +15,7 @@ use Rattle.code_table.specs.Rows.{is_coded, codes_differ}
 use Rattle.code_table.specs.Reply.{number_of, numbered, type_of, typed_by, entry_of, entry_row, row_more, rows_from, table_reply, table_of}
 use Rattle.code_table.proofs.Tellings.{same_swap}
 
--- a kind is given back by its number, opaque by 0
+-- a kind is read back from its number, opaque from 0
 type_back : (k : Kind) → typed_by (type_of k) ≡ k
 type_back kind.U8 = refl
 type_back kind.I8 = refl
@@ -35,16 +35,16 @@ type_back kind.Opaque = refl
 row_is : (row : CodeRow) (c : Four) (k : Kind) → c ≡ row.code → k ≡ row.kind → Some (record { code = c; name = row.name; kind = k }) ≡ Some row
 row_is row c k is same = ap (λ x. Some (record { code = x; name = row.name; kind = k })) is ∙ ap (λ x. Some (record { code = row.code; name = row.name; kind = x })) same
 
--- an entry tells the row that it was made of
+-- an entry has the row of which it was made
 pub entry_back : (row : CodeRow) → numbered (number_of row.code) ≡ row.code → entry_row (entry_of row) ≡ Some row
 entry_back row back = row_is row (numbered (number_of row.code)) (typed_by (type_of row.kind)) back (type_back row.kind)
 
--- where no row has the code, that row in the midst has another
+-- if no row has the code, the row in the middle has another
 other_between : (c : Four) (before : List CodeRow) (row : CodeRow) (rows : List CodeRow) → is_coded c (before ++ row ∷ rows) ≡ false → is_code row.code c ≡ false
 other_between c [] row rows h = (or_parts (is_code row.code c) (is_coded c rows) h).0
 other_between c (r ∷ before) row rows h = other_between c before row rows (or_parts (is_code r.code c) (is_coded c (before ++ row ∷ rows)) h).1
 
--- where all codes differ, no earlier row has the code of a later one
+-- if all codes differ, no earlier row has the code of a later one
 new_between : (before : List CodeRow) (row : CodeRow) (rows : List CodeRow) → codes_differ (before ++ row ∷ rows) ≡ true → is_coded row.code before ≡ false
 new_between [] row rows h = refl
 new_between (r ∷ before) row rows h =
@@ -56,11 +56,11 @@ new_between (r ∷ before) row rows h =
 row_new : (index : ℕ) (rows : List CodeRow) (row : CodeRow) (o : Option CodeRow) (next : List CodeRow → Result (List CodeRow) CodeError) → o ≡ Some row → is_coded row.code rows ≡ false → row_more index rows o next ≡ next (rows ++ row ∷ [])
 row_new index rows row o next is new = subst (λ x. row_more index rows x next ≡ next (rows ++ row ∷ [])) (sym is) (cond-false (is_coded row.code rows) (Err (Repeated index)) (next (rows ++ row ∷ [])) new)
 
--- an entry that gives back its row
+-- an entry from which its row is read back
 abbrev pub ReadsBack : CodeRow → Type 0
 ReadsBack row = entry_row (entry_of row) ≡ Some row
 
--- the entries of rows, behind the rows before them, are read as these rows
+-- the entries of rows, after those before them, are read as these rows
 rows_back : (index : ℕ) (before rows : List CodeRow) → codes_differ (before ++ rows) ≡ true → All ReadsBack rows → rows_from index before (trees_of (map entry_of rows)) ≡ Ok (before ++ rows)
 rows_back index before [] differ read = ap Ok (sym (append-nil before))
 rows_back index before (row ∷ rows) differ read =
@@ -69,6 +69,6 @@ rows_back index before (row ∷ rows) differ read =
     ∙ rows_back (suc index) (before ++ row ∷ []) rows (ap codes_differ (append_assoc before (row ∷ []) rows) ∙ differ) (All-tail ReadsBack row rows read)
     ∙ ap Ok (append_assoc before (row ∷ []) rows)
 
--- a table is read out of its reply, where each entry gives back its row
+-- a table is read back from its reply if each row is read back from its entry
 pub table_back : (rows : List CodeRow) → codes_differ rows ≡ true → All ReadsBack rows → table_of (table_reply rows) ≡ Ok rows
 table_back rows differ read = rows_back 1 [] rows differ read

@@ -33,7 +33,7 @@ not_more c (r ∷ rows) row h k =
     let parts = or_parts (is_code r.code c) (is_coded c rows) h in
     or_from (is_code r.code c) (is_coded c (rows ++ row ∷ [])) parts.0 (not_more c rows row parts.1 k)
 
--- a row whose code has none of those before it leaves them different
+-- if an appended row has a new code, the codes still differ
 pub differ_more : (rows : List CodeRow) (row : CodeRow) → codes_differ rows ≡ true → is_coded row.code rows ≡ false → codes_differ (rows ++ row ∷ []) ≡ true
 differ_more [] row h k = refl
 differ_more (r ∷ rows) row h k =
@@ -43,13 +43,13 @@ differ_more (r ∷ rows) row h k =
     (not_from_false (is_coded r.code (rows ++ row ∷ [])) (not_more r.code rows row (not-true (is_coded r.code rows) differs.0) (same_swap row.code r.code ∙ parts.0)))
     (differ_more rows row differs.1 parts.1)
 
--- where no row has the code, the row at a place has another
+-- if no row has the code, the row at an index has another
 other_at : (c : Four) (rows : List CodeRow) (i : ℕ) (d : CodeRow) → is_coded c rows ≡ false → i < length rows → is_code (slice_index_or rows i d).code c ≡ false
 other_at c [] i d h here = absurd (omega arith)
 other_at c (row ∷ rows) zero d h here = (or_parts (is_code row.code c) (is_coded c rows) h).0
 other_at c (row ∷ rows) (suc i) d h here = other_at c rows i d (or_parts (is_code row.code c) (is_coded c rows) h).1 (omega arith)
 
--- each row tells the kind of its code
+-- each row has the kind of its code
 pub row_tells : (rows : List CodeRow) (i : ℕ) (d : CodeRow) (c : Four) → codes_differ rows ≡ true → i < length rows → is_code (slice_index_or rows i d).code c ≡ true → row_kind rows c ≡ (slice_index_or rows i d).kind
 row_tells [] i d c differ here is = absurd (omega arith)
 row_tells (row ∷ rows) zero d c differ here is = cond-true (is_code row.code c) row.kind (row_kind rows c) is
@@ -59,7 +59,7 @@ row_tells (row ∷ rows) (suc i) d c differ here is =
     let apart : is_code row.code c ≡ false = same_swap row.code c ∙ ap (λ x. is_code x row.code) (sym (same_path (slice_index_or rows i d).code c is)) ∙ other in
     cond-false (is_code row.code c) row.kind (row_kind rows c) apart ∙ row_tells rows i d c parts.1 (omega arith) is
 
--- and so does the row at a place, where there is one
+-- and so does the row at an index, if there is one
 pub hint_tells : (rows : List CodeRow) (i : ℕ) (found : Option (Bor CodeRow)) → codes_differ rows ≡ true →
     is_some found ≡ nat_lt i (length rows) → IfSome found (λ row. row.now ≡ slice_index_or rows i row.now) →
     IfSome found (λ row. (c : Four) → is_code row.now.code c ≡ true → row_kind rows c ≡ row.now.kind)
@@ -68,7 +68,7 @@ hint_tells rows i (Some row) differ there is =
     λ c same.
     row_tells rows i row.now c differ (ltb-true i (length rows) (sym there)) (ap (λ r. is_code r.code c) (sym is) ∙ same) ∙ ap (λ r. r.kind) (sym is)
 
--- where all codes differ, no row has the code of one behind it
+-- if all codes differ, no earlier row has the code of a later one
 pub new_at : (rows : List CodeRow) (i : ℕ) (d : CodeRow) → codes_differ rows ≡ true → i < length rows → is_coded (slice_index_or rows i d).code (take i rows) ≡ false
 new_at [] i d differ here = absurd (omega arith)
 new_at (row ∷ rows) zero d differ here = refl
@@ -78,7 +78,7 @@ new_at (row ∷ rows) (suc i) d differ here =
     let next = slice_index_or rows i d in
     or_from (is_code row.code next.code) (is_coded next.code (take i rows)) (same_swap row.code next.code ∙ other) (new_at rows i d parts.1 (omega arith))
 
--- the same of rows that are made of data
+-- the same for rows made of data
 pub new_made_at : {X : Type 0} (made : X → CodeRow) (xs : List X) (i : ℕ) (d : X) → codes_differ (map made xs) ≡ true → i < length xs → is_coded (made (slice_index_or xs i d)).code (map made (take i xs)) ≡ false
 new_made_at made xs i d differ here =
     ap (λ row. is_coded row.code (map made (take i xs))) (sym (get_or-map made xs i d (made d) here))
@@ -101,7 +101,7 @@ more_err : (index : ℕ) (rows : List CodeRow) (e : CodeError) (o : Option CodeR
 more_err index rows e None next h = h
 more_err index rows e (Some row) next h = choice_err (is_coded row.code rows) (Repeated index) e (rows ++ row ∷ []) next h
 
--- a member that is an entry does to the rows what its row does
+-- a member that is an entry changes the rows as its row does
 pub entry_told : (index : ℕ) (before after : List CodeRow) (t : Tree) (r : Result Unit CodeError)
     → is_code (tree_code t) (code "mdcl") ≡ true
     → MatchResult r (λ _. row_more index before (entry_row t) Ok ≡ Ok after) (λ e. e ≢ Memory → row_more index before (entry_row t) Ok ≡ Err e)

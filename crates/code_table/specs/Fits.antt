@@ -14,7 +14,7 @@ abbrev pub is_opaque : Leaf → Bool
 is_opaque (tree.Opaque bytes) = true
 is_opaque _ = false
 
--- a value has the kind, and bytes are opaque exactly where they spell no value of it
+-- a value has the kind, and bytes are opaque exactly if they encode no value of it
 abbrev pub leaf_fits : Kind → Leaf → Bool
 leaf_fits kind.U8 (tree.U8 n) = true
 leaf_fits kind.I8 (tree.I8 z) = true

@@ -1,4 +1,4 @@
--- How /content-codes tells a table, and how the table is read out of what it tells.
+-- The reply to /content-codes for a table, and the table of a reply.
 use Rattle.std.specs.Prelude.{◌≡◌, ℕ, suc, List, [], ◌∷◌, ◌++◌, map, Bool, ◌==◌, if◌then◌else◌, Option, Some, None, unwrap_or, Result, Ok, Err}
 use Rattle.std.specs.Int.{w32, from_be_bytes, to_be_bytes}
 use Rattle.dmap_tags.specs.Codes.{Four, code, code_of, code_bytes, is_code}
@@ -47,7 +47,7 @@ abbrev pub first_in : Four → Trees → Option Tree
 first_in c none = None
 first_in c (more t ts) = if is_code (tree_code t) c then Some t else first_in c ts
 
--- a code as a number, a type and a name, where the tag has just such a value
+-- the number of a code, a type or a name, if the tag has such a value
 abbrev pub number_in : Option Tree → Option ℕ
 number_in (Some (leaf c (tree.U32 n))) = Some n
 number_in _ = None
@@ -60,24 +60,24 @@ abbrev pub name_in : Option Tree → Option (List ℕ)
 name_in (Some (leaf c (tree.Text bytes))) = Some bytes
 name_in _ = None
 
--- a row is there where all three are
+-- the row of a code, a type and a name, if there are all three
 abbrev pub row_by : Option ℕ → Option ℕ → Option (List ℕ) → Option CodeRow
 row_by None t name = None
 row_by (Some n) None name = None
 row_by (Some n) (Some t) None = None
 row_by (Some n) (Some t) (Some name) = Some (record { code = numbered n; name = name; kind = typed_by t })
 
--- the row that an entry tells: the first mcnm, mcty and mcna count
+-- the row of an entry: its first mcnm, mcty and mcna count
 abbrev pub entry_row : Tree → Option CodeRow
 entry_row (leaf c l) = None
 entry_row (list c ts) = row_by (number_in (first_in (code "mcnm") ts)) (type_in (first_in (code "mcty") ts)) (name_in (first_in (code "mcna") ts))
 
--- a further row, unless its code stood before
+-- a further row, unless an earlier row has its code
 abbrev pub row_more : ℕ → List CodeRow → Option CodeRow → (List CodeRow → Result (List CodeRow) CodeError) → Result (List CodeRow) CodeError
 row_more index rows None next = Err (Entry index)
 row_more index rows (Some row) next = if is_coded row.code rows then Err (Repeated index) else next (rows ++ row ∷ [])
 
--- the rows of the members from that index on, behind those before them; members that are no mdcl are skipped
+-- `rows` and then the rows of the members from `index` on; members that are not an mdcl are skipped
 abbrev pub rows_from : ℕ → List CodeRow → Trees → Result (List CodeRow) CodeError
 rows_from index rows none = Ok rows
 rows_from index rows (more t ts) =

@@ -1,5 +1,4 @@
--- What a table of content codes says: the kind of a tag's value and the code of a name, by the first row that has
--- the code or the name.
+-- The kind of a tag's value and the code of a name, by the first row of the table that has the code or the name.
 use Rattle.std.specs.Prelude.{◌≡◌, ℕ, List, [], ◌∷◌, Bool, true, false, not, ◌&&◌, ◌||◌, if◌then◌else◌, Option, Some, None}
 use Rattle.std.specs.BTreeMap.{is_at}
 use Rattle.std.specs.Map.{lookup}
@@ -13,7 +12,7 @@ use Rattle.dmap_tags.specs.declared.kinds.Kind.TheVariants.{Text, Opaque}
 use Rattle.code_table.specs.declared.row.CodeRow.{CodeRow}
 use Rattle.code_table.specs.declared.standard.StandardRow.{StandardRow}
 
--- the kind in the row of the code, and opaque where it has none
+-- the kind in the row of the code, or opaque if there is no row
 abbrev pub row_kind : List CodeRow → Four → Kind
 row_kind [] c = Opaque
 row_kind (row ∷ rows) c = if is_code row.code c then row.kind else row_kind rows c
@@ -22,7 +21,7 @@ row_kind (row ∷ rows) c = if is_code row.code c then row.kind else row_kind ro
 abbrev pub is_browse_list : Four → Bool
 is_browse_list c = is_code c (code "abar") || (is_code c (code "abal") || (is_code c (code "abgn") || is_code c (code "abcp")))
 
--- an mlit of such a list carries the text itself
+-- an mlit of such a list has a text as its value
 abbrev pub is_browse_item : Option Four → Four → Bool
 is_browse_item None c = false
 is_browse_item (Some parent) c = is_code c (code "mlit") && is_browse_list parent
@@ -48,7 +47,7 @@ codes_differ (row ∷ rows) = not (is_coded row.code rows) && codes_differ rows
 abbrev pub code_cmp : Four → Four → Ordering
 code_cmp a b = slice_cmp nat_cmp (code_bytes a) (code_bytes b)
 
--- the kind in the row of the code, where there is one
+-- the kind in the row of the code, if there is one
 abbrev pub kind_at : List CodeRow → Four → Option Kind
 kind_at [] c = None
 kind_at (row ∷ rows) c = if is_code row.code c then Some row.kind else kind_at rows c
@@ -58,6 +57,6 @@ pub record AreIndexed (rows : List CodeRow) (kinds : List (Four × Kind)) : Type
   pub differ : codes_differ rows ≡ true
   pub found : (c : Four) → lookup (is_at (code_cmp c)) kinds ≡ kind_at rows c
 
--- the row that constant data stand for
+-- a row of constant data as a row of the table
 abbrev pub row_of : StandardRow → CodeRow
 row_of row = record { code = code_of row.0; name = row.2.now; kind = row.1 }

@@ -1,5 +1,5 @@
--- The content codes that DAAP servers publish, in the order in which /content-codes tells them, with the kinds that
--- this project gives them.
+-- The content codes that DAAP servers publish, in their order in /content-codes, with the kinds that this project
+-- assigns.
 use Rattle.std.specs.Prelude.{List, [], ◌∷◌, codes}
 use Prim.Native.String.{String}
 use Rattle.dmap_tags.specs.Codes.{code}

@@ -1,4 +1,4 @@
-//! Codes as the numbers that their four bytes spell.
+//! Codes as numbers of 32 bits.
 
 ghost use Rattle.std.specs.Prelude.{◌≡◌};
 ghost use Rattle.dmap_tags.specs.Codes.{is_code};
@@ -6,7 +6,7 @@ ghost use Rattle.code_table.specs.Reply.{number_of, numbered};
 
 use dmap_tags::Code;
 
-/// The number that the four bytes of a code spell.
+/// Returns the four bytes of a code as a big-endian number.
 #[inline(always)]
 pub fn number_of(code: Code) -> u32
     ensures told { result ≡ number_of code }
@@ -16,7 +16,7 @@ pub fn number_of(code: Code) -> u32
     u32::from_be_bytes([b[0], b[1], b[2], b[3]])
 }
 
-/// The code whose four bytes spell the number.
+/// Returns the code whose four bytes are the number, big-endian.
 pub fn code_by(number: u32) -> Code
     ensures { result ≡ numbered number }
 {
@@ -24,7 +24,7 @@ pub fn code_by(number: u32) -> Code
     Code([b[0], b[1], b[2], b[3]])
 }
 
-/// Whether two codes are one, by a single comparison.
+/// Returns whether two codes are equal, by one comparison.
 #[inline(always)]
 #[tactic(auto, using(crate::proofs::Index::same_numbers))]
 pub fn is_code(a: Code, b: Code) -> bool

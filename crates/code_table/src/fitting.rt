@@ -10,8 +10,8 @@ use crate::table::CodeTable;
 use dmap_tags::{Code, Kind, Tag, Value, is_text};
 
 impl CodeTable {
-    /// The tag and all in it have the kinds that the table gives, and bytes are opaque exactly where they spell no
-    /// value of the kind. `parent` is the code of the list that the tag stands in, `None` at the top.
+    /// Returns whether the tag and all in it have the kinds that the table gives, and bytes are opaque exactly if they
+    /// encode no value of the kind. `parent` is the code of the list around the tag, `None` at the top.
     #[cycle(fits)]
     pub fn fits(&self, parent: Option<Code>, tag: &Tag) -> bool
         ensures { result ≡ fits self.now parent tag.now }
@@ -48,7 +48,7 @@ impl CodeTable {
     }
 }
 
-/// Bytes that are no list and spell no value of the kind.
+/// Returns whether the kind is not `List` and the payload encodes no value of it.
 fn spells_none(kind: Kind, payload: &[u8]) -> bool
     ensures { result ≡ (not (is_list kind) && is_opaque (leaf_at kind payload.now)) }
 {

@@ -1,4 +1,4 @@
-//! The table of content codes: which kind of value each code has, and under which name `/content-codes` tells it.
+//! The table of content codes: the kind of each code's values, and its name in `/content-codes`.
 //! Contracts see a table as the list of its rows. The kind of a code is the kind in its row (`specs/Rows.antt`).
 #![tactic(auto)]
 

@@ -12,7 +12,7 @@ use dmap_tags::{Code, Kind, Tag, Tags, Text, Value};
 use std::alloc::{AllocError, AllocFailed, Global};
 use thiserror::Error;
 
-/// Why a tag tells no table. `index` counts the members of the reply from 0.
+/// Errors of `from_reply`. `index` counts the members of the reply from 0.
 #[derive(Clone, Copy, Debug, PartialEq, Eq, Error)]
 pub enum CodeError {
     #[error("the tag is no list of content codes")]
@@ -20,7 +20,7 @@ pub enum CodeError {
     /// A member lacks its code, its name or its type.
     #[error("member {index} is no entry")]
     Entry { index: u64 },
-    /// A member has the code of one before it.
+    /// A member has the code of an earlier one.
     #[error("member {index} repeats a code")]
     Repeated { index: u64 },
     #[error("out of memory")]
@@ -48,8 +48,8 @@ impl<T: Drop> From<AllocFailed<T>> for CodeError {
 }
 
 impl CodeTable {
-    /// The body of the reply to `/content-codes`: a status and an entry for each row. `from_reply` reads the same
-    /// table out of it.
+    /// Returns the body of the reply to `/content-codes`: a status and an entry for each row. `from_reply` reads it as
+    /// the same table.
     pub fn reply(&self) -> Result<Tag, AllocError>
         ensures told { IfOk result (λ tag. tag ≡ table_reply self.now) }
         ensures reads_back { IfOk result (λ tag. table_of tag ≡ Ok self.now) }
@@ -70,7 +70,11 @@ impl CodeTable {
         })
     }
 
-    /// The table that a reply to `/content-codes` tells. Members that are no entries are skipped.
+    /// Returns the table of a reply to `/content-codes`. Members that are not an `mdcl` are skipped.
+    ///
+    /// # Errors
+    /// Returns `NotReply` if the tag is not an `mccr` list, `Entry` for an `mdcl` that lacks a part, `Repeated` for one
+    /// with the code of an earlier one, and `Memory` if an allocation fails.
     pub fn from_reply(alloc: Global, tag: &Tag) -> Result<CodeTable, CodeError>
         ensures { MatchResult result (λ table. table_of tag.now ≡ Ok table)
             (λ e. e ≢ CodeError.Memory → table_of tag.now ≡ Err e) }
@@ -88,7 +92,7 @@ impl CodeTable {
     }
 }
 
-/// A row as a member of the reply.
+/// Returns a row as a member of the reply.
 fn entry(alloc: Global, row: &CodeRow) -> Result<Tag, AllocError>
     ensures told { IfOk result (λ tag. tag ≡ entry_of row.now) }
     ensures reads_back { IfOk result (λ tag. entry_row tag ≡ Some row.now) }
@@ -112,7 +116,7 @@ fn entry(alloc: Global, row: &CodeRow) -> Result<Tag, AllocError>
     })
 }
 
-/// The table of the rows that the entries among the members tell.
+/// Returns the table of the rows in the entries among `members`.
 fn told_table(alloc: Global, members: &[Tag]) -> Result<CodeTable, CodeError>
     ensures { MatchResult result (λ table. rows_from 0 [] (trees_of members.now) ≡ Ok table)
         (λ e. e ≢ CodeError.Memory → rows_from 0 [] (trees_of members.now) ≡ Err e) }
@@ -124,7 +128,7 @@ fn told_table(alloc: Global, members: &[Tag]) -> Result<CodeTable, CodeError>
     Ok(table)
 }
 
-/// Adds the row of an entry, and nothing for another member.
+/// Appends the row of `member` if it is an entry.
 fn add_member(table: &mut CodeTable, index: u64, member: &Tag) -> Result<(), CodeError>
     ensures { (members : Trees)
         → MatchResult result
@@ -137,7 +141,7 @@ fn add_member(table: &mut CodeTable, index: u64, member: &Tag) -> Result<(), Cod
     add_row(table, index, entry_row(member)?)
 }
 
-/// Adds a row behind those that stood before.
+/// Appends a row, unless an earlier one has its code.
 fn add_row(table: &mut CodeTable, index: u64, row: Option<CodeRow>) -> Result<(), CodeError>
     ensures { MatchResult result (λ _. row_more index table.old row Ok ≡ Ok table.new)
         (λ e. e ≢ CodeError.Memory → row_more index table.old row Ok ≡ Err e) }
@@ -152,7 +156,7 @@ fn add_row(table: &mut CodeTable, index: u64, row: Option<CodeRow>) -> Result<()
     Ok(())
 }
 
-/// The row that an entry tells.
+/// Returns the row of an entry, or `None` if it lacks a part.
 fn entry_row(entry: &Tag) -> Result<Option<CodeRow>, AllocError>
     ensures { IfOk result (λ row. row ≡ entry_row entry.now) }
 {
@@ -176,7 +180,7 @@ fn entry_row(entry: &Tag) -> Result<Option<CodeRow>, AllocError>
     }))
 }
 
-/// The first tag with the code.
+/// Returns the first tag with the code.
 fn first_in(tags: &[Tag], code: Code) -> Option<&Tag>
     ensures { option_copied result ≡ first_in code (trees_of tags.now) }
 {

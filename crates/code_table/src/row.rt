@@ -5,17 +5,17 @@ ghost use Rattle.std.specs.Prelude.{◌≡◌, IfOk};
 use dmap_tags::{Code, Kind, Text};
 use std::alloc::AllocError;
 
-/// What the table says of one content code.
+/// A content code, with its name and the kind of its values.
 #[derive(Debug, Drop)]
 pub struct CodeRow {
     pub code: Code,
-    /// The name that `/content-codes` tells, as `dmap.itemname`.
+    /// The name in `/content-codes`, as `dmap.itemname`.
     pub name: Text,
     pub kind: Kind,
 }
 
 impl CodeRow {
-    /// A row of its own with the same code, name and kind.
+    /// Returns a copy of the row.
     pub fn copy(&self) -> Result<CodeRow, AllocError>
         ensures { IfOk result (λ row. row ≡ self.now) }
     {

@@ -1,4 +1,4 @@
-//! The codes that DAAP servers publish, with the kinds and names that this project gives them.
+//! The codes that DAAP servers publish, with the kinds and names that this project assigns.
 
 ghost use Rattle.std.specs.Prelude.{◌≡◌, map, true, IfOk};
 ghost use Rattle.code_table.specs.Rows.{row_of, codes_differ};
@@ -89,7 +89,7 @@ pub static STANDARD: [StandardRow; 73] = [
     StandardRow(*b"asdm", Kind::Date, "daap.songdatemodified"),
 ];
 
-/// The table of the rows that the constant data stand for.
+/// Returns the table of these rows.
 pub fn table_of(alloc: Global, rows: &[StandardRow]) -> Result<CodeTable, AllocError>
     requires { codes_differ (map row_of rows.now) ≡ true }
     ensures { IfOk result (λ table. table ≡ map row_of rows.now) }

@@ -1,4 +1,4 @@
-//! The table and the questions that it answers.
+//! The table, and its look-ups.
 
 ghost use Rattle.std.specs.Prelude.{◌≡◌, ◌∷◌, [], ◌++◌, true, false, IfOk, IfSome, OnOk, OnErr};
 ghost use Rattle.dmap_tags.specs.Codes.{Four, is_code};
@@ -19,7 +19,8 @@ pub struct CodeTable {
     rows: Vec<CodeRow>,
     /// The kinds by code.
     kinds: BTreeMap<Code, Kind>,
-    /// Where the row of a code may stand, by its slot: a reader asks for a kind at each tag, and looks there first.
+    /// The index at which the row of a code may be, by the code's slot. A reader needs a kind at each tag, and tries
+    /// this row first.
     hints: Vec<usize>,
 }
 
@@ -36,14 +37,14 @@ impl Model for CodeTable {
 }
 
 impl CodeTable {
-    /// The 73 codes that DAAP servers publish, with the kinds that this project gives them.
+    /// Returns the 73 codes that DAAP servers publish, with the kinds that this project assigns.
     pub fn standard(alloc: Global) -> Result<CodeTable, AllocError>
         ensures { IfOk result (λ table. table ≡ standard_rows) }
     {
         standard::table_of(alloc, &standard::STANDARD)
     }
 
-    /// A table with no rows.
+    /// Returns a table without rows. Does not allocate.
     pub(crate) fn new(alloc: Global) -> CodeTable
         ensures { result ≡ [] }
     {
@@ -54,14 +55,14 @@ impl CodeTable {
         }
     }
 
-    /// Some row has the code.
+    /// Returns whether a row has the code.
     pub(crate) fn has(&self, code: Code) -> bool
         ensures { result ≡ is_coded code self.now }
     {
         self.kinds.contains_key(&code)
     }
 
-    /// Adds a row behind the others. A failure leaves the table as it was.
+    /// Appends a row. If it fails, the table is unchanged.
     pub(crate) fn push(&mut self, row: CodeRow) -> Result<(), AllocError>
         requires { is_coded row.code self.old ≡ false }
         ensures ok { OnOk result (self.new ≡ self.old ++ row ∷ []) }
@@ -78,7 +79,7 @@ impl CodeTable {
         *self.rows.allocator()
     }
 
-    /// The rows, in the order in which a reply tells them.
+    /// Returns the rows, in their order in `/content-codes`.
     pub fn rows(&self) -> &[CodeRow]
         ensures value { result.now ≡ self.now }
         ensures differ { codes_differ result.now ≡ true }
@@ -86,7 +87,7 @@ impl CodeTable {
         self.rows.as_slice()
     }
 
-    /// The kind of a tag's value, by its code and the code of the list that it stands in (`None` at the top).
+    /// Returns the kind of a tag's value. `parent` is the code of the list around the tag, `None` at the top.
     #[inline(always)]
     pub fn kind_of(&self, parent: Option<Code>, code: Code) -> Kind
         ensures { result ≡ kind_in self.now parent code }
@@ -98,7 +99,7 @@ impl CodeTable {
         }
     }
 
-    /// The kind in the row of the code, opaque where it has none.
+    /// Returns the kind in the row of the code, or opaque if there is no row.
     #[inline(always)]
     fn row_kind(&self, code: Code) -> Kind
         ensures { result ≡ row_kind self.now code }
@@ -109,7 +110,7 @@ impl CodeTable {
         }
     }
 
-    /// The row that is looked at first for a code. It may be another code's.
+    /// Returns the row that is tried first for a code. It may be another code's.
     #[inline(always)]
     fn hinted(&self, code: Code) -> Option<&CodeRow>
         ensures { IfSome result
@@ -126,7 +127,7 @@ impl CodeTable {
         self.kinds.get(&code).copied().unwrap_or(Kind::Opaque)
     }
 
-    /// The code of the first row with that name.
+    /// Returns the code of the first row with the name.
     pub fn by_name(&self, name: &str) -> Option<Code>
         ensures { result ≡ first_named name.now self.now }
     {
@@ -138,7 +139,7 @@ impl CodeTable {
         None
     }
 
-    /// A table of its own with the same rows.
+    /// Returns a copy of the table.
     pub fn copy(&self) -> Result<CodeTable, AllocError>
         ensures { IfOk result (λ table. table ≡ self.now) }
     {
@@ -151,16 +152,16 @@ impl CodeTable {
     }
 }
 
-/// How many slots there are for hints.
+/// The number of slots for hints.
 const SLOTS: usize = 256;
 
-/// The slot of a code. The 73 standard codes have a slot each.
+/// Returns the slot of a code. Each of the 73 standard codes has its own.
 #[inline(always)]
 fn slot(code: Code) -> usize {
     (number_of(code).wrapping_mul(0xcbc5_21df) >> 24) as usize
 }
 
-/// Notes where the row of a code stands, in place of what was noted in its slot.
+/// Stores `place`, the index of the code's row, in the code's slot.
 fn note(hints: &mut Vec<usize>, code: Code, place: usize) -> Result<(), AllocError> {
     hints.resize(SLOTS, 0)?;
     if let Some(hint) = hints.get_mut(slot(code)) {
@@ -169,7 +170,7 @@ fn note(hints: &mut Vec<usize>, code: Code, place: usize) -> Result<(), AllocErr
     Ok(())
 }
 
-/// An `mlit` of a browse listing carries the text itself.
+/// Returns whether `code` is an `mlit` in a browse listing, whose value is a text.
 #[inline(always)]
 fn is_browse_item(parent: Option<Code>, code: Code) -> bool
     ensures { result ≡ is_browse_item parent code }

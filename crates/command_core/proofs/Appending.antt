@@ -10,14 +10,14 @@ use Rattle.command_core.specs.Endings.{IsWritten, IsCut}
 pub none_written : (output : OutputSeen) → IsWritten output output []
 none_written output = record { taken = Appends-nil output.taken; faultless = refl }
 
--- more was written behind the first
+-- `more` was written after `front`
 pub written_more : (before mid after : OutputSeen) (front more : List ℕ) → IsWritten before mid front → IsWritten mid after more → IsWritten before after (front ++ more)
 written_more before mid after front more h k = record {
   taken = Appends-trans before.taken mid.taken after.taken front more h.taken k.taken;
   faultless = k.faultless ∙ h.faultless;
 }
 
--- the output failed within what stands behind the first
+-- the output failed within `more`, after `front`
 pub cut_more : (before mid after : OutputSeen) (front more : List ℕ) → IsWritten before mid front → IsCut mid after more → IsCut before after (front ++ more)
 cut_more before mid after front more h k = record {
   taken = (

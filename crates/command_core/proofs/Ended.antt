@@ -1,5 +1,4 @@
--- How a run ends as its command means, put together from what was written; and what the end says where nothing outside
--- failed.
+-- A run ends as its command's specification says, by what was written; and what the end says if nothing outside failed.
 use Rattle.std.proofs.Common.{Vec, Global, MatchResult, ◌≡◌, ◌⊎◌, ◌++◌, ℕ, List, [], Option, Some, None, Result, Ok, Err, IfSome, IfOk, IfErr, refl, sym, subst, ap, ◌∙◌, inl, inr}
 use Rattle.daap_outside.specs.Counts.{Rose}
 use Rattle.item_model.specs.declared.changes.Entry.{Entry}
@@ -20,12 +19,12 @@ share_with_of history = record { history = history }
 
 -- ---- what the end says
 
--- a cause of the words or the input is said by them, where they are told
+-- arguments and input say the cause of an own error, if the input is known
 said_by : (c : Cause) (reads_on : List ℕ → Type 0) (input : List ℕ) (before after : InputSeen) → before.left ≡ Some input → Comes reads_on c before after → Says c input
 said_by (OfWords words) reads_on input before after told cause = cause.0
 said_by (OfInput words said) reads_on input before after told cause = (cause.words, subst (λ left. IfSome left said) told cause.said)
 
--- a cause that is no fault of the outside is one that they say, or want of memory
+-- if no read failed, the error is one that arguments and input say, or out of memory
 said : (m : Meaning) (input : List ℕ) (before after : Seen) (fault : Fault m.fault) → before.input.left ≡ Some input
     → ¬ (Rose before.input.faults after.input.faults) → IsCause m before after fault
     → (fault ≡ Memory) ⊎ ((own : m.fault) × (fault ≡ Own own) × Says (m.cause own) input)
@@ -62,7 +61,7 @@ if_told : (m : Meaning) (status : ℕ) (left : Option (List ℕ)) → ((input : 
 if_told m status None f = tt
 if_told m status (Some input) f = f input refl
 
--- a run that ends as a command means is decided by its words and input
+-- the arguments and the input decide a run that ends as its specification says
 pub answered : (m : Meaning) → IsSensible m → (told : Told) (outcome : Outcome) → Ends m told outcome.status (share_of outcome) → IsAnswered m told outcome
 answered m sense told outcome ends = record {
   ends = ends;
@@ -73,7 +72,7 @@ answered m sense told outcome ends = record {
 
 -- ---- the ends
 
--- the command was done, and all of its output was written
+-- the command succeeded, and all of its output was written
 pub by_done : (m : Meaning) → IsSensible m → (told : Told) (outcome : Outcome) (output : List ℕ)
     → m.is_done told.before told.after (share_of outcome) output → outcome.status ≡ 0 → IsWritten told.output_before told.output_after output → IsAnswered m told outcome
 by_done m sense told outcome output done s w = answered m sense told outcome (Done output, s, (done, w))
@@ -83,7 +82,7 @@ pub by_cut : (m : Meaning) → IsSensible m → (told : Told) (outcome : Outcome
     → m.is_begun told.before told.after (share_of outcome) output → outcome.status ≡ 5 → IsCut told.output_before told.output_after output → IsAnswered m told outcome
 by_cut m sense told outcome output begun s w = answered m sense told outcome (OutputCut output, s, (begun, w))
 
--- the line of a fault ends a run, behind what was written before
+-- the line of an error ends a run, after what was written before
 by_line : (m : Meaning) → IsSensible m → (told : Told) (mid : OutputSeen) (outcome : Outcome) (front : List ℕ) (fault : Fault m.fault)
     → IsRefused m told (share_of outcome) front fault → IsWritten told.output_before mid front
     → Tells (fault_status m.status fault) (fault_line m.line fault) mid told.output_after outcome.status → IsAnswered m told outcome
@@ -92,7 +91,7 @@ by_line m sense told mid outcome front fault refused w (inl t) =
 by_line m sense told mid outcome front fault refused w (inr t) =
     answered m sense told outcome (LineCut front fault, t.0, (refused, cut_more told.output_before mid told.output_after front (fault_line m.line fault) w t.1))
 
--- so does that of want of memory
+-- the line of out of memory ends a run
 pub by_memory : (m : Meaning) → IsSensible m → (told : Told) (mid : OutputSeen) (outcome : Outcome) (front : List ℕ) (history : Option (List Entry))
     → m.may_want told.before told.after → m.leaves told.before told.after Memory (share_with_of history) → m.is_front told.before told.after Memory front
     → IsWritten told.output_before mid front → TellsMemory history mid told.output_after outcome → IsAnswered m told outcome
@@ -103,7 +102,7 @@ by_memory m sense told mid outcome front history wants share before w t =
       written = before;
     }) w t.told
 
--- where a fault ends the command, memory may be wanted for its line
+-- an error ends the command, and an allocation for its line may fail
 pub by_fault : (m : Meaning) → IsSensible m → (told : Told) (mid : OutputSeen) (outcome : Outcome) (front : List ℕ) (fault : Fault m.fault)
     → IsCause m told.before told.after fault → m.leaves told.before told.after fault no_share → m.is_front told.before told.after fault front
     → IsWritten told.output_before mid front → TellsFault m.line m.status fault mid told.output_after outcome → IsAnswered m told outcome
@@ -122,7 +121,7 @@ by_fault m sense told mid outcome front fault cause unopened before w t = at_lin
           written = sense.wants_front told.before told.after fault front before;
         }) w line
 
--- want of memory, before anything was done
+-- out of memory, before anything was done
 pub by_idle : (m : Meaning) → IsSensible m → (told : Told) (outcome : Outcome) → told.after ≡ told.before → TellsMemory None told.output_before told.output_after outcome
     → IsAnswered m told outcome
 by_idle m sense told outcome same t =
@@ -143,14 +142,14 @@ by_output m once told outcome history bytes done t = at_output t.told
     at_output (inl w) = by_done m once.sensible told outcome bytes is_done w.0 w.1
     at_output (inr w) = by_cut m once.sensible told outcome bytes (once.begun told.before told.after (share_of outcome) bytes is_done) w.0 w.1
 
--- or the line of its fault
+-- the line of its error was written
 pub by_refusal : (m : Meaning) → WritesOnce m → (told : Told) (outcome : Outcome) (fault : Fault m.fault) → IsCause m told.before told.after fault
     → TellsFault m.line m.status fault told.output_before told.output_after outcome → IsAnswered m told outcome
 by_refusal m once told outcome fault cause t =
     by_fault m once.sensible told told.output_before outcome [] fault cause (once.unopened told.before told.after fault) (once.front told.before told.after fault)
     (none_written told.output_before) t
 
--- so ends one that opens no share
+-- the end of a command that opens no share
 pub by_answer : (m : Meaning) → WritesOnce m → (told : Told) (outcome : Outcome) (answer : Result (Vec ℕ Global) (Fault m.fault))
     → IfOk answer (λ bytes. m.is_done told.before told.after no_share bytes.items)
     → IfErr answer (λ fault. IsCause m told.before told.after fault)

@@ -7,13 +7,13 @@ use Rattle.daap_outside.specs.Reading.{ConsumesUpTo}
 use Rattle.command_core.specs.Seen.{InputSeen}
 use Rattle.command_core.specs.Causes.{HasReadOn, IsReadFault}
 
--- all that was read stands before the last read, which told the end
+-- the last read found the end, so all bytes were read before it
 pub all_read_on : (reads_on : List ℕ → Type 0) (before after : InputSeen) (bytes : List ℕ) → Consumes before.left after.left bytes → reads_on bytes
     → HasReadOn reads_on before after
 all_read_on reads_on before after bytes read on =
     record { front = bytes; last = []; read = subst (Consumes before.left after.left) (sym (append-nil bytes)) read; short = omega arith; on = on }
 
--- the limit was passed by the last read
+-- the last read passed the limit
 pub past_limit : (reads_on : List ℕ → Type 0) (before after : InputSeen) (limit : ℕ) → ((bytes : List ℕ) → length bytes ≤ limit → reads_on bytes)
     → ConsumesUpTo (limit + 32768) before.left after.left → HasReadOn reads_on before after
 past_limit reads_on before after limit on some =
@@ -39,12 +39,12 @@ all_read input bytes (Some rest) read end = read ∙ ap (λ l. bytes ++ l) end �
 pub read_whole : (input bytes : List ℕ) (before after : Option (List ℕ)) → before ≡ Some input → Consumes before after bytes → IsAtEnd after → input ≡ bytes
 read_whole input bytes before after told read end = all_read input bytes after (subst (λ left. Consumes left after bytes) told read) end
 
--- what holds of what was read holds of the input, where that is told
+-- what holds of the bytes that were read holds of the input, if that is known
 pub of_input : (P : List ℕ → Type 0) (left after : Option (List ℕ)) (bytes : List ℕ) → Consumes left after bytes → IsAtEnd after → P bytes → IfSome left P
 of_input P None after bytes read end h = tt
 of_input P (Some input) after bytes read end h = subst P (sym (all_read input bytes after read end)) h
 
--- so does what holds of all inputs that begin with it
+-- what holds of all inputs that begin with these bytes holds of the input, if that is known
 pub of_front : (P : List ℕ → Type 0) (left after : Option (List ℕ)) (bytes : List ℕ) → Consumes left after bytes → ((rest : List ℕ) → P (bytes ++ rest)) → IfSome left P
 of_front P None after bytes read h = tt
 of_front P (Some input) None bytes read h = absurd read

@@ -1,4 +1,4 @@
--- What the meaning of each command owes, so that its runs end as it says.
+-- What a command's specification has to meet, so that its runs end as it says.
 use Rattle.std.proofs.Common.{◌≡◌, ℕ, List, [], Some}
 use Rattle.command_core.specs.declared.fault.Fault.{Fault}
 use Rattle.command_core.specs.declared.fault.Fault.TheVariants.{Memory}
@@ -7,22 +7,22 @@ use Rattle.command_core.specs.Causes.{Says}
 use Rattle.command_core.specs.Meanings.{Meaning, IsCause}
 
 pub record IsSensible (m : Meaning) : Type 0 where
-  -- memory may be wanted in place of any fault, with what was written before it and what it leaves of a share
+  -- an allocation may fail in place of any error, with the same prefix written and the same share left
   pub wants : (before after : Seen) (fault : Fault m.fault) → IsCause m before after fault → m.may_want before after
   pub wants_front : (before after : Seen) (fault : Fault m.fault) (front : List ℕ) → m.is_front before after fault front → m.is_front before after Memory front
   pub wants_share : (before after : Seen) (fault : Fault m.fault) (share : ShareSeen) → m.leaves before after fault share → m.leaves before after Memory share
-  -- and before anything was done
+  -- .. and before anything was done
   pub idle : (seen : Seen) → m.may_want seen seen
   pub idle_front : (seen : Seen) → m.is_front seen seen Memory []
   pub idle_share : (seen : Seen) → m.leaves seen seen Memory no_share
-  -- two faults that the words and the input say have one status, and the command is not done where one is said
+  -- two errors that arguments and input say have one status, and the command does not succeed if they say one
   pub one_status : (input : List ℕ) (one other : m.fault) → Says (m.cause one) input → Says (m.cause other) input → m.status one ≡ m.status other
   pub not_both : (input : List ℕ) (own : m.fault) → Says (m.cause own) input → m.gives input → ⊥
-  -- where it is done, the words and the input are such
+  -- if it succeeds, arguments and input are such that it does
   pub given : (input : List ℕ) (before after : Seen) (share : ShareSeen) (output : List ℕ) → before.input.left ≡ Some input
       → m.is_done before after share output → m.gives input
 
--- of one that writes once, at its end, and whose own faults leave no share
+-- .. of a command that writes once, at its end, and whose own errors leave no share
 pub record WritesOnce (m : Meaning) : Type 0 where
   pub sensible : IsSensible m
   pub begun : (before after : Seen) (share : ShareSeen) (output : List ℕ) → m.is_done before after share output → m.is_begun before after share output

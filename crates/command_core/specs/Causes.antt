@@ -1,4 +1,4 @@
--- When a command may end by a fault, and how much of the input was read then.
+-- When a command may end with an error, and how much of the input it has read by then.
 use Rattle.std.specs.Prelude.{◌≡◌, ◌≤◌, ◌++◌, ℕ, List, length, IfSome}
 use Rattle.std.specs.Io.KnownBytes.{Consumes}
 use Rattle.daap_outside.specs.Counts.{Rose}
@@ -6,23 +6,23 @@ use Rattle.command_core.specs.declared.fault.Fault.{Fault}
 use Rattle.command_core.specs.declared.fault.Fault.TheVariants.{Own, Read, Memory}
 use Rattle.command_core.specs.Seen.{InputSeen, IsUnread}
 
--- what one read brings at most: 64 KiB
+-- one read returns at most 64 KiB
 abbrev pub piece_limit : ℕ
 piece_limit = 65536
 
--- what has to hold for one of a command's own faults
+-- what has to hold for one of a command's own errors
 pub data Cause : Type 1 where
-  -- it is one of the words: it comes before the input is read
+  -- the arguments have it: it is found before the input is read
   OfWords : Type 0 → Cause
-  -- it is one of the words, and of the input where that is told
+  -- the arguments have it, and the input too, if that is known
   OfInput : Type 0 → (List ℕ → Type 0) → Cause
 
--- the words and the input say it
+-- arguments and input have the cause
 abbrev pub Says : Cause → List ℕ → Type 0
 Says (OfWords words) input = words
 Says (OfInput words said) input = words × said input
 
--- what was read: behind all of it but a last part, no longer than one read brings, there was cause to read on
+-- what was read, except for a last part of at most one read, is such that the command reads further
 pub record HasReadOn (reads_on : List ℕ → Type 0) (before after : InputSeen) : Type 0 where
   pub front : List ℕ
   pub last : List ℕ
@@ -30,14 +30,14 @@ pub record HasReadOn (reads_on : List ℕ → Type 0) (before after : InputSeen)
   pub short : length last ≤ piece_limit
   pub on : reads_on front
 
--- a fault of what was read, and none of the input's own
+-- an error found in what was read; no read failed
 pub record IsFaultOf (reads_on : List ℕ → Type 0) (of_words : Type 0) (of_input : List ℕ → Type 0) (before after : InputSeen) : Type 0 where
   pub words : of_words
   pub said : IfSome before.left of_input
   pub faultless : after.faults ≡ before.faults
   pub read_on : HasReadOn reads_on before after
 
--- a read that failed, where there was cause to read on
+-- a read failed after bytes at which the command reads further
 pub record IsReadFault (reads_on : List ℕ → Type 0) (before after : InputSeen) : Type 0 where
   pub bytes : List ℕ
   pub read : Consumes before.left after.left bytes
@@ -48,7 +48,7 @@ abbrev pub Comes : (reads_on : List ℕ → Type 0) → Cause → InputSeen → 
 Comes reads_on (OfWords words) before after = words × IsUnread before after
 Comes reads_on (OfInput words said) before after = IsFaultOf reads_on words said before after
 
--- a command stops so by a fault, by the causes of its own ones; want of memory may come whenever the last fact holds
+-- how a command stops with an error; `cause` has those of its own errors, and `wants` says when memory may run out
 abbrev pub StopsBy : {F : Type 0} → (F → Cause) → (reads_on : List ℕ → Type 0) → Type 0 → InputSeen → InputSeen → Fault F → Type 0
 StopsBy cause reads_on wants before after (Own own) = Comes reads_on (cause own) before after
 StopsBy cause reads_on wants before after Read = IsReadFault reads_on before after

@@ -1,4 +1,4 @@
--- How a run of a command ends, by what is told before it and after it.
+-- How a run of a command ends, by what is known before it and after it.
 use Rattle.std.specs.Prelude.{◌≡◌, ◌⊎◌, ◌++◌, ℕ, List, IfSome}
 use Rattle.std.specs.Io.KnownBytes.{Appends}
 use Rattle.daap_outside.specs.Counts.{Rose}
@@ -11,13 +11,13 @@ use Rattle.command_core.specs.Causes.{Says}
 use Rattle.command_core.specs.Meanings.{Meaning, IsCause}
 
 pub data Ending (F : Type 0) : Type 0 where
-  -- the command was done, and its output was written
+  -- the command succeeded, and its output was written
   Done : (output : List ℕ) → Ending F
   -- the output failed within it
   OutputCut : (output : List ℕ) → Ending F
-  -- behind what was written before, the line of this fault was
+  -- after `front`, the line of `fault` was written
   Refused : (front : List ℕ) (fault : Fault F) → Ending F
-  -- the output failed within these
+  -- the output failed within these two
   LineCut : (front : List ℕ) (fault : Fault F) → Ending F
 
 abbrev pub ending_status : (m : Meaning) → Ending m.fault → ℕ
@@ -31,18 +31,18 @@ pub record IsWritten (before after : OutputSeen) (bytes : List ℕ) : Type 0 whe
   pub taken : Appends before.taken after.taken bytes
   pub faultless : after.faults ≡ before.faults
 
--- the output failed within the bytes, of which a front was taken
+-- the output failed within the bytes, after it took a prefix of them
 pub record IsCut (before after : OutputSeen) (bytes : List ℕ) : Type 0 where
   pub taken : AppendsPrefix before.taken after.taken bytes
   pub rose : Rose before.faults after.faults
 
--- a fault ends the command behind this front, and leaves this of a share
+-- `fault` ends the command after it wrote `front`, and leaves `share`
 pub record IsRefused (m : Meaning) (told : Told) (share : ShareSeen) (front : List ℕ) (fault : Fault m.fault) : Type 0 where
   pub cause : IsCause m told.before told.after fault
   pub left : m.leaves told.before told.after fault share
   pub written : m.is_front told.before told.after fault front
 
--- a run may end so
+-- the ways in which a run may end
 abbrev pub Happens : (m : Meaning) → Told → ShareSeen → Ending m.fault → Type 0
 Happens m told share (Done output) =
     m.is_done told.before told.after share output × IsWritten told.output_before told.output_after output
@@ -53,12 +53,11 @@ Happens m told share (Refused front fault) =
 Happens m told share (LineCut front fault) =
     IsRefused m told share front fault × IsCut told.output_before told.output_after (front ++ fault_line m.line fault)
 
--- the run ended in one of these ways, with its status
+-- the run ended in one of them, with its status
 abbrev pub Ends : (m : Meaning) → Told → ℕ → ShareSeen → Type 0
 Ends m told status share = (ending : Ending m.fault) × (status ≡ ending_status m ending) × Happens m told share ending
 
--- Where no read and no write failed and the input is told, the words and the input decide how a run ends, but for want
--- of memory.
+-- If the input is known and no read or write failed, arguments and input decide the status, except for out of memory.
 pub record Decides (m : Meaning) (input : List ℕ) (status : ℕ) : Type 0 where
   pub done : m.gives input → (status ≡ 0) ⊎ (status ≡ 9)
   pub refused : (own : m.fault) → Says (m.cause own) input → (status ≡ m.status own) ⊎ (status ≡ 9)
@@ -68,11 +67,11 @@ IsDecided m told status =
     ¬ (Rose told.before.input.faults told.after.input.faults) → ¬ (Rose told.output_before.faults told.output_after.faults)
     → IfSome told.before.input.left (λ input. Decides m input status)
 
--- what an outcome tells of a share
+-- what an outcome says of a share
 abbrev pub share_of : Outcome → ShareSeen
 share_of outcome = record { history = outcome.history }
 
--- the outcome of a run is one that the command means
+-- the outcome of a run is as the command's specification says
 pub record IsAnswered (m : Meaning) (told : Told) (outcome : Outcome) : Type 0 where
   pub ends : Ends m told outcome.status (share_of outcome)
   pub decided : IsDecided m told outcome.status

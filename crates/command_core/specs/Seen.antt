@@ -1,25 +1,26 @@
--- What is told at a moment of all that a run of the program stands among, and of the share that it opened.
+-- What is known at a moment of the input, output, files and network of a run, and of the share that it opened.
 use Rattle.std.specs.Prelude.{◌≡◌, ℕ, Bool, List, Option, Some, None}
 use Rattle.daap_outside.specs.Places.{Contents}
 use Rattle.item_model.specs.declared.changes.Entry.{Entry}
 
--- of the input: the bytes that are left to read, and the count of faults
+-- of the input: the bytes that are left to read, and the error counter
 pub record InputSeen : Type 0 where
   pub left : Option (List ℕ)
   pub faults : ℕ
 
--- of the output: the bytes that were taken, and the count of faults
+-- of the output: the bytes that it took, and the error counter
 pub record OutputSeen : Type 0 where
   pub taken : Option (List ℕ)
   pub faults : ℕ
 
--- of the files: the names asked for, the bytes under each name, and the count of faults
+-- of the files: the names of which `open` was called, the bytes under each name, and the error counter
 pub record FilesSeen : Type 0 where
   pub asked : Option (List (List ℕ))
   pub contents : Option Contents
   pub faults : ℕ
 
--- of the net: the places asked for, the links given back, the inputs of links to come, and the count of faults
+-- of the network: the addresses of the calls of `listen` and `connect`, the closed connections (the bytes sent on each,
+-- and whether an error was counted on it), the inputs of connections to come, and the error counter
 pub record NetSeen : Type 0 where
   pub asked : Option (List (List ℕ × ℕ))
   pub written : Option (List (List ℕ × Bool))
@@ -31,12 +32,12 @@ pub record Around : Type 0 where
   pub files : FilesSeen
   pub net : NetSeen
 
--- all of these but the output
+-- all of these except the output
 pub record Seen : Type 0 where
   pub input : InputSeen
   pub around : Around
 
--- of the share that a command opened: its history, where it opened one
+-- of the share: its history, if the command opened one
 pub record ShareSeen : Type 0 where
   pub history : Option (List Entry)
 
@@ -46,12 +47,12 @@ no_share = record { history = None }
 abbrev pub share_with : List Entry → ShareSeen
 share_with history = record { history = Some history }
 
--- no byte of the input was read, and no fault of it counted
+-- no byte of the input was read, and no error of it counted
 pub record IsUnread (before after : InputSeen) : Type 0 where
   pub left : after.left ≡ before.left
   pub faults : after.faults ≡ before.faults
 
--- a run: what is told before it and after it
+-- a run: what is known before it and after it
 pub record Told : Type 0 where
   pub before : Seen
   pub after : Seen
@@ -78,7 +79,7 @@ seen input files net = record { input = input; around = record { files = files; 
 abbrev pub told_in : (before after : Seen) (output_before output_after : OutputSeen) → Told
 told_in before after output_before output_after = record { before = before; after = after; output_before = output_before; output_after = output_after }
 
--- a run that leaves files alone
+-- a run that leaves files unchanged
 abbrev pub told_over : FilesSeen → (input_before input_after : InputSeen) (net_before net_after : NetSeen) (output_before output_after : OutputSeen) → Told
 told_over files input_before input_after net_before net_after output_before output_after = record {
   before = record { input = input_before; around = record { files = files; net = net_before } };
@@ -87,7 +88,7 @@ told_over files input_before input_after net_before net_after output_before outp
   output_after = output_after;
 }
 
--- and one that leaves the net alone, too
+-- .. and the network too
 abbrev pub told_beside : Around → (input_before input_after : InputSeen) (output_before output_after : OutputSeen) → Told
 told_beside around input_before input_after output_before output_after = record {
   before = record { input = input_before; around = around };

@@ -1,4 +1,4 @@
-//! Why a command did not do its work.
+//! Why a command failed.
 
 ghost use Rattle.std.specs.Prelude.{◌≡◌, ℕ, List, IfOk};
 ghost use Rattle.command_core.specs.Faults.{fault_line, fault_status, read_fault};
@@ -6,7 +6,7 @@ ghost use Rattle.command_core.specs.Faults.{fault_line, fault_status, read_fault
 use daap_outside::{Failed, ReadError};
 use std::alloc::{AllocError, Global};
 
-/// What ended a command early: one of its own faults, or what may end any command.
+/// What ended a command early: one of its own errors, or what may end any command.
 #[derive(Debug, Drop)]
 pub enum Fault<E> {
     Own(E),
@@ -15,17 +15,17 @@ pub enum Fault<E> {
     Memory,
 }
 
-/// A command's own faults: the line that the user sees for each, and the status.
+/// A command's own errors: the line that the user sees for each, and the status.
 pub trait Refusal {
     ghost told_line: { Self → List ℕ };
 
     ghost told_status: { Self → ℕ };
 
-    /// The line, with its end.
+    /// Returns the line, with its line feed.
     fn line(&self, alloc: Global) -> Result<Vec<u8>, AllocError>
         ensures { IfOk result (λ line. line.items ≡ told_line self.now) };
 
-    /// The status that the program ends with.
+    /// Returns the status that the program ends with.
     fn status(&self) -> u8
         ensures { result ≡ told_status self.now };
 }
@@ -51,7 +51,7 @@ impl<E> From<Failed> for Fault<E> {
 }
 
 impl<E: Refusal> Fault<E> {
-    /// The line that the user sees.
+    /// Returns the line that the user sees, with its line feed.
     pub fn line(&self, alloc: Global) -> Result<Vec<u8>, AllocError>
         ensures { IfOk result (λ line. line.items ≡ fault_line E.told_line self.now) }
     {
@@ -62,7 +62,7 @@ impl<E: Refusal> Fault<E> {
         }
     }
 
-    /// The status that the program ends with.
+    /// Returns the status that the program ends with.
     pub fn status(&self) -> u8
         ensures { result ≡ fault_status E.told_status self.now }
     {
@@ -74,7 +74,7 @@ impl<E: Refusal> Fault<E> {
     }
 }
 
-/// What an input that was not read to its end is to a command, by its fault where the input is too long.
+/// Returns the error of a command whose input was not read to its end; `too_long` is the one of a long input.
 pub fn read_fault<E: Drop>(error: ReadError, too_long: E) -> Fault<E>
     ensures { result ≡ read_fault too_long error }
 {

@@ -1,6 +1,6 @@
-//! What a command of the program means, as one record (`specs/Meanings.antt`), and how it ends: its output or the line
-//! of a fault is written so that a run ends as the command means (`specs/Endings.antt`). Commands that begin a share read
-//! their input as one batch (`specs/ReadRecords.antt`).
+//! The form of a command's specification (`specs/Meanings.antt`), and how a run ends: it writes its output or the line
+//! of an error, as the specification says (`specs/Endings.antt`). Commands that open a share read their input as one
+//! batch (`specs/ReadRecords.antt`).
 #![tactic(auto)]
 
 mod fault;
@@ -8,5 +8,5 @@ mod outcome;
 mod records;
 
 pub use fault::{Fault, Refusal, read_fault};
-pub use outcome::{Outcome, done, out_of_memory, refused, written};
+pub use outcome::{Outcome, out_of_memory, write_error, write_output, write_result};
 pub use records::{InputFault, read_records};

@@ -1,4 +1,4 @@
-//! What is written at the end of a command, and what the run leaves.
+//! What a command writes at its end, and what the run leaves.
 
 ghost use Rattle.std.specs.Prelude.{◌≡◌, None, MatchResult};
 ghost use Rattle.command_core.specs.Seen.{output_seen};
@@ -9,15 +9,15 @@ use daap_outside::{Sink, put_all};
 use item_model::Entries;
 use std::alloc::Global;
 
-/// What a run leaves: the status of the program, and the history of the share, where one was opened.
+/// What a run leaves: the status of the program, and the history of the share, if it opened one.
 #[derive(Debug, Drop)]
 pub struct Outcome {
     pub status: u8,
     pub history: Option<Entries>,
 }
 
-/// Writes what a command answered that opens no share, or the line of its fault.
-pub fn written<W: Sink, E: Refusal + Drop>(
+/// Writes the result of a command that opens no share, or the line of its error.
+pub fn write_result<W: Sink, E: Refusal + Drop>(
     alloc: Global,
     output: &mut W,
     answer: Result<Vec<u8>, Fault<E>>,
@@ -33,26 +33,26 @@ pub fn written<W: Sink, E: Refusal + Drop>(
         result) }
 {
     match answer {
-        Ok(bytes) => done(output, bytes.as_slice(), None),
-        Err(fault) => refused(alloc, output, &fault),
+        Ok(bytes) => write_output(output, bytes.as_slice(), None),
+        Err(fault) => write_error(alloc, output, &fault),
     }
 }
 
-/// Writes the output of a command that was done.
-pub fn done<W: Sink>(output: &mut W, bytes: &[u8], history: Option<Entries>) -> Outcome
+/// Writes the output of a command that succeeded.
+pub fn write_output<W: Sink>(output: &mut W, bytes: &[u8], history: Option<Entries>) -> Outcome
     ensures { TellsDone history bytes.now
         (output_seen (W.taken output.old) (W.faults output.old))
         (output_seen (W.taken output.new) (W.faults output.new))
         result }
 {
     Outcome {
-        status: told(output, bytes, 0),
+        status: write_bytes(output, bytes, 0),
         history,
     }
 }
 
-/// Writes the line of a fault of a command that opened no share.
-pub fn refused<W: Sink, E: Refusal>(alloc: Global, output: &mut W, fault: &Fault<E>) -> Outcome
+/// Writes the line of an error of a command that opened no share, or that of out of memory if an allocation fails.
+pub fn write_error<W: Sink, E: Refusal>(alloc: Global, output: &mut W, fault: &Fault<E>) -> Outcome
     ensures { TellsFault E.told_line E.told_status fault.now
         (output_seen (W.taken output.old) (W.faults output.old))
         (output_seen (W.taken output.new) (W.faults output.new))
@@ -60,14 +60,14 @@ pub fn refused<W: Sink, E: Refusal>(alloc: Global, output: &mut W, fault: &Fault
 {
     match fault.line(alloc) {
         Ok(line) => Outcome {
-            status: told(output, line.as_slice(), fault.status()),
+            status: write_bytes(output, line.as_slice(), fault.status()),
             history: None,
         },
         Err(_) => out_of_memory(output, None),
     }
 }
 
-/// Writes the line of want of memory, which takes none.
+/// Writes the line of out of memory. Does not allocate.
 pub fn out_of_memory<W: Sink>(output: &mut W, history: Option<Entries>) -> Outcome
     ensures { TellsMemory history
         (output_seen (W.taken output.old) (W.faults output.old))
@@ -75,13 +75,13 @@ pub fn out_of_memory<W: Sink>(output: &mut W, history: Option<Entries>) -> Outco
         result }
 {
     Outcome {
-        status: told(output, b"memory\n", 9),
+        status: write_bytes(output, b"memory\n", 9),
         history,
     }
 }
 
-/// Writes bytes, and answers the status that is wanted, or that of an output that failed.
-fn told<W: Sink>(output: &mut W, bytes: &[u8], status: u8) -> u8
+/// Writes `bytes`. Returns `status`, or 5 if the output failed.
+fn write_bytes<W: Sink>(output: &mut W, bytes: &[u8], status: u8) -> u8
     ensures { Tells status bytes.now
         (output_seen (W.taken output.old) (W.faults output.old))
         (output_seen (W.taken output.new) (W.faults output.new))

@@ -12,19 +12,19 @@ use item_model::Batch;
 use records_import::{RecordError, read_batch};
 use std::alloc::Global;
 
-/// The most bytes of records that the input may have.
+/// The input may have at most this many bytes.
 const RECORDS_LIMIT: u64 = 4_194_304;
 
-/// Why the input is no batch. Want of memory, and an input that cannot be read, are none of these.
+/// Why the input is not a batch. Out of memory is `Fault::Memory`, and a read that failed is `Fault::Read`.
 #[derive(Debug, Drop)]
 pub enum InputFault {
-    /// The input has more bytes than are read.
+    /// The input has more than `RECORDS_LIMIT` bytes.
     TooLong,
-    /// Its records don't read as a batch.
+    /// Its records are refused.
     Records(RecordError),
 }
 
-/// Reads the input to its end, as a batch of records.
+/// Reads the input to its end. Returns the batch of its records.
 pub fn read_records<I: Source>(alloc: Global, input: &mut I) -> Result<Batch, Fault<InputFault>>
     ensures reads { IfOk result (λ batch. HasReadAs batch
         (input_seen (I.left input.old) (I.faults input.old))
@@ -46,7 +46,7 @@ pub fn read_records<I: Source>(alloc: Global, input: &mut I) -> Result<Batch, Fa
     }
 }
 
-/// What a refusal of its records is.
+/// Returns the command's error if its records are refused.
 fn record_fault(error: RecordError) -> Fault<InputFault>
     ensures { result ≡ record_fault error }
 {

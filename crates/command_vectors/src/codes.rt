@@ -171,7 +171,7 @@ fn a_reply_tells_its_table_or_is_refused(rt: HostRuntime) -> Result<(), Fail> {
     all_tell(&rt, rt.alloc(), Asked::Learn, &REPLIES)
 }
 
-/// A reply with an entry for each letter, four of which are its code.
+/// Returns a reply with an entry for each letter; its code is the letter four times.
 fn lettered(alloc: Global, letters: &[u8]) -> Result<Vec<u8>, AllocError> {
     let len = 12 + 39 * letters.len().min(1000) as u32;
     let mut bytes = Vec::from_slice(alloc, b"mccr")?;

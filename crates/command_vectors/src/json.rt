@@ -9,11 +9,11 @@ use std::alloc::{AllocError, Global};
 use std::process::Abort;
 use std::test::Fail;
 
-/// Bytes of top tags, and the lines that they are written as.
+/// Bytes of top-level tags, and the lines that they are written as.
 type Pair = (&'static [u8], &'static [u8]);
 
-/// The listing of one item with id 7 and name `A`, payloads without a meaning, a code of no table, the artists of a
-/// share, and two tags in a row.
+/// No bytes, the listing of one item with id 7 and name `A`, payloads that do not fit their kind, a code that no table
+/// has, the artists of a share, and two tags in a row.
 const PAIRS: [Pair; 7] = [
     (b"", b""),
     (
@@ -42,7 +42,7 @@ const PAIRS: [Pair; 7] = [
     ),
 ];
 
-/// Bytes that are no tags, and the line of the fault.
+/// Bytes that are not tags, and the line of the error.
 const NO_TAGS: [Pair; 4] = [
     (b"miid\0\0\0\x04\0\0\0", b"tags: truncated at 11\n"),
     (
@@ -56,7 +56,7 @@ const NO_TAGS: [Pair; 4] = [
     (b"mlcl\x04\0\0\x01", b"tags: too large at 0\n"),
 ];
 
-/// Lines of which one reads as no tag, and the line of the fault.
+/// Lines of which one does not read as a tag, and the line of the error.
 const NO_LINES: [Pair; 6] = [
     (b"\n", b"json: line 1\n"),
     (
@@ -88,8 +88,13 @@ enum Way {
     Back,
 }
 
-// Without clauses, so that no other proof looks into what a command means.
-fn obeyed<I: Source, W: Sink>(alloc: Global, way: Way, input: &mut I, output: &mut W) -> Outcome {
+// Without clauses, so that other proofs do not unfold the specification of a command.
+fn run_command<I: Source, W: Sink>(
+    alloc: Global,
+    way: Way,
+    input: &mut I,
+    output: &mut W,
+) -> Outcome {
     match way {
         Way::There => write_json(alloc, input, output),
         Way::Back => read_json(alloc, input, output),
@@ -99,11 +104,11 @@ fn obeyed<I: Source, W: Sink>(alloc: Global, way: Way, input: &mut I, output: &m
 fn run_over(alloc: Global, way: Way, bytes: &[u8], pieces: Pieces) -> Result<Ran, AllocError> {
     let mut input = source(alloc, bytes, pieces)?;
     let mut output = sink(alloc, pieces)?;
-    let outcome = obeyed(alloc, way, &mut input, &mut output);
+    let outcome = run_command(alloc, way, &mut input, &mut output);
     Ok(left(outcome, output))
 }
 
-/// The command over an input, read in pieces of so many bytes, ends with this status and output.
+/// Checks the status and the output of the command over `input`, read in chunks of `piece` bytes.
 fn ends(
     rt: &impl Abort,
     alloc: Global,
@@ -121,7 +126,7 @@ fn ends(
     has_left(rt, &ran, status, output)
 }
 
-/// Each of the inputs is refused so.
+/// Checks that each input is refused, and the line.
 fn all_are_refused(rt: &impl Abort, alloc: Global, way: Way, pairs: &[Pair]) -> Result<(), Fail> {
     for pair in pairs {
         ends(rt, alloc, way, pair.0, 4096, 3, pair.1)?;
@@ -129,7 +134,7 @@ fn all_are_refused(rt: &impl Abort, alloc: Global, way: Way, pairs: &[Pair]) -> 
     Ok(())
 }
 
-/// Each of the inputs goes there and back, read at once and byte by byte.
+/// Checks that each input goes there, read at once, and back, read byte by byte.
 fn all_go_there_and_back(rt: &impl Abort, alloc: Global, pairs: &[Pair]) -> Result<(), Fail> {
     for pair in pairs {
         ends(rt, alloc, Way::There, pair.0, 4096, 0, pair.1)?;

@@ -1,4 +1,4 @@
-//! `list` of `share_commands`: libraries, with the bytes that their listings have.
+//! `list` of `share_commands`: libraries, with the bytes of their listings.
 
 use crate::known::ONE_ITEM;
 use crate::runs::{Pieces, Ran, WHOLE, has_left, left, sink, source};
@@ -20,7 +20,7 @@ const NO_ITEMS: &[u8] =
 const NO_ITEMS_YET: &[u8] =
     b"adbs\0\0\0\x41mstt\0\0\0\x04\0\0\0\xc8muty\0\0\0\x01\0musr\0\0\0\x04\0\0\0\x03mtco\0\0\0\x04\0\0\0\0mrco\0\0\0\x04\0\0\0\0mlcl\0\0\0\0";
 
-/// Two items, ascending: 2 as it was put last, and 5 without a name.
+/// Two items, by ascending id: 2 as it was put last, and 5 without a name.
 const TWO_ITEMS: &[u8] =
     b"adbs\0\0\0\x77mstt\0\0\0\x04\0\0\0\xc8muty\0\0\0\x01\0musr\0\0\0\x04\0\0\0\x03mtco\0\0\0\x04\0\0\0\x02mrco\0\0\0\x04\0\0\0\x02mlcl\0\0\0\x36mlit\0\0\0\x1amiid\0\0\0\x04\0\0\0\x02minm\0\0\0\x06Secondmlit\0\0\0\x0cmiid\0\0\0\x04\0\0\0\x05";
 
@@ -28,11 +28,11 @@ const TWO_ITEMS: &[u8] =
 const WHOLE_ITEM: &[u8] =
     b"adbs\0\0\0\x86mstt\0\0\0\x04\0\0\0\xc8muty\0\0\0\x01\0musr\0\0\0\x04\0\0\0\x03mtco\0\0\0\x04\0\0\0\x01mrco\0\0\0\x04\0\0\0\x01mlcl\0\0\0\x45mlit\0\0\0\x3dmiid\0\0\0\x04\0\0\0\x09mikd\0\0\0\x01\x02minm\0\0\0\x01Tasar\0\0\0\x01Sastn\0\0\0\x02\0\x03astm\0\0\0\x04\0\0\0\x05";
 
-/// The year and the name of an item, asked for in this order.
+/// The year and the name of an item, named in this order.
 const YEAR_AND_NAME: &[u8] =
     b"adbs\0\0\0\x68mstt\0\0\0\x04\0\0\0\xc8muty\0\0\0\x01\0musr\0\0\0\x04\0\0\0\x03mtco\0\0\0\x04\0\0\0\x01mrco\0\0\0\x04\0\0\0\x01mlcl\0\0\0\x27mlit\0\0\0\x1fmiid\0\0\0\x04\0\0\0\x09asyr\0\0\0\x02\x07\xbfminm\0\0\0\x01T";
 
-/// Records of six items, of one, of none, and of one with all that a player shows.
+/// Records of six items.
 const SIX: &[u8] =
     b"op,kind,id,dmap.itemname,daap.songartist,daap.songalbum,com.apple.itunes.mediakind\nput,item,1,Hey,Ann,One,1\nput,item,2,it's late,Bob,,1\nput,item,3,Talk,Cy,Pod,4\nput,item,4,Move,Di,Film,32\nput,item,5,Quiet,Ed,Two,\nput,item,6,Late,ann,two,1\n";
 
@@ -49,7 +49,7 @@ const THREE_LISTS: &[u8] =
 
 const BAD_HEADER: &[u8] = b"op,x\n";
 
-/// What `list` is asked for.
+/// The arguments of `list`.
 #[derive(Clone, Copy)]
 struct Asked<'a> {
     query: Option<&'a str>,
@@ -71,7 +71,7 @@ fn text_of(alloc: Global, text: Option<&str>) -> Result<Option<Text>, AllocError
     }
 }
 
-// Without clauses, so that no other proof looks into what the command means.
+// Without clauses, so that other proofs do not unfold the specification of the command.
 fn listed<I: Source, W: Sink>(
     alloc: Global,
     asked: Asked,
@@ -107,7 +107,7 @@ const LONG_READS: Pieces = Pieces {
     ..WHOLE
 };
 
-/// `list` over the records ends with the status and this output, and with a share only if the status is 0.
+/// Checks the status and the output of `list` over the records, and that it leaves a share only if the status is 0.
 fn lists_asked(
     rt: &impl Abort,
     alloc: Global,
@@ -184,7 +184,7 @@ fn records_that_are_refused_have_one_line_and_no_listing(rt: HostRuntime) -> Res
     all_are_listed(&rt, rt.alloc(), &BAD_RECORDS)
 }
 
-/// The parts of a listing of ids alone, at revision 3: up to the number of rows, up to that of those listed, up to
+/// The parts of a listing of ids only, at revision 3: up to the number of rows, up to the number of listed rows, up to
 /// their length, and up to the id of a row.
 const TO_TOTAL: &[u8] =
     b"mstt\0\0\0\x04\0\0\0\xc8muty\0\0\0\x01\0musr\0\0\0\x04\0\0\0\x03mtco\0\0\0\x04\0\0\0";
@@ -195,7 +195,7 @@ const TO_LENGTH: &[u8] = b"mlcl\0\0\0";
 
 const TO_ID: &[u8] = b"mlit\0\0\0\x0cmiid\0\0\0\x04\0\0\0";
 
-/// The listing of at most nine ids: each row has 20 bytes.
+/// Returns the listing of `ids`, at most nine; each row has 20 bytes.
 fn ids_listing(alloc: Global, ids: &[u8]) -> Result<Vec<u8>, AllocError> {
     let count = ids.len().min(9) as u8;
     let length = count.wrapping_mul(20);
@@ -214,10 +214,10 @@ fn ids_listing(alloc: Global, ids: &[u8]) -> Result<Vec<u8>, AllocError> {
     Ok(bytes)
 }
 
-/// The items of the six that a query lists.
+/// A query, and the ids of the items that it selects from the six.
 type Held = (&'static str, &'static [u8]);
 
-/// Of the six items, each query lists those with these ids.
+/// Checks which of the six items each query selects.
 fn all_hold(rt: &impl Abort, alloc: Global, queries: &[Held]) -> Result<(), Fail> {
     for (query, ids) in queries {
         let asked = Asked {
@@ -250,7 +250,7 @@ fn a_query_lists_the_items_of_which_it_holds(rt: HostRuntime) -> Result<(), Fail
     all_hold(&rt, rt.alloc(), &QUERIES)
 }
 
-/// Names of properties, and what they show of one whole item.
+/// Names of properties, and the listing of one whole item with these.
 type Shown = (&'static str, &'static [u8]);
 
 fn all_show(rt: &impl Abort, alloc: Global, names: &[Shown]) -> Result<(), Fail> {
@@ -283,7 +283,7 @@ const UNREADABLE: Pieces = Pieces {
     ..WHOLE
 };
 
-/// The texts end `list` with 3 and this line, whatever the input is; it is not read.
+/// Checks that `list` refuses the texts with status 3 and `line`, and does not read its input.
 fn is_refused(
     rt: &impl Abort,
     alloc: Global,
@@ -364,7 +364,7 @@ fn a_container_is_listed_that_the_batch_leaves(rt: HostRuntime) -> Result<(), Fa
     all_are_contained(&rt, rt.alloc(), &CONTAINERS)
 }
 
-/// Records that put so many lists.
+/// Returns records that put `count` lists.
 fn many_lists(alloc: Global, count: u32) -> Result<Vec<u8>, Fail> {
     let mut text = Vec::from_slice(alloc, b"op,kind,id\n")?;
     for list in 0..count {
@@ -386,7 +386,7 @@ fn a_share_has_at_most_1024_lists(rt: HostRuntime) -> Result<(), Fail> {
     lists_asked(&rt, alloc, ITEMS, many.as_slice(), 8, b"limit: library\n")
 }
 
-/// That many of a byte.
+/// Returns `count` times `byte`.
 fn too_much(alloc: Global, byte: u8, count: usize) -> Result<Vec<u8>, AllocError> {
     let mut bytes = Vec::new(alloc);
     bytes.resize(count, byte)?;

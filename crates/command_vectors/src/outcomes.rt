@@ -1,12 +1,12 @@
-//! `command_core`: what is written of answers and of faults.
+//! `command_core`: what is written of results and of errors.
 
-use command_core::{Fault, Outcome, Refusal, out_of_memory, refused, written};
+use command_core::{Fault, Outcome, Refusal, out_of_memory, write_error, write_result};
 use daap_outside::MemSink;
 use std::alloc::{AllocError, Global};
 use std::process::Abort;
 use std::test::Fail;
 
-/// A fault that has a line of its own.
+/// An error with its own line.
 #[derive(Debug, Drop)]
 struct Torn;
 
@@ -26,7 +26,7 @@ impl Refusal for Torn {
     }
 }
 
-/// The outcome has the status, and the output these bytes.
+/// Checks the status of the outcome, and that the output is `line`.
 fn is_told(
     rt: &impl Abort,
     outcome: &Outcome,
@@ -44,12 +44,12 @@ fn an_answer_is_written_or_the_line_of_its_fault(rt: HostRuntime) -> Result<(), 
     let alloc = rt.alloc();
     let mut output = MemSink::new(alloc, 64, 64, &[])?;
     let answer: Result<Vec<u8>, Fault<Torn>> = Ok(Vec::from_slice(alloc, b"ok\n")?);
-    let outcome = written(alloc, &mut output, answer);
+    let outcome = write_result(alloc, &mut output, answer);
     is_told(&rt, &outcome, &output, 0, "ok\n")?;
-    let outcome = refused(alloc, &mut output, &Fault::Own(Torn));
+    let outcome = write_error(alloc, &mut output, &Fault::Own(Torn));
     is_told(&rt, &outcome, &output, 3, "ok\ntorn\n")?;
     let failed: Fault<Torn> = Fault::Read;
-    let outcome = refused(alloc, &mut output, &failed);
+    let outcome = write_error(alloc, &mut output, &failed);
     is_told(&rt, &outcome, &output, 4, "ok\ntorn\nread failed\n")?;
     let outcome = out_of_memory(&mut output, None);
     is_told(&rt, &outcome, &output, 9, "ok\ntorn\nread failed\nmemory\n")
@@ -59,6 +59,6 @@ fn an_answer_is_written_or_the_line_of_its_fault(rt: HostRuntime) -> Result<(), 
 fn an_output_that_fails_gives_its_status(rt: HostRuntime) -> Result<(), Fail> {
     let alloc = rt.alloc();
     let mut output = MemSink::new(alloc, 3, 3, &[])?;
-    let outcome = refused(alloc, &mut output, &Fault::Own(Torn));
+    let outcome = write_error(alloc, &mut output, &Fault::Own(Torn));
     is_told(&rt, &outcome, &output, 5, "tor")
 }

@@ -8,7 +8,7 @@ use std::alloc::Global;
 use std::process::Abort;
 use std::test::Fail;
 
-// Without clauses, so that no other proof looks into what the command means.
+// Without clauses, so that other proofs do not unfold the specification of the command.
 fn rehearsed<W: Sink>(alloc: Global, numbers: [u32; 3], output: &mut W) -> Outcome {
     let [number, batches, size] = numbers;
     let (batches, size) = (batches.clamp(1, 65_536), size.clamp(1, 256));
@@ -40,7 +40,7 @@ const REHEARSALS: [Rehearsal; 5] = [
     ),
     ([1, 1025, 256], 8, b"limit: rehearsal\n"),
     ([0, 65_536, 5], 8, b"limit: rehearsal\n"),
-    // As many edits as a history may have: the summary as another program has it.
+    // As many edits as a history may have. The summary is that of another program.
     (
         [1, 1024, 256],
         0,

@@ -1,4 +1,4 @@
-//! `replay`: scripts, and what they are answered.
+//! `replay`: scripts, and what the share answers.
 
 use crate::runs::{Pieces, Ran, WHOLE, has_left, left, sink, source};
 use command_core::Outcome;
@@ -8,19 +8,19 @@ use std::alloc::{AllocError, Global};
 use std::process::Abort;
 use std::test::Fail;
 
-/// A login, and a stop behind it.
+/// A login, and then a stop.
 const SCRIPT: &[u8] =
     b"open 1 edit\ntext 1 GET /login HTTP/1.1\\r\\n\\r\\n\ntext 1 POST /stop HTTP/1.1\\r\\n\\r\\n\n";
 
-/// What they are answered.
+/// What the share answers.
 const ANSWERS: &[u8] =
     b"> 1 112\nHTTP/1.1 200 OK\r\nContent-Type: application/x-dmap-tagged\r\nContent-Length: 32\r\n\r\nmlog\0\0\0\x18mstt\0\0\0\x04\0\0\0\xc8mlid\0\0\0\x04\0\0\0\x01\n> 1 46\nHTTP/1.1 204 No Content\r\nConnection: close\r\n\r\n\n# 1 stopped\n";
 
-/// The first reply, without the line feed behind it.
+/// The first reply, without the line feed after it.
 const FIRST_REPLY: &[u8] =
     b"> 1 112\nHTTP/1.1 200 OK\r\nContent-Type: application/x-dmap-tagged\r\nContent-Length: 32\r\n\r\nmlog\0\0\0\x18mstt\0\0\0\x04\0\0\0\xc8mlid\0\0\0\x04\0\0\0\x01";
 
-// Without clauses, so that no other proof looks into what the command means.
+// Without clauses, so that other proofs do not unfold the specification of the command.
 fn replayed<I: Source, W: Sink>(alloc: Global, input: &mut I, output: &mut W) -> Outcome {
     replay_script(alloc, 256, "daapshare", input, output)
 }
@@ -32,7 +32,7 @@ fn run_over(alloc: Global, script: &[u8], pieces: Pieces) -> Result<Ran, AllocEr
     Ok(left(outcome, output))
 }
 
-/// A script and its pieces, with the status, the output and the number of entries that the share has.
+/// A script, how it is read, the status, the output, and the number of entries of the share.
 type Replay = (&'static [u8], Pieces, u8, &'static [u8], Option<usize>);
 
 fn all_end(rt: &impl Abort, alloc: Global, replays: &[Replay]) -> Result<(), Fail> {

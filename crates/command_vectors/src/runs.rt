@@ -6,8 +6,8 @@ use std::alloc::{AllocError, Global};
 use std::process::Abort;
 use std::test::Fail;
 
-/// How bytes are read and written: the most bytes of one read and of one write, the number of a read and of a write that
-/// fails (0: none does), and how many bytes the output can hold.
+/// How bytes are read and written: the most bytes of one read and of one write, the number of the read and of the write
+/// that fails (0: none), and the capacity of the output.
 #[derive(Clone, Copy)]
 pub(crate) struct Pieces {
     pub(crate) read: usize,
@@ -17,7 +17,7 @@ pub(crate) struct Pieces {
     pub(crate) room: usize,
 }
 
-/// No call fails, and each may be of 4,096 bytes.
+/// No call fails, and each may have 4,096 bytes.
 pub(crate) const WHOLE: Pieces = Pieces {
     read: 4096,
     failed_read: 0,
@@ -60,7 +60,7 @@ pub(crate) fn left(outcome: Outcome, output: MemSink) -> Ran {
     }
 }
 
-/// The run left this status and this output.
+/// Checks the status and the output that the run left.
 pub(crate) fn has_left(rt: &impl Abort, ran: &Ran, status: u8, output: &[u8]) -> Result<(), Fail> {
     assert_eq!(rt; ran.status, status);
     assert_eq!(rt; ran.output.as_slice(), output);

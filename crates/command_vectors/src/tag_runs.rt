@@ -18,8 +18,8 @@ pub(crate) enum Asked {
     Learn,
 }
 
-// Without clauses, so that no other proof looks into what a command means.
-fn obeyed<I: Source, W: Sink>(
+// Without clauses, so that other proofs do not unfold the specification of a command.
+fn run_command<I: Source, W: Sink>(
     alloc: Global,
     asked: Asked,
     input: &mut I,
@@ -37,11 +37,11 @@ fn obeyed<I: Source, W: Sink>(
 fn run_over(alloc: Global, asked: Asked, bytes: &[u8], pieces: Pieces) -> Result<Ran, AllocError> {
     let mut input = source(alloc, bytes, pieces)?;
     let mut output = sink(alloc, pieces)?;
-    let outcome = obeyed(alloc, asked, &mut input, &mut output);
+    let outcome = run_command(alloc, asked, &mut input, &mut output);
     Ok(left(outcome, output))
 }
 
-/// The command over the bytes ends with the status and this output.
+/// Checks the status and the output of the command over `bytes`, read as `pieces` says.
 pub(crate) fn tells_by(
     rt: &impl Abort,
     alloc: Global,
@@ -59,7 +59,7 @@ fn in_reads(read: usize) -> Pieces {
     Pieces { read, ..WHOLE }
 }
 
-/// So it does whether it reads them at once or one by one.
+/// Checks them, with the bytes read at once and one by one.
 pub(crate) fn tells(
     rt: &impl Abort,
     alloc: Global,
@@ -72,10 +72,10 @@ pub(crate) fn tells(
     tells_by(rt, alloc, asked, bytes, in_reads(1), status, output)
 }
 
-/// Bytes, and the status and the output that a command has over them.
+/// Bytes, and the status and the output of a command over them.
 pub(crate) type Case = (&'static [u8], u8, &'static [u8]);
 
-/// So it does over the bytes of each case.
+/// Checks each case.
 pub(crate) fn all_tell(
     rt: &impl Abort,
     alloc: Global,
@@ -88,8 +88,7 @@ pub(crate) fn all_tell(
     Ok(())
 }
 
-/// Bytes that a command reads in pieces of that length, of which the second cannot be read, and the status and the output
-/// that it has then.
+/// Bytes that a command reads in chunks of a length, of which the second read fails, and the status and the output.
 pub(crate) type Early = (Asked, &'static [u8], usize, u8, &'static [u8]);
 
 pub(crate) fn all_tell_early(rt: &impl Abort, alloc: Global, cases: &[Early]) -> Result<(), Fail> {
@@ -110,7 +109,7 @@ const CUT: Pieces = Pieces {
     ..WHOLE
 };
 
-/// The command over the bytes ends within this output, of which the first ten bytes are taken.
+/// Checks that the command over `bytes` ends within `output`, of which the first ten bytes are taken.
 pub(crate) fn is_cut(
     rt: &impl Abort,
     alloc: Global,

@@ -1,4 +1,4 @@
-//! `check` and `show` of `tag_commands`: bytes that are tags or none, counted and shown.
+//! `check` and `show` of `tag_commands`: bytes that are tags, counted and shown, and bytes that are not.
 
 use crate::known::{ONE_ITEM, ONE_ITEM_SHOWN};
 use crate::tag_runs::{Asked, Case, Early, all_tell, all_tell_early, is_cut, tells};
@@ -37,7 +37,7 @@ fn tags_are_counted_or_refused_at_their_place(rt: HostRuntime) -> Result<(), Fai
     all_tell(&rt, rt.alloc(), Asked::Check, &COUNTED)
 }
 
-/// As many lists, each in the one before it.
+/// Returns `count` lists, each in the one before it.
 fn nested(alloc: Global, count: u8) -> Result<Vec<u8>, AllocError> {
     let mut bytes = Vec::new(alloc);
     for outer in 0..count {

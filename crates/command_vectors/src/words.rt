@@ -1,13 +1,13 @@
 //! `daapshare_words`: whole command lines, and numbers.
 //!
-//! Lines stand in texts, each a constant: a proof of a test need not read them.
+//! The cases are lines of texts, each a constant, so that the proof of a test need not read them.
 
 use daapshare_words::{Command, WordsError, number_word, read_words, usage_text};
 use std::alloc::{AllocError, Global};
 use std::process::Abort;
 use std::test::Fail;
 
-/// Lines that are commands, each with the command that it is, as it is shown.
+/// Lines that are commands, each with what `Debug` shows of the command.
 const COMMANDS: &str = "\
 list => Ok(Local(List(ListWords { query: None, meta: None, list: None })))\n\
 list --query=x => Ok(Local(List(ListWords { query: Some(Text { text: \"x\" }), meta: None, list: None })))\n\
@@ -48,7 +48,7 @@ follow h 16384 --query x --meta=y --list 2 => Ok(Net(Follow(FollowWords { place:
 relay a b 1 => Ok(Net(Relay(RelayWords { upstream: Text { text: \"a\" }, listen: Text { text: \"b\" }, rounds: 1, name: Text { text: \"daapshare\" }, keep: 256, workers: 16 })))\n\
 relay --workers=64 a --name Attic b --keep 1 16384 => Ok(Net(Relay(RelayWords { upstream: Text { text: \"a\" }, listen: Text { text: \"b\" }, rounds: 16384, name: Text { text: \"Attic\" }, keep: 1, workers: 64 })))";
 
-/// Lines that are no commands. A blank at an end makes an empty word, and so does the empty line.
+/// Lines that are not commands. A blank at an end makes an empty argument, and so does the empty line.
 const NONE: &str = "\
 \n\
 lis\n\
@@ -146,7 +146,7 @@ relay a b 1 --workers 65\n\
 relay a b 1 --editors 1\n\
 relay a b 1 --file F";
 
-/// Words, each with the number that it is, as it is shown.
+/// Texts, each with what `Debug` shows of the number.
 const NUMBERS: &str = "\
 0 => Some(0)\n\
 7 => Some(7)\n\
@@ -178,12 +178,12 @@ usage: daapshare list [--query Q] [--meta M] [--list ID]
        daapshare json [--back]
 ";
 
-/// The two halves of a case: what is read, and what it is read as.
+/// Returns the two halves of a case: what is read, and what it is read as.
 fn halves(case: &str) -> (&str, &str) {
     case.split_once(" => ").unwrap_or((case, ""))
 }
 
-/// The words are read so, as it is shown.
+/// Checks what `Debug` shows of the result of reading `words`.
 fn are_read(rt: &impl Abort, alloc: Global, words: &[&str], wanted: &str) -> Result<(), Fail> {
     let answer = read_words(alloc, words);
     let shown = format!(in alloc; "{answer:?}")?;
@@ -191,7 +191,7 @@ fn are_read(rt: &impl Abort, alloc: Global, words: &[&str], wanted: &str) -> Res
     Ok(())
 }
 
-/// The words of a line, one space between two, are read so.
+/// Checks it for the arguments of a line, with one space between two.
 fn is_read(rt: &impl Abort, alloc: Global, line: &str, wanted: &str) -> Result<(), Fail> {
     let words = words_of(alloc, line)?;
     are_read(rt, alloc, words.as_slice(), wanted)
@@ -226,7 +226,7 @@ fn answered(answer: &Result<Command, WordsError>) -> &'static str {
     }
 }
 
-/// A name and a place of these bytes are answered so.
+/// Checks the result of reading `text` as a name and as an address.
 fn are_answered(rt: &impl Abort, alloc: Global, text: &str, wanted: &str) -> Result<(), Fail> {
     assert_eq!(rt;
         answered(&read_words(alloc, &["replay", "--name", text])),

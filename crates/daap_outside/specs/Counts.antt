@@ -1,2 +1,2 @@
--- The count of faults of each object, as the crate below defines it.
+-- The error counter of each object, as `outside_disks` defines it.
 pub use Rattle.outside_disks.specs.Counts.{Rose, CountsFaults, RisesWith}

@@ -1,2 +1,2 @@
--- The error that is answered where a fault was counted, as the crate below declares it.
+-- The error of a call that increased an error counter, as `outside_disks` declares it.
 pub use Rattle.outside_disks.specs.declared.faulted.Failed.{Failed}

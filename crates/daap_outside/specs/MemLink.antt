@@ -1,4 +1,4 @@
--- What a link in memory is made of: a source and a sink, with one count of its own.
+-- A connection in memory: a source and a sink, with its own error counter.
 use Rattle.std.specs.Prelude.{◌≡◌, ℕ, ◌+◌, ◌-◌, ◌^◌, min, nat_lt, List, []}
 use Rattle.std.specs.Option.{option_map_or}
 use Rattle.daap_outside.specs.declared.memory.link.MemLink.{MemLink}
@@ -7,41 +7,41 @@ use Rattle.daap_outside.specs.declared.memory.sink.MemSink.{MemSink}
 use Rattle.daap_outside.specs.MemSink.{taken_of}
 use Rattle.daap_outside.specs.Places.{Returned}
 
--- what reads come from
+-- The source of its reads.
 abbrev pub input_of : MemLink → MemSource
 input_of link = link.input
 
--- what writes go to
+-- The sink of its writes.
 abbrev pub output_of : MemLink → MemSink
 output_of link = link.output
 
--- the faults of both directions
+-- The errors of both directions.
 abbrev pub faults_of : MemLink → ℕ
 faults_of link = link.faults
 
--- the numbers of the probes that fail
+-- The numbers of the probes that fail.
 abbrev pub failing_probes : MemLink → List ℕ
 failing_probes link = option_map_or (λ failing. failing.items) link.failing []
 
--- the number of the next probe, which stays at the last number of its type
+-- The number of the next probe, at most 2^64 - 1.
 abbrev pub next_probe : MemLink → ℕ
 next_probe link = min (link.probes + 1) (2 ^ 64 - 1)
 
--- a probe was counted, and the link is set as before
+-- A probe was counted, and the settings are unchanged.
 pub record CountsProbe (before now : MemLink) : Type 0 where
   pub number : next_probe now ≡ min (next_probe before + 1) (2 ^ 64 - 1)
   pub failing : failing_probes now ≡ failing_probes before
 
--- no probe was counted, and the link is set as before
+-- No probe was counted, and the settings are unchanged.
 pub record ProbesStay (before now : MemLink) : Type 0 where
   pub number : next_probe now ≡ next_probe before
   pub failing : failing_probes now ≡ failing_probes before
 
--- nothing was written to it, and no call on it failed
+-- Nothing was written to it, and no call on it failed.
 pub record IsNew (link : MemLink) : Type 0 where
   pub untouched : taken_of link.output ≡ []
   pub faultless : link.faults ≡ 0
 
--- what is told of the link once it is given back
+-- What is known of the connection after it is returned.
 abbrev pub returned_link : MemLink → Returned
 returned_link link = (taken_of link.output, nat_lt 0 link.faults)

@@ -1,4 +1,4 @@
--- What a net in memory tells beside its meaning as a net: how it was set, and which call comes next.
+-- A network in memory, beyond what it is as a network: its settings, and the number of its next call.
 use Rattle.std.specs.Prelude.{◌≡◌, ℕ, ◌+◌, ◌-◌, ◌^◌, nat_le, min, if◌then◌else◌, List, ◌∷◌, [], map, slice_get, length, None, Option, option_map}
 use Rattle.daap_outside.specs.declared.memory.net.MemNet.{MemNet}
 use Rattle.daap_outside.specs.declared.memory.door.MemDoor.{MemDoor}
@@ -9,56 +9,56 @@ use Rattle.daap_outside.specs.MemSource.{left_of}
 use Rattle.daap_outside.specs.Kept.{kept_items, kept_room, keeps}
 use Rattle.daap_outside.specs.Places.{Returned}
 
--- the doors to be opened, in order
+-- The listeners to be opened, in order.
 abbrev pub doors_of : MemNet → List MemDoor
 doors_of net = net.doors.items
 
--- the links to be connected, in order
+-- The connections to be made, in order.
 abbrev pub links_of : MemNet → List MemLink
 links_of net = net.links.items
 
--- the inputs of the links of each door to be opened
+-- The inputs of the connections of each listener to be opened.
 abbrev pub door_inputs : MemNet → List (List (List ℕ))
 door_inputs net = map coming_of (doors_of net)
 
--- the input of the link that is connected next, if there is one
+-- The input of the connection that is made next, if there is one.
 abbrev pub input_next : MemNet → Option (List ℕ)
 input_next net = option_map (λ link. left_of (input_of link)) (slice_get (links_of net) 0)
 
--- the places asked for, where they are told
+-- The requested addresses, if they are known.
 abbrev pub asked_of : MemNet → Option (List (List ℕ × ℕ))
 asked_of net = kept_items net.asked
 
--- for how many places more there is room
+-- The capacity for more addresses.
 abbrev pub asked_room : MemNet → ℕ
 asked_room net = kept_room net.asked
 
--- the links that were given back, where they are told
+-- The connections that were returned, if they are known.
 abbrev pub written_of : MemNet → Option (List Returned)
 written_of net = kept_items net.written
 
--- for how many links more that are given back there is room
+-- The capacity for more returned connections.
 abbrev pub written_room : MemNet → ℕ
 written_room net = kept_room net.written
 
--- how many doors and links are open
+-- The number of open listeners and connections.
 abbrev pub open_of : MemNet → ℕ
 open_of net = net.open_count
 
--- the numbers of the calls that fail
+-- The numbers of the calls that fail.
 abbrev pub failing_calls : MemNet → List ℕ
 failing_calls net = net.failing.items
 
--- the number of the next call, which stays at the last number of its type
+-- The number of the next call, at most 2^64 - 1.
 abbrev pub next_call : MemNet → ℕ
 next_call net = min (net.calls + 1) (2 ^ 64 - 1)
 
--- a call was counted, and the net is set as before
+-- A call was counted, and the settings are unchanged.
 pub record CountsCall (before now : MemNet) : Type 0 where
   pub number : next_call now ≡ min (next_call before + 1) (2 ^ 64 - 1)
   pub failing : failing_calls now ≡ failing_calls before
 
--- the links and doors that were added aside, the net is as it was
+-- The network is unchanged, except for connections and listeners that were added.
 pub record IsSetAlike (before now : MemNet) : Type 0 where
   pub asked : asked_of now ≡ asked_of before
   pub asked_space : asked_room now ≡ asked_room before
@@ -69,6 +69,7 @@ pub record IsSetAlike (before now : MemNet) : Type 0 where
   pub open_count : now.open_count ≡ before.open_count
   pub faults : now.faults ≡ before.faults
 
--- told places with one more behind them, where they have room for it and it is no longer than a host's name and a port can be
+-- The known addresses with one more; `None` if it exceeds the capacity, or 259 bytes, the longest host name with a
+-- port.
 abbrev pub with_place : Option (List (List ℕ × ℕ)) → ℕ → List ℕ → ℕ → Option (List (List ℕ × ℕ))
 with_place asked room place doors = if nat_le (length place) 259 then keeps asked room ((place, doors) ∷ []) else None

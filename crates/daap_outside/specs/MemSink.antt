@@ -1,32 +1,32 @@
--- What a sink in memory tells beside its meaning as a sink: how it was set, its room, and which call comes next.
+-- A sink in memory, beyond what it is as a sink: its settings, its capacity, and the number of its next call.
 use Rattle.std.specs.Prelude.{◌≡◌, ◌==◌, ℕ, ◌+◌, ◌-◌, ◌^◌, min, if◌then◌else◌, List, length, vec_len}
 use Rattle.daap_outside.specs.declared.memory.sink.MemSink.{MemSink}
 
--- the bytes that it has taken
+-- The bytes that were written to it.
 abbrev pub taken_of : MemSink → List ℕ
 taken_of sink = sink.taken.items
 
--- for how many bytes more it has room
+-- The capacity for more bytes.
 abbrev pub room_left : MemSink → ℕ
 room_left sink = sink.room - vec_len sink.taken
 
--- how many bytes one write takes at most
+-- The most bytes that one write takes.
 abbrev pub per_call : MemSink → ℕ
 per_call sink = sink.per_call
 
--- the numbers of the calls that fail
+-- The numbers of the calls that fail.
 abbrev pub failing_calls : MemSink → List ℕ
 failing_calls sink = sink.failing.items
 
--- the number of the next call, which stays at the last number of its type
+-- The number of the next call, at most 2^64 - 1.
 abbrev pub next_call : MemSink → ℕ
 next_call sink = min (sink.calls + 1) (2 ^ 64 - 1)
 
--- for how many bytes more it is sure to have room: its whole room, unless some call may fail
+-- The guaranteed capacity: all of it, unless some call may fail.
 abbrev pub sure_room : MemSink → ℕ
 sure_room sink = if length (failing_calls sink) == 0 then room_left sink else 0
 
--- a call was counted, and the sink is set as before
+-- A call was counted, and the settings are unchanged.
 pub record CountsCall (before now : MemSink) : Type 0 where
   pub number : next_call now ≡ min (next_call before + 1) (2 ^ 64 - 1)
   pub pieces : per_call now ≡ per_call before

@@ -1,10 +1,10 @@
--- What a net's count does where it may also want memory, which is no fault.
+-- The error counter of a network whose call may also fail to allocate, which is not counted.
 use Rattle.std.specs.Prelude.{◌≡◌, ℕ, Ok, Err, Result}
 use Rattle.daap_outside.specs.declared.net.NetError.{NetError}
 use Rattle.daap_outside.specs.declared.net.NetError.TheVariants.{Failed, Memory}
 use Rattle.daap_outside.specs.Counts.{Rose}
 
--- a value and a want of memory are answered with the count as it was, and `Failed` where it rose
+-- The counter increased if the result is `Failed`, and is unchanged otherwise.
 abbrev pub CountsNetFaults : {T : Type 0} → ℕ → ℕ → Result T NetError → Type 0
 CountsNetFaults before now (Ok x) = now ≡ before
 CountsNetFaults before now (Err Failed) = Rose before now

@@ -1,10 +1,10 @@
--- How many doors and connected links of a net are open.
+-- How many listeners and connections of a network are open.
 use Rattle.std.specs.Prelude.{◌≡◌, ℕ, ◌+◌, ◌-◌, Result, MatchResult}
 
--- so many more are open where they were opened
+-- If the call succeeded, `more` more are open.
 abbrev pub Opens : {T E : Type 0} → ℕ → ℕ → ℕ → Result T E → Type 0
 Opens before now more result = MatchResult result (λ _. now ≡ before + more) (λ _. now ≡ before)
 
--- one is open no more
+-- One less is open.
 abbrev pub Closes : ℕ → ℕ → Type 0
 Closes before now = now ≡ before - 1

@@ -1,15 +1,15 @@
--- What reading an input whole, up to a limit, does to the source and to its count.
+-- How reading a whole input, up to a limit, changes the source and its error counter.
 use Rattle.std.specs.Prelude.{◌≡◌, ℕ, ◌≤◌, List, length, Ok, Err, Option, Result}
 use Rattle.std.specs.Io.KnownBytes.{Consumes}
 use Rattle.daap_outside.specs.declared.reading.ReadError.{ReadError}
 use Rattle.daap_outside.specs.declared.reading.ReadError.TheVariants.{Failed, TooLong, Memory}
 use Rattle.daap_outside.specs.Counts.{Rose}
 
--- at most so many of the first bytes that were left were read
+-- At most the first `most` of the bytes that were left were read.
 abbrev pub ConsumesUpTo : ℕ → Option (List ℕ) → Option (List ℕ) → Type 0
 ConsumesUpTo most before now = (bytes : List ℕ) × Consumes before now bytes × (length bytes ≤ most)
 
--- `Failed` is answered where the count rose, and all else with the count as it was
+-- The counter increased if the result is `Failed`, and is unchanged otherwise.
 abbrev pub CountsReadFaults : {T : Type 0} → ℕ → ℕ → Result T ReadError → Type 0
 CountsReadFaults before now (Ok x) = now ≡ before
 CountsReadFaults before now (Err Failed) = Rose before now

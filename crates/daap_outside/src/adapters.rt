@@ -1,4 +1,4 @@
-//! Sources and sinks over std's readers and writers: the edge that is trusted to tell the truth.
+//! Sources and sinks over std's readers and writers: the edge, whose std contracts are trusted.
 ghost use Rattle.std.specs.Prelude.{◌≡◌, None};
 
 use crate::sink::Sink;
@@ -6,10 +6,10 @@ use crate::source::Source;
 use outside_disks::{Failed, Faulted, counted};
 use std::io::{Read, Write};
 
-/// A source over a reader of std. It tells the bytes that the reader is known to have left.
+/// A source over a reader of std. It knows the bytes that the reader is known to have left.
 ///
-/// Each read is one read of the reader, straight into the caller's room, and each of the
-/// reader's errors is one fault.
+/// Each read is one read of the reader, straight into the caller's buffer, and each of the reader's errors is
+/// counted.
 #[derive(Drop)]
 pub struct Reading<R> {
     reader: R,
@@ -17,7 +17,7 @@ pub struct Reading<R> {
 }
 
 impl<R: Read> Reading<R> {
-    /// A source over the reader, with no fault counted.
+    /// Returns a source over the reader, whose error counter is 0.
     pub fn new(reader: R) -> Reading<R>
         ensures left { ⟦<Reading<R> as Source>⟧.left result ≡ R.remaining reader }
         ensures faults { ⟦<Reading<R> as Faulted>⟧.faults result ≡ 0 }
@@ -25,7 +25,7 @@ impl<R: Read> Reading<R> {
         Reading { reader, faults: 0 }
     }
 
-    /// The reader, where the last read left it.
+    /// Returns the reader, after the last read.
     pub fn into_inner(self) -> R
         ensures left { R.remaining result ≡ ⟦<Reading<R> as Source>⟧.left self }
     {
@@ -51,11 +51,11 @@ impl<R: Read> Source for Reading<R> {
     }
 }
 
-/// A sink over a writer of std. It tells the bytes that the writer is known to hold.
+/// A sink over a writer of std. It knows the bytes that the writer is known to have.
 ///
-/// Each write is one write of the writer, and each of the writer's errors is one fault, as is a
-/// write that takes nothing. Nothing is flushed, so that no failed flush is overlooked: give it a
-/// writer that keeps nothing back, as standard output here is.
+/// Each write is one write of the writer. Each of the writer's errors is counted, and so is a write that takes
+/// nothing. Nothing is flushed, so that no failed flush is overlooked: pass a writer without a buffer, as standard
+/// output is here.
 #[derive(Drop)]
 pub struct Writing<W> {
     writer: W,
@@ -63,7 +63,7 @@ pub struct Writing<W> {
 }
 
 impl<W: Write> Writing<W> {
-    /// A sink over the writer, with no fault counted.
+    /// Returns a sink over the writer, whose error counter is 0.
     pub fn new(writer: W) -> Writing<W>
         ensures taken { ⟦<Writing<W> as Sink>⟧.taken result ≡ W.contents writer }
         ensures faults { ⟦<Writing<W> as Faulted>⟧.faults result ≡ 0 }
@@ -71,7 +71,7 @@ impl<W: Write> Writing<W> {
         Writing { writer, faults: 0 }
     }
 
-    /// The writer, with all that it took.
+    /// Returns the writer, with all that was written.
     pub fn into_inner(self) -> W
         ensures taken { W.contents result ≡ ⟦<Writing<W> as Sink>⟧.taken self }
     {

@@ -1,6 +1,6 @@
-//! Everything that the program reads from and writes to: byte streams, network places and files.
-//! Each object has a count of its faults, which rises where a call answers `Failed`, and may tell its bytes to contracts.
-//! The forms in memory tell them, the forms over std's readers and writers as far as these do.
+//! All input and output of the program: byte streams, network and files. Each object has an error counter, which
+//! increases if a call returns `Failed`, and may have known bytes for contracts. The forms in memory know them; the
+//! forms over std's readers and writers know what these know.
 #![tactic(auto)]
 
 mod adapters;

@@ -1,4 +1,4 @@
-//! What is both read and written.
+//! What can be both read and written.
 ghost use Rattle.std.specs.Prelude.{◌≡◌};
 ghost use Rattle.daap_outside.specs.Counts.{CountsFaults};
 
@@ -6,14 +6,14 @@ use crate::sink::Sink;
 use crate::source::Source;
 use outside_disks::Failed;
 
-/// A connection. Its one count is for faults of both directions.
+/// A connection, with one error counter for both directions.
 pub trait Link: Source + Sink {
-    /// Looks whether the peer is still there, and doesn't wait. It reads and writes no byte.
+    /// Checks whether the peer is still there. Does not wait, and reads and writes no byte.
     ///
     /// # Errors
     ///
-    /// Returns `Failed` if the peer has gone; the link counts a fault. A peer that has sent bytes
-    /// before it went is seen to be gone only once these are read.
+    /// Returns `Failed` and counts an error if the peer has left. If the peer sent bytes before it left, this is seen
+    /// only after they are read.
     fn probe(&mut self) -> Result<(), Failed>
         ensures taken { Self.taken self.new ≡ Self.taken self.old }
         ensures beside { Self.beside_taken self.new ≡ Self.beside_taken self.old }

@@ -1,4 +1,4 @@
-//! The forms in memory, for tests and for commands that use no net and no files.
+//! The forms in memory, for tests and for commands that use neither network nor files.
 ghost use Rattle.std.specs.Prelude.{◌≡◌, IfOk};
 
 pub mod asked;
@@ -11,7 +11,7 @@ pub mod source;
 
 use std::alloc::{AllocError, Global};
 
-// A copy of plain numbers.
+// Returns a copy of plain numbers.
 fn copied<T: Copy>(alloc: Global, items: &[T]) -> Result<Vec<T>, AllocError>
     ensures { IfOk result (λ copy. copy.items ≡ items.now) }
 {

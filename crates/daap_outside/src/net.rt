@@ -1,4 +1,4 @@
-//! What links come from.
+//! Where connections come from.
 ghost use Rattle.std.specs.Prelude.{◌≡◌, ℕ, Bool, List, [], ◌∷◌, map, length, All, IfOk, IfSome, OnOk, OnErr, Option};
 ghost use Rattle.daap_outside.specs.Counts.{CountsFaults, Rose, RisesWith};
 ghost use Rattle.daap_outside.specs.Told.{BeginsEmpty, Grows, GrowsByTold};
@@ -12,17 +12,17 @@ use outside_disks::{Failed, Faulted};
 use std::alloc::AllocError;
 use thiserror::Error;
 
-/// A place to wait for links at. Several doors may stand at one place.
+/// A listener for connections. Several listeners may share one address.
 pub trait Door: Faulted {
     type L: Link + Drop + Send;
 
-    // The inputs of the links that will come, in order, where they are told.
+    // The inputs of the connections that will come, in order, if known.
     ghost coming: { Self → Option (List (List ℕ)) };
 
-    // The links given back so far, in order, where they are told.
+    // The connections returned so far, in order, if known.
     ghost written: { Self → Option (List (List ℕ × Bool)) };
 
-    /// Waits for the next link. `None` says that no further one will come.
+    /// Waits for the next connection. Returns `None` if no more will come.
     fn accept(&mut self) -> Result<Option<Self::L>, Failed>
         ensures next { IfOk result (Accepts Self.L.left Self.L.taken (coming self.old) (coming self.new)) }
         ensures fresh { IfOk result (λ link. IfSome link (λ l. Self.L.faults l ≡ 0)) }
@@ -32,14 +32,14 @@ pub trait Door: Faulted {
         ensures written_stays { written self.new ≡ written self.old }
         ensures count { CountsFaults (Self.faults self.old) (Self.faults self.new) result };
 
-    /// Lets others stop waiting, where that can be done: one more worker here, and one at every
-    /// other place for which this net has opened doors. Nobody is sure to be woken.
+    /// Wakes threads that wait, if possible: one that waits here, and one at every other address for which this
+    /// network has opened listeners. No thread is guaranteed to wake.
     fn nudge(&mut self)
         ensures coming_stays { coming self.new ≡ coming self.old }
         ensures written_stays { written self.new ≡ written self.old }
         ensures count { Self.faults self.new ≡ Self.faults self.old };
 
-    /// Ends a link that was accepted here. It needs no memory.
+    /// Ends a connection that was accepted here. Does not allocate.
     fn done(&mut self, link: Self::L)
         ensures coming_stays { coming self.new ≡ coming self.old }
         ensures written_grows { GrowsByTold (written self.old) (written self.new)
@@ -47,7 +47,7 @@ pub trait Door: Faulted {
         ensures count { Self.faults self.new ≡ Self.faults self.old };
 }
 
-/// Why a net opened no doors.
+/// Why a network opened no listeners.
 #[derive(Debug, Drop, Error)]
 pub enum NetError {
     #[error("the place could not be listened at")]
@@ -72,28 +72,28 @@ impl From<AllocError> for NetError {
     }
 }
 
-/// What opens doors and connects links.
+/// Opens listeners and makes connections.
 pub trait Net: Faulted {
     type L: Link + Drop + Send;
 
     type D: Door<L = Self::L> + Drop + Send;
 
-    // The places asked for so far, each with its number of doors, or 0 for a connection, where they are told.
+    // The addresses requested so far, each with its number of listeners, or 0 for a connection, if known.
     ghost asked: { Self → Option (List (List ℕ × ℕ)) };
 
-    // The links of doors and connections given back so far, in order, where they are told.
+    // The connections returned so far to listeners and to the network, in order, if known.
     ghost written: { Self → Option (List (List ℕ × Bool)) };
 
-    // For each door to be opened, in order, the inputs of its links, where they are told.
+    // For each listener to be opened, in order, the inputs of its connections, if known.
     ghost door_links: { Self → Option (List (List (List ℕ))) };
 
-    // The input of the link that is connected next, where it is told.
+    // The input of the connection that is made next, if known.
     ghost next_input: { Self → Option (List ℕ) };
 
-    // How many doors and connected links are open: those that were given and not given back.
+    // The number of open listeners and connections: those returned by this network and not passed back.
     ghost open_count: { Self → ℕ };
 
-    /// Opens a number of doors to one place.
+    /// Opens `number` listeners at one address.
     fn listen(&mut self, place: &str, number: u32) -> Result<Vec<Self::D>, NetError>
         ensures as_many { IfOk result (λ ds. length ds.items ≡ number) }
         ensures fresh { IfOk result (λ ds. All (λ d. Self.D.faults d ≡ 0) ds.items) }
@@ -108,7 +108,7 @@ pub trait Net: Faulted {
         ensures opens { Opens (open_count self.old) (open_count self.new) number result }
         ensures count { CountsNetFaults (Self.faults self.old) (Self.faults self.new) result };
 
-    /// Connects to a place.
+    /// Connects to an address.
     fn connect(&mut self, place: &str) -> Result<Self::L, Failed>
         ensures fresh { IfOk result (λ link. Self.L.faults link ≡ 0) }
         ensures unwritten { IfOk result (λ link. BeginsEmpty (written self.old) (Self.L.taken link)) }
@@ -120,7 +120,7 @@ pub trait Net: Faulted {
         ensures opens { Opens (open_count self.old) (open_count self.new) 1 result }
         ensures count { CountsFaults (Self.faults self.old) (Self.faults self.new) result };
 
-    /// Ends a door that this net opened. It needs no memory.
+    /// Closes a listener that this network opened. Does not allocate.
     fn shut(&mut self, door: Self::D)
         ensures asked_stays { asked self.new ≡ asked self.old }
         ensures written_grows { GrowsByTold (written self.old) (written self.new) (Self.D.written door) }
@@ -129,7 +129,7 @@ pub trait Net: Faulted {
         ensures closes { Closes (open_count self.old) (open_count self.new) }
         ensures count { RisesWith (Self.faults self.old) (Self.faults self.new) (Self.D.faults door) };
 
-    /// Ends a link that this net connected. It needs no memory.
+    /// Ends a connection that this network made. Does not allocate.
     fn hang_up(&mut self, link: Self::L)
         ensures asked_stays { asked self.new ≡ asked self.old }
         ensures written_grows { GrowsByTold (written self.old) (written self.new)

@@ -1,4 +1,4 @@
-//! An input that is read whole, up to a limit.
+//! Reads a whole input, up to a limit.
 ghost use Rattle.std.specs.Prelude.{◌≡◌, ℕ, ◌+◌, ◌<◌, ◌≤◌, List, length, IfOk, IfErr, IfSome, IsErrOf, OnErr};
 ghost use Rattle.std.specs.Io.KnownBytes.{Consumes, IsAtEnd};
 ghost use Rattle.daap_outside.specs.Reading.{ConsumesUpTo, CountsReadFaults};
@@ -9,7 +9,7 @@ use outside_disks::Failed;
 use std::alloc::{AllocError, Global};
 use thiserror::Error;
 
-// How many bytes one read asks for.
+// The most bytes of one read.
 const PIECE: usize = 32_768;
 
 /// Why an input was not read whole.
@@ -39,10 +39,10 @@ impl From<AllocError> for ReadError {
     }
 }
 
-/// Reads the source to its end, where it has at most `most` bytes left, and answers them.
+/// Reads the source to its end, if it has at most `most` bytes left, and returns them.
 ///
-/// It holds at most `most` bytes, and memory for no more than a small multiple of what it read.
-/// After an error some bytes are read and lost.
+/// Holds at most `most` bytes, and allocates no more than a small multiple of what it read. After an error some bytes
+/// are read and lost.
 pub fn read_within<I: Source>(
     alloc: Global,
     source: &mut I,
@@ -53,9 +53,9 @@ pub fn read_within<I: Source>(
     ensures within { IfOk result (λ all. length all.items ≤ most) }
 
     ensures too_long { IsErrOf result ReadError.TooLong → IfSome (I.left source.old) (λ left. most < length left) }
-    // A failed read comes only within the limit.
+    // A failed read occurs only within the limit.
     ensures failed { IsErrOf result ReadError.Failed → ConsumesUpTo most (I.left source.old) (I.left source.new) }
-    // No more is read behind the limit than one read asks for.
+    // Past the limit at most one read is made.
     ensures part { ConsumesUpTo (most + PIECE) (I.left source.old) (I.left source.new) }
 
     ensures beside { I.beside_left source.new ≡ I.beside_left source.old }

@@ -8,17 +8,16 @@ use outside_disks::{Failed, Faulted};
 
 /// A stream of bytes to write.
 pub trait Sink: Faulted {
-    // The bytes taken so far, where they are told.
+    // The bytes written so far, if known.
     ghost taken: { Self → Option (List ℕ) };
 
-    // Told bytes that a write leaves alone: of a link, those that are left to read.
+    // Known bytes that a write leaves unchanged: of a connection, those that are left to read.
     ghost beside_taken: { Self → Option (List ℕ) };
 
-    // For so many bytes more it is sure to have room: no write of them fails. None where nothing is known.
+    // The guaranteed capacity: no write within it fails. 0 if nothing is known.
     ghost sure_room: { Self → ℕ } = { λ _. 0 };
 
-    /// Writes from the front of the piece, and answers how many bytes: one or more.
-    /// Where nothing can be taken, a fault is counted.
+    /// Writes a prefix of `piece`, and returns its length, at least 1. Counts an error if nothing can be written.
     fn write(&mut self, piece: &[u8]) -> Result<usize, Failed>
         requires { 0 < length piece.now }
         ensures some { IfOk result (λ n. 0 < n) }
@@ -30,8 +29,8 @@ pub trait Sink: Faulted {
         ensures count { CountsFaults (Self.faults self.old) (Self.faults self.new) result };
 }
 
-/// Writes all the bytes, in as many calls as the sink needs. It takes no memory.
-/// After `Failed` some of the first bytes may have been taken.
+/// Writes all the bytes, in as many calls as the sink needs. Does not allocate. After `Failed` a prefix of the bytes
+/// may have been written.
 pub fn put_all<W: Sink>(sink: &mut W, bytes: &[u8]) -> Result<(), Failed>
     ensures all { OnOk result (Appends (W.taken sink.old) (W.taken sink.new) bytes.now) }
     ensures sure { length bytes.now ≤ W.sure_room sink.old → IsOk result }

@@ -9,13 +9,13 @@ use outside_disks::{Failed, Faulted};
 
 /// A stream of bytes to read.
 pub trait Source: Faulted {
-    // The bytes that reads will give from here on, where they are told.
+    // The bytes that reads will return, if known.
     ghost left: { Self → Option (List ℕ) };
 
-    // Told bytes that a read leaves alone: of a link, those that it has taken.
+    // Known bytes that a read leaves unchanged: of a connection, those that were written.
     ghost beside_left: { Self → Option (List ℕ) };
 
-    /// Reads into the front of the room, and answers how many bytes. None is the end of the input.
+    /// Reads into the start of `room`, and returns the number of bytes read; `Ok(0)` is the end of the input.
     fn read(&mut self, room: &mut [u8]) -> Result<usize, Failed>
         requires { 0 < length room.old }
         ensures within { ReadsAtMost result room.new }

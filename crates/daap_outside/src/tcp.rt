@@ -1,5 +1,5 @@
-//! Links, doors and nets over TCP sockets of std: the edge that is trusted to tell the truth.
-//! Of bytes they tell contracts nothing; the counts of faults and of what is open are all that is known of them.
+//! Connections, listeners and networks over std's TCP sockets: the edge, whose std contracts are trusted. Their bytes
+//! are unknown to contracts; only the error counters and the number of open objects are known.
 ghost use Rattle.std.specs.Prelude.{◌≡◌, All, None, IfOk, length};
 
 mod accepting;
@@ -18,22 +18,22 @@ use std::sync::atomic::{AtomicU64, Ordering};
 use std::time::{Clock, Duration};
 use std::{io, net};
 
-/// How long an update may be held, in seconds, before its connection is ended because no door of its
-/// place waits for a link. A peer that vanished without a word sends no end, and this frees its
-/// worker. A peer that is still there sees its connection closed, and may ask again.
+/// How long an update may be pending, in seconds, before its connection ends because no listener of its address waits
+/// for a connection. A peer that vanished silently sends no end, and this frees its worker. A peer that is still
+/// there sees its connection closed, and may request again.
 pub const HELD_SECONDS: u64 = 300;
 
-// How long a nudge tries to reach a place. One that lets it wait has callers enough to wake it.
+// How long a nudge tries to reach an address. One that takes longer has enough callers to wake it.
 const NUDGE_SECONDS: u64 = 1;
 
-/// A clone of the listener of its place. Links keep coming: it never answers that none will.
+/// A clone of the listener of its address. It never returns that no more connections will come.
 #[derive(Drop)]
 pub struct TcpDoor<R> {
     rt: R,
     listener: TcpListener,
-    // The places that its net has opened doors to, its own among them.
+    // The addresses at which its network has opened listeners, its own among them.
     places: Vec<SocketAddr>,
-    // How many doors of its place wait for a link.
+    // How many listeners of its address wait for a connection.
     waiting: Arc<AtomicU64, Global>,
     held_limit: Duration,
     faults: u64,
@@ -84,8 +84,8 @@ where
     }
 }
 
-/// Opens doors and connects links by std's sockets. A place is an address or a host's name, a
-/// colon, and a port.
+/// Opens listeners and makes connections with std's sockets. An address is an IP address or a host name, a colon, and
+/// a port.
 #[derive(Drop)]
 pub struct TcpNet<R> {
     rt: R,
@@ -97,7 +97,7 @@ pub struct TcpNet<R> {
 }
 
 impl<R: Copy> TcpNet<R> {
-    /// A net with no fault counted, and with nothing open.
+    /// Returns a network whose error counter is 0 and with nothing open.
     pub fn new(rt: R, alloc: Global) -> TcpNet<R>
         ensures faults { result.faults ≡ 0 }
         ensures open_count { result.open_count ≡ 0 }
@@ -117,7 +117,7 @@ impl<R> TcpNet<R>
 where
     R: net::Net<Listener = TcpListener, Stream = TcpStream> + Copy,
 {
-    // Listens at a place, which is then the last of those that the net has opened doors to.
+    // Listens at an address, which is then the last of those at which the network has opened listeners.
     fn bound(&self, place: &str) -> Result<(TcpListener, Vec<SocketAddr>), NetError> {
         let mut places = Vec::from_slice(self.alloc, self.places.as_slice())?;
         places.reserve(1)?;
@@ -131,7 +131,7 @@ where
         Ok((listener, places))
     }
 
-    // So many doors of one listener, and the places with its own.
+    // Returns `number` clones of one listener, and the addresses with its own.
     fn opened(
         &self,
         place: &str,
@@ -228,7 +228,7 @@ where
     }
 }
 
-// A connection whose reads wait for the peer as long as that takes.
+// Returns a connection whose reads wait for the peer without a limit.
 fn connected<R: net::Net<Stream = TcpStream>>(rt: &R, place: &str) -> io::Result<TcpStream> {
     let stream = TcpStream::connect(rt, place)?;
     set_options(&stream, None)?;

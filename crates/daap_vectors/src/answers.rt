@@ -1,7 +1,7 @@
 //! Bodies, byte for byte.
 //!
-//! What is expected was spelled by a program in another language, from the forms of the bodies and the rows that a
-//! listing is to have. The bytes stand in constants: a proof of a test need not read them.
+//! A program in another language wrote the expected bytes, from the forms of the bodies and the rows of the listings.
+//! They are constants, so that the proof of a test need not read them.
 
 ghost use Rattle.std.specs.Prelude.{◌≤◌};
 
@@ -13,39 +13,39 @@ use std::test::Fail;
 const THREE_SONGS: &[u8] =
     b"adbs\0\0\0\x98mstt\0\0\0\x04\0\0\0\xc8muty\0\0\0\x01\0musr\0\0\0\x04\0\0\0\x05mtco\0\0\0\x04\0\0\0\x03mrco\0\0\0\x04\0\0\0\x03mlcl\0\0\0Wmlit\0\0\0\x15miid\0\0\0\x04\0\0\0\x01minm\0\0\0\x01Amlit\0\0\0\x15miid\0\0\0\x04\0\0\0\x02minm\0\0\0\x01Bmlit\0\0\0\x15miid\0\0\0\x04\0\0\0\x03minm\0\0\0\x01C";
 
-/// The change at revision 5 since revision 4: the third song.
+/// The delta at revision 5 from base 4: the third song.
 const LAST_SONG: &[u8] =
     b"adbs\0\0\0fmstt\0\0\0\x04\0\0\0\xc8muty\0\0\0\x01\x01musr\0\0\0\x04\0\0\0\x05mtco\0\0\0\x04\0\0\0\x01mrco\0\0\0\x04\0\0\0\x01mlcl\0\0\0\x1dmlit\0\0\0\x15miid\0\0\0\x04\0\0\0\x03minm\0\0\0\x01Cmudl\0\0\0\0";
 
-/// The change since revision 3: the second song and the third.
+/// The delta from base 3: the second song and the third.
 const LAST_SONGS: &[u8] =
     b"adbs\0\0\0\x83mstt\0\0\0\x04\0\0\0\xc8muty\0\0\0\x01\x01musr\0\0\0\x04\0\0\0\x05mtco\0\0\0\x04\0\0\0\x02mrco\0\0\0\x04\0\0\0\x02mlcl\0\0\0:mlit\0\0\0\x15miid\0\0\0\x04\0\0\0\x02minm\0\0\0\x01Bmlit\0\0\0\x15miid\0\0\0\x04\0\0\0\x03minm\0\0\0\x01Cmudl\0\0\0\0";
 
-/// The change since revision 2: all three.
+/// The delta from base 2: all three.
 const ALL_SONGS: &[u8] =
     b"adbs\0\0\0\xa0mstt\0\0\0\x04\0\0\0\xc8muty\0\0\0\x01\x01musr\0\0\0\x04\0\0\0\x05mtco\0\0\0\x04\0\0\0\x03mrco\0\0\0\x04\0\0\0\x03mlcl\0\0\0Wmlit\0\0\0\x15miid\0\0\0\x04\0\0\0\x01minm\0\0\0\x01Amlit\0\0\0\x15miid\0\0\0\x04\0\0\0\x02minm\0\0\0\x01Bmlit\0\0\0\x15miid\0\0\0\x04\0\0\0\x03minm\0\0\0\x01Cmudl\0\0\0\0";
 
-/// The change since revision 5: none.
+/// The delta from base 5: no row.
 const NO_SONG: &[u8] =
     b"adbs\0\0\0Imstt\0\0\0\x04\0\0\0\xc8muty\0\0\0\x01\x01musr\0\0\0\x04\0\0\0\x05mtco\0\0\0\x04\0\0\0\0mrco\0\0\0\x04\0\0\0\0mlcl\0\0\0\0mudl\0\0\0\0";
 
-/// The change at revision 4 since revision 3: the first song left the query.
+/// The delta at revision 4 from base 3: the query no longer matches the first song.
 const HEY_LEFT: &[u8] =
     b"adbs\0\0\0Umstt\0\0\0\x04\0\0\0\xc8muty\0\0\0\x01\x01musr\0\0\0\x04\0\0\0\x04mtco\0\0\0\x04\0\0\0\0mrco\0\0\0\x04\0\0\0\0mlcl\0\0\0\0mudl\0\0\0\x0cmiid\0\0\0\x04\0\0\0\x01";
 
-/// The change since revision 4: none.
+/// The delta from base 4: no row.
 const NONE_LEFT: &[u8] =
     b"adbs\0\0\0Imstt\0\0\0\x04\0\0\0\xc8muty\0\0\0\x01\x01musr\0\0\0\x04\0\0\0\x04mtco\0\0\0\x04\0\0\0\0mrco\0\0\0\x04\0\0\0\0mlcl\0\0\0\0mudl\0\0\0\0";
 
-/// The change at revision 4 since revision 3: the second song is shown with a year.
+/// The delta at revision 4 from base 3: the second song is shown with a year.
 const LATE_DATED: &[u8] =
     b"adbs\0\0\0gmstt\0\0\0\x04\0\0\0\xc8muty\0\0\0\x01\x01musr\0\0\0\x04\0\0\0\x04mtco\0\0\0\x04\0\0\0\x01mrco\0\0\0\x04\0\0\0\x01mlcl\0\0\0\x1emlit\0\0\0\x16miid\0\0\0\x04\0\0\0\x02asyr\0\0\0\x02\x07\xbfmudl\0\0\0\0";
 
-/// The change at revision 5 since revision 4: a member is another song of the same name.
+/// The delta at revision 5 from base 4: a member is another song of the same name.
 const OTHER_HEY: &[u8] =
     b"apso\0\0\0tmstt\0\0\0\x04\0\0\0\xc8muty\0\0\0\x01\x01musr\0\0\0\x04\0\0\0\x05mtco\0\0\0\x04\0\0\0\x01mrco\0\0\0\x04\0\0\0\x01mlcl\0\0\0+mlit\0\0\0#mcti\0\0\0\x04\0\0\0\x0amiid\0\0\0\x04\0\0\0\x07minm\0\0\0\x03Heymudl\0\0\0\0";
 
-/// The change of a container at revision 5: none.
+/// The delta of a container at revision 5: no row.
 const SAME_ROWS: &[u8] =
     b"apso\0\0\0Imstt\0\0\0\x04\0\0\0\xc8muty\0\0\0\x01\x01musr\0\0\0\x04\0\0\0\x05mtco\0\0\0\x04\0\0\0\0mrco\0\0\0\x04\0\0\0\0mlcl\0\0\0\0mudl\0\0\0\0";
 
@@ -53,19 +53,19 @@ const SAME_ROWS: &[u8] =
 const ARTISTS: &[u8] =
     b"abro\0\0\0amstt\0\0\0\x04\0\0\0\xc8muty\0\0\0\x01\0musr\0\0\0\x04\0\0\0\x03mtco\0\0\0\x04\0\0\0\x03mrco\0\0\0\x04\0\0\0\x03abar\0\0\0 mlit\0\0\0\x03Annmlit\0\0\0\x02Dimlit\0\0\0\x03ann";
 
-/// The members of a list at revision 4. One that is no song of the library is not listed.
+/// The members of a list at revision 4. One whose song is not in the library is not listed.
 const MIX: &[u8] =
     b"apso\0\0\0\xc3mstt\0\0\0\x04\0\0\0\xc8muty\0\0\0\x01\0musr\0\0\0\x04\0\0\0\x04mtco\0\0\0\x04\0\0\0\x03mrco\0\0\0\x04\0\0\0\x03mlcl\0\0\0\x82mlit\0\0\0#mcti\0\0\0\x04\0\0\0\x0amiid\0\0\0\x04\0\0\0\x01minm\0\0\0\x03Heymlit\0\0\0$mcti\0\0\0\x04\0\0\0\x0bmiid\0\0\0\x04\0\0\0\x06minm\0\0\0\x04Latemlit\0\0\0#mcti\0\0\0\x04\0\0\0\x0cmiid\0\0\0\x04\0\0\0\x01minm\0\0\0\x03Hey";
 
-/// The change at revision 5 since revision 4: two members lost their song.
+/// The delta at revision 5 from base 4: the song of two members was dropped.
 const HEY_DROPPED: &[u8] =
     b"apso\0\0\0amstt\0\0\0\x04\0\0\0\xc8muty\0\0\0\x01\x01musr\0\0\0\x04\0\0\0\x05mtco\0\0\0\x04\0\0\0\0mrco\0\0\0\x04\0\0\0\0mlcl\0\0\0\0mudl\0\0\0\x18mcti\0\0\0\x04\0\0\0\x0amcti\0\0\0\x04\0\0\0\x0c";
 
-/// What a share tells of itself.
+/// The body of `/server-info`.
 const SERVER: &[u8] =
     b"msrv\0\0\0{mstt\0\0\0\x04\0\0\0\xc8mpro\0\0\0\x04\0\x02\0\0apro\0\0\0\x04\0\x03\0\0minm\0\0\0\x01Smslr\0\0\0\x01\x01msau\0\0\0\x01\0mstm\0\0\0\x04\0\0\x07\x08msup\0\0\0\x01\x01msix\0\0\0\x01\x01msbr\0\0\0\x01\x01msqy\0\0\0\x01\x01msdc\0\0\0\x04\0\0\0\x01";
 
-/// The library at revision 4: six songs, and a list beside that of all songs.
+/// The library at revision 4: six songs, and a list besides that of all songs.
 const DATABASES: &[u8] =
     b"avdb\0\0\0vmstt\0\0\0\x04\0\0\0\xc8muty\0\0\0\x01\0musr\0\0\0\x04\0\0\0\x04mtco\0\0\0\x04\0\0\0\x01mrco\0\0\0\x04\0\0\0\x01mlcl\0\0\05mlit\0\0\0-miid\0\0\0\x04\0\0\0\x01minm\0\0\0\x01Smimc\0\0\0\x04\0\0\0\x06mctc\0\0\0\x04\0\0\0\x02";
 
@@ -89,7 +89,8 @@ const SONGS: [&str; 3] = [
     "op,kind,id,dmap.itemname\nput,item,3,C\n",
 ];
 
-/// Whether a share that keeps so many revisions tells this after three batches of a song each.
+/// Returns whether a share with a delta window of `keep` revisions answers as in `rows`, after three batches of a song
+/// each.
 fn three_batches(alloc: Global, keep: u32, rows: &[Told]) -> Result<bool, AllocError>
     requires some { 1 ≤ keep }
     requires window { keep ≤ 65536 }
@@ -178,7 +179,7 @@ put,item,5,Quiet,Ed,Two,
 put,item,6,Late,ann,two,1
 ";
 
-/// Whether a share of six songs tells this.
+/// Returns whether a share of six songs answers as in `rows`.
 fn six_songs(alloc: Global, rows: &[Told]) -> Result<bool, AllocError> {
     let mut share = opened(alloc, 16, CATALOGUE)?;
     log_in(alloc, &mut share, 1)?;
@@ -230,7 +231,7 @@ fn a_song_that_left_the_query_is_deleted(rt: HostRuntime) -> Result<(), Fail> {
     Ok(())
 }
 
-/// Batches that a share of six songs takes, what is asked for then, and the body.
+/// Batches that a share of six songs takes, the request after them, and the body.
 type Change = (&'static [&'static str], &'static str, &'static [u8]);
 
 fn changes(alloc: Global, change: &Change) -> Result<bool, AllocError> {
@@ -240,14 +241,14 @@ fn changes(alloc: Global, change: &Change) -> Result<bool, AllocError> {
     Ok(takes(alloc, &mut share, batches)? && shows(alloc, &mut share, target, body)?)
 }
 
-/// The second song as it is, and with a year beside.
+/// The second song unchanged, and also with a year.
 const LATE: &str =
     "op,kind,id,dmap.itemname,daap.songartist,com.apple.itunes.mediakind\nput,item,2,it's late,Bob,1\n";
 
 const LATE_WITH_YEAR: &str =
     "op,kind,id,dmap.itemname,daap.songartist,com.apple.itunes.mediakind,daap.songyear\nput,item,2,it's late,Bob,1,1983\n";
 
-/// The first song as it is, and on another album.
+/// The first song unchanged, and on another album.
 const HEY: &str =
     "op,kind,id,dmap.itemname,daap.songartist,daap.songalbum,com.apple.itunes.mediakind\nput,item,1,Hey,Ann,One,1\n";
 

@@ -1,6 +1,6 @@
-//! What a stranger in the house may send, and how each connection ends: by a refusal at its place, by the end of its
-//! input, or served like any other. How each has to end is told by the profile's rules for requests, by a program of its
-//! own where a connection has many.
+//! What a hostile peer may send, and how each connection ends: by a refusal at its offset, by the end of its input, or
+//! served like any other. The expected ends follow the protocol's rules for requests; for connections with many
+//! requests another program computed them.
 
 ghost use Rattle.std.specs.Prelude.{◌≡◌, ◌<◌, ◌≤◌, [], All, IfOk, OnOk};
 ghost use Rattle.daap_outside.specs.MemLink.{IsNew};
@@ -38,7 +38,7 @@ const PUT_7: &[u8] = b"POST /edit HTTP/1.1\r\nContent-Length: 22\r\n\r\nop,kind,
 /// How many edits each of two editors sends.
 const MANY_EDITS: usize = 200;
 
-/// What comes over a connection, in pieces of which size, and which of its writes fail.
+/// A connection: what comes over it, in chunks of `piece` bytes, and which of its writes fail.
 #[derive(Drop)]
 struct Visit<'a> {
     role: Role,
@@ -68,7 +68,7 @@ fn joined(alloc: Global, coming: &Coming) -> Result<Vec<u8>, AllocError> {
     Ok(input)
 }
 
-// A share without items, for three passes.
+// Opens a share without items, for three lock handles.
 fn opened(alloc: Global) -> Result<(ShareLock<Share>, Pass<Share>), AllocError>
     ensures { IfOk result (λ r. IsReady (lock_id r.0) r.1) }
 {
@@ -90,7 +90,7 @@ fn link(alloc: Global, visit: &Visit<'_>) -> Result<MemLink, AllocError>
     Ok(MemLink::new(source, sink))
 }
 
-/// Serves a connection, and gives what is told of it and what it took.
+/// Serves a connection. Returns its report and what it took.
 fn served<R: Wait + Clock>(
     rt: &R,
     alloc: Global,
@@ -116,7 +116,7 @@ fn served<R: Wait + Clock>(
     Ok((report, link))
 }
 
-/// Serves a connection of a share of its own.
+/// Serves a connection of a new share.
 fn tried<R: Wait + Clock>(
     rt: &R,
     alloc: Global,
@@ -146,7 +146,7 @@ fn refusal(status: u16) -> &'static [u8] {
     }
 }
 
-/// What was written behind the replies, by how the connection ended.
+/// Returns what is written after the replies, by how the connection ended.
 fn last_words(end: LinkEnd) -> &'static [u8] {
     match end {
         LinkEnd::Refused { status } => refusal(status),
@@ -154,17 +154,17 @@ fn last_words(end: LinkEnd) -> &'static [u8] {
     }
 }
 
-/// Whether a connection ended so, after so many requests.
+/// Returns whether a connection ended by `end`, after `count` requests.
 fn is_ended(report: &LinkReport, count: usize, end: LinkEnd) -> bool {
     has_ended(report, end) && report.served.as_slice().len() == count
 }
 
-/// Whether what a connection took ends with the head of a refusal, if it ended with one.
+/// Returns whether what a connection took ends with the head of a refusal, if it ended by one.
 fn has_last_words(link: &MemLink, end: LinkEnd) -> bool {
     link.taken().ends_with(last_words(end))
 }
 
-/// Whether a connection ends so, after so many requests, with the head of a refusal where it is one.
+/// Returns whether a connection ends by `end`, after `count` requests, and with the head of a refusal if `end` is one.
 fn ends<R: Wait + Clock>(
     rt: &R,
     alloc: Global,
@@ -178,7 +178,7 @@ fn ends<R: Wait + Clock>(
     Ok(is_ended(&report, count, end) && has_last_words(&link, end))
 }
 
-/// Whether bytes are refused with this status, as a whole and byte by byte.
+/// Returns whether the bytes are refused with `status`, as a whole and byte by byte.
 fn refuses<R: Wait + Clock>(
     rt: &R,
     alloc: Global,
@@ -199,7 +199,7 @@ fn what_is_no_request_is_refused(rt: HostRuntime) -> Result<(), Fail> {
     Ok(())
 }
 
-/// Whether an editor's connection ends so.
+/// Returns whether an editor's connection ends by `end`, after `count` requests.
 fn editor_ends<R: Wait + Clock>(
     rt: &R,
     alloc: Global,
@@ -220,7 +220,7 @@ fn each_connection_ends(rt: HostRuntime) -> Result<(), Fail> {
     Ok(())
 }
 
-/// Whether what was served has the statuses of the rows.
+/// Returns whether the requests that were served have the statuses of the rows.
 fn have_statuses(report: &LinkReport, rows: &[(&'static [u8], u16)]) -> bool {
     let served = report.served.as_slice();
     report.end == LinkEnd::Closed
@@ -230,7 +230,7 @@ fn have_statuses(report: &LinkReport, rows: &[(&'static [u8], u16)]) -> bool {
             .eq(rows.iter().map(|row| row.1))
 }
 
-/// Whether the requests of the rows, one behind the other in pieces of this size, have their statuses.
+/// Returns whether the requests of the rows, one after another in chunks of `piece` bytes, have their statuses.
 fn have_their_status<R: Wait + Clock>(
     rt: &R,
     alloc: Global,
@@ -255,7 +255,7 @@ fn odd_requests_have_their_status(rt: HostRuntime) -> Result<(), Fail> {
     Ok(())
 }
 
-/// A request for the items, with such parameters.
+/// Returns a request for the items, with `parameters`.
 fn listing(alloc: Global, parameters: &Coming) -> Result<Vec<u8>, AllocError> {
     let parameters = joined(alloc, parameters)?;
     let mut request = Vec::from_slice(alloc, b"GET /databases/1/items?session-id=1&")?;
@@ -264,7 +264,7 @@ fn listing(alloc: Global, parameters: &Coming) -> Result<Vec<u8>, AllocError> {
     Ok(request)
 }
 
-/// A request that takes in such records.
+/// Returns an edit request with `records`.
 fn edit(alloc: Global, records: &[u8]) -> Result<Vec<u8>, AllocError> {
     let length = records.len();
     let head = format!(in alloc; "POST /edit HTTP/1.1\r\nContent-Length: {length}\r\n\r\n")?;
@@ -273,7 +273,7 @@ fn edit(alloc: Global, records: &[u8]) -> Result<Vec<u8>, AllocError> {
     Ok(request)
 }
 
-/// A login, an item that is put, and a request behind.
+/// Returns a login, an edit that puts an item, and then `request`.
 fn behind_an_item(alloc: Global, request: &[u8]) -> Result<Vec<u8>, AllocError> {
     let item = edit(alloc, joined(alloc, &ITEM_7)?.as_slice())?;
     let mut input = Vec::from_slice(alloc, LOGIN)?;
@@ -282,7 +282,7 @@ fn behind_an_item(alloc: Global, request: &[u8]) -> Result<Vec<u8>, AllocError> 
     Ok(input)
 }
 
-/// Whether the reply to a request ends so, behind a login and an item that is put.
+/// Returns whether the reply to a request ends with `last`, after a login and an edit that puts an item.
 fn is_told<R: Wait + Clock>(
     rt: &R,
     alloc: Global,
@@ -295,7 +295,7 @@ fn is_told<R: Wait + Clock>(
     Ok(is_ended(&report, 3, LinkEnd::Closed) && link.taken().ends_with(last))
 }
 
-/// The same of a request for the items with such parameters.
+/// Returns so for a request for the items, with `parameters`.
 fn lists<R: Wait + Clock>(
     rt: &R,
     alloc: Global,
@@ -306,7 +306,7 @@ fn lists<R: Wait + Clock>(
     is_told(rt, alloc, request.as_slice(), last)
 }
 
-/// The same of a request that takes in such records.
+/// Returns so for an edit request with `records`.
 fn edits<R: Wait + Clock>(
     rt: &R,
     alloc: Global,
@@ -334,7 +334,7 @@ const LATE_SESSIONS: &[u8] =
 
 const LOGINS: Coming = (LOGIN, LOGIN, 999, LATE_SESSIONS);
 
-/// Whether of 1,000 logins those from 937 on are live.
+/// Returns whether of 1,000 sessions those from number 937 on are live.
 fn are_last_live(report: &LinkReport) -> bool {
     let served = report.served.as_slice();
     report.end == LinkEnd::Closed
@@ -352,7 +352,7 @@ fn sessions_end_in_their_order(rt: HostRuntime) -> Result<(), Fail> {
     Ok(())
 }
 
-// An editor's request that puts 1,000 items.
+// Returns an edit request that puts 1,000 items.
 fn many_items(alloc: Global) -> Result<Vec<u8>, AllocError> {
     let mut records = String::from_str(alloc, "op,kind,id\n")?;
     for id in 1..1_001 {
@@ -365,7 +365,7 @@ fn has_ended(report: &LinkReport, end: LinkEnd) -> bool {
     report.end == end
 }
 
-/// What a connection takes that is served at a share, if it ends so.
+/// Serves a connection at a share. Returns it if it ends by `end`.
 fn taken<R: Wait + Clock>(
     rt: &R,
     alloc: Global,
@@ -390,7 +390,8 @@ const LISTINGS: Coming = (LOGIN, LIST_ITEMS, 2, b"");
 
 const ONE_LISTING: Coming = (LOGIN, LIST_ITEMS_AGAIN, 1, b"");
 
-/// A player whose connection fails at that write while another lists the same items; gives both, if they end so.
+/// Serves a player whose write with the number `failing` fails, and then another that lists the same items. Returns
+/// both connections, if they end as expected.
 fn gone_away<R: Wait + Clock>(
     rt: &R,
     alloc: Global,
@@ -412,20 +413,21 @@ fn gone_away<R: Wait + Clock>(
     Ok((gone, whole))
 }
 
-// A login's reply has 112 bytes, and the listing behind it 83 of its head, 73 in front of its rows, and 20 a row.
+// A login's reply has 112 bytes, and the listing after it 83 of its head, 73 before its rows, and 20 for each row.
 fn is_whole(whole: &[u8]) -> bool {
     whole.len() == 112 + 83 + 73 + 20_000
         && whole.ends_with(b"mlit\0\0\0\x0cmiid\0\0\0\x04\0\0\x03\xe8")
 }
 
-// Whether what came behind a login is a part of what came behind another.
+// Returns whether what followed the login of `gone` is a prefix of what followed that of `whole`.
 fn is_begun(gone: &[u8], whole: &[u8]) -> bool {
     let (_, listing) = whole.split_at(whole.len().min(112));
     let (_, begun) = gone.split_at(gone.len().min(112));
     gone.len() < whole.len() && listing.starts_with(begun)
 }
 
-/// Whether a player that goes away at that write has a part of the listing, and another all of it.
+/// Returns whether a player that leaves at the write `failing` has a prefix of the listing, and another player all of
+/// it.
 fn harms_nobody<R: Wait + Clock>(rt: &R, alloc: Global, failing: u64) -> Result<bool, AllocError> {
     let (gone, whole) = gone_away(rt, alloc, failing)?;
     let Some(gone) = gone else {
@@ -447,7 +449,7 @@ fn who_goes_away_harms_nobody(rt: HostRuntime) -> Result<(), Fail> {
 
 const MANY_PUTS: Coming = (b"", PUT_7, MANY_EDITS, b"");
 
-/// The link of an editor who sends the same edit many times.
+/// Returns a connection of an editor that sends the same edit many times.
 fn editors_link(alloc: Global) -> Result<MemLink, AllocError>
     ensures { IfOk result IsNew }
 {
@@ -455,14 +457,14 @@ fn editors_link(alloc: Global) -> Result<MemLink, AllocError>
     link(alloc, &visit_in_pieces(Role::Edit, input.as_slice(), 50))
 }
 
-/// A door at which one such editor comes.
+/// Returns a listener with one such connection.
 fn editors_door(alloc: Global) -> Result<MemDoor, AllocError> {
     let mut door = MemDoor::new(alloc, &[], 1)?;
     door.add(editors_link(alloc)?)?;
     Ok(door)
 }
 
-/// A pass of its own, for a worker that has not begun.
+/// Returns a new lock handle, for a worker that has not begun.
 fn drawn<R: Wait>(rt: &R, lock: &ShareLock<Share>, first: &mut Pass<Share>) -> Pass<Share>
     requires ready { IsReady (lock_id lock.now) first.old }
     ensures first { IsReady (lock_id lock.now) first.new }
@@ -471,7 +473,7 @@ fn drawn<R: Wait>(rt: &R, lock: &ShareLock<Share>, first: &mut Pass<Share>) -> P
     lock.split(rt, first).unwrap()
 }
 
-/// A worker at that door, which has not begun.
+/// Returns a worker for `door`, which has not begun.
 fn editor<R: Wait>(
     rt: &R,
     alloc: Global,
@@ -494,7 +496,7 @@ fn editor<R: Wait>(
     }
 }
 
-/// One more worker, which has not begun.
+/// Appends a worker that has not begun.
 fn hire(
     lock: &ShareLock<Share>,
     worker: Worker<MemDoor>,
@@ -514,7 +516,7 @@ fn hire(
     Ok(())
 }
 
-/// Two editors who have not begun.
+/// Returns two workers for editors, which have not begun.
 fn two_editors<R: Wait>(
     rt: &R,
     alloc: Global,
@@ -534,7 +536,7 @@ fn two_editors<R: Wait>(
     Ok(workers)
 }
 
-/// The points at which edits of the workers were added.
+/// Returns the history lengths at which edits of the workers were added.
 fn added(alloc: Global, workers: &[Worker<MemDoor>]) -> Result<Vec<u64>, AllocError> {
     let mut points = Vec::new(alloc);
     for worker in workers {
@@ -554,7 +556,7 @@ fn push_added(report: &LinkReport, points: &mut Vec<u64>) -> Result<(), AllocErr
     Ok(())
 }
 
-/// Two editors at once, each in a thread; gives the points at which their edits were added.
+/// Serves two editors at once, each in a thread. Returns the history lengths at which their edits were added.
 fn added_by_two<R: Threads + Wait + Clock + Sync>(
     rt: &R,
     alloc: Global,
@@ -575,7 +577,7 @@ fn two_editors_add_each_edit_once(rt: HostRuntime) -> Result<(), Fail> {
     Ok(())
 }
 
-/// So many lists, each inside the one before it.
+/// Returns `levels` lists, each inside the one before it.
 fn nested(alloc: Global, levels: u32) -> Result<Vec<u8>, AllocError> {
     let mut bytes = Vec::new(alloc);
     for level in 0..levels {
@@ -586,7 +588,8 @@ fn nested(alloc: Global, levels: u32) -> Result<Vec<u8>, AllocError> {
     Ok(bytes)
 }
 
-/// Whether a reader that is fed these bytes says so, then holds so many, and ends so.
+/// Returns whether a reader that is fed `bytes` returns `fed`, and then holds the bytes and ends with the error of
+/// `rest`.
 fn feeds(
     alloc: Global,
     table: &CodeTable,

@@ -1,5 +1,4 @@
-//! Tests that cross crates: whole requests and what a share answers them with, and long runs. Nothing here is for other
-//! crates.
+//! Tests that cross crates: whole requests with a share's answers, and long runs. Nothing here is for other crates.
 #![tactic(auto)]
 
 #[cfg(test)]

@@ -1,4 +1,4 @@
-//! The limits of a share's history, at each number and one above.
+//! The limits of a share's history, at each limit and one past it.
 
 use crate::shares::{Request, begun, log_in, opened, post, respond};
 use share_core::{OpenError, Share};
@@ -18,7 +18,7 @@ const LOGIN: Request = Request::Get("/login");
 
 const STOP: Request = Request::Post("/stop", "");
 
-/// Whether requests are answered with these statuses.
+/// Returns whether the requests of `rows` get their statuses.
 fn has_statuses(
     alloc: Global,
     share: &mut Share,
@@ -32,7 +32,7 @@ fn has_statuses(
     Ok(true)
 }
 
-/// Records of one kind, as many as ids from the first up to the last.
+/// Returns records of one kind, with the ids from `first` to `last`.
 fn records(alloc: Global, kind: &str, first: u32, last: u32) -> Result<String, AllocError> {
     let mut text = String::new(alloc);
     text.push_str("op,kind,id\n")?;
@@ -42,7 +42,7 @@ fn records(alloc: Global, kind: &str, first: u32, last: u32) -> Result<String, A
     Ok(text)
 }
 
-/// The share has its last place left, and then none.
+/// The history may have one more entry, and then no further one.
 const LAST_PLACE: [(Request, u16); 10] = [
     (NO_RECORDS, 204),
     (ONE_DROP, 200),
@@ -65,7 +65,7 @@ fn the_last_place_is_taken_once(rt: HostRuntime) -> Result<(), Fail> {
     Ok(())
 }
 
-/// There is room for one edit more, and then for none.
+/// The history may have one more edit, and then no further one.
 const LAST_EDIT: [(Request, u16); 8] = [
     (TWO_DROPS, 507),
     (ONE_DROP, 200),
@@ -77,7 +77,7 @@ const LAST_EDIT: [(Request, u16); 8] = [
     (STOP, 204),
 ];
 
-/// A share that took as many edits as there may be but one, if it took them all.
+/// Returns a share that may take one more edit, or `None` if it refused one of those before.
 fn nearly_full(alloc: Global) -> Result<Option<Share>, AllocError> {
     let most = records(alloc, "put,item", 1, 65_536)?;
     let rest = records(alloc, "drop,item", 1, 65_535)?;
@@ -90,7 +90,7 @@ fn nearly_full(alloc: Global) -> Result<Option<Share>, AllocError> {
     Ok(Some(share))
 }
 
-/// Whether such a share answers with these statuses.
+/// Returns whether such a share answers the requests of `rows` with their statuses.
 fn takes_the_rest(alloc: Global, rows: &[(Request, u16)]) -> Result<bool, AllocError> {
     match nearly_full(alloc)? {
         Some(mut share) => has_statuses(alloc, &mut share, rows),
@@ -104,7 +104,7 @@ fn the_last_edit_is_taken_once(rt: HostRuntime) -> Result<(), Fail> {
     Ok(())
 }
 
-/// There is room for one list more. A list that is put again is none more, nor is one that its batch drops.
+/// The share may have one more list. A list that is put again is not a further one, nor is one that its batch drops.
 const LAST_LIST: [(Request, u16); 8] = [
     (
         Request::Post("/edit", "op,kind,id\nput,list,1025\nput,list,1026\n"),
@@ -128,7 +128,7 @@ const LAST_LIST: [(Request, u16); 8] = [
     (ONE_DROP, 200),
 ];
 
-/// Whether a share is opened with lists of ids up to the last.
+/// Returns whether a share can be opened with lists of the ids from 2 to `last`.
 fn opens(alloc: Global, last: u32) -> Result<bool, AllocError> {
     let lists = records(alloc, "put,list", 2, last)?;
     match begun(alloc, 16, lists.as_str()) {

@@ -1,18 +1,19 @@
-//! Refusals, each alone and each beside the next, and the mark that each kind of answer leaves to its session.
+//! Refusals, each by itself and together with the next, and the session's last-answered length after each kind of
+//! answer.
 
 use crate::shares::{Request, get, log_in, opened, replies, respond, shows};
 use share_core::Share;
 use std::alloc::{AllocError, Global};
 use std::test::Fail;
 
-/// No artists at revision 2, spelled by a program in another language.
+/// The body for no artists at revision 2, as a program in another language wrote it.
 const NO_ARTISTS: &[u8] =
     b"abro\0\0\0Amstt\0\0\0\x04\0\0\0\xc8muty\0\0\0\x01\0musr\0\0\0\x04\0\0\0\x02mtco\0\0\0\x04\0\0\0\0mrco\0\0\0\x04\0\0\0\0abar\0\0\0\0";
 
 /// A request, and the status and the line that refuse it.
 type Refused = (Request, u16, &'static str);
 
-/// Whether requests are answered so where session 1 is live.
+/// Returns whether the requests of `rows` are refused as they say, if session 1 is live.
 fn refuses(alloc: Global, rows: &[Refused]) -> Result<bool, AllocError> {
     let mut share = opened(alloc, 16, "")?;
     log_in(alloc, &mut share, 1)?;
@@ -24,8 +25,8 @@ fn refuses(alloc: Global, rows: &[Refused]) -> Result<bool, AllocError> {
     Ok(true)
 }
 
-/// Refusals in their order, each alone and with the next: of a path, a method, a parameter, the session, a container and
-/// records. Behind the stop there is one.
+/// Refusals in their order, each by itself and with the next: of a path, a method, a parameter, the session, a
+/// container and records. After the stop there is one refusal only.
 const REFUSALS: [Refused; 15] = [
     (Request::Get("/nothing"), 404, ""),
     (Request::Get("/databases/2/items?session-id=1"), 404, ""),
@@ -70,7 +71,7 @@ fn the_first_refusal_is_told(rt: HostRuntime) -> Result<(), Fail> {
     Ok(())
 }
 
-/// Parameters in their order, each alone and with the next.
+/// Parameters in their order, each by itself and with the next.
 const PARAMETERS: [Refused; 10] = [
     (
         Request::Get("/update?session-id=x&revision-number=x"),
@@ -139,7 +140,7 @@ fn a_query_is_not_read_beside_a_filter(rt: HostRuntime) -> Result<(), Fail> {
     Ok(())
 }
 
-/// So many names.
+/// Returns `count` names, separated by commas.
 fn names(alloc: Global, count: usize) -> Result<String, AllocError> {
     let mut names = String::new(alloc);
     for _ in 1..count {
@@ -149,7 +150,8 @@ fn names(alloc: Global, count: usize) -> Result<String, AllocError> {
     Ok(names)
 }
 
-/// Whether a look at items that shows so many properties, with more parameters beside, is answered so.
+/// Returns whether a listing of items with `count` properties and the further parameters `beside` has this status and
+/// body.
 fn answers(
     alloc: Global,
     count: usize,
@@ -181,7 +183,7 @@ fn the_257th_name_is_refused(rt: HostRuntime) -> Result<(), Fail> {
 
 const PUT: &str = "op,kind,id\nput,item,7\n";
 
-/// Requests with their status, and the mark of session 1 behind each.
+/// Requests with their status, and the last-answered length of session 1 after each.
 const MARKS: [(Request, u16, u64); 22] = [
     (Request::Get("/login"), 200, 1),
     (Request::Post("/edit", PUT), 200, 1),
@@ -223,7 +225,7 @@ const MARKS: [(Request, u16, u64); 22] = [
     (Request::Get("/databases?session-id=1"), 503, 7),
 ];
 
-/// Whether a request is answered with this status, and session 1 then has this mark.
+/// Returns whether a request gets `status`, and session 1 then has the last-answered length `mark`.
 fn marks(
     alloc: Global,
     share: &mut Share,

@@ -3,7 +3,7 @@
 use rehearsal::{Rehearsal, rehearse};
 use std::test::Fail;
 
-/// What a program in another language made of the same draws.
+/// The summary, as a program in another language computed it.
 const SUMMARY: &str = "revision 65538
 items 3027
 mirror 1 rows 3027 full 1 delta 65535

@@ -1,7 +1,7 @@
-//! Whole replays, with every byte that they write. The bytes are those of a program of its own that answers requests by
-//! the profile's rules alone, and where the profile spells a body out, those of the profile.
+//! Whole replays, with every byte that they write. Another program, which answers requests by the protocol's rules
+//! only, wrote the expected bytes.
 //!
-//! Known bytes stand in constants: a proof of a test need not read them.
+//! They are constants, so that the proof of a test need not read them.
 
 ghost use Rattle.std.specs.Prelude.{◌≤◌};
 
@@ -11,21 +11,21 @@ use share_replay::{Script, replay};
 use std::alloc::{AllocError, Global};
 use std::test::Fail;
 
-/// What is asked: a target, or that records be taken in.
+/// A request: a target, or an edit with records.
 #[derive(Clone, Copy)]
 enum Asks {
     Get(&'static str),
     Edit(&'static str),
 }
 
-/// What is replied.
+/// A reply.
 #[derive(Clone, Copy)]
 enum Reply {
     /// 200 with this body.
     Tags(&'static [u8]),
     /// 200 with the session of a login.
     Session(u32),
-    /// 200 with the revision that an edit made.
+    /// 200 with the revision after an edit.
     Revision(u32),
     /// 400 with this line.
     Line(&'static str),
@@ -35,10 +35,10 @@ enum Reply {
 
 type Exchange = (Asks, Reply);
 
-/// How many requests a connection has at most.
+/// A connection has at most this many requests.
 const MOST_REQUESTS: usize = 65_536;
 
-/// Six songs, one in another spelling of the first one's artist.
+/// Six songs, the last of which has the first one's artist in lower case.
 const SONGS: &str =
     "op,kind,id,dmap.itemname,daap.songartist,daap.songalbum,com.apple.itunes.mediakind\nput,item,1,Hey,Ann,One,1\nput,item,2,it's late,Bob,,1\nput,item,3,Talk,Cy,Pod,4\nput,item,4,Move,Di,Film,32\nput,item,5,Quiet,Ed,Two,\nput,item,6,Late,ann,two,1\n";
 
@@ -361,21 +361,21 @@ const BROWSED: [Exchange; 8] = [
     ),
 ];
 
-/// Three connections wait, one of them closed, when the share is stopped.
+/// The updates of three connections, one of them closed, are pending when the share is stopped.
 const STOP_OF_MANY: &[u8] =
     b"open 1 listen\nopen 2 edit\nopen 3 listen\nopen 4 listen\ntext 1 GET /login HTTP/1.1\\r\\n\\r\\nGET /update?session-id=1&revision-number=2 HTTP/1.1\\r\\n\\r\\n\ntext 3 GET /login HTTP/1.1\\r\\n\\r\\nGET /update?session-id=2&revision-number=2 HTTP/1.1\\r\\n\\r\\nGET /server-info HTTP/1.1\\r\\n\\r\\n\nclose 3\ntext 4 GET /login HTTP/1.1\\r\\n\\r\\nGET /update?session-id=3&revision-number=2 HTTP/1.1\\r\\n\\r\\n\ntext 2 POST /stop HTTP/1.1\\r\\n\\r\\n\n";
 
 const STOP_OF_MANY_OUTPUT: &[u8] =
     b"> 1 112\nHTTP/1.1 200 OK\r\nContent-Type: application/x-dmap-tagged\r\nContent-Length: 32\r\n\r\nmlog\0\0\0\x18mstt\0\0\0\x04\0\0\0\xc8mlid\0\0\0\x04\0\0\0\x01\n> 3 112\nHTTP/1.1 200 OK\r\nContent-Type: application/x-dmap-tagged\r\nContent-Length: 32\r\n\r\nmlog\0\0\0\x18mstt\0\0\0\x04\0\0\0\xc8mlid\0\0\0\x04\0\0\0\x02\n> 4 112\nHTTP/1.1 200 OK\r\nContent-Type: application/x-dmap-tagged\r\nContent-Length: 32\r\n\r\nmlog\0\0\0\x18mstt\0\0\0\x04\0\0\0\xc8mlid\0\0\0\x04\0\0\0\x03\n> 2 46\nHTTP/1.1 204 No Content\r\nConnection: close\r\n\r\n\n# 2 stopped\n> 1 74\nHTTP/1.1 503 Service Unavailable\r\nContent-Length: 0\r\nConnection: close\r\n\r\n\n# 1 stopped\n> 3 74\nHTTP/1.1 503 Service Unavailable\r\nContent-Length: 0\r\nConnection: close\r\n\r\n\n# 3 stopped\n> 4 74\nHTTP/1.1 503 Service Unavailable\r\nContent-Length: 0\r\nConnection: close\r\n\r\n\n# 4 stopped\n";
 
-/// Bytes that are no request wait behind an update, and those of another connection come after a stop.
+/// Bytes that are not a request wait after a pending update, and those of another connection come after a stop.
 const REFUSALS_WAIT: &[u8] =
     b"open 1 listen\nopen 2 edit\nopen 3 listen\nopen 4 listen\ntext 1 GET /login HTTP/1.1\\r\\n\\r\\nGET /update?session-id=1&revision-number=2 HTTP/1.1\\r\\n\\r\\nGET\\r\\n\\r\\n\ntext 3 GET /\ntext 2 POST /edit HTTP/1.1\\r\\nContent-Length: 38\\r\\n\\r\\nop,kind,id,dmap.itemname\\nput,item,7,A\\n\ntext 2 POST /stop HTTP/1.1\\r\\n\\r\\n\ntext 3 login\\r\\n\\r\\n\ntext 4 GET /login HTTP/1.1\\r\\n\\r\\n\n";
 
 const REFUSALS_WAIT_OUTPUT: &[u8] =
     b"> 1 112\nHTTP/1.1 200 OK\r\nContent-Type: application/x-dmap-tagged\r\nContent-Length: 32\r\n\r\nmlog\0\0\0\x18mstt\0\0\0\x04\0\0\0\xc8mlid\0\0\0\x04\0\0\0\x01\n> 2 112\nHTTP/1.1 200 OK\r\nContent-Type: application/x-dmap-tagged\r\nContent-Length: 32\r\n\r\nmupd\0\0\0\x18mstt\0\0\0\x04\0\0\0\xc8musr\0\0\0\x04\0\0\0\x03\n> 1 112\nHTTP/1.1 200 OK\r\nContent-Type: application/x-dmap-tagged\r\nContent-Length: 32\r\n\r\nmupd\0\0\0\x18mstt\0\0\0\x04\0\0\0\xc8musr\0\0\0\x04\0\0\0\x03\n> 1 66\nHTTP/1.1 400 Bad Request\r\nContent-Length: 0\r\nConnection: close\r\n\r\n\n# 1 refused 400\n> 2 46\nHTTP/1.1 204 No Content\r\nConnection: close\r\n\r\n\n# 2 stopped\n> 3 66\nHTTP/1.1 400 Bad Request\r\nContent-Length: 0\r\nConnection: close\r\n\r\n\n# 3 refused 400\n> 4 74\nHTTP/1.1 503 Service Unavailable\r\nContent-Length: 0\r\nConnection: close\r\n\r\n\n# 4 stopped\n";
 
-/// Adds the line by which a request comes over connection 1.
+/// Appends the line of a request over connection 1.
 fn push_request(alloc: Global, script: &mut Vec<u8>, asks: Asks) -> Result<(), AllocError> {
     match asks {
         Asks::Get(target) => {
@@ -395,7 +395,7 @@ fn push_request(alloc: Global, script: &mut Vec<u8>, asks: Asks) -> Result<(), A
     }
 }
 
-/// Adds a text, each line feed of it as an escape.
+/// Appends `text`, with each line feed as an escape.
 fn push_escaped(script: &mut Vec<u8>, text: &str) -> Result<(), AllocError> {
     for byte in text.as_bytes() {
         if *byte == b'\n' {
@@ -407,7 +407,7 @@ fn push_escaped(script: &mut Vec<u8>, text: &str) -> Result<(), AllocError> {
     Ok(())
 }
 
-/// Adds a reply on a connection, as a replay writes it.
+/// Appends a reply on a connection, as a replay writes it.
 fn push_reply(
     alloc: Global,
     output: &mut Vec<u8>,
@@ -423,7 +423,7 @@ fn push_reply(
     Ok(())
 }
 
-/// The bodies of a login and of an edit, but for the number that ends them, and the reply where nothing is.
+/// The bodies of a login and of an edit, without the number that ends them, and the reply to an unknown path.
 const LOGGED_IN: &[u8] = b"mlog\0\0\0\x18mstt\0\0\0\x04\0\0\0\xc8mlid\0\0\0\x04";
 
 const REVISED: &[u8] = b"mupd\0\0\0\x18mstt\0\0\0\x04\0\0\0\xc8musr\0\0\0\x04";
@@ -446,7 +446,7 @@ fn bytes_of(alloc: Global, reply: Reply) -> Result<Vec<u8>, AllocError> {
     }
 }
 
-/// The reply whose body ends with a number.
+/// Returns the reply whose body is `front` and then `number`.
 fn numbered(alloc: Global, front: &[u8], number: u32) -> Result<Vec<u8>, AllocError> {
     let mut body = Vec::from_slice(alloc, front)?;
     body.extend_from_slice(&number.to_be_bytes())?;
@@ -470,7 +470,7 @@ fn read(alloc: Global, text: &[u8]) -> Result<Script, AllocError> {
     }
 }
 
-/// Whether a new share named `S` writes all this to a script.
+/// Returns whether a new share named `S` answers `script` with `output`.
 fn writes(alloc: Global, keep: u32, script: &[u8], output: &[u8]) -> Result<bool, AllocError>
     requires some { 1 ≤ keep }
     requires window { keep ≤ 65536 }
@@ -482,7 +482,7 @@ fn writes(alloc: Global, keep: u32, script: &[u8], output: &[u8]) -> Result<bool
     Ok(is_played && sink.taken() == output)
 }
 
-/// Whether requests on one connection have these replies.
+/// Returns whether the requests of `table`, on one connection, get their replies.
 fn exchanges(alloc: Global, keep: u32, table: &[Exchange]) -> Result<bool, AllocError>
     requires some { 1 ≤ keep }
     requires window { keep ≤ 65536 }
@@ -531,7 +531,7 @@ const LAST_UPDATE: &[u8] =
 const FIRST_ENDED: &[u8] =
     b"> 1 45\nHTTP/1.1 403 Forbidden\r\nContent-Length: 0\r\n\r\n\n# 1 closed\n# 2 held\n";
 
-/// The script of one session whose update is held while 64 others log in, and what it writes.
+/// Returns the script of a session whose update is pending while 64 others log in, and what the share answers.
 fn logins_behind_an_update(alloc: Global) -> Result<(Vec<u8>, Vec<u8>), AllocError> {
     let mut script = Vec::from_slice(alloc, TWO_PLAYERS)?;
     let mut output = Vec::new(alloc);
@@ -545,7 +545,7 @@ fn logins_behind_an_update(alloc: Global) -> Result<(Vec<u8>, Vec<u8>), AllocErr
     Ok((script, output))
 }
 
-// Of the 64 others the first then waits as well.
+// The update of the first of the 64 others is then pending as well.
 #[test]
 fn a_held_update_ends_with_its_session(rt: HostRuntime) -> Result<(), Fail> {
     let (script, output) = logins_behind_an_update(rt.alloc())?;
@@ -558,7 +558,7 @@ const NOWHERE: &[u8] = b"> 1 45\nHTTP/1.1 404 Not Found\r\nContent-Length: 0\r\n
 const LAST_NOWHERE: &[u8] =
     b"> 1 64\nHTTP/1.1 404 Not Found\r\nContent-Length: 0\r\nConnection: close\r\n\r\n\n# 1 spent\n";
 
-/// The script of a connection with one request more than it may have, and what it writes.
+/// Returns the script of a connection with one request more than it may have, and what the share answers.
 fn one_request_too_many(alloc: Global) -> Result<(Vec<u8>, Vec<u8>), AllocError> {
     let mut script = Vec::from_slice(alloc, b"open 1 listen\ntext 1 ")?;
     let mut output = Vec::new(alloc);

@@ -1,4 +1,4 @@
-//! A share, and requests that come to it one after the other.
+//! A share, and requests to it, one after another.
 
 ghost use Rattle.std.specs.Prelude.{◌≡◌, ◌<◌, ◌≤◌, IfOk};
 ghost use Rattle.daap_vectors.specs.Written.{IsWritten};
@@ -16,21 +16,21 @@ use std::alloc::{AllocError, Global};
 use std::marker::Brand;
 use std::sync::ledger::{Blank, Ledger};
 
-/// A request of a player, or what an editor posts.
+/// A request of a player, by its target, or of an editor, by target and body.
 #[derive(Clone, Copy)]
 pub(crate) enum Request {
     Get(&'static str),
     Post(&'static str, &'static str),
 }
 
-/// What a request is answered with. An update that is held has the status 0.
+/// The response to a request. A pending update has the status 0.
 #[derive(Drop)]
 pub(crate) struct Response {
     pub(crate) status: u16,
     pub(crate) body: Vec<u8>,
 }
 
-/// A share named `S`, whose history begins with records.
+/// Opens a share named `S`, whose history begins with `records`.
 pub(crate) fn opened(alloc: Global, keep: u32, records: &str) -> Result<Share, AllocError>
     requires some { 1 ≤ keep }
     requires window { keep ≤ 65536 }
@@ -41,7 +41,7 @@ pub(crate) fn opened(alloc: Global, keep: u32, records: &str) -> Result<Share, A
     }
 }
 
-/// The same, or why there is none.
+/// Opens such a share, or returns why it cannot be opened.
 pub(crate) fn begun(alloc: Global, keep: u32, records: &str) -> Result<Share, OpenError>
     requires some { 1 ≤ keep }
     requires window { keep ≤ 65536 }
@@ -52,14 +52,14 @@ pub(crate) fn begun(alloc: Global, keep: u32, records: &str) -> Result<Share, Op
     }
 }
 
-/// The answer to what a player asks for.
+/// Returns the response to a player's request.
 pub(crate) fn get(alloc: Global, share: &mut Share, target: &str) -> Result<Response, AllocError> {
     let text = format!(in alloc; "GET {target} HTTP/1.1\r\n\r\n")?;
     let ask = read(alloc, Role::Listen, text.as_bytes())?;
     answer(alloc, share, &ask)
 }
 
-/// The answer to what an editor posts.
+/// Returns the response to an editor's request.
 pub(crate) fn post(
     alloc: Global,
     share: &mut Share,
@@ -85,7 +85,7 @@ pub(crate) fn respond(
     }
 }
 
-/// Whether a request is answered with this status and this body.
+/// Returns whether the response to a request has `status` and `body`.
 pub(crate) fn replies(
     alloc: Global,
     share: &mut Share,
@@ -97,7 +97,7 @@ pub(crate) fn replies(
     Ok(response.status == status && response.body.as_slice() == body)
 }
 
-/// Whether requests are answered so, one after the other.
+/// Returns whether the requests of `rows`, one after another, get their responses.
 pub(crate) fn tells(
     alloc: Global,
     share: &mut Share,
@@ -111,7 +111,7 @@ pub(crate) fn tells(
     Ok(true)
 }
 
-/// Whether a player gets this body for a target.
+/// Returns whether a player gets `body` for `target`.
 pub(crate) fn shows(
     alloc: Global,
     share: &mut Share,
@@ -122,7 +122,7 @@ pub(crate) fn shows(
     Ok(response.status == 200 && response.body.as_slice() == body)
 }
 
-/// Whether each of these batches is taken.
+/// Returns whether the share takes each of the batches.
 pub(crate) fn takes(
     alloc: Global,
     share: &mut Share,
@@ -136,7 +136,7 @@ pub(crate) fn takes(
     Ok(true)
 }
 
-/// Logs in so many times.
+/// Logs in `count` times.
 pub(crate) fn log_in(alloc: Global, share: &mut Share, count: usize) -> Result<(), AllocError> {
     let ask = Ask {
         role: Role::Listen,

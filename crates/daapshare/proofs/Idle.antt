@@ -1,4 +1,4 @@
--- Want of memory before anything was done is an end of every command.
+-- Out of memory, before anything was done, is an end of every command.
 use Rattle.std.proofs.Common.{◌≡◌, Option, Some, None, [], refl, sym, subst, ap, inl, inr, arith}
 use Rattle.command_core.proofs.Ended.{by_idle}
 use Rattle.command_core.proofs.Sensible.{IsSensible}
@@ -25,7 +25,7 @@ use Rattle.daapshare.specs.Table.{meaning_of, relaying_of, serving_of, target_of
 use Rattle.daapshare.specs.Usage.{usage_meaning}
 use Rattle.daapshare.proofs.Senses.{usage_sense, sense_of}
 
--- no place was asked for
+-- neither `connect` nor `listen` was called
 no_place : (relaying : Relaying) (net : NetSeen) → FailsToOpen relaying net net Memory
 no_place relaying net = record {
   count = 0;

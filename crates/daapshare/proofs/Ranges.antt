@@ -1,4 +1,4 @@
--- What is read of the words is in the ranges that the commands ask for.
+-- What is read of the arguments is in the ranges that the commands require.
 use Rattle.std.proofs.lemmas.Bool.{leb-true}
 use Rattle.relay_command.specs.Terms.{MayRelay}
 use Rattle.serve_command.specs.Terms.{MayServe}

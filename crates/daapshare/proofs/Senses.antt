@@ -1,4 +1,4 @@
--- What the meaning of each command owes, a line for each.
+-- The specification of each command is sensible, a line for each.
 use Rattle.std.proofs.Common.{Bool, true, false, refl}
 use Rattle.command_core.specs.declared.fault.Fault.{Fault}
 use Rattle.command_core.specs.declared.fault.Fault.TheVariants.{Own, Read, Memory}
@@ -15,7 +15,7 @@ use Rattle.daapshare.specs.declared.usage.UsageFault.{UsageFault}
 use Rattle.daapshare.specs.Usage.{usage_meaning}
 use Rattle.daapshare.specs.Table.{shows, jsons, tells_codes, target_of, meaning_of}
 
--- words that are no command's leave the input as it was
+-- arguments that are not a command's leave the input unchanged
 untouched : (before after : Seen) (fault : Fault UsageFault) → IsCause usage_meaning before after fault → IsUnread before.input after.input
 untouched before after (Own own) cause = cause.1
 untouched before after Read cause = absurd cause.on

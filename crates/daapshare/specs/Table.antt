@@ -1,4 +1,4 @@
--- What each command means, a line for each, and how a run of it ends.
+-- The specification of each command, a line for each, and how a run of it ends.
 use Rattle.std.specs.Prelude.{◌≡◌, ℕ, Bool, true, false, not, is_some, Option, Some, None}
 use Rattle.item_model.specs.declared.request.Target.{Target}
 use Rattle.item_model.specs.declared.request.Target.TheVariants.{Items, Container}
@@ -51,7 +51,7 @@ abbrev pub target_of : Option ℕ → Target
 target_of None = Items
 target_of (Some id) = Container id
 
--- of the commands that wait for nobody
+-- the specifications of the commands over standard input and output
 abbrev pub meaning_of : LocalCommand → Meaning
 meaning_of (local.List words) = list_meaning words.query words.meta (target_of words.list)
 meaning_of (local.Show words) = shows words.back
@@ -61,7 +61,7 @@ meaning_of (local.Replay words) = replay_meaning words.keep words.name
 meaning_of (local.Rehearse words) = rehearse_meaning words.number words.batches words.size words.keep
 meaning_of (local.Json words) = jsons words.back
 
--- the share that is served
+-- the settings of `serve` for its arguments
 abbrev pub serving_of : ServeWords → Serving
 serving_of words = record {
   listen = words.listen;
@@ -73,7 +73,7 @@ serving_of words = record {
   file = words.file;
 }
 
--- the share that is relayed
+-- the settings of `relay` for its arguments
 abbrev pub relaying_of : RelayWords → Relaying
 relaying_of words = record {
   upstream = words.upstream;
@@ -84,13 +84,13 @@ relaying_of words = record {
   workers = words.workers;
 }
 
--- a share was relayed, and neither the input nor files were touched
+-- `relay` ended, and the input and the files are unchanged
 pub record IsRelayed (relaying : Relaying) (told : Told) (outcome : Outcome) : Type 0 where
   pub unread : IsUnread told.before.input told.after.input
   pub files : told.after.around.files ≡ told.before.around.files
   pub ends : RelayEnds relaying told.before.around.net told.after.around.net told.output_before told.output_after (crew_of outcome)
 
--- a run of a command over the net ends as it means
+-- a run of a command over the network ends as its specification says
 abbrev pub IsRunOverNet : NetCommand → Told → Outcome → Type 0
 IsRunOverNet (net.Serve words) told outcome = ServeEnds (serving_of words) told (left_by outcome)
 IsRunOverNet (net.Edit words) told outcome = Unlinked (IsLinkAnswered (edit_meaning words.place words.stop) told) outcome
@@ -98,18 +98,18 @@ IsRunOverNet (net.Follow words) told outcome =
     Unlinked (IsLinkAnswered (follow_meaning words.place words.rounds words.query words.meta (target_of words.list)) told) outcome
 IsRunOverNet (net.Relay words) told outcome = IsRelayed (relaying_of words) told outcome
 
--- a run ends as the command of its words means
+-- a run ends as the specification of its arguments' command says
 abbrev pub IsRun : Option Command → Told → Outcome → Type 0
 IsRun None told outcome = Unlinked (IsAnswered usage_meaning told) outcome
 IsRun (Some (Local command)) told outcome = Unlinked (IsAnswered (meaning_of command) told) outcome
 IsRun (Some (Net command)) told outcome = IsRunOverNet command told outcome
 
--- whether a run leaves files alone
+-- whether a run leaves files unchanged
 abbrev pub leaves_files : Option Command → Bool
 leaves_files (Some (Net (net.Serve words))) = not (is_some words.file)
 leaves_files _ = true
 
--- whether a run leaves the net alone
+-- whether a run leaves the network unchanged
 abbrev pub leaves_net : Option Command → Bool
 leaves_net (Some (Net command)) = false
 leaves_net _ = true

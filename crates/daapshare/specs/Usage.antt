@@ -1,4 +1,4 @@
--- Words that are no command's: they get the usage text.
+-- Arguments that are not a command's: they get the usage text.
 use Rattle.std.specs.Prelude.{ℕ, List, true}
 use Rattle.command_core.specs.Causes.{Cause, OfWords}
 use Rattle.command_core.specs.Meanings.{Meaning, writes_nothing_before, leaves_no_share, may_not_read}

@@ -1,4 +1,4 @@
-//! What commands do that wait for nobody: a function for each, and one that has them all.
+//! Runs the commands over standard input and output: one function for all, and one for each.
 
 ghost use Rattle.std.specs.Prelude.{◌≡◌};
 ghost use Rattle.command_core.specs.Seen.{Around, input_seen, output_seen, told_beside};
@@ -20,8 +20,8 @@ use share_commands::{list_share, rehearse_share, replay_script};
 use std::alloc::Global;
 use tag_commands::{check_tags, learn_codes, list_codes, read_shown, show_tags};
 
-/// Does what a command asks for that waits for nobody.
-pub fn obeyed<I: Source, W: Sink>(
+/// Runs a command over standard input and output.
+pub fn run_local<I: Source, W: Sink>(
     alloc: Global,
     command: &LocalCommand,
     input: &mut I,
@@ -37,18 +37,18 @@ pub fn obeyed<I: Source, W: Sink>(
         result }
 {
     match command {
-        LocalCommand::List(words) => listed(alloc, words, input, output),
-        LocalCommand::Show(words) => shown(alloc, words.back, input, output),
+        LocalCommand::List(words) => run_list(alloc, words, input, output),
+        LocalCommand::Show(words) => run_show(alloc, words.back, input, output),
         LocalCommand::Check => check_tags(alloc, input, output),
-        LocalCommand::Codes(words) => told_codes(alloc, words.learn, input, output),
-        LocalCommand::Replay(words) => replayed(alloc, words, input, output),
-        LocalCommand::Rehearse(words) => rehearsed(alloc, words, input, output),
-        LocalCommand::Json(words) => told_json(alloc, words.back, input, output),
+        LocalCommand::Codes(words) => run_codes(alloc, words.learn, input, output),
+        LocalCommand::Replay(words) => run_replay(alloc, words, input, output),
+        LocalCommand::Rehearse(words) => run_rehearse(alloc, words, input, output),
+        LocalCommand::Json(words) => run_json(alloc, words.back, input, output),
     }
 }
 
-/// Lists a share's rows.
-fn listed<I: Source, W: Sink>(
+/// Runs `list`.
+fn run_list<I: Source, W: Sink>(
     alloc: Global,
     words: &ListWords,
     input: &mut I,
@@ -72,8 +72,8 @@ fn listed<I: Source, W: Sink>(
     )
 }
 
-/// Shows tags, or reads what shows them.
-fn shown<I: Source, W: Sink>(alloc: Global, back: bool, input: &mut I, output: &mut W) -> Outcome
+/// Runs `show`, or `show --back`.
+fn run_show<I: Source, W: Sink>(alloc: Global, back: bool, input: &mut I, output: &mut W) -> Outcome
     ensures { (around : Around) → IsAnswered (shows back)
         (told_beside around
         (input_seen (I.left input.old) (I.faults input.old))
@@ -88,8 +88,8 @@ fn shown<I: Source, W: Sink>(alloc: Global, back: bool, input: &mut I, output: &
     }
 }
 
-/// Lists the content codes of the table, or of a reply.
-fn told_codes<I: Source, W: Sink>(
+/// Runs `codes`, or `codes --learn`.
+fn run_codes<I: Source, W: Sink>(
     alloc: Global,
     learn: bool,
     input: &mut I,
@@ -109,8 +109,8 @@ fn told_codes<I: Source, W: Sink>(
     }
 }
 
-/// Plays a script.
-fn replayed<I: Source, W: Sink>(
+/// Runs `replay`.
+fn run_replay<I: Source, W: Sink>(
     alloc: Global,
     words: &ReplayWords,
     input: &mut I,
@@ -128,8 +128,8 @@ fn replayed<I: Source, W: Sink>(
     replay_script(alloc, words.keep, words.name.as_str(), input, output)
 }
 
-/// Rehearses a share.
-fn rehearsed<I: Source, W: Sink>(
+/// Runs `rehearse`.
+fn run_rehearse<I: Source, W: Sink>(
     alloc: Global,
     words: &RehearseWords,
     input: &mut I,
@@ -154,13 +154,8 @@ fn rehearsed<I: Source, W: Sink>(
     )
 }
 
-/// Shows tags as JSON, or reads what shows them so.
-fn told_json<I: Source, W: Sink>(
-    alloc: Global,
-    back: bool,
-    input: &mut I,
-    output: &mut W,
-) -> Outcome
+/// Runs `json`, or `json --back`.
+fn run_json<I: Source, W: Sink>(alloc: Global, back: bool, input: &mut I, output: &mut W) -> Outcome
     ensures { (around : Around) → IsAnswered (jsons back)
         (told_beside around
         (input_seen (I.left input.old) (I.faults input.old))
@@ -175,7 +170,7 @@ fn told_json<I: Source, W: Sink>(
     }
 }
 
-/// What is listed: all items, or the rows of a container.
+/// Returns what is listed: all items, or the rows of a container.
 pub fn target_of(list: Option<u32>) -> Target
     ensures { result ≡ target_of list }
 {

@@ -1,4 +1,4 @@
-//! A share, one who changes it and two mirrors, each a run of the program in a thread of its own, over sockets of this machine.
+//! A share, its editor and two mirrors, each a run of the program in its own thread, over sockets of this machine.
 
 mod crowd;
 mod relays;
@@ -25,12 +25,12 @@ const FIRST_ROUND: &[u8] = b"revision 3 full put 1 drop 0 rows 1\n";
 const SECOND_ROUND: &[u8] = b"revision 4 delta put 1 drop 1 rows 1\n\
 mlcl list\n  mlit list\n    miid u32 9\n    minm text \"B\"\n";
 
-// The reply to a login, up to the last byte of its session's number.
+// The reply to a login, without the last byte of the session number.
 const LOGGED_IN: &[u8] =
     b"HTTP/1.1 200 OK\r\nContent-Type: application/x-dmap-tagged\r\nContent-Length: 32\r\n\r\n\
 mlog\0\0\0\x18mstt\0\0\0\x04\0\0\0\xc8mlid\0\0\0\x04\0\0\0";
 
-/// A place of this machine at which nobody listens.
+/// Returns an address of this machine at which no process listens.
 fn free_place<R: net::Net<Listener = TcpListener, Stream = TcpStream>>(
     rt: &R,
     alloc: Global,
@@ -40,7 +40,7 @@ fn free_place<R: net::Net<Listener = TcpListener, Stream = TcpStream>>(
     Ok(format!(in alloc; "127.0.0.1:{port}")?)
 }
 
-/// A link to a place, once somebody listens there. It waits for some seconds at most.
+/// Connects to `place`, once a process listens there. Waits for some seconds at most.
 fn await_link<C: Clock, N: Net>(clock: &C, net: &mut N, place: &str) -> Option<N::L> {
     for _ in 0..500 {
         if let Ok(link) = net.connect(place) {
@@ -51,7 +51,7 @@ fn await_link<C: Clock, N: Net>(clock: &C, net: &mut N, place: &str) -> Option<N
     None
 }
 
-/// Waits until a place is open, for some seconds at most.
+/// Waits until `place` is open, for some seconds at most. Returns whether it is.
 fn await_open<C: Clock, N: Net>(clock: &C, net: &mut N, place: &str) -> bool {
     match await_link(clock, net, place) {
         Some(link) => {
@@ -62,7 +62,7 @@ fn await_open<C: Clock, N: Net>(clock: &C, net: &mut N, place: &str) -> bool {
     }
 }
 
-/// The status of a run over these words and this input.
+/// Returns the status of a run with the arguments `words` and the input `input`.
 pub(crate) fn status_of<R: Threads + Wait + Clock + Sync, W: Sink, N: Net>(
     rt: &R,
     alloc: Global,
@@ -76,7 +76,7 @@ pub(crate) fn status_of<R: Threads + Wait + Clock + Sync, W: Sink, N: Net>(
     Some(run(rt, alloc, words, &mut source, output, &mut files, net).status)
 }
 
-/// Whether the source brings these bytes.
+/// Returns whether the next bytes of `source` are `bytes`.
 fn brings<S: Source>(source: &mut S, bytes: &[u8]) -> bool {
     for wanted in bytes {
         let mut room = [0; 1];
@@ -88,7 +88,7 @@ fn brings<S: Source>(source: &mut S, bytes: &[u8]) -> bool {
     true
 }
 
-/// Whether a link logs in as the session of this number. More is asked behind it.
+/// Logs in over `link`, and then writes `more`. Returns whether the session has the number `session`.
 fn logs_in<K: Link>(link: &mut K, session: u8, more: &[u8]) -> bool {
     put_all(link, b"GET /login HTTP/1.1\r\n\r\n").is_ok()
         && put_all(link, more).is_ok()
@@ -96,7 +96,7 @@ fn logs_in<K: Link>(link: &mut K, session: u8, more: &[u8]) -> bool {
         && brings(link, &[session])
 }
 
-/// A player that logged in, and stays.
+/// Connects as a player, logs in, and writes `more`. Returns the connection.
 fn player<N: Net>(net: &mut N, place: &str, session: u8, more: &[u8]) -> Option<N::L> {
     let mut link = net.connect(place).ok()?;
     if logs_in(&mut link, session, more) {
@@ -106,7 +106,7 @@ fn player<N: Net>(net: &mut N, place: &str, session: u8, more: &[u8]) -> Option<
     None
 }
 
-/// Whether two players come whose updates are held, and both go away.
+/// Connects two players whose updates are pending, and closes both. Returns whether both logged in.
 fn two_go_away<N: Net>(net: &mut N, place: &str) -> bool {
     let one = b"GET /update?session-id=1&revision-number=3 HTTP/1.1\r\n\r\n";
     let other = b"GET /update?session-id=2&revision-number=3 HTTP/1.1\r\n\r\n";
@@ -124,7 +124,7 @@ fn two_go_away<N: Net>(net: &mut N, place: &str) -> bool {
     }
 }
 
-/// Whether a third player is served within ten seconds then.
+/// Returns whether a third player is served within ten seconds.
 fn third_is_served<C: Clock, N: Net>(clock: &C, net: &mut N, place: &str) -> bool {
     let Ok(begun) = Instant::now(clock) else {
         return false;
@@ -139,7 +139,7 @@ fn third_is_served<C: Clock, N: Net>(clock: &C, net: &mut N, place: &str) -> boo
     }
 }
 
-/// The next link that comes to the door.
+/// Returns the next connection that `door` accepts.
 fn next_link<D: Door>(door: &mut D) -> Result<D::L, Failed> {
     match door.accept()? {
         Some(link) => Ok(link),
@@ -147,7 +147,7 @@ fn next_link<D: Door>(door: &mut D) -> Result<D::L, Failed> {
     }
 }
 
-/// The status of a share that is opened at two places of this machine.
+/// Runs a share at two addresses of this machine. Returns its status.
 fn serves<R>(rt: &R, alloc: Global, words: &[&str], output: &mut MemSink) -> Option<u8>
 where
     R: net::Net<Listener = TcpListener, Stream = TcpStream> + Threads + Wait + Clock + Sync,
@@ -156,7 +156,7 @@ where
     status_of(rt, alloc, &mut net, words, LIBRARY, output)
 }
 
-/// Follows the share for two rounds, once it is open, and tells them at the window.
+/// Follows the share for two rounds, once it is open, and writes them to a connection to `window`. Returns the status.
 fn follows_over<R: Threads + Wait + Clock + Sync, N: Net>(
     rt: &R,
     alloc: Global,
@@ -176,7 +176,7 @@ where
     follows_over(rt, alloc, &mut TcpNet::new(rt, alloc), window, place)
 }
 
-/// Two mirrors, each in a thread of its own.
+/// Runs two mirrors, each in its own thread. Returns their statuses.
 fn both_follow<R>(rt: &R, alloc: Global, window: &str, place: &str) -> (Option<u8>, Option<u8>)
 where
     R: net::Net<Listener = TcpListener, Stream = TcpStream> + Threads + Wait + Clock + Sync,
@@ -188,8 +188,8 @@ where
     )
 }
 
-/// Changes the share once both mirrors have told their first round, and stops it once they have told their second. Answers
-/// whether each was told as it should be.
+/// Changes the share after both mirrors wrote their first round, and stops it after they wrote their second. Returns
+/// whether each round and each status is as expected.
 fn edits_beside<R: Threads + Wait + Clock + Sync, S: Source, N: Net>(
     rt: &R,
     alloc: Global,
@@ -206,7 +206,7 @@ fn edits_beside<R: Threads + Wait + Clock + Sync, S: Source, N: Net>(
     first && second && changed == Some(0) && stopped == Some(0)
 }
 
-/// The same, for the two mirrors that come to the window.
+/// Does so for the two mirrors that connect to `window`.
 fn edits_over<R: Threads + Wait + Clock + Sync, N: Net>(
     rt: &R,
     alloc: Global,
@@ -223,7 +223,7 @@ fn edits_over<R: Threads + Wait + Clock + Sync, N: Net>(
     Some(edits_beside(rt, alloc, net, place, (&mut one, &mut other), output))
 }
 
-/// Whether both changes of a share that two mirrors follow are told by them, and what is answered to these.
+/// Returns the output of both edits, if the mirrors wrote their rounds as expected.
 fn edits<R>(rt: &R, alloc: Global, window: &str, place: &str) -> Option<MemSink>
 where
     R: net::Net<Listener = TcpListener, Stream = TcpStream> + Threads + Wait + Clock + Sync,
@@ -236,7 +236,7 @@ where
     }
 }
 
-/// What two mirrors end with, and what the editor is answered if each mirror tells what it should.
+/// Returns the statuses of two mirrors, and the editor's output if the mirrors wrote their rounds as expected.
 fn followed_and_edited<R>(
     rt: &R,
     alloc: Global,
@@ -266,7 +266,7 @@ fn are_of_a_followed_share(lines: &[u8]) -> bool {
         && lines.ends_with(b", requests 14\n")
 }
 
-/// Whether a share, two mirrors and an editor end as they should.
+/// Returns whether a share, two mirrors and an editor end as they should.
 fn is_followed<R>(rt: &R, alloc: Global, listen: &str, edit: &str) -> Result<bool, Fail>
 where
     R: net::Net<Listener = TcpListener, Stream = TcpStream> + Threads + Wait + Clock + Sync,
@@ -283,7 +283,7 @@ where
     Ok(is_well && are_told(&answers) && are_of_a_followed_share(lines.taken()))
 }
 
-// Each thread opens its own links: none is lent from one to another.
+// Each thread opens its own connections, so threads share none.
 #[test]
 fn a_share_is_followed_while_it_is_changed_until_it_is_stopped(
     rt: HostRuntime,
@@ -294,7 +294,7 @@ fn a_share_is_followed_while_it_is_changed_until_it_is_stopped(
     Ok(())
 }
 
-/// Whether a third player is served once two went away, and the status of the editor that stops the share then.
+/// Returns whether a third player is served after two left, and the status of the editor that then stops the share.
 fn third_comes<R>(
     rt: &R,
     alloc: Global,
@@ -314,7 +314,7 @@ where
     Ok((third, stopped))
 }
 
-/// Whether two players that go away free the workers of a share for a third.
+/// Returns whether two players that leave free the workers of a share for a third.
 fn are_freed<R>(rt: &R, alloc: Global, listen: &str, edit: &str) -> Result<bool, AllocError>
 where
     R: net::Net<Listener = TcpListener, Stream = TcpStream> + Threads + Wait + Clock + Sync,

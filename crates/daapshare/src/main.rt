@@ -1,5 +1,5 @@
 //! `daapshare`: a server and a mirror client for a shared music catalogue over DAAP.
-//! `run` ends as the meaning of its words' command says (`specs/Table.antt`), whatever input and output it is given.
+//! `run` ends as the specification of its arguments' command says (`specs/Table.antt`), over any input and output.
 #![tactic(auto)]
 
 pub mod laws;
@@ -16,7 +16,7 @@ mod usage;
 use crate::outcome::{Outcome, unlinked};
 use crate::run::run;
 use crate::usage::UsageFault;
-use command_core::{Fault, out_of_memory, refused};
+use command_core::{Fault, out_of_memory, write_error};
 use daap_outside::{Files, Net, Reading, SystemFiles, TcpNet, Writing};
 use std::alloc::Global;
 use std::io::{ErrorKind, Read, Write};
@@ -26,7 +26,7 @@ use std::thread::Threads;
 use std::time::Clock;
 use std::{env, io};
 
-/// The words after the program's name. One that is not UTF-8 is an error.
+/// Returns the arguments after the program's name. One that is not UTF-8 is an error.
 fn words_of(rt: &HostRuntime) -> io::Result<Vec<String>> {
     let mut words = Vec::new(rt.alloc());
     for word in env::args(rt)?.skip(1) {
@@ -35,7 +35,7 @@ fn words_of(rt: &HostRuntime) -> io::Result<Vec<String>> {
     Ok(words)
 }
 
-/// The same words, borrowed.
+/// Returns the arguments, borrowed.
 fn texts_of(alloc: Global, words: &[String]) -> io::Result<Vec<&str>> {
     let mut texts = Vec::new(alloc);
     for word in words {
@@ -82,7 +82,7 @@ fn main(rt: HostRuntime) -> ExitCode {
         Err(error) if error.kind() == ErrorKind::OutOfMemory => {
             out_of_memory(&mut output, None).status
         }
-        Err(_) => refused(alloc, &mut output, &Fault::Own(UsageFault::NoCommand)).status,
+        Err(_) => write_error(alloc, &mut output, &Fault::Own(UsageFault::NoCommand)).status,
     };
     ExitCode::from(status)
 }

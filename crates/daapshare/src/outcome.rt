@@ -8,7 +8,7 @@ use item_model::Entries;
 use serve_command::LinkReports;
 use std::alloc::Global;
 
-/// The status of the program, the history of the share, where one was opened, and what is told of the links that were
+/// The status of the program, the history of the share, if one was opened, and the reports of the connections that were
 /// served, worker by worker.
 #[derive(Debug, Drop)]
 pub struct Outcome {
@@ -17,7 +17,7 @@ pub struct Outcome {
     pub links: LinkReports,
 }
 
-/// The outcome of a command that served no link.
+/// Returns the outcome of a command that served no connection.
 pub fn unlinked(alloc: Global, ended: command_core::Outcome) -> Outcome
     ensures ended { core_of result ≡ ended }
     ensures unlinked { result.links ≡ [] }
@@ -29,7 +29,7 @@ pub fn unlinked(alloc: Global, ended: command_core::Outcome) -> Outcome
     }
 }
 
-/// The outcome of a share that was served or relayed.
+/// Returns the outcome of a share that was served or relayed.
 pub fn linked(ended: serve_command::Outcome) -> Outcome
     ensures served { left_by result ≡ left_of ended }
     ensures crew { crew_of result ≡ ended }

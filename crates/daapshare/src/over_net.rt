@@ -1,4 +1,4 @@
-//! What the commands over the net do.
+//! Runs the commands over the network.
 
 ghost use Rattle.std.specs.Prelude.{◌≡◌, Some, true};
 ghost use Rattle.daapshare_words.specs.declared.command.Command.TheVariants.{Net as OverNet};
@@ -22,8 +22,8 @@ use std::sync::Wait;
 use std::thread::Threads;
 use std::time::Clock;
 
-/// Does what a command over the net asks for.
-pub fn obeyed_over_net<R: Threads + Wait + Clock + Sync, I: Source, W: Sink, F: Files, N: Net>(
+/// Runs a command over the network.
+pub fn run_net<R: Threads + Wait + Clock + Sync, I: Source, W: Sink, F: Files, N: Net>(
     rt: &R,
     alloc: Global,
     command: NetCommand,
@@ -72,7 +72,7 @@ pub fn obeyed_over_net<R: Threads + Wait + Clock + Sync, I: Source, W: Sink, F: 
     }
 }
 
-/// The share that the words of `serve` ask for.
+/// Returns the settings of `serve` for its arguments.
 fn serving_of(words: ServeWords) -> Serving
     requires { AreServeWords words }
     ensures asked { result ≡ serving_of words }
@@ -89,7 +89,7 @@ fn serving_of(words: ServeWords) -> Serving
     }
 }
 
-/// The share that the words of `relay` ask for.
+/// Returns the settings of `relay` for its arguments.
 fn relaying_of(words: RelayWords) -> Relaying
     requires { AreRelayWords words }
     ensures asked { result ≡ relaying_of words }

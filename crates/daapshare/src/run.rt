@@ -1,4 +1,4 @@
-//! A run of the program over any input, output, files and net.
+//! A run of the program over any input, output, files and network.
 
 ghost use Rattle.std.specs.Prelude.{◌≡◌, true};
 ghost use Rattle.command_core.specs.Seen.{files_seen, input_seen, net_seen, output_seen, seen, told_in};
@@ -6,11 +6,11 @@ ghost use Rattle.daapshare_words.specs.Grammar.{texts_of};
 ghost use Rattle.daapshare_words.specs.Words.{command_of};
 ghost use Rattle.daapshare.specs.Table.{leaves_files, leaves_net, IsRun};
 
-use crate::local::obeyed;
+use crate::local::run_local;
 use crate::outcome::{Outcome, unlinked};
-use crate::over_net::obeyed_over_net;
+use crate::over_net::run_net;
 use crate::usage::UsageFault;
-use command_core::{Fault, out_of_memory, refused};
+use command_core::{Fault, out_of_memory, write_error};
 use daap_outside::{Files, Net, Sink, Source};
 use daapshare_words::{Command, WordsError, read_words};
 use std::alloc::Global;
@@ -18,12 +18,22 @@ use std::sync::Wait;
 use std::thread::Threads;
 use std::time::Clock;
 
-/// Does what the words ask for. Only `serve` starts threads, and waits for others beside the net.
+/// Runs the command that the arguments `words` are. Only `serve` and `relay` start threads, and wait for them.
 ///
-/// The statuses are 0 where all was done, 2 for words that are no command's, 3 for a query, names of properties, records, a
-/// container, tags, shown text, JSON, a script or a reply of content codes that are refused, 4 and 5 where the input or the output
-/// failed, 6 where the net did, 7 where a peer answered otherwise than it should, 8 where a number passed its limit, 9
-/// for want of memory, and 10 where a file call failed. Each but 0 and 5 has its line on the output.
+/// The statuses are:
+///
+/// - 0: the command succeeded;
+/// - 2: the arguments are not a command's;
+/// - 3: a query, names of properties, records, a container, tags, shown text, JSON, a script, a reply of content codes,
+///   or an edit file is refused;
+/// - 4, 5: the input, or the output, failed;
+/// - 6: the network failed;
+/// - 7: a peer did not answer as it should;
+/// - 8: a number passed its limit;
+/// - 9: out of memory;
+/// - 10: a file call failed.
+///
+/// Each except 0 and 5 has its line on the output.
 pub fn run<R: Threads + Wait + Clock + Sync, I: Source, W: Sink, F: Files, N: Net>(
     rt: &R,
     alloc: Global,
@@ -45,22 +55,20 @@ pub fn run<R: Threads + Wait + Clock + Sync, I: Source, W: Sink, F: Files, N: Ne
         (output_seen (W.taken output.new) (W.faults output.new)))
         result }
 
-    // Files are left alone by all commands but `serve` with a file, and the net is by all but those over it.
+    // Only `serve` with a file changes files, and only the commands over the network use that.
     ensures files { leaves_files (command_of (texts_of words.now)) ≡ true → files.new ≡ files.old }
     ensures net { leaves_net (command_of (texts_of words.now)) ≡ true → net.new ≡ net.old }
 
-    // Each door and each connected link was given back, however the run ended.
+    // Each listener and each connection was closed, however the run ended.
     ensures open_stays { N.open_count net.new ≡ N.open_count net.old }
 {
     match read_words(alloc, words) {
-        Ok(Command::Local(command)) => unlinked(alloc, obeyed(alloc, &command, input, output)),
-        Ok(Command::Net(command)) => {
-            obeyed_over_net(rt, alloc, command, input, output, files, net)
-        }
+        Ok(Command::Local(command)) => unlinked(alloc, run_local(alloc, &command, input, output)),
+        Ok(Command::Net(command)) => { run_net(rt, alloc, command, input, output, files, net) }
         Err(WordsError::Usage) => {
             unlinked(
                 alloc,
-                refused(alloc, output, &Fault::Own(UsageFault::NoCommand)),
+                write_error(alloc, output, &Fault::Own(UsageFault::NoCommand)),
             )
         }
         Err(WordsError::Memory) => unlinked(alloc, out_of_memory(output, None)),

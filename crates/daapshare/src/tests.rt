@@ -1,4 +1,4 @@
-//! Whole runs: the command that the words ask for, and nothing beside it.
+//! Whole runs of commands, each with its arguments and input.
 
 use crate::loopback::status_of;
 use daap_outside::{MemNet, MemSink};
@@ -9,7 +9,7 @@ use std::test::Fail;
 use std::thread::Threads;
 use std::time::Clock;
 
-/// Words, an input, and how the run ends: with a status and these bytes on the output.
+/// Arguments, an input, and how the run ends: its status, and the bytes on the output.
 type Run = (&'static [&'static str], &'static [u8], u8, &'static [u8]);
 
 const RUNS: [Run; 13] = [
@@ -85,7 +85,7 @@ const RUNS: [Run; 13] = [
     ),
 ];
 
-/// Whether a run ends with this status and these bytes.
+/// Returns whether a run ends with `status` and writes `output`.
 fn ends<R: Threads + Wait + Clock + Sync>(
     rt: &R,
     alloc: Global,
@@ -107,7 +107,7 @@ fn each_command_does_what_its_words_say(rt: HostRuntime) -> Result<(), Fail> {
     Ok(())
 }
 
-/// Words that are no command.
+/// Arguments that are not a command's.
 const NO_COMMANDS: [&[&str]; 4] = [&[], &["lists"], &["check", "x"], &["--help"]];
 
 #[test]

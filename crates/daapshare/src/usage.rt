@@ -1,4 +1,4 @@
-//! Words that are no command's.
+//! The error of arguments that are not a command's.
 
 ghost use Rattle.std.specs.Prelude.{◌≡◌};
 ghost use Rattle.daapshare.specs.Usage.{usage_line, usage_status};
@@ -7,10 +7,10 @@ use command_core::Refusal;
 use daapshare_words::usage_text;
 use std::alloc::{AllocError, Global};
 
-/// Why no command is done.
+/// Why no command is run.
 #[derive(Debug, Drop)]
 pub enum UsageFault {
-    /// The words are no command's.
+    /// The arguments are not a command's.
     NoCommand,
 }
 

@@ -16,13 +16,13 @@ alike : (word : Text) → list_all is_ascii_digit word ≡ all_ascii_digits word
 alike [] = refl
 alike (c ∷ cs) = ap (λ b. is_ascii_digit c && b) (alike cs)
 
--- what stands where a number is read exactly in its range
+-- a number is read exactly if it is in its range
 ok_value : {E : Type 0} (r : Result ℕ E) (some small : Bool) (P : Type 0) (v : ℕ) → OkIff r P v → (P → (some && small) ≡ true) → ((some && small) ≡ true → P)
     → result_ok r ≡ (if some && small then Some v else None)
 ok_value (Ok x) some small P v h to from = rw (to h.0, h.1) refl
 ok_value (Err e) some small P v h to from = rw (false_from_ne_true (some && small) (λ t. h (from t))) refl
 
--- a text of ten digits at most is read as its number word says
+-- a text of at most ten digits is read as `number_of_word` says
 pub parsed : {E : Type 0} (word : Text) (r : Result ℕ E) → length word ≤ 10 → list_all is_ascii_digit word ≡ true → ParsesUnsigned 32 10 word r
     → result_ok r ≡ number_of_word word
 parsed word r short digits h =

@@ -1,4 +1,4 @@
--- A name that no command over standard input and output alone has may be one over the net.
+-- A name that is not that of a local command may be that of one over the network.
 use Rattle.std.proofs.Common.{◌≡◌, List, Result, false, codes}
 use Rattle.std.specs.Str.{bytes_eq}
 use Rattle.clap.specs.Words.{Text}

@@ -1,4 +1,4 @@
--- Every command made of parts is one whose matches and faults clap's definition tells.
+-- clap's definition has the matches and errors of every command made of parts.
 use Rattle.std.proofs.Common.{◌≡◌, ℕ, List, [], ◌∷◌, map, true, false, refl}
 use Rattle.std.proofs.lemmas.Bool.{and_parts}
 use Rattle.std.specs.List.{list_all, list_any}
@@ -41,6 +41,6 @@ pub is_plain : (g : Grammar) → is_simple_and_free (app_for g) ≡ true
 unfolding app_for
 is_plain g = rw (simple_rules g.parts, simple_when_built 1 g.parts, none_multiple _ 1 g.parts, free_when_built 1 g.parts) refl
 
--- so clap tells its matches
+-- so clap's definition has its matches
 pub has_rows : (g : Grammar) → is_simple (app_for g) ≡ true
 has_rows g = (and_parts (is_simple (app_for g)) _ (is_plain g)).0

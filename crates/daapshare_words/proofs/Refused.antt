@@ -1,4 +1,4 @@
--- Words that clap's definition refuses are refused by the command that reads them.
+-- The command refuses arguments that clap's definition refuses.
 use Rattle.std.proofs.Common.{◌≡◌, List, Option, None, Result, Err, refl, sym, ap, subst, option_and_then}
 use Rattle.clap.specs.Words.{Row}
 use Rattle.daapshare_words.specs.declared.command.Command.{Command}

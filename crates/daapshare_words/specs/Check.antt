@@ -1,4 +1,4 @@
--- The words of `check`
+-- The arguments of `check`.
 use Rattle.std.specs.Prelude.{List, [], Option, Some, codes}
 use Rattle.clap.specs.Words.{Row, Text}
 use Rattle.daapshare_words.specs.Grammar.{Grammar, command_by}

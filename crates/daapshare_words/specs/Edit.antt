@@ -1,4 +1,4 @@
--- The words of `edit`
+-- The arguments of `edit`.
 use Rattle.std.specs.Prelude.{◌≡◌, List, [], ◌∷◌, Option, codes, true, option_map}
 use Rattle.clap.specs.Words.{Row, Text, first_of}
 use Rattle.daapshare_words.specs.Grammar.{Grammar, is_flagged, command_by}

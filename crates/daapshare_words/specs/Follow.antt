@@ -1,4 +1,4 @@
--- The words of `follow`
+-- The arguments of `follow`.
 use Rattle.std.specs.Prelude.{◌≡◌, List, [], ◌∷◌, Option, codes, true, option_map, option_and_then}
 use Rattle.clap.specs.Words.{Row, Text, first_of}
 use Rattle.daapshare_words.specs.Grammar.{Grammar, command_by}
@@ -19,7 +19,7 @@ follow_grammar = record {
   parts = (codes "place", Place) ∷ (codes "rounds", Place) ∷ (codes "query", Valued) ∷ (codes "meta", Valued) ∷ (codes "list", Valued) ∷ [];
 }
 
--- the place, the rounds and the container where each is in its range, and the texts as they are given
+-- the address, the rounds and the container, if each is in its range, and the texts as they are given
 abbrev pub follow_of : List Row → Option Command
 follow_of rows =
     option_and_then

@@ -1,4 +1,4 @@
--- The words of `json`
+-- The arguments of `json`.
 use Rattle.std.specs.Prelude.{List, [], ◌∷◌, Option, Some, codes}
 use Rattle.clap.specs.Words.{Row, Text}
 use Rattle.daapshare_words.specs.Grammar.{Grammar, is_flagged, command_by}

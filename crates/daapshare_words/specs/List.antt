@@ -1,4 +1,4 @@
--- The words of `list`
+-- The arguments of `list`.
 use Rattle.std.specs.Prelude.{ℕ, List, [], ◌∷◌, Option, codes, option_map}
 use Rattle.clap.specs.Words.{Row, Text, first_of}
 use Rattle.daapshare_words.specs.Grammar.{Grammar, command_by}
@@ -14,7 +14,7 @@ list_usage = codes "list [--query Q] [--meta M] [--list ID]"
 abbrev pub list_grammar : Grammar
 list_grammar = record { name = codes "list"; parts = (codes "query", Valued) ∷ (codes "meta", Valued) ∷ (codes "list", Valued) ∷ [] }
 
--- the texts as they are given, and the container, where its id is in its range
+-- the texts as they are given, and the container, if its id is in its range
 abbrev pub list_for : List Row → Option (Option ℕ) → Option Command
 list_for rows container = option_map (λ list. Local (local.List (record { query = first_of (codes "query") rows; meta = first_of (codes "meta") rows; list = list }))) container
 

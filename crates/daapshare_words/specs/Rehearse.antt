@@ -1,4 +1,4 @@
--- The words of `rehearse`
+-- The arguments of `rehearse`.
 use Rattle.std.specs.Prelude.{List, [], ◌∷◌, Option, codes, ◌≤◌, option_map, option_and_then}
 use Rattle.clap.specs.Words.{Row, Text, first_of}
 use Rattle.daapshare_words.specs.Grammar.{Grammar, command_by}
@@ -15,7 +15,7 @@ rehearse_usage = codes "rehearse NUMBER BATCHES SIZE [--keep K]"
 abbrev pub rehearse_grammar : Grammar
 rehearse_grammar = record { name = codes "rehearse"; parts = (codes "number", Place) ∷ (codes "batches", Place) ∷ (codes "size", Place) ∷ (codes "keep", Valued) ∷ [] }
 
--- each number where it is in its range
+-- each number, if it is in its range
 abbrev pub rehearse_of : List Row → Option Command
 rehearse_of rows =
     option_and_then

@@ -1,4 +1,4 @@
--- The words of `relay`
+-- The arguments of `relay`.
 use Rattle.std.specs.Prelude.{◌≡◌, List, [], ◌∷◌, Option, codes, true, option_map, option_and_then}
 use Rattle.clap.specs.Words.{Row, Text, first_of}
 use Rattle.daapshare_words.specs.Grammar.{Grammar, command_by}
@@ -19,7 +19,7 @@ relay_grammar = record {
   parts = (codes "upstream", Place) ∷ (codes "listen", Place) ∷ (codes "rounds", Place) ∷ (codes "name", Valued) ∷ (codes "keep", Valued) ∷ (codes "workers", Valued) ∷ [];
 }
 
--- each place, name and number where it is in its range
+-- each address, name and number, if it is in its range
 abbrev pub relay_of : List Row → Option Command
 relay_of rows =
     option_and_then

@@ -1,4 +1,4 @@
--- The words of `serve`
+-- The arguments of `serve`.
 use Rattle.std.specs.Prelude.{◌≡◌, List, [], ◌∷◌, Option, is_some, IfSome, codes, true, option_map, option_and_then}
 use Rattle.clap.specs.Words.{Row, Text, first_of}
 use Rattle.daapshare_words.specs.Grammar.{Grammar, command_by}
@@ -19,7 +19,7 @@ serve_grammar = record {
   parts = (codes "listen", Place) ∷ (codes "edit", Place) ∷ (codes "name", Valued) ∷ (codes "keep", Valued) ∷ (codes "workers", Valued) ∷ (codes "editors", Valued) ∷ (codes "file", Valued) ∷ [];
 }
 
--- each place, name and number where it is in its range, and the file as it is given
+-- each address, name and number, if it is in its range, and the file as it is given
 abbrev pub serve_of : List Row → Option Command
 serve_of rows =
     option_and_then

@@ -1,4 +1,4 @@
--- How the program is called: the line of each command.
+-- The usage text: the line of each command.
 use Rattle.std.specs.Prelude.{ℕ, List, [], ◌∷◌, ◌++◌, codes}
 use Rattle.clap.specs.Words.{Text}
 use Rattle.daapshare_words.specs.List.{list_usage}
@@ -16,7 +16,7 @@ use Rattle.daapshare_words.specs.Json.{json_usage}
 abbrev pub usage_line : (margin words : Text) → List ℕ
 usage_line margin words = margin ++ codes "daapshare " ++ words ++ 10 ∷ []
 
--- the later lines stand under the first
+-- the later lines are indented under the first
 abbrev pub under : Text → List ℕ
 under words = usage_line (codes "       ") words
 

@@ -1,4 +1,4 @@
--- The command that a list of words is.
+-- The command that a list of arguments is.
 use Rattle.std.specs.Prelude.{◌≡◌, List, [], ◌∷◌, Option, Some, None, Result, Ok, Err, codes, if◌then◌else◌}
 use Rattle.std.specs.Str.{bytes_eq}
 use Rattle.clap.specs.Words.{Text}
@@ -22,7 +22,7 @@ use Rattle.daapshare_words.specs.declared.command.NetCommand.TheVariants.{Serve,
 use Rattle.daapshare_words.specs.declared.command.WordsError.{WordsError}
 use Rattle.daapshare_words.specs.declared.command.WordsError.TheVariants.{Usage, Memory}
 
--- the command over the net of a name
+-- the command with that name, over the network
 abbrev pub net_command_named : Text → List Text → Option Command
 net_command_named name words =
     if bytes_eq name (codes "serve") then serve_command words
@@ -31,7 +31,7 @@ net_command_named name words =
     else (if bytes_eq name (codes "relay") then relay_command words
     else None)))
 
--- the command of a name
+-- the command with that name
 abbrev pub command_named : Text → List Text → Option Command
 command_named name words =
     if bytes_eq name (codes "list") then list_command words
@@ -43,18 +43,18 @@ command_named name words =
     else (if bytes_eq name (codes "json") then json_command words
     else net_command_named name words))))))
 
--- the first word is the command's name, and the words are in that command's grammar
+-- the first argument is the command's name, and the arguments are in that command's grammar
 abbrev pub command_of : List Text → Option Command
 command_of [] = None
 command_of (name ∷ rest) = command_named name (name ∷ rest)
 
--- the call answers what is told, but for want of memory
+-- the call returns `told`, unless an allocation fails
 abbrev pub Reads : {T : Type 0} → Option T → Result T WordsError → Type 0
 Reads told (Ok read) = told ≡ Some read
 Reads told (Err Usage) = told ≡ None
 Reads told (Err Memory) = Unit {0}
 
--- the numbers, names and places of a command are in their ranges, where it has some
+-- the numbers, names and addresses of a command are in their ranges
 abbrev pub IsLocalRanged : LocalCommand → Type 0
 IsLocalRanged (Replay words) = AreReplayWords words
 IsLocalRanged (Rehearse words) = AreRehearseWords words

@@ -1,4 +1,4 @@
-//! The words of `check`, which has no other than its name.
+//! The arguments of `check`, which has none after its name.
 
 ghost use Rattle.std.specs.Prelude.{IfOk};
 ghost use Rattle.daapshare_words.specs.Grammar.{texts_of};

@@ -1,4 +1,4 @@
-//! The words of `codes`.
+//! The arguments of `codes`.
 
 ghost use Rattle.std.specs.Prelude.{IfOk};
 ghost use Rattle.daapshare_words.specs.Grammar.{texts_of};
@@ -11,7 +11,7 @@ use std::alloc::Global;
 
 pub const USAGE: &str = "codes [--learn]";
 
-/// Whether `codes` is asked for the standard table, or for one to `learn` from the input.
+/// The arguments of `codes`: `learn` if the table is to be read from the input, instead of the standard one.
 #[derive(Debug, Drop)]
 pub struct CodesWords {
     pub learn: bool,

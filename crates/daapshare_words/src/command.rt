@@ -1,4 +1,4 @@
-//! The commands of the program, by the first word.
+//! The commands of the program, by the first argument.
 
 ghost use Rattle.std.specs.Prelude.{◌≡◌, Some, None, IfOk, IfErr};
 ghost use Rattle.daapshare_words.specs.Grammar.{texts_of};
@@ -19,44 +19,44 @@ use clap::error::ErrorKind;
 use std::alloc::{AllocError, Global};
 use thiserror::Error;
 
-/// What the program is asked for.
+/// A command, with its arguments.
 #[derive(Debug, Drop)]
 pub enum Command {
-    /// What waits for nobody: the standard input and output suffice.
+    /// A command over standard input and output only.
     Local(LocalCommand),
-    /// What another program has to answer or to ask for, over the net.
+    /// A command over the network, which may wait for another process.
     Net(NetCommand),
 }
 
-/// A command over standard input and output alone.
+/// A command over standard input and output only.
 #[derive(Debug, Drop)]
 pub enum LocalCommand {
-    /// The full listing of the records on the input.
+    /// Writes the full listing of the records on the input.
     List(ListWords),
-    /// Tags as shown text, or back from it.
+    /// Shows tags as text, or reads such text back.
     Show(ShowWords),
-    /// Counts of the tags on the input.
+    /// Counts the tags on the input.
     Check,
-    /// The rows of the content code table, or those that the input tells.
+    /// Writes the content code table, the standard one or that of the input.
     Codes(CodesWords),
-    /// What a share writes to a script.
+    /// Plays a script to a share.
     Replay(ReplayWords),
-    /// A rehearsal of made-up batches.
+    /// Rehearses made-up batches.
     Rehearse(RehearseWords),
-    /// Tags as JSON, or back from it.
+    /// Writes tags as JSON, or reads JSON back.
     Json(JsonWords),
 }
 
-/// A command over the net.
+/// A command over the network.
 #[derive(Debug, Drop)]
 pub enum NetCommand {
-    /// A share for players and editors.
+    /// Serves a share to players and editors.
     Serve(ServeWords),
-    /// The records on the input for a share, or its stop.
+    /// Sends the records on the input to a share, or stops it.
     Edit(EditWords),
-    /// A mirror of a share, for some rounds.
+    /// Mirrors a listing of a share, for some rounds.
     Follow(FollowWords),
-    /// A share that follows another one.
+    /// Follows another share and serves it.
     Relay(RelayWords),
 }
 
@@ -97,8 +97,11 @@ impl From<clap::Error> for WordsError {
     }
 }
 
-/// Reads the words behind the program's name, the first of which names the command. Every fault of
-/// the words is `Usage`.
+/// Reads `words`, the arguments after the program's name. The first names the command.
+///
+/// # Errors
+///
+/// Returns `Usage` if the arguments are not a command's, and `Memory` if an allocation fails.
 pub fn read_words(alloc: Global, words: &[&str]) -> Result<Command, WordsError>
     ensures read { IfOk result (λ c. command_of (texts_of words.now) ≡ Some c) }
     ensures usage { IfErr result (λ e. e ≡ WordsError.Usage → command_of (texts_of words.now) ≡ None) }
@@ -110,7 +113,7 @@ pub fn read_words(alloc: Global, words: &[&str]) -> Result<Command, WordsError>
     }
 }
 
-/// Reads the words where they are those of the command of this name.
+/// Reads the arguments of the command `name`.
 fn read_named_words(alloc: Global, name: &str, words: &[&str]) -> Result<Command, WordsError>
     ensures read { Reads (command_named name.now (texts_of words.now)) result }
     ensures ranged { IfOk result IsRanged }
@@ -134,7 +137,7 @@ fn read_named_words(alloc: Global, name: &str, words: &[&str]) -> Result<Command
     }
 }
 
-/// Reads the words where they name a command over the net.
+/// Reads the arguments of the command `name`, if that is one over the network.
 fn read_net_words(alloc: Global, name: &str, words: &[&str]) -> Result<Command, WordsError>
     ensures read { Reads (net_command_named name.now (texts_of words.now)) result }
     ensures ranged { IfOk result IsRanged }

@@ -1,4 +1,4 @@
-//! The words of `edit`.
+//! The arguments of `edit`.
 
 ghost use Rattle.std.specs.Prelude.{IfOk};
 ghost use Rattle.daapshare_words.specs.Grammar.{texts_of};
@@ -13,7 +13,7 @@ use std::alloc::Global;
 
 pub const USAGE: &str = "edit PLACE [--stop]";
 
-/// The place, of 1 to 255 bytes, where a share listens for editors, and whether it is asked to `stop`.
+/// The arguments of `edit`: a share's address for editors, of 1 to 255 bytes, and whether to `stop` the share.
 #[derive(Debug, Drop)]
 pub struct EditWords {
     pub place: Text,

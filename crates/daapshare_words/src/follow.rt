@@ -1,4 +1,4 @@
-//! The words of `follow`.
+//! The arguments of `follow`.
 
 ghost use Rattle.std.specs.Prelude.{IfOk};
 ghost use Rattle.clap.specs.Words.{found_of, rows_of};
@@ -16,8 +16,8 @@ use std::alloc::Global;
 
 pub const USAGE: &str = "follow PLACE ROUNDS [--query Q] [--meta M] [--list ID]";
 
-/// The place, of 1 to 255 bytes, where a share listens for players, how many rounds, 1 to 16,384, it is followed for, and
-/// what is asked for in each: the texts are as given, and not yet read. `list` is the id of a container, at least 1.
+/// The arguments of `follow`: a share's address for players, of 1 to 255 bytes; the number of rounds, 1 to 16,384; and
+/// what is listed. The texts are as given, and not yet read. `list` is the id of a container, at least 1.
 #[derive(Debug, Drop)]
 pub struct FollowWords {
     pub place: Text,
@@ -43,7 +43,7 @@ pub fn read(alloc: Global, words: &[&str]) -> Result<Command, WordsError>
     words_of(alloc, &matches)
 }
 
-/// What is followed, where the place and each number is in its range.
+/// Returns the command, if the address and each number are in their ranges.
 fn words_of(alloc: Global, matches: &ArgMatches<'_>) -> Result<Command, WordsError>
     ensures read { Reads (follow_of (rows_of (found_of matches.now))) result }
     ensures ranged { IfOk result IsRanged }

@@ -1,4 +1,4 @@
-//! The words of one command, as a simple `clap` command reads them.
+//! Reads the arguments of one command by a `clap` command.
 
 ghost use Rattle.std.specs.Prelude.{◌≡◌, ◌≢◌, Some, None, false, [], IfOk, MatchResult, option_map};
 ghost use Rattle.clap.specs.Words.{app_of, rule_of, rows_of, first_of, found_of};
@@ -9,10 +9,10 @@ use clap::{Arg, ArgAction, ArgMatches, Command};
 use dmap_tags::Text;
 use std::alloc::{AllocError, Global};
 
-/// How a part of a command stands among its words.
+/// The kind of an argument of a command.
 #[derive(Clone, Copy, Debug, PartialEq, Eq)]
 pub enum Part {
-    /// A word at the next place, which must be there.
+    /// A positional argument, which is required.
     Place,
     /// `--name VALUE` or `--name=VALUE`, at most once.
     Valued,
@@ -20,7 +20,7 @@ pub enum Part {
     Flag,
 }
 
-/// What `clap` makes of the words of the command `name` with these parts, the first word left out.
+/// Returns `clap`'s matches of `words` for the command `name` with `parts`. The first of `words` is left out.
 pub fn matches_for<'a>(
     alloc: Global,
     name: &'a str,
@@ -35,14 +35,14 @@ pub fn matches_for<'a>(
     Ok(command.try_get_matches_from(words)?)
 }
 
-/// The first value of the part `name`, where it has one.
+/// Returns the first value of the part `name`, if it has one.
 pub fn value_of<'a>(matches: &ArgMatches<'a>, name: &str) -> Option<&'a str>
     ensures { option_map (λ s. s.now) result ≡ first_of name.now (rows_of (found_of matches.now)) }
 {
     matches.get_str(name)
 }
 
-/// The command `name`, with long names alone and without help or version.
+/// Returns the `clap` command `name`, with long names only and without help or version.
 fn command<'a>(
     alloc: Global,
     name: &'a str,
@@ -77,7 +77,7 @@ fn argument<'a>(alloc: Global, name: &'a str, part: Part) -> Arg<'a>
     }
 }
 
-/// The value of an option as a text of its own, `None` where the option doesn't stand.
+/// Returns a copy of the value of the option `name`, or `None` if that is not given.
 pub fn text_of(
     alloc: Global,
     matches: &ArgMatches<'_>,
@@ -91,7 +91,7 @@ pub fn text_of(
     }
 }
 
-/// The flag `name` was given.
+/// Returns whether the flag `name` is given.
 pub fn has_flag(matches: &ArgMatches<'_>, name: &str) -> bool
     ensures { result ≡ is_flagged name.now (rows_of (found_of matches.now)) }
 {

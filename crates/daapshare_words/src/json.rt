@@ -1,4 +1,4 @@
-//! The words of `json`.
+//! The arguments of `json`.
 
 ghost use Rattle.std.specs.Prelude.{IfOk};
 ghost use Rattle.daapshare_words.specs.Grammar.{texts_of};
@@ -11,7 +11,7 @@ use std::alloc::Global;
 
 pub const USAGE: &str = "json [--back]";
 
-/// The words of `json`: `back` if tags are to be read from JSON.
+/// The arguments of `json`: `back` if tags are to be read from JSON.
 #[derive(Debug, Drop)]
 pub struct JsonWords {
     pub back: bool,

@@ -1,6 +1,6 @@
-//! The words of the command line: a command is read where `clap`'s definition of that command takes the words.
-//! Contracts see a command line as a list of texts, and its command by `specs/Words.antt`. What the words of one command
-//! are stands in its file of `src/` and of `specs/`.
+//! Reads the arguments of the command line: they are a command if `clap`'s definition of that command accepts them.
+//! Contracts see a command line as a list of texts, and its command by `specs/Words.antt`. Each command has a file in
+//! `src/` and one in `specs/`.
 #![tactic(auto)]
 
 mod check;

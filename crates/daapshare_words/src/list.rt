@@ -1,4 +1,4 @@
-//! The words of `list`.
+//! The arguments of `list`.
 
 ghost use Rattle.std.specs.Prelude.{Some, IfOk};
 ghost use Rattle.clap.specs.Words.{found_of, rows_of};
@@ -15,7 +15,7 @@ use std::alloc::Global;
 
 pub const USAGE: &str = "list [--query Q] [--meta M] [--list ID]";
 
-/// What `list` is asked for. The texts are as given, and not yet read. `list` is the id of a container, at least 1.
+/// The arguments of `list`. The texts are as given, and not yet read. `list` is the id of a container, at least 1.
 #[derive(Debug, Drop)]
 pub struct ListWords {
     pub query: Option<Text>,
@@ -40,7 +40,7 @@ pub fn read(alloc: Global, words: &[&str]) -> Result<Command, WordsError>
     }
 }
 
-/// The words that ask for the listing of a container, or of all items.
+/// Returns the command for the listing of a container, or of all items.
 fn words_of(
     alloc: Global,
     matches: &ArgMatches<'_>,

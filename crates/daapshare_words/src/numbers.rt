@@ -1,11 +1,11 @@
-//! Numbers among the words of the command line.
+//! Numbers among the arguments of the command line.
 
 ghost use Rattle.std.specs.Prelude.{◌≡◌, true, IfSome, option_map};
 ghost use Rattle.std.specs.Char.{is_ascii_digit};
 ghost use Rattle.std.specs.List.{list_all};
 ghost use Rattle.daapshare_words.specs.Numbers.{IsWithin, number_of_word, number_within, keep_of, workers_of, editors_of, most_editors, list_of};
 
-/// The number that a word of 1 to 10 decimal digits writes, where it is at most 4,294,967,295.
+/// Returns the number that `word`, of 1 to 10 decimal digits, represents, if it is at most 4,294,967,295.
 pub fn number_word(word: &str) -> Option<u32>
     ensures { result ≡ number_of_word word.now }
 {
@@ -22,15 +22,15 @@ fn are_digits(word: &[u8]) -> bool
     word.iter().all(|byte| byte.is_ascii_digit())
 }
 
-/// For how many revisions a share keeps what changed, where the words don't say it.
+/// The delta window, in revisions, without `--keep`.
 const DEFAULT_KEEP: u32 = 256;
 
-/// How many threads serve the links of players, and of editors, where the words don't say it.
+/// The numbers of threads that serve the connections of players, and of editors, without `--workers` and `--editors`.
 const DEFAULT_WORKERS: u32 = 16;
 
 const DEFAULT_EDITORS: u32 = 2;
 
-/// The number that a word writes, where it is between two numbers or one of them.
+/// Returns the number that `word` represents, if it is from `least` to `most`.
 pub fn number_of(word: Option<&str>, least: u32, most: u32) -> Option<u32>
     ensures read { result ≡ number_within least most (option_map (λ s. s.now) word.entry) }
     ensures within { IfSome result (IsWithin least most) }
@@ -43,7 +43,7 @@ pub fn number_of(word: Option<&str>, least: u32, most: u32) -> Option<u32>
     }
 }
 
-/// For how many revisions a share keeps what changed, where the word is that of `--keep`.
+/// Returns the delta window, in revisions; `word` is the value of `--keep`.
 pub fn keep_of(word: Option<&str>) -> Option<u32>
     ensures read { result ≡ keep_of (option_map (λ s. s.now) word.entry) }
     ensures within { IfSome result (IsWithin 1 65536) }
@@ -54,7 +54,7 @@ pub fn keep_of(word: Option<&str>) -> Option<u32>
     }
 }
 
-/// How many threads serve the links of players, where the word is that of `--workers`.
+/// Returns how many threads serve the connections of players; `word` is the value of `--workers`.
 pub fn workers_of(word: Option<&str>) -> Option<u32>
     ensures read { result ≡ workers_of (option_map (λ s. s.now) word.entry) }
     ensures within { IfSome result (IsWithin 1 64) }
@@ -65,7 +65,8 @@ pub fn workers_of(word: Option<&str>) -> Option<u32>
     }
 }
 
-/// How many threads serve the links of editors, where the word is that of `--editors`: one where their edits are kept in a file.
+/// Returns how many threads serve the connections of editors; `word` is the value of `--editors`. One, if `is_kept`: a
+/// file keeps the edits.
 pub fn editors_of(word: Option<&str>, is_kept: bool) -> Option<u32>
     ensures read { result ≡ editors_of is_kept (option_map (λ s. s.now) word.entry) }
     ensures within { IfSome result (IsWithin 1 (most_editors is_kept)) }
@@ -79,7 +80,7 @@ pub fn editors_of(word: Option<&str>, is_kept: bool) -> Option<u32>
     }
 }
 
-/// The one thread that serves the links of an editor, where the word is that of `--editors`, if there is one.
+/// Returns one, the number of threads for editors of a share with a file, unless `word` says another number.
 fn one_editor(word: Option<&str>) -> Option<u32>
     ensures read { result ≡ editors_of true (option_map (λ s. s.now) word.entry) }
     ensures within { IfSome result (IsWithin 1 1) }
@@ -90,7 +91,8 @@ fn one_editor(word: Option<&str>) -> Option<u32>
     }
 }
 
-/// The id of a container, where the word is that of `--list`: 1 to 4,294,967,295, or none where there is no word.
+/// Returns the id of a container, 1 to 4,294,967,295; `word` is the value of `--list`. Without it, returns
+/// `Some(None)`.
 pub fn list_of(word: Option<&str>) -> Option<Option<u32>>
     ensures { result ≡ list_of (option_map (λ s. s.now) word.entry) }
 {

@@ -1,4 +1,4 @@
-//! The words of `rehearse`.
+//! The arguments of `rehearse`.
 
 ghost use Rattle.std.specs.Prelude.{◌≡◌, IfOk, IfSome};
 ghost use Rattle.clap.specs.Words.{found_of, rows_of};
@@ -14,8 +14,8 @@ use std::alloc::Global;
 
 pub const USAGE: &str = "rehearse NUMBER BATCHES SIZE [--keep K]";
 
-/// What is rehearsed: made-up batches that begin with a number, which is at most 2,147,483,647. There are 1 to 65,536
-/// batches of 1 to 256 edits each, and the share keeps 1 to 65,536 revisions back, 256 where it is not said.
+/// The arguments of `rehearse`: the number, at most 2,147,483,647, from which batches are made up; 1 to 65,536 batches
+/// of 1 to 256 edits each; and the delta window, 1 to 65,536 revisions, 256 without `--keep`.
 #[derive(Debug, Drop)]
 pub struct RehearseWords {
     pub number: u32,
@@ -42,7 +42,7 @@ pub fn read(alloc: Global, words: &[&str]) -> Result<Command, WordsError>
     }
 }
 
-/// The rehearsal of these words, where each number is in its range.
+/// Returns the command, if each number is in its range.
 fn rehearsal(matches: &ArgMatches<'_>) -> Option<Command>
     ensures read { result ≡ rehearse_of (rows_of (found_of matches.now)) }
     ensures ranged { IfSome result IsRanged }

@@ -1,4 +1,4 @@
-//! The words of `relay`.
+//! The arguments of `relay`.
 
 ghost use Rattle.std.specs.Prelude.{IfOk};
 ghost use Rattle.clap.specs.Words.{found_of, rows_of};
@@ -16,9 +16,9 @@ use std::alloc::Global;
 
 pub const USAGE: &str = "relay UPSTREAM LISTEN ROUNDS [--name N] [--keep K] [--workers W]";
 
-/// The share that is relayed: the place where it listens for players, and the place where the relay does, each of 1 to 255 bytes,
-/// how many rounds, 1 to 16,384, it is followed for, the relay's name of at most 255 bytes, for how many revisions, 1 to 65,536,
-/// it keeps what changed, and how many threads, 1 to 64, serve the links of players, one link at a time.
+/// The arguments of `relay`: the addresses where the followed share and the relay listen for players, each of 1 to 255
+/// bytes; the number of rounds, 1 to 16,384; the relay's name, of at most 255 bytes; its delta window, 1 to 65,536
+/// revisions; and how many threads, 1 to 64, serve the connections of players, one connection at a time.
 #[derive(Debug, Drop)]
 pub struct RelayWords {
     pub upstream: Text,
@@ -46,7 +46,7 @@ pub fn read(alloc: Global, words: &[&str]) -> Result<Command, WordsError>
     words_of(alloc, &matches)
 }
 
-/// What is relayed, where each place, name and number is in its range.
+/// Returns the command, if each address, name and number is in its range.
 fn words_of(alloc: Global, matches: &ArgMatches<'_>) -> Result<Command, WordsError>
     ensures read { Reads (relay_of (rows_of (found_of matches.now))) result }
     ensures ranged { IfOk result IsRanged }

@@ -1,4 +1,4 @@
-//! The words of `replay`.
+//! The arguments of `replay`.
 
 ghost use Rattle.std.specs.Prelude.{IfOk};
 ghost use Rattle.daapshare_words.specs.Grammar.{texts_of};
@@ -14,8 +14,7 @@ use std::alloc::Global;
 
 pub const USAGE: &str = "replay [--keep K] [--name N]";
 
-/// The share that a script is replayed on: its name, at most 255 bytes, and for how many revisions, 1 to 65,536, it keeps
-/// what changed.
+/// The arguments of `replay`: the share's name, of at most 255 bytes, and its delta window, 1 to 65,536 revisions.
 #[derive(Debug, Drop)]
 pub struct ReplayWords {
     pub keep: u32,

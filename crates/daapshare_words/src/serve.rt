@@ -1,4 +1,4 @@
-//! The words of `serve`.
+//! The arguments of `serve`.
 
 ghost use Rattle.std.specs.Prelude.{IfOk};
 ghost use Rattle.clap.specs.Words.{found_of, rows_of};
@@ -17,9 +17,9 @@ use std::alloc::Global;
 pub const USAGE: &str =
     "serve LISTEN EDIT [--name N] [--keep K] [--workers W] [--editors E] [--file F]";
 
-/// The share that is served: the places where it listens for players and for editors, each of 1 to 255 bytes, its name of
-/// at most 255, for how many revisions, 1 to 65,536, it keeps what changed, and how many threads serve the links of each
-/// place, one link at a time: 1 to 64 those of players, 1 to 8 those of editors, but 1 where their edits are kept in a file.
+/// The arguments of `serve`: the addresses where it listens for players and for editors, each of 1 to 255 bytes; its
+/// name, of at most 255 bytes; its delta window, 1 to 65,536 revisions; and how many threads serve the connections of
+/// each address, one connection at a time: 1 to 64 for players, and for editors 1 to 8, or 1 if a file keeps the edits.
 #[derive(Debug, Drop)]
 pub struct ServeWords {
     pub listen: Text,
@@ -50,7 +50,7 @@ pub fn read(alloc: Global, words: &[&str]) -> Result<Command, WordsError>
     words_of(alloc, &matches)
 }
 
-/// What is served, where each place, name and number is in its range.
+/// Returns the command, if each address, name and number is in its range.
 fn words_of(alloc: Global, matches: &ArgMatches<'_>) -> Result<Command, WordsError>
     ensures read { Reads (serve_of (rows_of (found_of matches.now))) result }
     ensures ranged { IfOk result IsRanged }

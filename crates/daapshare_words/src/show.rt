@@ -1,4 +1,4 @@
-//! The words of `show`.
+//! The arguments of `show`.
 
 ghost use Rattle.std.specs.Prelude.{IfOk};
 ghost use Rattle.daapshare_words.specs.Grammar.{texts_of};
@@ -11,7 +11,7 @@ use std::alloc::Global;
 
 pub const USAGE: &str = "show [--back]";
 
-/// Whether `show` is asked for tags as text, or `back` from it.
+/// The arguments of `show`: `back` if tags are to be read from text.
 #[derive(Debug, Drop)]
 pub struct ShowWords {
     pub back: bool,

@@ -1,4 +1,4 @@
-//! Names and places among the words of the command line.
+//! Names and addresses among the arguments of the command line.
 
 ghost use Rattle.std.specs.Prelude.{◌≡◌, option_map};
 ghost use Rattle.std.specs.Char.{is_ascii_graphic};
@@ -10,10 +10,10 @@ use crate::command::WordsError;
 use dmap_tags::Text;
 use std::alloc::Global;
 
-/// The name of a share, where the words don't say it.
+/// The name of a share without `--name`.
 const DEFAULT_NAME: &str = "daapshare";
 
-/// The name of a share, at most 255 bytes, where the word is that of `--name`.
+/// Returns the name of a share, of at most 255 bytes; `word` is the value of `--name`.
 pub fn name_of(alloc: Global, word: Option<&str>) -> Result<Text, WordsError>
     ensures { Reads (name_of (option_map (λ s. s.now) word.entry)) result }
 {
@@ -24,7 +24,7 @@ pub fn name_of(alloc: Global, word: Option<&str>) -> Result<Text, WordsError>
     Ok(Text::of(alloc, name)?)
 }
 
-/// A place of the net: 1 to 255 bytes, each from `!` to `~`.
+/// Returns an address of the network: 1 to 255 bytes, each from `!` to `~`.
 pub fn place_of(alloc: Global, word: Option<&str>) -> Result<Text, WordsError>
     ensures { Reads (place_of (option_map (λ s. s.now) word.entry)) result }
 {

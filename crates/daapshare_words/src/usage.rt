@@ -6,7 +6,7 @@ ghost use Rattle.daapshare_words.specs.Usage.{usage_line, usage_text};
 use crate::{check, codes, edit, follow, json, list, rehearse, relay, replay, serve, show};
 use std::alloc::{AllocError, Global};
 
-/// The whole text. It stands on the output where the words are no command's.
+/// Returns the usage text, which is the output if the arguments are not a command's.
 pub fn usage_text(alloc: Global) -> Result<Vec<u8>, AllocError>
     ensures { IfOk result (λ text. text.items ≡ usage_text) }
 {

@@ -1,4 +1,4 @@
--- What the members of an object say of a tag.
+-- The members of an object determine its tag.
 use Rattle.std.proofs.Common.{◌≡◌, ℕ, ℤ, pos, negsuc, true, false, if◌then◌else◌, List, [], Option, Some, None, MatchOption, codes, inl, inr, refl, sym, ap, ◌∙◌, subst}
 use Rattle.std.proofs.lemmas.Bool.{cases_Bool, true≢false}
 use Rattle.std.proofs.lemmas.Slice.Eq.{bytes_eq-Decides}
@@ -30,11 +30,11 @@ use Rattle.dmap_json.specs.declared.head.Held.{Held}
 use Rattle.dmap_json.specs.declared.head.Held.TheVariants as held
 use Rattle.dmap_json.proofs.Hexed.{one_hex, one_code}
 
--- an object has one code, one word and one value
+-- an object has one code, one kind and one value
 pub same_parts : (a b k l : List ℕ) (d e : Data) → tag_object a k d ≡ tag_object b l e → (a ≡ b) × ((k ≡ l) × (d ≡ e))
 same_parts a b k l d e same = (cc, (cc, cc))
 
--- a word has one kind, and a kind one word
+-- a name has one kind, and a kind one name
 step : (word name : List ℕ) (k j : Kind) (rest : Option Kind) → name ≡ kind_word j → (rest ≡ Some k → word ≡ kind_word k) → (if bytes_eq word name then Some j else rest) ≡ Some k → word ≡ kind_word k
 step word name k j rest is later e = elim (cases_Bool (bytes_eq word name)) [
   | inl t ↦ (let f : Some j ≡ Some k = (rw t at e) in let same : j ≡ k = cc in (bytes_eq-Decides word name).0 t ∙ is ∙ ap kind_word same)
@@ -94,7 +94,7 @@ word_of_leaf (Date n) = refl
 word_of_leaf (Version n) = refl
 word_of_leaf (Opaque bytes) = refl
 
--- no leaf's kind is that of lists
+-- a leaf's kind is not the kind of lists
 no_list_kind : (l : Leaf) → is_list (leaf_kind l) ≡ false
 no_list_kind (U8 n) = refl
 no_list_kind (I8 z) = refl
@@ -131,7 +131,7 @@ leaf_with c (Date n) = refl
 leaf_with c (Version n) = refl
 leaf_with c (Opaque bytes) = refl
 
--- a leaf's JSON value is the value of its kind
+-- a leaf's JSON value is its value under its kind
 pub value_of_leaf : (l : Leaf) → IsValue l → IsValueOf (leaf_kind l) (json_leaf l) (value_of l)
 value_of_leaf (U8 n) h = (n, (h, (refl, refl)))
 value_of_leaf (I8 z) h = (z, (h, (refl, refl)))
@@ -146,7 +146,7 @@ value_of_leaf (Date n) h = (n, (h, (refl, refl)))
 value_of_leaf (Version n) h = (n, (h, (refl, refl)))
 value_of_leaf (Opaque bytes) h = (bytes, (h, (refl, refl)))
 
--- and the other way round
+-- the converse
 pub record IsLeafOf (k : Kind) (d : Data) (v : Value) : Type 0 where
   pub l : Leaf
   pub value_is : v ≡ value_of l
@@ -208,7 +208,7 @@ one_value kind.Version d v w g h = g.1.1.1 ∙ ap value.Version (one_natural d g
 one_value kind.List d v w g h = absurd g
 one_value kind.Opaque d v w g h = g.1.1.1 ∙ ap value.Opaque (one_hex g.0 h.0 g.1.0 h.1.0 (ap bytes_of (sym g.1.1.0 ∙ h.1.1.0))) ∙ sym h.1.1.1
 
--- two leaves of one word and one JSON value are one
+-- two leaves with the same kind and JSON value are equal
 pub one_leaf : (l m : Leaf) → IsValue l → IsValue m → leaf_word l ≡ leaf_word m → json_leaf l ≡ json_leaf m → l ≡ m
 one_leaf l m g h words values =
     let kinds : leaf_kind l ≡ leaf_kind m = one_some (sym (leaf_named l) ∙ ap kind_named words ∙ leaf_named m) in

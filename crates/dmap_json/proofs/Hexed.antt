@@ -27,14 +27,14 @@ bytes_again (b ∷ bytes) h = ap₂ (λ (x : ℕ) (xs : List ℕ). x ∷ xs) (by
 pub code_are_bytes : (c : Four) → IsCode c → AreBytes (code_bytes c)
 code_are_bytes c h = (h.0, (h.1.0, (h.1.1.0, (h.1.1.1, tt))))
 
--- a code is read back from the text that shows it
+-- a code is read back from its text
 pub code_again : (c : Four) → IsCode c → code_from_text (shown_code c) ≡ c
 code_again c h = elim (cases_Bool (list_all is_ascii_graphic (code_bytes c))) [
   | inl e ↦ rw e refl
   | inr e ↦ rw e (ap code_of (bytes_again (code_bytes c) (code_are_bytes c h)))
 ]
 
--- so bytes have one row of digits, and a code one text
+-- so different bytes have different digits, and different codes different texts
 pub one_hex : (xs ys : List ℕ) → AreBytes xs → AreBytes ys → flat_map hex xs ≡ flat_map hex ys → xs ≡ ys
 one_hex xs ys h k same = sym (bytes_again xs h) ∙ ap bytes_from_hex same ∙ bytes_again ys k
 
@@ -65,7 +65,7 @@ code_utf8 c h = elim (cases_Bool (list_all is_ascii_graphic (code_bytes c))) [
 third : {a b c d : ℕ} {xs ys : List ℕ} → a ∷ b ∷ xs ≡ c ∷ d ∷ ys → xs ≡ ys
 third same = cc
 
--- digits that begin with those of bytes are, after these, those of further bytes
+-- if the digits of all bytes begin with those of some, the rest are those of further bytes
 rest_after : (bytes all rest : List ℕ) → AreBytes all → flat_map hex bytes ++ rest ≡ flat_map hex all → (others : List ℕ) × (AreBytes others × (rest ≡ flat_map hex others))
 rest_after [] all rest k same = (all, (k, same))
 rest_after (b ∷ bytes) [] rest k same = absurd (cc)
@@ -87,14 +87,14 @@ pub hex_more : (bytes : List ℕ) (b : ℕ) (rest : List ℕ) → flat_map hex (
 hex_more [] b rest = refl
 hex_more (x ∷ bytes) b rest = ap (λ s. digit_char (x / 16) ∷ digit_char (x % 16) ∷ s) (hex_more bytes b rest)
 
--- a code that is shown as it is has no hex digits
+-- a code written as its characters is never written as hex digits
 pub graphic_hex : (digits : List ℕ) (b c : Four) → IsCode b → IsCode c → digits ≡ flat_map hex (code_bytes b) → digits ≡ flat_map hex (code_bytes c)
     → list_all is_ascii_graphic (code_bytes b) ≡ true → list_all is_ascii_graphic (code_bytes c) ≡ false → ⊥
 graphic_hex digits b c h k e f graphic other =
     let same : code_bytes b ≡ code_bytes c = one_hex (code_bytes b) (code_bytes c) (code_are_bytes b h) (code_are_bytes c k) (sym e ∙ f) in
     true≢false (sym graphic ∙ ap (list_all is_ascii_graphic) same ∙ other)
 
--- the code that four characters or nine show
+-- the code of a text of four characters, or of nine
 long_short : (a b c d : ℕ) (xs : List ℕ) → a ∷ b ∷ c ∷ d ∷ [] ≡ 120 ∷ xs → length xs ≡ 8 → ⊥
 long_short a b c d xs e n = let lengths : 4 ≡ suc (length xs) = ap length e in omega arith
 
@@ -133,7 +133,7 @@ pub hex_case : (text digits : List ℕ) (r : Option Four) → length digits ≢ 
 hex_case text digits None other e none = λ c h f. (let parts = no_long c digits other (sym e ∙ f) in none c h parts.0 parts.1)
 hex_case text digits (Some c) other e h = (h.0, e ∙ ap (λ xs. 120 ∷ xs) h.1.1 ∙ sym (hex_shown c h.1.0))
 
--- a code has four bytes or nine
+-- the text of a code has four characters, or nine of which the first is an x
 pub no_shown : (text : List ℕ) (c : Four) → length text ≢ 4 → get_or text 0 0 ≢ 120 → text ≡ shown_code c → ⊥
 no_shown text c four first e = elim (cases_Bool (list_all is_ascii_graphic (code_bytes c))) [
   | inl t ↦ four (ap length (e ∙ graphic_shown c t))
@@ -157,7 +157,7 @@ eight (a ∷ b ∷ c ∷ d ∷ e ∷ f ∷ g ∷ []) n = absurd (omega arith)
 eight (a ∷ b ∷ c ∷ d ∷ e ∷ f ∷ g ∷ h ∷ []) n = refl
 eight (a ∷ b ∷ c ∷ d ∷ e ∷ f ∷ g ∷ h ∷ i ∷ xs) n = absurd (omega arith)
 
--- the bytes of a slice
+-- the numbers in a slice of bytes are below 256
 pub bytes_held : (bytes : List ℕ) → ((i : ℕ) → get_or bytes i 0 < 256) → AreBytes bytes
 bytes_held [] h = tt
 bytes_held (b ∷ bytes) h = (h 0, bytes_held bytes (λ i. h (suc i)))

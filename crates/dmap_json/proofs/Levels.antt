@@ -1,4 +1,4 @@
--- The levels of tags, and what of a tag is sent.
+-- The levels of tags, and how a tag is sent.
 use Rattle.std.proofs.Common.{◌≡◌, ℕ, suc, max, true, false, List, [], ◌∷◌, length, Some, codes, refl, sym, ap, subst, arith}
 use Rattle.std.proofs.lemmas.Bool.Decides.{nat_tests}
 use Rattle.std.specs.Prelude.{nat_le}
@@ -13,14 +13,14 @@ use Rattle.dmap_tags.specs.declared.tree.Value.TheVariants.{U8, I8, U16, I16, U3
 use Rattle.dmap_show.specs.Shown.{shown_code, word_of}
 use Rattle.dmap_json.specs.TagObject.{json_held, json_items, json_of}
 
--- a tag that is within the limit leaves the answer to the others, and one that is not decides it
+-- a number within the limit leaves the test of the maximum to the other, and one above decides it
 pub max_within : (a b most : ℕ) → nat_le a most ≡ true → nat_le (max a b) most ≡ nat_le b most
 max_within a b most h = grind (arith, nat_tests)
 
 pub max_beyond : (a b most : ℕ) → nat_le a most ≡ false → nat_le (max a b) most ≡ false
 max_beyond a b most h = grind (arith, nat_tests)
 
--- a list's items are as many as its tags
+-- a list has one item for each tag
 pub items_len_is : (ts : List Tree) → items_len (json_items (trees_of ts)) ≡ length ts
 items_len_is [] = refl
 items_len_is (t ∷ ts) = ap suc (items_len_is ts)

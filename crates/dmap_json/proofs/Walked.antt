@@ -1,4 +1,4 @@
--- The places of a tag's JSON value, and how far reading comes among those of any value.
+-- The places in a tag's JSON value, and how far reading comes among those in any value.
 use Rattle.std.proofs.Common.{◌≡◌, ◌≤◌, ◌<◌, ◌+◌, ℕ, zero, suc, true, List, [], ◌∷◌, ◌++◌, length, get_or, drop, Option, Some, None, Result, Ok, Err, MatchResult, IfOk, IfErr, codes, inl, inr, refl, sym, ap, ap₂, ◌∙◌, subst, arith, append_assoc, append-nil, length-append, drop-cons}
 use Rattle.std.proofs.lemmas.Bool.{and_parts, and_from}
 use Rattle.std.specs.List.{AllByRecursion}
@@ -24,7 +24,7 @@ use Rattle.dmap_json.specs.declared.head.Held.TheVariants as held
 use Rattle.dmap_json.proofs.Hexed.{code_again, one_code}
 use Rattle.dmap_json.proofs.Heads.{same_parts, leaf_no_list, one_leaf}
 
--- nothing is in a leaf's object, and a list's members are in its
+-- there is no place in a leaf's object, and those in a list's object are those of its members
 pub below_leaf : (level : ℕ) (c : Four) (l : Leaf) → below level (json_of (leaf c l)) ≡ []
 below_leaf level c (U8 n) = refl
 below_leaf level c (I8 z) = refl
@@ -42,7 +42,7 @@ below_leaf level c (Opaque bytes) = refl
 pub below_list : (level : ℕ) (c : Four) (ds : Items) → IsCode c → below level (tag_object (shown_code c) (codes "list") (array ds)) ≡ all_below (suc level) c ds
 below_list level c ds bytes = ap (λ x. all_below (suc level) x ds) (code_again c bytes)
 
--- faults among places that are joined
+-- the first malformed place in two lists of places joined
 abbrev pub AreObjects : List CodeRow → List Place → Type 0
 AreObjects rows ps = AllByRecursion (λ p. IsTagObject rows p) ps
 
@@ -123,7 +123,7 @@ mutual
       let parts = one_item _ _ _ _ same in
       ap₂ more (one_tag t u h.0 k.0 parts.0) (one_list ts us h.1 k.1 parts.1)
 
--- what an object says is a tag's
+-- the parts of an object are those of a tag
 pub head_object : (rows : List CodeRow) (parent : Option Four) (d : Data) (c : Four) (h : Held) → IsHeld rows parent d c h → HasObject rows parent d
 head_object rows parent d c (held.Leaf v) h = inl (c, h.0, h.1.1)
 head_object rows parent d c (held.List items) h = inr (c, items_view items.now, h)
@@ -131,7 +131,7 @@ head_object rows parent d c (held.List items) h = inr (c, items_view items.now, 
 pub no_tag_object : (rows : List CodeRow) (level : ℕ) (parent : Option Four) (d : Data) → HasNoObject rows parent d → IsTagObject rows (record { level = level; parent = parent; value = d }) → ⊥
 no_tag_object rows level parent d nothing h = elim h.object [ inl o ↦ nothing.no_leaf o.0 o.1 o.2 | inr o ↦ nothing.no_list o.0 o.1 o.2 ]
 
--- a fault below an object, counted from there
+-- a malformed place below an object, counted from the object
 pub stops_below : (rows : List CodeRow) (start next : ℕ) (p : Place) (ps : List Place) (e : JsonError) → next ≡ start + 1 → IsTagObject rows p → Stops rows next ps e → Stops rows start (p ∷ ps) e
 stops_below rows start next p ps Unfit counted object h = h
 stops_below rows start next p ps Syntax counted object h = h
@@ -163,7 +163,7 @@ list_below rows parent level d c ds h =
     let deeper : suc level ≡ level + 1 = omega arith in
     ap (below level) h.object ∙ below_list level c ds h.bytes ∙ ap (λ n. all_below n c ds) deeper
 
--- how far the walk over a list's values has come: what was read, and what a fault among those that are left means
+-- how far the walk over a list's values has come: what was read, and what an error among those left says of all
 pub record IsAt (rows : List CodeRow) (parent : Four) (level start now : ℕ) (all left : Items) (done : List Tree) : Type 0 where
   pub seen : ℕ
   pub counted : now ≡ start + seen
@@ -227,7 +227,7 @@ at_end rows parent level start now all done shallow at =
     let total : at.seen + 0 ≡ length (all_below level parent all) = at.total in
     (subst (λ us. AreRead rows parent level all (trees_of us)) (append-nil done) (at.rest [] (record { objects = refl; tags = tt; fit = refl; shallow = omega arith })), omega arith)
 
--- the value at a place, before those after it
+-- the value at an index, before those after it
 pub left_item : (vs : List Value) (i : ℕ) (v : Value) → i < length vs → v ≡ get_or vs i v → items_view (drop i vs) ≡ item (view v) (items_view (drop (i + 1) vs))
 left_item vs i v within is = ap items_view (drop-cons vs i v within) ∙ ap₂ (λ x n. item (view x) (items_view (drop n vs))) (sym is) (let e : suc i ≡ i + 1 = omega arith in e)
 

@@ -39,7 +39,7 @@ integer_read (negsuc n) h = record {
   number = IsNumber-signed_decimal (negsuc n) (let small = h.sfits in omega arith);
 }
 
--- a JSON value whose outline, as the writer has it, is read back
+-- a JSON value is read back from the writer's text of it
 record IsBack (d : Data) : Type 0 where
   whole : has_float d ≡ false
   numbers : HasNumbers (outline d)
@@ -108,7 +108,7 @@ tag_back t h = object_back (shown_code (tree_code t)) (word_of t) (json_held t) 
 pub has_no_float : (t : Tree) → IsTag t → has_float (json_of t) ≡ false
 has_no_float t h = (tag_back t h).whole
 
--- an object and an array for each level
+-- a tag's value has an object and an array for each level
 leaf_depth : (l : Leaf) → tree.depth (outline (json_leaf l)) ≡ 0
 leaf_depth (U8 n) = refl
 leaf_depth (I8 z) = refl
@@ -147,7 +147,7 @@ text_reads t h shallow =
 pub tag_reads : (rows : List CodeRow) (t : Tree) → IsReadable rows t → Reads rows (compact_text (json_of t)) t
 tag_reads rows t h = record { value = text_reads t h.tag h.shallow; readable = h }
 
--- what was written for a tag is read as the tag
+-- the text written for a tag is read as the tag
 pub reads_of : {E : Type 0} (rows : List CodeRow) (t : Tree) (r : Result (List ℕ) E) → IfOk r (λ text. text ≡ compact_text (json_of t)) → OnOk r (IsTag t) → fits rows None t ≡ true → levels t ≤ 32
     → IfOk r (λ text. Reads rows text t)
 reads_of rows t (Ok text) is tag fit shallow = subst (λ x. Reads rows x t) (sym is) (tag_reads rows t (record { tag = tag; fits = fit; shallow = shallow }))

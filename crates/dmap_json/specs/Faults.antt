@@ -7,8 +7,8 @@ use Rattle.dmap_json.specs.Places.{places, IsFirstFault}
 use Rattle.dmap_json.specs.declared.error.JsonError.{JsonError}
 use Rattle.dmap_json.specs.declared.error.JsonError.TheVariants.{Unfit, Syntax, Shape, Memory}
 
--- the text has no JSON value, or the place of that number is the first in its value that has no tag's object; memory
--- may fail at any time
+-- the text has no JSON value, or the place with this index is the first in its value without a tag's object; an
+-- allocation may fail at any time
 abbrev pub Explains : List CodeRow → List ℕ → JsonError → Type 0
 Explains rows text Unfit = ⊥
 Explains rows text Syntax = read text ≡ None

@@ -1,4 +1,4 @@
--- The parts of a tag's object: which kind has a word, and which value of a kind a JSON value is.
+-- The parts of a tag's object: the name of each kind, and the value that a JSON value is under a kind.
 use Rattle.std.specs.Prelude.{◌≡◌, ◌<◌, ◌^◌, ℕ, ℤ, List, flat_map, true, Option, Some, None, codes, if◌then◌else◌}
 use Rattle.std.specs.Int.{w8, w16, w32, w64}
 use Rattle.std.specs.Int.RustNames.{FitsSigned}
@@ -37,7 +37,7 @@ kind_named word =
     else (if bytes_eq word (codes "version") then Some kind.Version else (if bytes_eq word (codes "list") then Some kind.List
     else (if bytes_eq word (codes "opaque") then Some kind.Opaque else None))))))))))))
 
--- the JSON value is that value of the kind; no list's
+-- the JSON value is that value of the kind, which is not a list's
 abbrev pub IsValueOf : Kind → Data → Value → Type 0
 IsValueOf kind.U8 d v = (n : ℕ) × ((n < 2 ^ 8) × ((d ≡ number (unsigned n)) × (v ≡ value.U8 n)))
 IsValueOf kind.I8 d v = (z : ℤ) × (FitsSigned w8 z × ((d ≡ number (of_integer z)) × (v ≡ value.I8 z)))

@@ -1,4 +1,4 @@
--- A tag as a JSON value: an object of its content code, the word of its kind and its value. A list's value is an array
+-- A tag as a JSON value: an object of its content code, the name of its kind and its value. A list's value is an array
 -- of its members' objects.
 use Rattle.std.specs.Prelude.{List, ℕ, codes, flat_map}
 use Rattle.serde_json.specs.Data.{Data, number, string, array, object, unsigned, Items, no_items, item, member, no_members}

@@ -1,4 +1,4 @@
--- How the values in a JSON value are read one by one.
+-- How the values in a JSON value are read one after another.
 use Rattle.std.specs.Prelude.{◌≡◌, ◌≤◌, ◌+◌, ℕ, List, true, Option}
 use Rattle.serde_json.specs.Data.{Data, array, Items}
 use Rattle.serde_json.specs.View.{items_view}
@@ -19,7 +19,7 @@ use Rattle.dmap_json.specs.declared.head.Head.{Head}
 use Rattle.dmap_json.specs.declared.head.Held.{Held}
 use Rattle.dmap_json.specs.declared.head.Held.TheVariants as held
 
--- what an object says, but for a list's members
+-- the parts of an object, without a list's members
 abbrev pub IsHeld : List CodeRow → Option Four → Data → Four → Held → Type 0
 IsHeld rows parent d c (held.Leaf v) = (l : Leaf) × ((v ≡ value_of l) × IsLeafObject rows parent d c l)
 IsHeld rows parent d c (held.List items) = IsListObject rows parent d c (items_view items.now)
@@ -40,14 +40,14 @@ pub record AreRead (rows : List CodeRow) (parent : Four) (level : ℕ) (ds : Ite
   pub fit : all_fit rows parent ts ≡ true
   pub shallow : level + levels_in ts ≤ 33
 
--- reading stops at one of these places, which are counted from `start`
+-- reading stops at one of these places, whose indices begin at `start`
 abbrev pub Stops : List CodeRow → ℕ → List Place → JsonError → Type 0
 Stops rows start ps Unfit = ⊥
 Stops rows start ps Syntax = ⊥
 Stops rows start ps (Shape index) = (k : ℕ) × (index ≡ start + k) × IsFirstFault rows ps k
 Stops rows start ps Memory = Unit {0}
 
--- the head of a list's object, by its value
+-- the parts of a list's object, by its value
 abbrev pub IsListHeld : Data → Held → Type 0
 IsListHeld d (held.List items) = d ≡ array (items_view items.now)
 IsListHeld d (held.Leaf v) = ⊥
@@ -55,7 +55,7 @@ IsListHeld d (held.Leaf v) = ⊥
 abbrev pub IsListHead : Four → Data → Head → Type 0
 IsListHead c d head = (head.code ≡ c) × IsListHeld d head.held
 
--- the head of another object, by its value
+-- the parts of another object, by its value
 abbrev pub IsLeafHeld : List CodeRow → Option Four → Four → Kind → Data → Held → Type 0
 IsLeafHeld rows parent c kind d (held.Leaf v) = IsValueOf kind d v × (fits rows parent (tree_with c v) ≡ true)
 IsLeafHeld rows parent c kind d (held.List items) = ⊥
@@ -63,7 +63,7 @@ IsLeafHeld rows parent c kind d (held.List items) = ⊥
 abbrev pub IsLeafHead : List CodeRow → Option Four → Four → Kind → Data → Head → Type 0
 IsLeafHead rows parent c kind d head = (head.code ≡ c) × IsLeafHeld rows parent c kind d head.held
 
--- the value is no tag's object
+-- the value is not a tag's object
 pub record HasNoObject (rows : List CodeRow) (parent : Option Four) (d : Data) : Type 0 where
   pub no_leaf : (c : Four) (l : Leaf) → IsLeafObject rows parent d c l → ⊥
   pub no_list : (c : Four) (ds : Items) → IsListObject rows parent d c ds → ⊥

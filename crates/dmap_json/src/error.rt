@@ -3,7 +3,7 @@
 use std::alloc::{AllocError, AllocFailed};
 use thiserror::Error;
 
-/// Why a tag is not written as JSON, or a text not read as a tag.
+/// Errors of `to_json` and `from_json`.
 #[derive(Debug, Drop, PartialEq, Eq, Error)]
 pub enum JsonError {
     /// The tag does not fit the table, or has more than 32 levels.
@@ -12,8 +12,8 @@ pub enum JsonError {
     /// The text is not JSON.
     #[error("the text is not JSON")]
     Syntax,
-    /// The first JSON value, in the place of a tag's object, that is not one, fits the table nowhere there, or is at
-    /// level 33. `index` counts those places from 0, each before the places of its members.
+    /// A JSON value is not the object of a tag that fits the table there, or is at level 33. `index` is that of the
+    /// first such value among those that have to be a tag's object, from 0, each before its members.
     #[error("value {index} is not the object of a tag that fits the table")]
     Shape { index: u64 },
     #[error("out of memory")]

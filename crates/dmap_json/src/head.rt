@@ -1,4 +1,4 @@
-//! What a tag's object says, but for the members of a list.
+//! The parts of a tag's object, without the members of a list.
 
 ghost use Rattle.std.specs.Prelude.{◌≡◌, true, IfOk, MatchOption};
 ghost use Rattle.serde_json.specs.Data.{array, Items};
@@ -32,7 +32,8 @@ pub(crate) enum Held<'a> {
     List(&'a [Json]),
 }
 
-/// What the object of a tag says that stands in a list of code `parent`, `None` at the top.
+/// Returns the parts of a tag's object, or `None` if `json` is not one that fits the table there. `parent` is the
+/// code of the list around it, `None` at the top.
 pub(crate) fn read_head<'a>(
     alloc: Global,
     table: &CodeTable,
@@ -56,7 +57,7 @@ pub(crate) fn read_head<'a>(
     leaf_head(alloc, table, parent, code, kind, object.value)
 }
 
-/// The head of a list.
+/// Returns the parts of a list's object.
 fn list_head<'a>(
     table: &CodeTable,
     parent: Option<Code>,
@@ -78,7 +79,7 @@ fn list_head<'a>(
     }
 }
 
-/// The head of a tag of another kind.
+/// Returns the parts of another tag's object.
 fn leaf_head<'a>(
     alloc: Global,
     table: &CodeTable,

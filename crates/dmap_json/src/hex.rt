@@ -1,4 +1,4 @@
-//! Bytes and content codes as text, and read back.
+//! Writes bytes and content codes as text, and reads them back.
 
 ghost use Rattle.std.specs.Prelude.{◌≡◌, ◌<◌, ◌++◌, ◌∷◌, [], ℕ, List, flat_map, false, if◌then◌else◌, Some, None, IfOk, MatchOption, OnOk};
 ghost use Rattle.std.specs.Char.{digit_char, is_ascii_graphic};
@@ -11,7 +11,7 @@ use dmap_show::show_code;
 use dmap_tags::{Code, Text};
 use std::alloc::{AllocError, Global};
 
-/// A content code as a text: its four characters, or an `x` and its hex digits where not all are from `!` to `~`.
+/// Returns a content code as text: its four characters if all are from `!` to `~`, otherwise an `x` and its hex digits.
 #[tactic(auto, using(crate::proofs::Hexed::code_utf8))]
 pub(crate) fn code_text(alloc: Global, code: Code) -> Result<Text, AllocError>
     ensures text { IfOk result (λ text. text ≡ shown_code code) }
@@ -25,7 +25,7 @@ pub(crate) fn code_text(alloc: Global, code: Code) -> Result<Text, AllocError>
     }
 }
 
-/// Bytes as a text of two lower-case hex digits each.
+/// Returns bytes as text, two lower-case hex digits for each.
 #[tactic(auto, using(crate::proofs::Hexed::hex_utf8))]
 pub(crate) fn hex_text(alloc: Global, bytes: &[u8]) -> Result<Text, AllocError>
     ensures text { IfOk result (λ text. text ≡ flat_map hex bytes.now) }
@@ -41,7 +41,7 @@ pub(crate) fn hex_text(alloc: Global, bytes: &[u8]) -> Result<Text, AllocError>
     }
 }
 
-/// The lower-case hex digit of a number below 16.
+/// Returns the lower-case hex digit of a number below 16.
 fn hex_digit(n: u8) -> u8
     requires { n < 16 }
     ensures { result ≡ digit_char n }
@@ -49,7 +49,7 @@ fn hex_digit(n: u8) -> u8
     if n < 10 { b'0' + n } else { b'a' + (n - 10) }
 }
 
-/// The number of a lower-case hex digit.
+/// Returns the number of a lower-case hex digit.
 fn digit_value(digit: u8) -> Option<u8>
     ensures { MatchOption result ((n : ℕ) → n < 16 → digit ≡ digit_char n → ⊥) (λ n. (n < 16) × (digit ≡ digit_char n)) }
 {
@@ -60,7 +60,7 @@ fn digit_value(digit: u8) -> Option<u8>
     }
 }
 
-/// The byte of two lower-case hex digits.
+/// Returns the byte of two lower-case hex digits.
 fn byte_from(high: u8, low: u8) -> Option<u8>
     ensures { MatchOption result ((b : ℕ) → b < 256 → high ∷ low ∷ [] ≡ hex b → ⊥) (λ b. (b < 256) × (high ∷ low ∷ [] ≡ hex b)) }
 {
@@ -69,7 +69,7 @@ fn byte_from(high: u8, low: u8) -> Option<u8>
     Some(high * 16 + low)
 }
 
-/// The byte of the two hex digits in front, and the digits after them.
+/// Returns the byte of the first two hex digits, and the digits after them.
 fn first_byte(digits: &[u8]) -> Option<(u8, &[u8])>
     ensures { MatchOption result ((b : ℕ) (more : List ℕ) → b < 256 → digits.now ≡ hex b ++ more → ⊥)
         (λ r. (r.0 < 256) × (digits.now ≡ hex r.0 ++ r.1.now)) }
@@ -80,7 +80,7 @@ fn first_byte(digits: &[u8]) -> Option<(u8, &[u8])>
     }
 }
 
-/// The bytes of lower-case hex digits.
+/// Returns the bytes of lower-case hex digits.
 pub(crate) fn bytes_from(alloc: Global, digits: &[u8]) -> Result<Option<Vec<u8>>, AllocError>
     ensures { IfOk result (λ r. MatchOption r ((bytes : List ℕ) → AreBytes bytes → digits.now ≡ flat_map hex bytes → ⊥)
         (λ v. AreBytes v.items × (digits.now ≡ flat_map hex v.items))) }
@@ -97,7 +97,7 @@ pub(crate) fn bytes_from(alloc: Global, digits: &[u8]) -> Result<Option<Vec<u8>>
     Ok(Some(bytes))
 }
 
-/// The content code that a text shows.
+/// Returns the content code of a text that `code_text` returns for it.
 pub(crate) fn code_from(text: &str) -> Option<Code>
     ensures { MatchOption result ((c : Four) → IsCode c → text.now ≡ shown_code c → ⊥)
         (λ c. IsCode c × (text.now ≡ shown_code c)) }
@@ -109,7 +109,7 @@ pub(crate) fn code_from(text: &str) -> Option<Code>
     }
 }
 
-/// A code whose characters are from `!` to `~`.
+/// Returns the code if its characters are from `!` to `~`.
 fn graphic_code(code: Code) -> Option<Code>
     ensures held { IsCode code }
     ensures shown { result ≡ (if list_all is_ascii_graphic (code_bytes code) then Some code else None) }
@@ -117,7 +117,7 @@ fn graphic_code(code: Code) -> Option<Code>
     if is_graphic(code) { Some(code) } else { None }
 }
 
-/// All characters of a code are from `!` to `~`.
+/// Returns whether all characters of a code are from `!` to `~`.
 fn is_graphic(code: Code) -> bool
     ensures { result ≡ list_all is_ascii_graphic (code_bytes code) }
 {
@@ -125,7 +125,7 @@ fn is_graphic(code: Code) -> bool
     bytes.iter().all(|byte| byte.is_ascii_graphic())
 }
 
-/// The code of eight hex digits, not all of whose characters are from `!` to `~`.
+/// Returns the code of eight hex digits, if one of its characters is not from `!` to `~`.
 fn hex_code(digits: &[u8]) -> Option<Code>
     ensures { MatchOption result ((c : Four) → IsCode c → list_all is_ascii_graphic (code_bytes c) ≡ false → digits.now ≡ flat_map hex (code_bytes c) → ⊥)
         (λ c. IsCode c × ((list_all is_ascii_graphic (code_bytes c) ≡ false) × (digits.now ≡ flat_map hex (code_bytes c)))) }
@@ -134,7 +134,7 @@ fn hex_code(digits: &[u8]) -> Option<Code>
     if is_graphic(code) { None } else { Some(code) }
 }
 
-/// The code of eight hex digits.
+/// Returns the code of eight hex digits.
 fn four_bytes(digits: &[u8]) -> Option<Code>
     ensures { MatchOption result ((c : Four) → IsCode c → digits.now ≡ flat_map hex (code_bytes c) → ⊥)
         (λ c. IsCode c × (digits.now ≡ flat_map hex (code_bytes c))) }

@@ -21,12 +21,12 @@ pub fn a_text_is_one_tag()
     ensures { (rows : List CodeRow) (text : List ℕ) (t u : Tree) → Reads rows text t → Reads rows text u → t ≡ u }
 {}
 
-/// A text that is read as a tag is refused only where an allocation fails.
+/// A text that reads as a tag is refused only if an allocation fails.
 pub fn a_tag_has_no_fault()
     ensures { (rows : List CodeRow) (text : List ℕ) (t : Tree) (e : JsonError) → Reads rows text t → Explains rows text e → e ≡ Memory }
 {}
 
-/// There is one cause at most to refuse a text, beside a failed allocation.
+/// A text is refused for at most one cause, apart from a failed allocation.
 pub fn a_text_has_one_fault()
     ensures { (rows : List CodeRow) (text : List ℕ) (e f : JsonError) → Explains rows text e → Explains rows text f → e ≢ Memory → f ≢ Memory → e ≡ f }
 {}

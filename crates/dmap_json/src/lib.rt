@@ -1,4 +1,4 @@
-//! Tags as JSON: an object of the content code, the word of the kind and the value (`specs/TagObject.antt`), and the
+//! Tags as JSON: an object of the content code, the name of the kind and the value (`specs/TagObject.antt`), and the
 //! tag read back from any text of that JSON value.
 #![tactic(auto)]
 

@@ -7,7 +7,7 @@ ghost use Rattle.dmap_json.specs.TagObject.{tag_object};
 
 use serde_json::Value as Json;
 
-/// What a tag's object has: exactly the keys `code`, `kind` and `value`, the first two with texts.
+/// The members of a tag's object. It has exactly the keys `code`, `kind` and `value`, the first two with strings.
 #[derive(Clone, Copy)]
 pub(crate) struct TagObject<'a> {
     pub(crate) code: &'a str,
@@ -15,7 +15,7 @@ pub(crate) struct TagObject<'a> {
     pub(crate) value: &'a Json,
 }
 
-/// The members of a JSON value that has those of a tag's object.
+/// Returns the members of `json`, or `None` if it does not have exactly those of a tag's object.
 pub(crate) fn object_from(json: &Json) -> Option<TagObject<'_>>
     ensures { MatchOption result ((code kind : List ℕ) (value : Data) → view json.now ≡ tag_object code kind value → ⊥)
         (λ o. view json.now ≡ tag_object o.code.now o.kind.now (view o.value.now)) }

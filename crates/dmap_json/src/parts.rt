@@ -15,7 +15,7 @@ use dmap_tags::{Bytes, Kind, Text, Value};
 use serde_json::Value as Json;
 use std::alloc::{AllocError, Global};
 
-/// The kind of a word.
+/// Returns the kind with the name `word`.
 pub(crate) fn kind_from(word: &str) -> Option<Kind>
     ensures { result ≡ kind_named word.now }
 {
@@ -51,7 +51,7 @@ pub(crate) fn kind_from(word: &str) -> Option<Kind>
     }
 }
 
-/// The value of a kind that a JSON value is. None is a list's.
+/// Returns the value that `json` is under `kind`, or `None` if it is not one. No value is a list's.
 pub(crate) fn value_from(
     alloc: Global,
     kind: Kind,
@@ -76,14 +76,14 @@ pub(crate) fn value_from(
     }
 }
 
-/// A whole number that is not below 0.
+/// Returns a whole number from 0 to 2^64 - 1.
 fn unsigned(json: &Json) -> Option<u64>
     ensures { MatchOption result ((n : ℕ) → view json.now ≡ number (unsigned n) → ⊥) (λ n. view json.now ≡ number (unsigned n)) }
 {
     json.as_u64()
 }
 
-/// A whole number that 64 bits hold with its sign.
+/// Returns a whole number that fits 64 bits with a sign.
 fn signed(json: &Json) -> Option<i64>
     ensures { MatchOption result ((z : ℤ) → FitsSigned w64 z → view json.now ≡ number (of_integer z) → ⊥) (λ z. view json.now ≡ number (of_integer z)) }
 {
@@ -94,7 +94,7 @@ fn signed(json: &Json) -> Option<i64>
     }
 }
 
-/// A whole number below 0.
+/// Returns a whole number below 0 that fits 64 bits with a sign.
 fn negative(json: &Json) -> Option<i64>
     ensures { MatchOption result ((n : ℕ) → view json.now ≡ number (below_zero (negsuc n)) → ⊥) (λ z. view json.now ≡ number (of_integer z)) }
 {
@@ -104,7 +104,7 @@ fn negative(json: &Json) -> Option<i64>
     }
 }
 
-/// A whole number of 32 bits.
+/// Returns a whole number of 32 bits.
 fn u32_from(json: &Json) -> Option<u32>
     ensures { MatchOption result ((n : ℕ) → n < 2 ^ 32 → view json.now ≡ number (unsigned n) → ⊥) (λ n. (n < 2 ^ 32) × (view json.now ≡ number (unsigned n))) }
 {

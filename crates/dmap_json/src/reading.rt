@@ -1,4 +1,4 @@
-//! Tags read from JSON.
+//! Reads tags from JSON.
 
 ghost use Rattle.std.specs.Prelude.{◌≡◌, ◌≤◌, ◌+◌, length, IfOk, IfErr, OnOk, MatchResult, Some};
 ghost use Rattle.serde_json.specs.View.{view, items_view};
@@ -21,11 +21,12 @@ use std::alloc::Global;
 /// The most levels of a tag that is read.
 const MOST_LEVELS: u64 = 32;
 
-/// The tag whose JSON value a text has: in any spelling of JSON, its members in any order, and of equal keys the last.
+/// Returns the tag whose JSON value a text has. Blanks, escapes and the order of keys are free, and of equal keys the
+/// last counts.
 ///
 /// # Errors
-/// Returns `Syntax` if the text is not JSON, `Shape` with the number of the first JSON value that is not the object of
-/// a tag where one is due, and `Memory` if an allocation fails.
+/// Returns `Syntax` if the text is not JSON, `Shape` with the index of the first JSON value that has to be a tag's
+/// object and is not, and `Memory` if an allocation fails.
 pub fn from_json(alloc: Global, text: &str, table: &CodeTable) -> Result<Tag, JsonError>
     ensures read { IfOk result (λ tag. Reads table.now text.now tag) }
     ensures complete { (t : Tree) → Reads table.now text.now t → MatchResult result (λ tag. tag ≡ t) (λ e. e ≡ JsonError.Memory) }
@@ -38,7 +39,7 @@ pub fn from_json(alloc: Global, text: &str, table: &CodeTable) -> Result<Tag, Js
     }
 }
 
-/// The tag of the object at a level, from 1 at the top. `count` counts the objects that were looked for.
+/// Returns the tag of an object at `level`, from 1 at the top. `count` counts the values that have to be objects.
 #[cycle(read)]
 fn read_tag(
     alloc: Global,
@@ -64,7 +65,7 @@ fn read_tag(
     }
 }
 
-/// The tag of an object that says so much, with the tags in its list.
+/// Returns the tag with these parts, and with the tags in its list.
 #[cycle(read)]
 fn read_held(
     alloc: Global,
@@ -91,7 +92,7 @@ fn read_held(
     }
 }
 
-/// The tags of a list's objects, which are at that level.
+/// Returns the tags of a list's objects, which are at `level`.
 #[cycle(read)]
 fn read_tags(
     alloc: Global,

@@ -1,4 +1,4 @@
-//! Tags written as JSON.
+//! Writes tags as JSON.
 
 ghost use Rattle.std.specs.Prelude.{◌≡◌, ◌≢◌, ◌⊎◌, ◌↔◌, ◌∷◌, ◌&&◌, nat_le, flat_map, true, false, None, List, ℕ, IfOk, IfErr, OnOk, Err};
 ghost use Rattle.std.specs.Str.{is_utf8};
@@ -26,7 +26,8 @@ use std::alloc::Global;
 /// The most levels of a tag that is written.
 const MOST_LEVELS: u64 = 32;
 
-/// The tag as JSON without spaces: an object of its code, its kind and its value. `from_json` reads the tag back.
+/// Returns the tag as JSON without blanks: an object of its code, its kind and its value. `from_json` reads the tag
+/// back.
 ///
 /// # Errors
 /// Returns `Unfit` if the tag does not fit `table` at the top or has more than 32 levels, and `Memory` if an allocation
@@ -43,20 +44,20 @@ pub fn to_json(alloc: Global, tag: &Tag, table: &CodeTable) -> Result<Text, Json
     written(alloc, tag)
 }
 
-/// The text of a tag.
+/// Returns the text of a tag.
 fn written(alloc: Global, tag: &Tag) -> Result<Text, JsonError>
     ensures text { IfOk result (λ text. text ≡ compact_text (json_of tag.now)) }
     ensures tag { OnOk result (IsTag tag.now) }
     ensures refused { IfErr result (λ e. e ≡ JsonError.Memory) }
 {
-    // No proof says that the kit's writer gives UTF-8, so that failure is not told apart.
+    // No proof says that the kit's writer returns UTF-8, so other bytes become `Memory`.
     match Text::from_utf8(json_bytes(alloc, tag)?) {
         Ok(text) => Ok(text),
         Err(_) => Err(JsonError::Memory),
     }
 }
 
-/// The bytes of that text.
+/// Returns the bytes of that text.
 fn json_bytes(alloc: Global, tag: &Tag) -> Result<Vec<u8>, JsonError>
     ensures text { IfOk result (λ bytes. bytes.items ≡ compact_text (json_of tag.now)) }
     ensures tag { OnOk result (IsTag tag.now) }
@@ -68,7 +69,7 @@ fn json_bytes(alloc: Global, tag: &Tag) -> Result<Vec<u8>, JsonError>
     }
 }
 
-/// The tag has at most so many levels.
+/// Returns whether the tag has at most `most` levels.
 #[cycle(levels)]
 fn has_levels(tag: &Tag, most: u64) -> bool
     ensures { result ≡ nat_le (levels tag.now) most }
@@ -94,7 +95,7 @@ fn all_have_levels(tags: &[Tag], most: u64) -> bool
     true
 }
 
-/// A tag that a serializer is sent.
+/// A tag to be serialized.
 #[derive(Drop)]
 struct SentTag<'a> {
     alloc: Global,
@@ -177,7 +178,7 @@ fn str_of(text: &Text) -> &str
     text.as_str()
 }
 
-/// The word of a value's kind.
+/// Returns the name of a value's kind.
 fn word(value: &Value) -> &'static str
     ensures { (c : Four) → result.now ≡ word_of (tree_with c value.now) }
 {

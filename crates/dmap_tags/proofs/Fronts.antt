@@ -1,8 +1,8 @@
--- Rows of bytes that begin with others.
+-- Lists of bytes that begin with others.
 use Rattle.std.proofs.Common.{◌≡◌, ◌++◌, ℕ, List, [], ◌∷◌, take, length, refl, ap}
 use Rattle.dmap_tags.specs.Begins.{Begins}
 
--- what begins with a row begins with that row's front
+-- if a second list begins with a first and a third with the second, the third begins with the first
 pub begins_more : (xs ys zs : List ℕ) → Begins xs ys → Begins ys zs → Begins xs zs
 begins_more [] ys zs h k = refl
 begins_more (x ∷ xs) [] zs h k = absurd (cc)
@@ -13,7 +13,7 @@ begins_more (x ∷ xs) (y ∷ ys) (z ∷ zs) h k =
     let rest : take (length xs) zs ≡ xs = begins_more xs ys zs f g in
     cc
 
--- a row begins with itself, and with what it was before something was added
+-- a list with something appended begins with the list
 pub begins_append : (xs ys : List ℕ) → Begins xs (xs ++ ys)
 begins_append [] ys = refl
 begins_append (x ∷ xs) ys = ap (λ s. x ∷ s) (begins_append xs ys)

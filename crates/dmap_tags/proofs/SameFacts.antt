@@ -11,7 +11,7 @@ use Rattle.dmap_tags.specs.SameTags.{are_same_parts, is_same_value, is_same_tag,
 
 -- ---- codes and values
 
--- codes that pass the test are equal, and each passes with itself
+-- codes that pass the test are equal, and each code passes with itself
 pub one_code : (c d : Four) → is_code c d ≡ true → c ≡ d
 one_code c d h =
     let rest = and_parts (c.0 == d.0) _ h in

@@ -1,4 +1,4 @@
--- A row of bytes begins with another.
+-- A list of bytes begins with another.
 use Rattle.std.specs.Prelude.{◌≡◌, ℕ, List, take, length}
 
 abbrev pub Begins : List ℕ → List ℕ → Type 0

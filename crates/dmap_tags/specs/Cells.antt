@@ -1,5 +1,5 @@
--- How proofs tell one tree from another: a tree as a row of cells, where a list is its code, the cells of its
--- members and an end. It serves no contract by itself.
+-- A tree as a list of cells, in which a list is its code, the cells of its members and an end. Equality of trees
+-- is decided on their cells. Only the form in which trees are stored needs this, no contract cites it.
 use Rattle.std.specs.Prelude.{◌≡◌, ℕ, ℤ, pos, List, [], ◌∷◌, ◌⊎◌, ◌==◌, if◌then◌else◌, refl}
 use Rattle.std.proofs.Common.{inl, inr, ap, ◌∙◌}
 use Rattle.std.specs.Coded.{Coded, code_by, coded×, coded⊎, coded_ℕ, coded_ℤ, coded_list}
@@ -7,7 +7,7 @@ use base.Stored.{coded_unit}
 use Rattle.dmap_tags.specs.Codes.{Four, four_code}
 use Rattle.dmap_tags.specs.Tree.{Leaf, U8, I8, U16, I16, U32, I32, U64, I64, Text, Date, Version, Opaque, Tree, leaf, list, Trees, none, more}
 
--- the number of the kind, the value where it is unsigned, where it is signed, and where it is bytes
+-- the number of the kind, the value of an unsigned kind, that of a signed kind, and that of a kind of bytes
 abbrev pub Parts : Type 0
 Parts = ℕ × (ℕ × (ℤ × List ℕ))
 
@@ -48,7 +48,7 @@ leaf_again (Opaque bytes) = refl
 abbrev pub leaf_code : Coded Leaf
 leaf_code = code_by Parts (coded× coded_ℕ (coded× coded_ℕ (coded× coded_ℤ (coded_list coded_ℕ)))) leaf_parts parts_leaf leaf_again
 
--- a leaf, a list's beginning, or a list's end
+-- a leaf, the beginning of a list, or the end of one
 abbrev pub Cell : Type 0
 Cell = (Four × Leaf) ⊎ (Four ⊎ Unit {0})
 
@@ -73,7 +73,7 @@ abbrev pub fronts : Trees → Read → Read
 fronts none read = read
 fronts (more t ts) read = front t (fronts ts read)
 
--- a list's trees are closed by its code
+-- the trees up to an end become a list with the code
 abbrev pub closed : Four → Trees → List Trees → Read
 closed c ts [] = record { here = more (list c ts) none; around = [] }
 closed c ts (next ∷ around) = record { here = more (list c ts) next; around = around }

@@ -1,4 +1,4 @@
--- A content code of the program is given back by the four bytes that contracts see.
+-- A content code of the program is determined by the four bytes that contracts see.
 use Rattle.std.specs.Prelude.{◌≡◌}
 use Rattle.std.proofs.Common.{ap}
 use Rattle.dmap_tags.specs.Codes.{code_of, code_bytes, AreFourBytes, four_again}

@@ -11,19 +11,19 @@ Four = ℕ × ℕ × ℕ × ℕ
 abbrev pub code_bytes : Four → List ℕ
 code_bytes c = c.0 ∷ c.1 ∷ c.2 ∷ c.3 ∷ []
 
--- the code that four bytes spell
+-- the code whose bytes are these four
 abbrev pub code_of : List ℕ → Four
 code_of bytes = (get_or bytes 0 0, get_or bytes 1 0, get_or bytes 2 0, get_or bytes 3 0)
 
--- the code of a literal, as "mlit"
+-- the code with the characters of a literal, as "mlit"
 abbrev pub code : String → Four
 code s = code_of (codes s)
 
--- whether two codes are one
+-- whether two codes are equal
 abbrev pub is_code : Four → Four → Bool
 is_code a b = (a.0 == b.0) && ((a.1 == b.1) && ((a.2 == b.2) && (a.3 == b.3)))
 
--- the number that the four bytes spell, as a 32-bit value sends it
+-- how codes are stored: as four numbers
 abbrev pub four_code : Coded Four
 four_code =
     code_by (ℕ × (ℕ × (ℕ × ℕ))) (coded× coded_ℕ (coded× coded_ℕ (coded× coded_ℕ coded_ℕ)))
@@ -34,7 +34,7 @@ pub record AreFourBytes (bytes : List ℕ) : Type 0 where
   pub count : length bytes ≡ 4
   pub each : (i : ℕ) → get_or bytes i 0 < 256
 
--- four bytes are given back by their code
+-- the bytes of the code of four bytes are these four
 pub four_again : (bytes : List ℕ) → length bytes ≡ 4 → code_bytes (code_of bytes) ≡ bytes
 four_again [] h = absurd (cc)
 four_again (a ∷ []) h = absurd (omega arith)

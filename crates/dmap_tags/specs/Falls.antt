@@ -1,4 +1,4 @@
--- What a tag holds is smaller than the tag.
+-- The contents of a tag are smaller than the tag.
 use Rattle.std.specs.Prelude.{◌+◌, ◌≤◌, max, List, [], ◌∷◌}
 use Rattle.std.proofs.Common.{arith}
 use denote.Param.Weighed.{most}
@@ -14,7 +14,7 @@ pub most_within : (ts : List Tree) → most (λ t. size_of t + 1) ts ≤ sizes_o
 most_within [] = omega arith
 most_within (t ∷ ts) = omega (arith, most_within ts)
 
--- no list of tags is as large as the tag that holds it
+-- a list of tags is smaller than the tag that holds it
 pub value_falls : (c : Four) (v : Value) → max (deep-Value v) 0 ≤ size_of (tree_with c v)
 value_falls c (U8 n) = omega arith
 value_falls c (I8 z) = omega arith

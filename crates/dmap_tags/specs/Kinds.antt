@@ -1,4 +1,4 @@
--- The kinds of values and the numbers by which /content-codes tells them.
+-- The kinds of values and their numbers in /content-codes.
 use Rattle.std.specs.Prelude.{◌≡◌, ◌<◌, ◌⊎◌, ℕ, Bool, true, false, Option, Some, None}
 use Rattle.dmap_tags.specs.declared.kinds.Kind.{Kind}
 use Rattle.dmap_tags.specs.declared.kinds.Kind.TheVariants.{U8, I8, U16, I16, U32, I32, U64, I64, Text, Date, Version, List, Opaque}
@@ -18,11 +18,11 @@ kind_number Version = Some 11
 kind_number List = Some 12
 kind_number Opaque = None
 
--- the kind of that number, and opaque where no kind has it
+-- the kind with that number, or opaque if no kind has it
 abbrev pub IsKindOf : ℕ → Kind → Type 0
 IsKindOf n kind = (kind_number kind ≡ Some n) ⊎ ((kind ≡ Opaque) × ((n ≡ 0) ⊎ (12 < n)))
 
--- the kind whose values are tags
+-- whether the values of a kind are tags
 abbrev pub is_list : Kind → Bool
 is_list List = true
 is_list U8 = false

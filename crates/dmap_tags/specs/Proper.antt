@@ -18,7 +18,7 @@ IsProper (Date n) = n < 2 ^ 32
 IsProper (Version n) = n < 2 ^ 32
 IsProper (Opaque bytes) = Unit {0}
 
--- a tag all of whose values are such
+-- a tag whose values are all proper
 abbrev mutual
   pub IsProperTag : Tree → Type 0
   IsProperTag (leaf c l) = IsProper l

@@ -1,4 +1,4 @@
--- The tree that a tag of the program stands for.
+-- The tree that represents a tag of the program.
 use Rattle.dmap_tags.specs.Codes.{Four}
 use Rattle.dmap_tags.specs.Tree as tree
 use Rattle.dmap_tags.specs.Tree.{Tree, trees_of, size_of, sizes_of}

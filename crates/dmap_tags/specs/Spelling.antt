@@ -1,5 +1,5 @@
--- A tag has one spelling: its code, the length of its payload in four bytes, and the payload. A number's payload
--- is its bytes, the highest first; a text's and an opaque value's are its bytes; a list's are its members' spellings.
+-- A tag has one encoding: its code, the length of its payload in four bytes, and the payload. A number's payload
+-- is its bytes, big-endian; that of a text or an opaque value is its bytes; that of a list is its members' encodings.
 use Rattle.std.specs.Prelude.{ℕ, List, [], ◌++◌, length, Bool, true, ◌&&◌, nat_le, Option, Some, None, if◌then◌else◌}
 use Rattle.std.specs.Int.{w8, w16, w32, w64, to_be_bytes, cast_unsigned}
 use Rattle.dmap_tags.specs.Codes.{Four, code_bytes}
@@ -19,7 +19,7 @@ leaf_payload (Date n) = to_be_bytes w32 n
 leaf_payload (Version n) = to_be_bytes w32 n
 leaf_payload (Opaque bytes) = bytes
 
--- a code, and a payload with its length before it
+-- a code, the length of a payload and the payload
 abbrev pub framed : Four → List ℕ → List ℕ
 framed c payload = code_bytes c ++ to_be_bytes w32 (length payload) ++ payload
 
@@ -35,11 +35,11 @@ abbrev mutual
 abbrev pub spelling : Tree → List ℕ
 spelling t = framed (tree_code t) (payload t)
 
--- the longest payload of which four bytes can tell the length
+-- the greatest length that fits four bytes
 abbrev pub longest : ℕ
 longest = 4294967295
 
--- no payload in the tag is longer than its length can tell
+-- no payload in the tag is too long for its length
 abbrev mutual
   pub is_spellable : Tree → Bool
   is_spellable (leaf c l) = nat_le (length (leaf_payload l)) longest
@@ -49,6 +49,6 @@ abbrev mutual
   are_spellable none = true
   are_spellable (more t ts) = is_spellable t && are_spellable ts
 
--- how many bytes the spelling has
+-- the length of the encoding, None if a payload is too long
 abbrev pub spelling_length : Tree → Option ℕ
 spelling_length t = if is_spellable t then Some (length (spelling t)) else None

@@ -2,7 +2,7 @@
 use Rattle.std.specs.Prelude.{ℕ, ℤ, List, [], ◌∷◌, ◌+◌, suc, max}
 use Rattle.dmap_tags.specs.Codes.{Four}
 
--- the value of a tag that is no list
+-- the value of a tag that is not a list
 pub data Leaf : Type 0 where
   U8 : (n : ℕ) → Leaf
   I8 : (z : ℤ) → Leaf
@@ -39,7 +39,7 @@ abbrev pub tree_code : Tree → Four
 tree_code (leaf c l) = c
 tree_code (list c ts) = c
 
--- how large a tag is: larger than what is in it
+-- a size for recursion: a tag is larger than its contents
 abbrev mutual
   pub size_of : Tree → ℕ
   size_of (leaf c l) = 1
@@ -49,7 +49,7 @@ abbrev mutual
   sizes_of none = 0
   sizes_of (more t ts) = suc (size_of t + sizes_of ts)
 
--- how many levels of tags there are, a tag alone having one
+-- how many levels of tags there are; a leaf has one
 abbrev mutual
   pub levels : Tree → ℕ
   levels (leaf c l) = 1

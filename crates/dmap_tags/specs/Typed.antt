@@ -1,5 +1,5 @@
--- What a payload stands for under a kind: a number where it has exactly the kind's bytes, a text where it is
--- UTF-8, and else bytes without a meaning of their own.
+-- The value of a payload under a kind: a number if it has exactly the kind's bytes, a text if it is UTF-8, and
+-- otherwise opaque bytes.
 use Rattle.std.specs.Prelude.{ℕ, List, length, ◌==◌, Option, Some, None, unwrap_or, if◌then◌else◌}
 use Rattle.std.specs.Int.{w8, w16, w32, w64, from_be_bytes, cast_signed}
 use Rattle.std.specs.Str.{is_utf8}
@@ -35,7 +35,7 @@ text_at _ payload = tree.Opaque payload
 abbrev pub leaf_at : Kind → List ℕ → Leaf
 leaf_at k payload = unwrap_or (number_at k payload) (text_at k payload)
 
--- a leaf as the program has it
+-- a leaf as a value of the program
 abbrev pub value_of : Leaf → Value
 value_of (tree.U8 n) = value.U8 n
 value_of (tree.I8 z) = value.I8 z

@@ -4,7 +4,7 @@ ghost use Rattle.std.specs.Prelude.{◌≡◌};
 
 use std::marker::Model;
 
-/// The four bytes that open a tag and name what it holds, as `mlit` (DMAP's content codes).
+/// The four bytes that begin a tag and name its value, as `mlit` (DMAP's content codes).
 #[derive(Clone, Copy, Debug, PartialEq, Eq, PartialOrd, Ord)]
 pub struct Code(pub [u8; 4]);
 

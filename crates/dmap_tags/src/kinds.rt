@@ -2,7 +2,7 @@
 
 ghost use Rattle.std.specs.Prelude.{◌≡◌};
 
-/// The kind of a tag's value. `List` holds tags, `Opaque` bytes without a meaning of their own.
+/// The kind of a tag's value. A `List` has tags, an `Opaque` value has bytes that no kind interprets.
 #[derive(Clone, Copy, Debug, PartialEq, Eq)]
 pub enum Kind {
     U8,
@@ -23,7 +23,7 @@ pub enum Kind {
 impl Kind {
     ghost use Rattle.dmap_tags.specs.Kinds.{kind_number, IsKindOf};
 
-    /// The number that `/content-codes` gives for the kind, 1 to 12.
+    /// Returns the kind's number in `/content-codes`, 1 to 12, or `None` for `Opaque`.
     pub fn number(self) -> Option<u16>
         ensures { result ≡ kind_number self }
     {
@@ -44,7 +44,7 @@ impl Kind {
         }
     }
 
-    /// The kind of a number that `/content-codes` gave.
+    /// Returns the kind with number `n` in `/content-codes`, or `Opaque` if there is none.
     pub fn of_number(n: u16) -> Kind
         ensures { IsKindOf n result }
     {

@@ -1,4 +1,4 @@
-//! DMAP tags: a tag is a content code with a value or with further tags, and has one spelling in bytes.
+//! DMAP tags: a tag is a content code with a value or with further tags, and has one encoding in bytes.
 //! Contracts see a tag as a plain tree (`specs/Tree.antt`), and its bytes by `specs/Spelling.antt`.
 #![tactic(auto)]
 

@@ -1,4 +1,4 @@
-//! Texts and byte strings, as payloads carry them.
+//! Texts and byte strings in payloads.
 
 ghost use Rattle.std.specs.Prelude.{◌≡◌, ℕ, List, IfOk, MatchResult, string_bytes, true, false};
 ghost use Rattle.std.specs.Str.{is_utf8};
@@ -19,7 +19,7 @@ impl Model for Text {
 }
 
 impl Text {
-    /// The text that is handed in.
+    /// Returns a copy of `text`.
     pub fn of(alloc: Global, text: &str) -> Result<Text, AllocError>
         ensures { IfOk result (λ t. t ≡ text.now) }
     {
@@ -28,7 +28,7 @@ impl Text {
         })
     }
 
-    /// Takes the bytes over as they are; gives them back where they aren't UTF-8.
+    /// Returns `bytes` as a text, without copying them, or as `Bytes` if they aren't UTF-8.
     pub fn from_utf8(bytes: Vec<u8>) -> Result<Text, Bytes>
         ensures { MatchResult result (λ t. (t ≡ bytes.items) × (is_utf8 bytes.items ≡ true)) (λ b. (b ≡ bytes.items) × (is_utf8 bytes.items ≡ false)) }
     {
@@ -46,7 +46,7 @@ impl Text {
         self.text.as_str()
     }
 
-    /// A text of its own with the same bytes.
+    /// Returns a copy of the text.
     pub fn copy(&self) -> Result<Text, AllocError>
         ensures { IfOk result (λ t. t ≡ self.now) }
     {
@@ -56,7 +56,7 @@ impl Text {
     }
 }
 
-/// Bytes without a meaning of their own.
+/// Bytes that no kind interprets.
 #[derive(Debug, Drop)]
 pub struct Bytes {
     bytes: Vec<u8>,
@@ -69,7 +69,7 @@ impl Model for Bytes {
 }
 
 impl Bytes {
-    /// The bytes that are handed in.
+    /// Returns a copy of `bytes`.
     pub fn of(alloc: Global, bytes: &[u8]) -> Result<Bytes, AllocError>
         ensures { IfOk result (λ b. b ≡ bytes.now) }
     {
@@ -84,7 +84,7 @@ impl Bytes {
         self.bytes.as_slice()
     }
 
-    /// The same bytes in room of their own.
+    /// Returns a copy of the bytes.
     pub fn copy(&self) -> Result<Bytes, AllocError>
         ensures { IfOk result (λ b. b ≡ self.now) }
     {
@@ -94,7 +94,7 @@ impl Bytes {
     }
 }
 
-/// Takes the vector over as it is.
+/// Takes ownership of the vector, without copying it.
 impl From<Vec<u8>> for Bytes {
     ghost from_gives = { λ v b. b ≡ v.items };
 

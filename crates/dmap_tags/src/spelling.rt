@@ -1,4 +1,4 @@
-//! The spelling of tags in bytes.
+//! The encoding of tags in bytes.
 
 ghost use Rattle.std.specs.Prelude.{◌≡◌, ◌≤◌, ◌+◌, ◌-◌, ◌++◌, ◌↔◌, ◌&&◌, true, false, nat_le, length, take, drop, OnOk, OnErr, vec_len, Some, None, Err, if◌then◌else◌};
 ghost use Rattle.std.specs.Int.{w32, to_be_bytes};
@@ -10,10 +10,10 @@ use crate::tree::{Tag, Value};
 use std::alloc::AllocError;
 use thiserror::Error;
 
-/// Why a tag was not spelled.
+/// Errors of `encode_into`.
 #[derive(Debug, Drop, Error)]
 pub enum TagError {
-    /// A payload is longer than its four bytes of length can tell.
+    /// A payload is longer than its four bytes of length can state.
     #[error("a payload is longer than 4,294,967,295 bytes")]
     TooLong,
     #[error("out of memory")]
@@ -31,14 +31,15 @@ impl From<AllocError> for TagError {
     }
 }
 
-/// The number of bytes of a tag's spelling, `None` where a payload in it is too long to spell.
+/// Returns the length of a tag's encoding in bytes, or `None` if a payload in the tag is too long.
 pub fn encoded_len(tag: &Tag) -> Option<u64>
     ensures { result ≡ spelling_length tag.now }
 {
     Some(u64::from(payload_len(tag)?) + 8)
 }
 
-/// Adds a tag's spelling at the end of `out`, whose room grows first.
+/// Appends a tag's encoding to `out`, whose capacity grows first. Returns `TooLong` if a payload in the tag is
+/// longer than 4,294,967,295 bytes. If it fails, `out` is unchanged.
 pub fn encode_into(tag: &Tag, out: &mut Vec<u8>) -> Result<(), TagError>
     ensures spelled { OnOk result (out.new.items ≡ out.old.items ++ spelling tag.now) }
     ensures too_long { (result ≡ Err TagError.TooLong) ↔ (is_spellable tag.now ≡ false) }
@@ -56,7 +57,7 @@ pub fn encode_into(tag: &Tag, out: &mut Vec<u8>) -> Result<(), TagError>
     Ok(())
 }
 
-/// The length of a tag's payload, `None` where a payload in the tag is too long.
+/// Returns the length of a tag's payload, or `None` if a payload in the tag is too long.
 #[cycle(payload_len)]
 fn payload_len(tag: &Tag) -> Option<u32>
     ensures { result ≡ (if is_spellable tag.now then Some (length (payload tag.now)) else None) }
@@ -72,7 +73,7 @@ fn payload_len(tag: &Tag) -> Option<u32>
     }
 }
 
-/// The length of the spellings of a list's members.
+/// Returns the sum of the lengths of the members' encodings, or `None` if it is too large.
 #[cycle(payload_len)]
 #[tactic(auto, using(crate::proofs::Sizes::member_falls, crate::proofs::Lengths::none_left))]
 fn members_len(tags: &[Tag]) -> Option<u32>
@@ -85,7 +86,7 @@ fn members_len(tags: &[Tag]) -> Option<u32>
     Some(total)
 }
 
-/// A length that four bytes can tell.
+/// Returns `len` if four bytes can state it.
 fn telling(len: usize) -> Option<u32>
     ensures { result ≡ (if nat_le len longest then Some len else None) }
 {
@@ -96,7 +97,7 @@ fn telling(len: usize) -> Option<u32>
     }
 }
 
-/// Adds a tag's spelling at the end.
+/// Appends a tag's encoding.
 #[cycle(push_tag)]
 fn push_tag(tag: &Tag, out: &mut Vec<u8>) -> Result<(), AllocError>
     requires { is_spellable tag.now ≡ true }
@@ -111,7 +112,7 @@ fn push_tag(tag: &Tag, out: &mut Vec<u8>) -> Result<(), AllocError>
     Ok(())
 }
 
-/// Writes the number of bytes behind the four at `at` into these four.
+/// Writes into the four bytes at `at` how many bytes follow them.
 fn put_length(out: &mut Vec<u8>, at: usize)
     requires { (at + 4 ≤ vec_len out.old) × (vec_len out.old ≤ at + 4 + longest) }
     ensures { out.new.items ≡ take at out.old.items ++ to_be_bytes w32 (vec_len out.old - (at + 4)) ++ drop (at + 4) out.old.items }
@@ -120,7 +121,7 @@ fn put_length(out: &mut Vec<u8>, at: usize)
     out[at..at + 4].copy_from_slice(&len.to_be_bytes());
 }
 
-/// Adds a tag's payload at the end.
+/// Appends a tag's payload.
 #[cycle(push_tag)]
 fn push_payload(tag: &Tag, out: &mut Vec<u8>) -> Result<(), AllocError>
     requires { is_spellable tag.now ≡ true }
@@ -144,7 +145,7 @@ fn push_payload(tag: &Tag, out: &mut Vec<u8>) -> Result<(), AllocError>
     }
 }
 
-/// Adds the spellings of a list's members at the end.
+/// Appends the encodings of a list's members.
 #[cycle(push_tag)]
 #[tactic(auto, using(crate::proofs::Sizes::member_falls, crate::proofs::Lengths::spellable_at, crate::proofs::Fronts::begins_more))]
 fn push_tags(tags: &[Tag], out: &mut Vec<u8>) -> Result<(), AllocError>

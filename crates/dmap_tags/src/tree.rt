@@ -7,8 +7,8 @@ use crate::payload::{Bytes, Text};
 use std::alloc::{AllocError, Global};
 use std::marker::Model;
 
-/// What a tag holds: a number, a text, a date in seconds since 1970, a version, further tags, or bytes of
-/// which no kind is known.
+/// A tag's value: a number, a text, a date in seconds since 1970, a version, further tags, or bytes that no kind
+/// interprets.
 #[cycle(tag)]
 #[derive(Debug, Drop)]
 pub enum Value {
@@ -28,7 +28,7 @@ pub enum Value {
     Opaque(Bytes),
 }
 
-/// A content code with its value, as DMAP sends them.
+/// A content code with its value.
 #[cycle(tag)]
 #[derive(Debug, Drop)]
 pub struct Tag {
@@ -83,7 +83,7 @@ impl Model for Tags {
 }
 
 impl Tag {
-    /// A tag of its own with the same contents.
+    /// Returns a copy of the tag.
     #[cycle(copy)]
     pub fn copy(&self) -> Result<Tag, AllocError>
         ensures { IfOk result (λ t. t ≡ self.now) }
@@ -110,7 +110,7 @@ impl Tag {
     }
 }
 
-/// Copies of tags, in order.
+/// Returns copies of tags, in order.
 #[cycle(copy)]
 fn copies(alloc: Global, tags: &[Tag]) -> Result<Vec<Tag>, AllocError>
     ensures { IfOk result (λ v. v.items ≡ tags.now) }
@@ -123,7 +123,7 @@ fn copies(alloc: Global, tags: &[Tag]) -> Result<Vec<Tag>, AllocError>
 }
 
 impl Tags {
-    /// Tags of their own with the same contents.
+    /// Returns copies of the tags, in order.
     #[cycle(copy)]
     pub fn copy(&self) -> Result<Tags, AllocError>
         ensures { IfOk result (λ ts. ts ≡ self.now) }
@@ -132,7 +132,7 @@ impl Tags {
         Ok(Tags { items })
     }
 
-    /// No tags, without memory.
+    /// Returns an empty list. Does not allocate.
     pub fn new(alloc: Global) -> Tags
         ensures { result ≡ [] }
     {
@@ -141,7 +141,7 @@ impl Tags {
         }
     }
 
-    /// The tags of the vector, which is taken over as it is.
+    /// Returns the tags of the vector, without copying them.
     pub fn of(items: Vec<Tag>) -> Tags
         ensures { result ≡ items.items }
     {
@@ -154,14 +154,14 @@ impl Tags {
         self.items.as_slice()
     }
 
-    /// The tags as a vector, without memory.
+    /// Returns the tags as a vector. Does not allocate.
     pub fn into_vec(self) -> Vec<Tag>
         ensures { result.items ≡ self }
     {
         self.items
     }
 
-    /// Adds a tag at the end. An `Err` changes nothing.
+    /// Appends a tag. If it fails, the tags are unchanged.
     pub fn push(&mut self, tag: Tag) -> Result<(), AllocError>
         ensures ok { OnOk result (self.new ≡ self.old ++ tag ∷ []) }
         ensures err { OnErr result (self.new ≡ self.old) }

@@ -1,4 +1,4 @@
-//! Payloads typed by a kind.
+//! Values of payloads under a kind.
 
 ghost use Rattle.std.specs.Prelude.{◌≡◌, ◌≢◌, IfOk, option_map, length, ◌==◌, Some, None, if◌then◌else◌};
 ghost use Rattle.std.specs.Int.{w8, w16, w32, w64, from_be_bytes};
@@ -11,7 +11,7 @@ use crate::tree::Value;
 use std::alloc::{AllocError, Global};
 use std::str::from_utf8;
 
-/// The value of a payload that is no list's: opaque where the payload doesn't fit the kind.
+/// Returns the value of a payload under `kind`, or opaque bytes if the payload doesn't fit the kind.
 #[inline(always)]
 pub fn leaf(alloc: Global, kind: Kind, payload: &[u8]) -> Result<Value, AllocError>
     requires { kind ≢ Kind.List }
@@ -23,7 +23,7 @@ pub fn leaf(alloc: Global, kind: Kind, payload: &[u8]) -> Result<Value, AllocErr
     }
 }
 
-/// The value of a payload that is no list's, without memory: a text and opaque bytes keep the vector.
+/// Returns the same value as `leaf`. Does not allocate: a text and opaque bytes own the vector.
 pub fn leaf_from(kind: Kind, payload: Vec<u8>) -> Value
     requires { kind ≢ Kind.List }
     ensures { result ≡ value_of (leaf_at kind payload.items) }
@@ -34,7 +34,7 @@ pub fn leaf_from(kind: Kind, payload: Vec<u8>) -> Value
     }
 }
 
-/// Whether bytes are UTF-8.
+/// Returns whether bytes are UTF-8.
 pub fn is_text(bytes: &[u8]) -> bool
     ensures { result ≡ is_utf8 bytes.now }
 {

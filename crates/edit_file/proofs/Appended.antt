@@ -12,7 +12,7 @@ use Rattle.edit_file.specs.Standing.{opened, signature, counted, IsFrame, AreFra
 use Rattle.edit_file.specs.declared.file.EditFile.{EditFile}
 use Rattle.edit_file.proofs.Moments.{run_wider}
 
--- a frame behind frames
+-- a frame after frames
 pub frames_push : (xs frame : List ℕ) (earlier : List (List Edit)) (batch : List Edit) → AreFrames xs earlier → IsFrame frame batch → AreFrames (xs ++ frame) (earlier ++ batch ∷ [])
 frames_push xs frame [] batch h k = (frame, [], ap (λ (l : List ℕ). l ++ frame) h ∙ sym (append-nil frame), k, refl)
 frames_push xs frame (a ∷ earlier) batch h k =
@@ -103,7 +103,7 @@ module _ {D : Type 0} (g : Ghosts D) where
           (λ image left. either_stands bytes image closing text batches batch rest t left)
           (crash (opened ∷ signature ++ rest.frames) rest.shut rest.place (subst (λ (b : List ℕ). Holds g old b) rest.bytes_are h.1))
 
-  -- the whole frame is held
+  -- the disk has the whole frame
   pub append_rest : (old new : D) (closing : ℕ) (text : List ℕ) (batches : List (List Edit)) (batch : List Edit) → IsFrameText text batch
       → ((front : List ℕ) (shut : ℕ) → length front ≡ closing → Holds g old (front ++ shut ∷ []) → Holds g new (front ++ opened ∷ text))
       → is_some (g.bytes new) ≡ is_some (g.bytes old)

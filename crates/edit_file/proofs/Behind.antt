@@ -1,10 +1,10 @@
--- What a torn write leaves of bytes that end with a closing byte, behind it and at it.
+-- What a torn write leaves of bytes that end with a closing byte, after it and at it.
 use Rattle.std.proofs.Common.{◌≡◌, ◌⊎◌, ℕ, suc, ◌+◌, min, List, [], ◌∷◌, ◌++◌, length, take, drop, get_or, refl, sym, ap, ◌∙◌, inl, inr, append_assoc, take_at, drop_at, length-append, take-append-drop, drop-cons, drop_of_length-le, append-nil, arith}
 use Rattle.std.proofs.lemmas.List.{take_all}
 use Rattle.outside_disks.specs.Disks.{overlaid, Torn}
 use Rattle.edit_file.specs.Adding.{IsClosedOrFramed}
 
--- a write at the end leaves the bytes, with anything behind them
+-- a write at the end leaves the bytes, with anything after them
 pub torn_at_end : (bytes : List ℕ) (at count : ℕ) (image : List ℕ) → at ≡ length bytes → Torn at count bytes image → image ≡ bytes ++ drop at image
 torn_at_end bytes at count image end torn =
     let low : min at (length bytes) ≡ at = omega (arith, end) in
@@ -12,7 +12,7 @@ torn_at_end bytes at count image end torn =
     ap (λ (n : ℕ). take n image) (sym low) ∙ torn.front ∙ take_all at bytes (omega (arith, end)) in
     sym (take-append-drop at image) ∙ ap (λ (l : List ℕ). l ++ drop at image) front
 
--- a write behind the closing byte leaves that byte
+-- a write after the closing byte leaves that byte
 pub behind_closed : (front : List ℕ) (shut at count : ℕ) (frame image : List ℕ) → length front ≡ at
     → (image ≡ front ++ shut ∷ []) ⊎ Torn (at + 1) count (front ++ shut ∷ []) image → IsClosedOrFramed front shut frame image
 behind_closed front shut at count frame image place left = elim left [

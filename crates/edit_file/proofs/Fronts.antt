@@ -1,4 +1,4 @@
--- What stands at the front of bytes, by the bytes that were read of it.
+-- What bytes begin with, by the prefix that was read.
 use Rattle.std.proofs.Common.{◌≡◌, ◌≢◌, ℕ, zero, suc, ◌+◌, ◌^◌, ◌<◌, ◌≤◌, min, List, [], ◌∷◌, ◌++◌, length, take, drop, get_or, Ok, refl, sym, ap, ◌∙◌, subst, take_at, length-append, length-drop, arith}
 use Rattle.std.proofs.lemmas.List.{take_all, length-take, length-take-le}
 use Rattle.std.proofs.lemmas.Nat.{from_be_bytes-to_be_bytes_4}
@@ -21,7 +21,7 @@ read_more d room rest done count within inside front more =
     ∙ ap (λ (l : List ℕ). take done d ++ l) more
     ∙ sym (take-add done count d)
 
--- a room that is full, or that has all bytes
+-- a buffer that is full, or that has all bytes
 pub read_all : (bytes room : List ℕ) (at done : ℕ) → done ≤ length room → take done room ≡ take done (drop at bytes) → done ≤ length (drop at bytes)
     → min (length room) (length (drop at bytes)) ≤ done → FillsFrom bytes at done room
 read_all bytes room at done within front inside most = record {
@@ -48,7 +48,7 @@ pub read_size : (rest head : List ℕ) (n : ℕ) → n ≤ 5 → length head ≡
 read_size rest head n few size e =
     omega (arith, few, size, length-take n head, length-take 5 rest, ap (λ (l : List ℕ). length l) e)
 
--- a frame at the front tells its payload
+-- a frame at the start determines its payload
 pub frame_parts : (rest frame more : List ℕ) (batch : List Edit) → rest ≡ frame ++ more → (h : IsFrame frame batch)
     → (from_be_bytes w32 (drop 1 (take 5 rest)) ≡ length h.payload) × (take (length h.payload) (drop 5 rest) ≡ h.payload) × (5 + length h.payload ≤ length rest)
 frame_parts rest frame more batch e h =
@@ -75,7 +75,7 @@ pub short_ends : (rest behind : List ℕ) → rest ≡ opened ∷ behind → len
 short_ends rest behind e short = ends_open rest behind e
     (λ frame more batch same h. let parts = frame_parts rest frame more batch same h in absurd (omega (arith, short, parts.2)))
 
--- the length that the frame tells passes the end
+-- the length in the frame exceeds the end
 pub long_ends : (rest behind : List ℕ) (count : ℕ) → rest ≡ opened ∷ behind → count ≡ from_be_bytes w32 (drop 1 (take 5 rest)) → length rest < 5 + count → EndsBadly rest
 long_ends rest behind count e told short = ends_open rest behind e
     (λ frame more batch same h. let parts = frame_parts rest frame more batch same h in absurd (omega (arith, short, told, parts.0, parts.2)))

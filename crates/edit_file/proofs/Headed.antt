@@ -1,4 +1,4 @@
--- What stands at an offset, by the five bytes that were read there and by the length of the file.
+-- What is at an offset, by the five bytes that were read there and by the length of the file.
 use Rattle.std.proofs.Common.{◌≡◌, ◌≢◌, ℕ, ◌+◌, ◌^◌, ◌<◌, ◌≤◌, min, List, [], ◌∷◌, length, take, drop, get_or, Ok, sym, ap, ◌∙◌, length-drop, arith}
 use Rattle.std.proofs.lemmas.List.{take_all, drop-drop}
 use Rattle.std.specs.Int.{w32, to_be_bytes, from_be_bytes}
@@ -43,7 +43,7 @@ opens_there bytes head at count h some first =
     let read = first_read (drop at bytes) head count some h.size h.taken in
     (read.0, read.1 ∙ ap (λ (x : ℕ). x ∷ read.0) first)
 
--- the open byte is there, and fewer than four bytes behind it
+-- the open byte is there, and fewer than four bytes after it
 pub short_there : (bytes head : List ℕ) (at count : ℕ) → Heads bytes at count head → 0 < count → get_or head 0 0 ≡ opened → length (drop at bytes) < 5
     → EndsBadly (drop at bytes)
 short_there bytes head at count h some first short =
@@ -64,7 +64,7 @@ told_size : (bytes head : List ℕ) (at count size : ℕ) → Heads bytes at cou
 told_size bytes head at count size h whole told =
     told ∙ ap (λ (l : List ℕ). from_be_bytes w32 (drop 1 l)) (whole_head bytes head at count h whole)
 
--- the payload would pass the end
+-- the payload would exceed the end
 pub past_there : (bytes head : List ℕ) (at count size : ℕ) → Heads bytes at count head → 5 ≤ count → get_or head 0 0 ≡ opened
     → size ≡ from_be_bytes w32 (drop 1 head) → length bytes < at + 5 + size → EndsBadly (drop at bytes)
 past_there bytes head at count size h whole first told past =

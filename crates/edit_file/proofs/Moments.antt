@@ -1,4 +1,4 @@
--- How runs of disk calls go on: what is left of one call more has the property that all before it had.
+-- How runs of disk calls continue: what one more call leaves has the property that all before it had.
 use Rattle.std.proofs.Common.{◌≡◌, ◌⊎◌, ℕ, List, Some, inl, inr, sym, ◌∙◌, subst, le_refl, arith}
 use Rattle.outside_disks.specs.declared.disk.Disk.{Ghosts}
 use Rattle.outside_disks.specs.Disks.{Only}
@@ -69,7 +69,7 @@ module _ {D : Type 0} (g : Ghosts D) where
     ];
   }
 
-  -- where the bytes are the one image, a change leaves them or what the step makes of them
+  -- if the bytes are the one image, a change leaves them or what the step makes of them
   pub held_follows : (step : List ℕ → List ℕ → Type 0) (disk : D) (bytes image : List ℕ) → Holds g disk bytes → MayFollow g step disk image → (image ≡ bytes) ⊎ step bytes image
   held_follows step disk bytes image held follows = elim follows [
     | inl left ↦ inl (held.alone image left)

@@ -1,4 +1,5 @@
--- Bytes represent at most one list of batches: a frame's length tells where it ends, so two readings go frame by frame together.
+-- Bytes represent at most one list of batches: a frame's length determines where it ends, so two readings go frame by
+-- frame together.
 use Rattle.std.proofs.Common.{◌≡◌, ◌≢◌, ℕ, ◌^◌, ◌<◌, List, [], ◌∷◌, ◌++◌, length, take, drop, get_or, Ok, refl, sym, ap, ◌∙◌, subst, inl, inr, append_assoc, take_at, drop_at, arith}
 use Rattle.std.proofs.lemmas.Nat.{from_be_bytes-to_be_bytes_4}
 use Rattle.std.specs.Int.{w32, to_be_bytes, from_be_bytes}
@@ -8,7 +9,7 @@ use Rattle.records_import.specs.Records.{BatchReads}
 use Rattle.records_import.specs.Table.{table_of}
 use Rattle.edit_file.specs.Standing.{opened, signature, counted, IsFrame, AreFrames, IsUnmade, IsMade, FileStands, EndsBadly, BreaksAt}
 
--- a counted payload tells its end
+-- a counted payload determines its end
 same_payload : (p q more others : List ℕ) → length p < 2 ^ 32 → length q < 2 ^ 32 → counted p ++ more ≡ counted q ++ others → (p ≡ q) × (more ≡ others)
 same_payload p q more others small little e =
     let lengths : to_be_bytes w32 (length p) ≡ to_be_bytes w32 (length q) = ap (λ (l : List ℕ). take 4 l) e in
@@ -23,7 +24,7 @@ same_payload p q more others small little e =
 pub frame_opens : (frame more : List ℕ) (batch : List Edit) → IsFrame frame batch → get_or (frame ++ more) 0 0 ≡ opened
 frame_opens frame more batch h = ap (λ (l : List ℕ). get_or (l ++ more) 0 0) h.spelled
 
--- two frames at the front of the same bytes are one
+-- two frames at the start of the same bytes are one
 pub frame_same : (f g more others : List ℕ) (a b : List Edit) → IsFrame f a → IsFrame g b → f ++ more ≡ g ++ others → (f ≡ g) × (more ≡ others) × (a ≡ b)
 frame_same f g more others a b h k e =
     let whole : (opened ∷ counted h.payload) ++ more ≡ (opened ∷ counted k.payload) ++ others =
@@ -34,11 +35,11 @@ frame_same f g more others a b h k e =
       batch_same (table_of k.payload) a b (subst (λ (l : List ℕ). BatchReads (table_of l) (Ok a)) parts.0 h.reads) k.reads,
     )
 
--- what follows a first frame, with the end of the bytes behind it
+-- what follows a first frame, with the end of the bytes after it
 behind_frame : (bytes frame rest tail : List ℕ) → bytes ≡ frame ++ rest → bytes ++ tail ≡ frame ++ (rest ++ tail)
 behind_frame bytes frame rest tail e = ap (λ (l : List ℕ). l ++ tail) e ∙ append_assoc frame rest tail
 
--- frames and then a byte that is no open one are read in one way
+-- frames and then a byte that does not open are read in one way
 frames_once : (xs ys : List ℕ) (firsts seconds : List (List Edit)) (c d : ℕ) (p q : List ℕ)
     → AreFrames xs firsts → AreFrames ys seconds → c ≢ opened → d ≢ opened → xs ++ c ∷ p ≡ ys ++ d ∷ q → firsts ≡ seconds
 frames_once xs ys [] [] c d p q h k shut closed e = refl
@@ -54,7 +55,7 @@ frames_once xs ys (a ∷ firsts) (b ∷ seconds) c d p q h k shut closed e =
     let first = frame_same h.0 k.0 (h.1 ++ c ∷ p) (k.1 ++ d ∷ q) a b h.3 k.3 both in
     ap (λ (l : List (List Edit)). a ∷ l) (frames_once h.1 k.1 firsts seconds c d p q h.4 k.4 shut closed first.1) ∙ ap (λ (x : List Edit). x ∷ seconds) first.2
 
--- a finished file is no unfinished one
+-- a finished file is not an unfinished one
 made_is_no_unmade : (bytes : List ℕ) (batches : List (List Edit)) → IsMade bytes batches → IsUnmade bytes → ⊥
 made_is_no_unmade bytes batches made unmade = elim unmade [
   | inl short ↦ omega (arith, short, ap (λ (l : List ℕ). length l) made.bytes_are)

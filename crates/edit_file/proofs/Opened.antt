@@ -1,4 +1,4 @@
--- What opening finds at the front of a file, and what each way through it leaves of the disk.
+-- What opening finds at the start of a file, and what each way through it leaves of the disk.
 use Rattle.std.proofs.Common.{◌≡◌, ◌≢◌, ℕ, zero, suc, ◌+◌, ◌<◌, ◌≤◌, List, [], ◌∷◌, ◌++◌, length, take, drop, get_or, Option, Some, None, option_map, is_some, IfSome, Bool, true, false, MatchBool, refl, sym, ap, ◌∙◌, subst, inl, inr, true≢false, take-append-drop, length-append, arith}
 use Rattle.std.proofs.lemmas.List.{take_all, length-take}
 use Rattle.item_model.specs.declared.changes.Edit.{Edit}
@@ -48,7 +48,7 @@ head_read bytes head n few size taken is =
     let nine : n ≡ 9 = omega (arith, few, size, length-take n head, ap (λ (l : List ℕ). length l) (taken ∙ is)) in
     (nine, sym (take_all n head (omega (arith, nine, size))) ∙ taken ∙ is)
 
--- what the answer of a test says
+-- what the result of a test says
 pub head_is : (bytes : List ℕ) (it : Bool) → it ≡ true → HasHead bytes it → (rest : List ℕ) × (bytes ≡ opened ∷ signature ++ rest)
 head_is bytes it is has = subst (λ (i : Bool). HasHead bytes i) is has
 
@@ -81,7 +81,7 @@ module _ {D : Type 0} (g : Ghosts D) where
       → LeavesOnly g mid new P → LeavesOnly g old new P
   quiet_then_run alone old mid new bytes P held here quiet run = run_then g old mid new P (quiet_run g alone old mid bytes P held here quiet) run
 
-  -- the batches are read, and what follows is cut off
+  -- the batches are read, and the file is truncated after the closing byte
   pub cut_leaves : NowIsAlone g → (old mid new : D) (bytes : List ℕ) (place : ℕ) (found batches : List (List Edit)) → ClosesAt bytes place found
       → FileStands bytes batches → Holds g old bytes → IsQuiet g old mid → g.bytes mid ≡ g.bytes old → Does g (CutShort (place + 1)) mid new
       → LeavesOnly g old new (λ image. FileStands image batches)
@@ -111,7 +111,7 @@ module _ {D : Type 0} (g : Ghosts D) where
       (run_wider g mid new (λ image. FileStands image []) (λ image. FileStands image batches)
       (λ image here. subst (λ (l : List (List Edit)). FileStands image l) same here) run)
 
-  -- an opened file is at rest, where its bytes are known
+  -- an opened file is at rest, if its bytes are known
   pub opened_rests : (old new : D) (closing : ℕ) (batches : List (List Edit)) → is_some (g.bytes new) ≡ is_some (g.bytes old)
       → ((b : List ℕ) → g.bytes old ≡ Some b → (c : List ℕ) × AtRest c closing batches × Holds g new c)
       → IfSome (g.bytes new) (λ bytes. AtRest bytes closing batches × Holds g new bytes)

@@ -38,11 +38,11 @@ module _ {D : Type 0} (g : Ghosts D) where
     ];
   }
 
-  -- what was held is held
+  -- held bytes are still held
   pub quiet_holds : (old new : D) (bytes : List ℕ) → IsQuiet g old new → g.bytes new ≡ g.bytes old → Holds g old bytes → Holds g new bytes
   quiet_holds old new bytes quiet stay held = record { told = stay ∙ held.told; alone = λ image left. held.alone image (quiet.leaves image left) }
 
-  -- where the held bytes have a property, calls that change nothing leave only such images
+  -- if the held bytes have a property, calls that change nothing leave only such images
   pub quiet_run : NowIsAlone g → (old new : D) (bytes : List ℕ) (P : List ℕ → Type 0) → Holds g old bytes → P bytes → IsQuiet g old new → LeavesOnly g old new P
   quiet_run alone old new bytes P held here quiet = record {
     later = quiet.later;

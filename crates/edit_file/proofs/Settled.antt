@@ -14,7 +14,7 @@ pub closed_stands_for : (bytes : List ℕ) (place : ℕ) (batches : List (List E
 closed_stands_for bytes place batches h =
     inr (record { frames = h.frames; closing = h.closing; behind = h.behind; bytes_are = h.bytes_are; framed = h.framed; shut = h.shut })
 
--- the bytes up to the closing one, and those behind it
+-- the bytes up to the closing one, and those after it
 split_bytes : (bytes : List ℕ) (place : ℕ) (batches : List (List Edit)) (h : ClosesAt bytes place batches)
     → bytes ≡ ((opened ∷ signature ++ h.frames) ++ h.closing ∷ []) ++ h.behind
 split_bytes bytes place batches h =
@@ -33,7 +33,7 @@ closes_inside bytes place batches h =
       length-append ((opened ∷ signature ++ h.frames) ++ h.closing ∷ []) h.behind,
     )
 
--- cut behind the closing byte, the file is at rest
+-- truncated after the closing byte, the file is at rest
 pub cut_rests : (bytes : List ℕ) (place : ℕ) (batches : List (List Edit)) → ClosesAt bytes place batches → AtRest (take (place + 1) bytes) place batches
 cut_rests bytes place batches h =
     let front = (opened ∷ signature ++ h.frames) ++ h.closing ∷ [] in
@@ -48,7 +48,7 @@ cut_rests bytes place batches h =
       closed = h.shut;
     }
 
--- a cut that was cut short leaves the batches
+-- a truncation that was interrupted leaves the batches
 pub cut_stands : (bytes image : List ℕ) (place : ℕ) (batches : List (List Edit)) → ClosesAt bytes place batches
     → (image ≡ bytes) ⊎ CutShort (place + 1) bytes image → FileStands image batches
 cut_stands bytes image place batches h left = elim left [

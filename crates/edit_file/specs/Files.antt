@@ -1,4 +1,5 @@
--- What an open edit file holds, as a relation to a list of batches, since the batches themselves are not kept in memory.
+-- What an open edit file has, as a relation to a list of batches, because the batches themselves are not kept in
+-- memory.
 use Rattle.std.specs.Prelude.{◌≡◌, ◌≢◌, ◌⊎◌, ℕ, List, [], ◌∷◌, ◌++◌, length, Bool, MatchBool, Option, None, is_some, if◌then◌else◌, IfSome}
 use Rattle.item_model.specs.declared.changes.Edit.{Edit}
 use Rattle.outside_disks.specs.declared.disk.Disk.{Ghosts}
@@ -28,7 +29,7 @@ module _ {D : Type 0} (g : Ghosts D) {f : faulted.Ghosts D} where
   abbrev pub disk_of : EditFile D g f → D
   disk_of file = file.disk
 
-  -- the name by which the disk was opened, where its bytes are told
+  -- the name by which the disk was opened, if its bytes are known
   abbrev pub place_of : EditFile D g f → Option (List ℕ)
   place_of file = if is_some (g.bytes file.disk) then g.opened_as file.disk else None
 

@@ -1,4 +1,4 @@
--- What follows from the definitions. Each fact here is proved for all bytes.
+-- Theorems about the definitions, for all bytes.
 use Rattle.std.specs.Prelude.{◌≡◌, ℕ, List}
 use Rattle.item_model.specs.declared.changes.Edit.{Edit}
 use Rattle.edit_file.specs.Standing.{FileStands, BreaksAt}

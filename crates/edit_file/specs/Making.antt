@@ -1,4 +1,4 @@
--- What the bytes of a file are while it is being made, and what they are at the end.
+-- The bytes of a file while it is being made, and at the end.
 use Rattle.std.specs.Prelude.{◌≢◌, ℕ, ◌≤◌, List, [], ◌∷◌, ◌++◌, length, get_or}
 use Rattle.edit_file.specs.Standing.{opened, signature}
 

@@ -1,4 +1,4 @@
--- What a run of disk calls does: what it may leave of the file where a crash cuts it short, at each moment of the run.
+-- What a run of disk calls may leave of the file if a crash interrupts it, at each moment of the run.
 use Rattle.std.specs.Prelude.{◌≡◌, ◌⊎◌, ℕ, ◌≤◌, List, Some}
 use Rattle.outside_disks.specs.declared.disk.Disk.{Ghosts}
 
@@ -7,7 +7,7 @@ module _ {D : Type 0} (g : Ghosts D) where
   abbrev pub MayFollow : (List ℕ → List ℕ → Type 0) → D → List ℕ → Type 0
   MayFollow step old image = g.images old image ⊎ ((earlier : List ℕ) × g.images old earlier × step earlier image)
 
-  -- one change was made, or was cut short: a crash during it leaves an image from before, or what the step makes of one
+  -- one change was made or interrupted: a crash during it leaves an image from before, or what the step makes of one
   pub record Does (step : List ℕ → List ℕ → Type 0) (old new : D) : Type 0 where
     pub later : g.clock old ≤ g.clock new
     pub leaves : (image : List ℕ) → g.images new image → MayFollow step old image
@@ -19,7 +19,7 @@ module _ {D : Type 0} (g : Ghosts D) where
     pub leaves : (image : List ℕ) → g.images new image → g.images old image
     pub nothing_else : (time : ℕ) (image : List ℕ) → time ≤ g.clock old → g.since new time image → g.since old time image ⊎ g.images old image
 
-  -- every image that a crash may leave now, or might have left at a moment of the run, has a property
+  -- every image that a crash may leave now, or might have left at a moment of the run, has the property `P`
   pub record LeavesOnly (old new : D) (P : List ℕ → Type 0) : Type 0 where
     pub later : g.clock old ≤ g.clock new
     pub now : (image : List ℕ) → g.images new image → P image

@@ -1,4 +1,4 @@
--- What opening a file finds and answers.
+-- What opening a file finds and returns.
 use Rattle.std.specs.Prelude.{◌≡◌, ◌≢◌, ℕ, ◌+◌, List, ◌∷◌, ◌++◌, length, take, Bool, MatchBool, Result, Ok, Err, MatchResult}
 use Rattle.item_model.specs.declared.changes.Edit.{Edit}
 use Rattle.outside_disks.specs.Counts.{Rose}
@@ -29,7 +29,7 @@ pub record HasRead (bytes : List ℕ) (place : ℕ) (batches : List (List Edit))
   pub framed : AreFrames frames batches
   pub at : place ≡ 9 + length frames
 
--- the count of faults rises exactly with a refusal that is a fault
+-- the error counter increases exactly if the error is `Failed`
 abbrev pub CountsRefusal : ℕ → ℕ → FileError → Type 0
 CountsRefusal before now (refusal.NotEditFile at) = now ≡ before
 CountsRefusal before now refusal.Failed = Rose before now
@@ -46,7 +46,7 @@ abbrev pub HasHead : List ℕ → Bool → Type 0
 HasHead bytes it = MatchBool it ((rest : List ℕ) × (bytes ≡ opened ∷ signature ++ rest)) (take 9 bytes ≢ opened ∷ signature)
 
 module _ {D : Type 0} (g : Ghosts D) where
-  -- the same bytes, and no image that was none before
+  -- the same bytes, and no new image
   abbrev pub IsSameDisk : D → D → Type 0
   IsSameDisk old new = (g.bytes new ≡ g.bytes old) × IsQuiet g old new
 
@@ -55,7 +55,7 @@ module _ {D : Type 0} (g : Ghosts D) where
   LeavesRefused old new result = (error : FileError) → result ≡ Err error → error ≢ refusal.Failed → IsSameDisk old new
 
 module _ {D : Type 0} (g : Ghosts D) {f : faulted.Ghosts D} where
-  -- the disk, in the file or given back
+  -- the disk, in the file or returned
   abbrev pub disk_after : {T E : Type 0} → Result (EditFile D g f × T) (E × D) → D
   disk_after (Ok opening) = disk_of g opening.0
   disk_after (Err refused) = refused.1

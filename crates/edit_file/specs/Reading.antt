@@ -1,4 +1,4 @@
--- What reading a disk gives: bytes from an offset on, and the frame or the closing byte that stands there.
+-- What reading a disk returns: bytes at an offset, and the frame or the closing byte there.
 use Rattle.std.specs.Prelude.{◌≡◌, ◌≢◌, ℕ, ◌+◌, ◌<◌, ◌≤◌, List, [], ◌∷◌, length, take, drop, Ok, Option, MatchOption}
 use Rattle.item_model.specs.declared.changes.Edit.{Edit}
 use Rattle.item_model.specs.Valid.{AreValid}
@@ -8,12 +8,12 @@ use Rattle.edit_file.specs.Standing.{opened, IsFrame, EndsBadly}
 use Rattle.edit_file.specs.declared.reading.Found.{Found}
 use Rattle.edit_file.specs.declared.reading.Found.TheVariants as found
 
--- the front of a room has all bytes from an offset on, as far as the room goes
+-- the buffer starts with all bytes from offset `at`, as far as it goes
 pub record FillsFrom (bytes : List ℕ) (at count : ℕ) (room : List ℕ) : Type 0 where
   pub taken : take count room ≡ take (length room) (drop at bytes)
   pub within : count ≤ length room
 
--- so many bytes from an offset on, or there are not so many
+-- `count` bytes from offset `at`, or there are fewer
 abbrev pub IsPayload : List ℕ → ℕ → ℕ → Option (List ℕ) → Type 0
 IsPayload bytes at count payload =
     MatchOption payload (length bytes < at + count) (λ text. text ≡ take count (drop at bytes))
@@ -24,7 +24,7 @@ IsBatchIn payload result = MatchOption result
     ((batch : List Edit) → BatchReads (table_of payload) (Ok batch) → batch ≡ [])
     (λ batch. BatchReads (table_of payload) (Ok batch) × (batch ≢ []))
 
--- what stands at the front of the bytes
+-- what `rest` begins with
 abbrev pub IsFound : List ℕ → Found → Type 0
 IsFound rest (found.Frame batch size) = IsFrame (take size rest) batch × (size ≤ length rest)
 IsFound rest found.Closed = (closing : ℕ) × (behind : List ℕ) × (rest ≡ closing ∷ behind) × (closing ≢ opened)

@@ -13,7 +13,7 @@ opened = 1
 abbrev pub signature : List ℕ
 signature = codes "DAAPEDIT"
 
--- a payload with its length in four bytes before it
+-- a payload after its length in four bytes
 abbrev pub counted : List ℕ → List ℕ
 counted payload = to_be_bytes w32 (length payload) ++ payload
 
@@ -47,7 +47,7 @@ pub record IsMade (bytes : List ℕ) (batches : List (List Edit)) : Type 0 where
 abbrev pub FileStands : List ℕ → List (List Edit) → Type 0
 FileStands bytes batches = (IsUnmade bytes × (batches ≡ [])) ⊎ IsMade bytes batches
 
--- neither a closing byte nor a frame is at the front
+-- the bytes begin with neither a closing byte nor a frame
 pub record EndsBadly (rest : List ℕ) : Type 0 where
   pub unclosed : (closing : ℕ) (behind : List ℕ) → rest ≡ closing ∷ behind → closing ≡ opened
   pub unframed : (frame more : List ℕ) (batch : List Edit) → rest ≡ frame ++ more → IsFrame frame batch → ⊥
@@ -58,7 +58,7 @@ pub record IsNoHead (bytes : List ℕ) (at : ℕ) : Type 0 where
   pub wrong : take 9 bytes ≢ opened ∷ signature
   pub place : at ≡ 0
 
--- after so many frames, neither a frame nor a closing byte follows
+-- after these frames, neither a frame nor a closing byte follows
 pub record IsNoFrame (bytes : List ℕ) (at : ℕ) : Type 0 where
   pub frames : List ℕ
   pub batches : List (List Edit)

@@ -1,4 +1,4 @@
-//! Adding bytes after a closing byte, and then opening that byte, each change safe before the next.
+//! Adds bytes after a closing byte, and then opens that byte. Each change is safe before the next.
 ghost use Rattle.std.specs.Prelude.{◌≡◌, ℕ, ◌+◌, ◌^◌, ◌<◌, ◌≤◌, List, [], ◌∷◌, ◌++◌, length, IfSome, OnOk, is_some};
 ghost use Rattle.outside_disks.specs.Counts.{CountsFaults};
 ghost use Rattle.edit_file.specs.Adding.{IsClosedOrFramed};
@@ -8,8 +8,8 @@ ghost use Rattle.edit_file.specs.Standing.{opened};
 use crate::safely::write_safely;
 use outside_disks::{Disk, Failed};
 
-/// Writes `frame` after the byte at the offset `closing`, and then makes that byte the open one. The last byte of `frame` has to
-/// close again.
+/// Writes `frame` after the byte at the offset `closing`, and then makes that byte the open one. The last byte of
+/// `frame` must close again.
 pub(crate) fn add_behind<D: Disk>(disk: &mut D, closing: u64, frame: &[u8]) -> Result<(), Failed>
     requires some { 0 < length frame.now }
     requires near { closing < 2 ^ 63 }

@@ -1,4 +1,4 @@
-//! Keeping one batch more.
+//! Keeps one more batch.
 ghost use Rattle.std.specs.Prelude.{◌≡◌, ◌↔◌, ℕ, ◌^◌, ◌<◌, List, [], ◌∷◌, ◌++◌, length, true, false, Err, IfSome, OnOk, OnErr, is_err, is_some, MatchResult};
 ghost use Rattle.item_model.specs.declared.changes.Edit.{Edit};
 ghost use Rattle.outside_disks.specs.Counts.{CountsFaults};
@@ -17,18 +17,18 @@ pub enum AppendError {
     /// An earlier append failed, so nothing was done.
     #[error("the edit file is broken")]
     Broken,
-    /// The disk failed, and the file is broken from now on.
+    /// The disk failed, and the file is broken.
     #[error("the edit file's disk failed")]
     Failed,
 }
 
 impl<D: Disk + Drop> EditFile<D> {
-    /// Keeps one batch more. It does not allocate.
+    /// Keeps one more batch. Does not allocate.
     ///
     /// # Errors
     ///
-    /// Returns `Broken` if an earlier call returned `Failed`; nothing is done then. Returns `Failed` if the disk failed: the batch
-    /// may be in the file or not, and the file takes no other one.
+    /// Returns `Broken` if an earlier call returned `Failed`; nothing is done. Returns `Failed` if the disk failed:
+    /// the batch may be in the file or not, and the file takes no more.
     pub fn append(&mut self, frame: Frame) -> Result<(), AppendError>
         ensures acknowledged { (batches : List (List Edit)) → HasBatches D.Disk.own self.old batches
             → OnOk result (HasBatches D.Disk.own self.new (batches ++ frame ∷ [])) }
@@ -57,14 +57,14 @@ impl<D: Disk + Drop> EditFile<D> {
         Ok(())
     }
 
-    /// Whether an append has failed.
+    /// Returns whether an append has failed.
     pub fn broken(&self) -> bool
         ensures { result ≡ is_broken D.Disk.own self.now }
     {
         self.is_broken
     }
 
-    /// Gives the disk back.
+    /// Returns the disk.
     pub fn into_disk(self) -> D
         ensures { result ≡ disk_of D.Disk.own self }
     {

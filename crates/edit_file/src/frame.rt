@@ -34,7 +34,7 @@ impl Model for Frame {
 }
 
 impl Frame {
-    /// Makes the frame of `batch`, which has at least one edit and is one that reading records can give.
+    /// Makes the frame of `batch`, which has at least one edit and is one that reading records can return.
     ///
     /// # Errors
     ///
@@ -58,7 +58,7 @@ impl Frame {
         })
     }
 
-    // All of the frame but its open byte, and a closing byte.
+    // Returns the frame without its open byte, and a closing byte.
     pub(crate) fn as_slice(&self) -> &[u8]
         ensures { IsFrameText result.now self.now }
     {

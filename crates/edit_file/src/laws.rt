@@ -1,4 +1,4 @@
-//! What holds of all bytes. Each function has an empty body; its contract is a theorem.
+//! Theorems about all bytes. Each function has an empty body; its contract is the theorem.
 
 ghost use Rattle.edit_file.specs.Laws.{BrokenFilesStandForNone, FilesStandOnce};
 

@@ -1,4 +1,4 @@
-//! Making a file, in steps of which each is safe before the next.
+//! Makes a file in steps. Each is safe before the next.
 ghost use Rattle.std.specs.Prelude.{◌≡◌, ℕ, ◌≤◌, List, [], length, IfSome, OnOk, is_some};
 ghost use Rattle.outside_disks.specs.Counts.{CountsFaults};
 ghost use Rattle.edit_file.specs.Making.{IsBegun, empty_file};
@@ -8,7 +8,7 @@ ghost use Rattle.edit_file.specs.Standing.{FileStands, IsUnmade};
 use crate::safely::write_safely;
 use outside_disks::{Disk, Failed};
 
-/// Makes a finished file without batches of an unfinished one with `len` bytes.
+/// Makes an unfinished file with `len` bytes a finished one without batches.
 pub(crate) fn make<D: Disk>(disk: &mut D, len: u64) -> Result<(), Failed>
     requires known { IfSome (D.bytes disk.old) (λ b. length b ≡ len) }
     ensures made { (bytes : List ℕ) → IsUnmade bytes → Holds D.Disk.own disk.old bytes → OnOk result (Holds D.Disk.own disk.new empty_file) }
@@ -22,7 +22,7 @@ pub(crate) fn make<D: Disk>(disk: &mut D, len: u64) -> Result<(), Failed>
     make_begun(disk)
 }
 
-// Sees to it that a first byte is there, and that it closes.
+// Ensures that there is a first byte, and that it closes.
 fn begin<D: Disk>(disk: &mut D, len: u64) -> Result<(), Failed>
     requires known { IfSome (D.bytes disk.old) (λ b. length b ≡ len) }
     ensures begun { (bytes : List ℕ) → IsUnmade bytes → Holds D.Disk.own disk.old bytes

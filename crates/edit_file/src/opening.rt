@@ -1,4 +1,4 @@
-//! Opening a file: its batches are read, a file that was not finished is made, and what follows the closing byte is cut off.
+//! Opens a file: reads its batches, makes a file that was not finished, and truncates it after the closing byte.
 ghost use Rattle.std.specs.Prelude.{◌≡◌, ◌≢◌, ℕ, ◌^◌, ◌<◌, All, List, [], ◌∷◌, ◌++◌, length, false, Some, Err, IfOk, IfErr, IfSome, OnOk, MatchBool, is_some};
 ghost use Rattle.item_model.specs.declared.changes.Edit.{Edit};
 ghost use Rattle.item_model.specs.Valid.{AreValid};
@@ -18,13 +18,13 @@ use outside_disks::{Disk, Failed};
 use std::alloc::Global;
 
 impl<D: Disk + Drop> EditFile<D> {
-    /// Opens the file on `disk`, and returns it with its batches. A file that was not finished is made, and what follows the
-    /// closing byte is cut off.
+    /// Opens the file on `disk`, and returns it with its batches. Makes a file that was not finished, and truncates a
+    /// finished one after the closing byte.
     ///
     /// # Errors
     ///
-    /// Returns the disk, and why the file was not opened: `NotEditFile` if the bytes represent no list of batches, with the offset
-    /// where that shows; `Failed` if the disk failed; `Memory` if an allocation failed.
+    /// Returns the disk, and why the file was not opened: `NotEditFile` if the bytes represent no list of batches,
+    /// with the offset where that shows; `Failed` if the disk failed; `Memory` if an allocation failed.
     pub fn open(alloc: Global, disk: D) -> Result<(EditFile<D>, Vec<Batch>), (FileError, D)>
         ensures stands { IfOk result (λ r. IfSome (D.bytes disk) (λ b. FileStands b r.1.items)) }
         ensures keeps { IfOk result (λ r. HasBatches D.Disk.own r.0 r.1.items) }
@@ -54,7 +54,7 @@ impl<D: Disk + Drop> EditFile<D> {
     }
 }
 
-// Leaves the file at rest, and gives the offset of its closing byte and its batches.
+// Brings the file to rest, and returns the offset of its closing byte and its batches.
 fn settle<D: Disk>(alloc: Global, disk: &mut D) -> Result<(u64, Vec<Batch>), FileError>
     ensures stands { (b : List ℕ) → D.bytes disk.old ≡ Some b → IfOk result (λ r. FileStands b r.1.items) }
     ensures rests { (b : List ℕ) → D.bytes disk.old ≡ Some b → IfOk result (λ r. (c : List ℕ) × AtRest c r.0 r.1.items × Holds D.Disk.own disk.new c) }
@@ -77,7 +77,7 @@ fn settle<D: Disk>(alloc: Global, disk: &mut D) -> Result<(u64, Vec<Batch>), Fil
     read_made(alloc, disk, len)
 }
 
-// Makes safe what the disk has, and tells its length.
+// Makes safe what the disk has, and returns its length.
 fn measure<D: Disk>(disk: &mut D) -> Result<u64, Failed>
     ensures held { (b : List ℕ) → D.bytes disk.old ≡ Some b → IfOk result (λ len. (length b ≡ len) × Holds D.Disk.own disk.new b) }
     ensures known { IfOk result (λ len. IfSome (D.bytes disk.new) (λ b. length b ≡ len)) }
@@ -92,7 +92,7 @@ fn measure<D: Disk>(disk: &mut D) -> Result<u64, Failed>
     disk.len()
 }
 
-// Whether a file of `len` bytes was not finished.
+// Returns whether a file of `len` bytes was not finished.
 fn is_unmade<D: Disk>(disk: &mut D, len: u64) -> Result<bool, Failed>
     ensures exact { (b : List ℕ) → length b ≡ len → D.bytes disk.old ≡ Some b → IfOk result (λ it. MatchBool it (IsUnmade b) (IsUnmade b → ⊥)) }
     ensures bytes_stay { OnOk result (D.bytes disk.new ≡ D.bytes disk.old) }
@@ -115,7 +115,7 @@ fn is_unmade<D: Disk>(disk: &mut D, len: u64) -> Result<bool, Failed>
     Ok(true)
 }
 
-// Whether the file begins as a finished one does.
+// Returns whether the file begins as a finished one does.
 fn has_head<D: Disk>(disk: &mut D) -> Result<bool, Failed>
     ensures exact { (b : List ℕ) → D.bytes disk.old ≡ Some b → IfOk result (λ it. HasHead b it) }
     ensures bytes_stay { OnOk result (D.bytes disk.new ≡ D.bytes disk.old) }
@@ -135,7 +135,7 @@ fn has_head<D: Disk>(disk: &mut D) -> Result<bool, Failed>
     Ok(true)
 }
 
-// Reads the batches of a finished file, and cuts off what follows the closing byte.
+// Reads the batches of a finished file, and truncates it after the closing byte.
 fn read_made<D: Disk>(alloc: Global, disk: &mut D, len: u64) -> Result<(u64, Vec<Batch>), FileError>
     requires short { len < 2 ^ 63 }
     requires known { IfSome (D.bytes disk.old) (λ b. length b ≡ len) }
@@ -162,7 +162,7 @@ fn read_made<D: Disk>(alloc: Global, disk: &mut D, len: u64) -> Result<(u64, Vec
     Ok((closing, batches))
 }
 
-// Reads frames up to the closing byte, and gives its offset and the batches.
+// Reads frames up to the closing byte, and returns its offset and the batches.
 fn read_frames<D: Disk>(
     alloc: Global,
     disk: &mut D,

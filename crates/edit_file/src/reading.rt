@@ -1,4 +1,4 @@
-//! Reading a disk, frame by frame.
+//! Reads a disk, frame by frame.
 ghost use Rattle.std.specs.Prelude.{◌≡◌, ◌≢◌, ℕ, ◌+◌, ◌^◌, ◌<◌, ◌≤◌, [], length, drop, Err, IfOk, IfSome, OnOk, is_some, option_map};
 ghost use Rattle.std.specs.Int.{w32, from_be_bytes, to_be_bytes};
 ghost use Rattle.item_model.specs.Valid.{AreValid};
@@ -13,18 +13,18 @@ use outside_disks::{Disk, Failed};
 use records_import::{RecordError, read_batch};
 use std::alloc::{AllocError, Global};
 
-/// What stands at an offset of a file.
+/// What is at an offset of a file.
 #[derive(Drop)]
 pub(crate) enum Found {
     /// A batch, whose frame has `size` bytes.
     Frame { batch: Batch, size: u64 },
     /// A closing byte.
     Closed,
-    /// Neither of the two.
+    /// Neither.
     Broken,
 }
 
-/// Reads from the offset `at` on until the room is full or the bytes end, and returns how many bytes it read.
+/// Reads from offset `at` until `room` is full or the bytes end, and returns the number of bytes read.
 pub(crate) fn read_fully<D: Disk>(disk: &mut D, at: u64, room: &mut [u8]) -> Result<usize, Failed>
     requires near { at < 2 ^ 63 }
     ensures within { IfOk result (λ n. n ≤ length room.new) }
@@ -48,7 +48,7 @@ pub(crate) fn read_fully<D: Disk>(disk: &mut D, at: u64, room: &mut [u8]) -> Res
     Ok(done)
 }
 
-/// Reads what stands at the offset `at` of a file of `len` bytes. It takes memory for a frame only where the frame can end within
+/// Reads what is at offset `at` of a file of `len` bytes. Allocates for a frame only if the frame can end within
 /// these.
 pub(crate) fn read_frame<D: Disk>(
     alloc: Global,
@@ -99,7 +99,7 @@ pub(crate) fn read_frame<D: Disk>(
     }
 }
 
-// The length of the payload, from the five bytes that a frame begins with.
+// Returns the length of the payload, from the first five bytes of a frame.
 fn count_in(head: &[u8; 5]) -> u32
     ensures value { result ≡ from_be_bytes w32 (drop 1 head.now) }
     ensures spelled { to_be_bytes w32 result ≡ drop 1 head.now }
@@ -108,7 +108,7 @@ fn count_in(head: &[u8; 5]) -> u32
     u32::from_be_bytes([a, b, c, d])
 }
 
-// The `count` bytes from the offset `at` on, where the disk has so many.
+// Returns the `count` bytes from offset `at`, if the disk has them.
 fn read_payload<D: Disk>(
     alloc: Global,
     disk: &mut D,
@@ -133,7 +133,7 @@ fn read_payload<D: Disk>(
     Ok(Some(payload))
 }
 
-// The batch that the payload reads as, where that is one with an edit.
+// Returns the batch that the payload reads as, if it is one with an edit.
 #[tactic(auto, using(records_import::proofs::Once::batch_same, records_import::proofs::Once::batch_once))]
 fn batch_in(alloc: Global, payload: &[u8]) -> Result<Option<Batch>, AllocError>
     ensures read { IfOk result (λ o. IsBatchIn payload.now o) }

@@ -8,8 +8,8 @@ use thiserror::Error;
 /// Why a file was not opened.
 #[derive(Debug, Drop, Error)]
 pub enum FileError {
-    /// The bytes represent no list of batches. `at` is 0 if the first nine bytes are wrong, and else the offset of the first
-    /// place where neither a frame nor a closing byte stands.
+    /// The bytes represent no list of batches. `at` is 0 if the first nine bytes are wrong, otherwise the first
+    /// offset with neither a frame nor a closing byte.
     #[error("not an edit file at {at}")]
     NotEditFile { at: u64 },
     /// The disk failed.

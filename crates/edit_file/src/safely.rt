@@ -6,7 +6,7 @@ ghost use Rattle.edit_file.specs.Moments.{Does};
 
 use outside_disks::{Disk, Failed};
 
-/// Writes `piece` at the offset `at`, and returns once it is safe.
+/// Writes `piece` at offset `at`, and returns once it is safe.
 pub(crate) fn write_safely<D: Disk>(disk: &mut D, at: u64, piece: &[u8]) -> Result<(), Failed>
     requires some { 0 < length piece.now }
     requires inside { IfSome (D.bytes disk.old) (λ b. at ≤ length b) }
@@ -22,7 +22,7 @@ pub(crate) fn write_safely<D: Disk>(disk: &mut D, at: u64, piece: &[u8]) -> Resu
     disk.sync()
 }
 
-/// Cuts the bytes after the first `len` off, and returns once that is safe.
+/// Truncates the bytes to the first `len`, and returns once that is safe.
 pub(crate) fn cut_safely<D: Disk>(disk: &mut D, len: u64) -> Result<(), Failed>
     requires inside { IfSome (D.bytes disk.old) (λ b. len ≤ length b) }
     ensures shorter { OnOk result (D.bytes disk.new ≡ option_map (take len) (D.bytes disk.old)) }

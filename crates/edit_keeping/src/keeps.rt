@@ -1,4 +1,4 @@
-//! A place that keeps accepted batches.
+//! Keepers of accepted batches.
 ghost use Rattle.std.specs.Prelude.{◌≡◌, ◌≢◌, ℕ, List, [], ◌∷◌, ◌++◌, Bool, false, Option, IfOk, OnOk, OnErr, is_err};
 ghost use Rattle.item_model.specs.declared.changes.Edit.{Edit};
 ghost use Rattle.outside_disks.specs.Counts.{CountsFaults};
@@ -8,12 +8,13 @@ use item_model::Batch;
 use std::alloc::{AllocError, Global};
 use thiserror::Error;
 
-/// A batch may not have been kept, and the keeper takes no other one.
+/// A batch may not have been kept, and the keeper takes no more.
 #[derive(Debug, Drop, Error)]
 #[error("a batch was not kept")]
 pub struct Lost;
 
-/// Keeps accepted batches, in order. What takes memory is done in `ready`, before a batch is accepted; `keep` takes none.
+/// Keeps accepted batches, in order. `ready` makes all allocations, before a batch is accepted; `keep` does not
+/// allocate.
 pub trait Keeps {
     /// A batch that is ready to be kept.
     type Ready: Drop + Send;
@@ -24,16 +25,16 @@ pub trait Keeps {
     // Whether an earlier call returned `Lost`.
     ghost is_lost: { Self → Bool };
 
-    // The count of faults of what it keeps batches on.
+    // The error counter of what it keeps batches on.
     ghost faults: { Self → ℕ };
 
-    // The name under which its batches are found, where that name and the bytes there are told.
+    // The name under which its batches are found, if that name and the bytes there are known.
     ghost place: { Self → Option (List ℕ) };
 
     // The batch that was made ready.
     ghost is_for: { Self.Ready → List Edit → Type 0 };
 
-    /// Makes a batch ready. It has at least one edit, and is one that reading records can give.
+    /// Makes a batch ready. It has at least one edit, and is one that reading records can return.
     ///
     /// # Errors
     ///
@@ -43,11 +44,11 @@ pub trait Keeps {
         requires readable { IsReadable batch.now }
         ensures ready { IfOk result (λ r. is_for r batch.now) };
 
-    /// Keeps the batch behind those before.
+    /// Keeps the batch after those before.
     ///
     /// # Errors
     ///
-    /// Returns `Lost` if the batch may not have been kept; a fault was counted.
+    /// Returns `Lost` and counts an error if the batch may not have been kept.
     fn keep(&mut self, ready: Self::Ready) -> Result<(), Lost>
         requires going { is_lost self.old ≡ false }
         ensures acknowledged { (batches : List (List Edit)) (batch : List Edit) → keeps self.old batches → is_for ready batch

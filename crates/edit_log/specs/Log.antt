@@ -1,4 +1,5 @@
--- What contracts see of a log: its entries, oldest first, and how many more can be appended without memory.
+-- A log as contracts see it: its entries, oldest first, and the spare capacity, which counts the entries that can be
+-- appended without allocating.
 use Rattle.std.specs.Prelude.{ℕ, List}
 use Rattle.item_model.specs.declared.changes.Entry.{Entry}
 

@@ -1,5 +1,5 @@
-//! The history of a share as a list that grows at its end. Room is made beforehand, so that an entry can always be
-//! appended where it was reserved.
+//! The history of a share as a list that grows at its end. Capacity is reserved first, so an entry can always be
+//! appended after a `reserve`.
 #![tactic(auto)]
 
 mod log;

@@ -1,5 +1,3 @@
-//! The log.
-
 ghost use Rattle.std.specs.Prelude.{◌≡◌, ◌≤◌, ◌<◌, ◌+◌, ◌^◌, ◌++◌, ◌∷◌, [], length, OnOk, OnErr, IsOk, slice_get, option_copied};
 ghost use Rattle.share_history.specs.Histories.{batches, revision};
 
@@ -8,7 +6,7 @@ use share_history::{FIRST_REVISION, revision_after};
 use std::alloc::{AllocError, Global};
 use std::marker::Model;
 
-/// The entries of a history, oldest first, with room for more.
+/// The entries of a history, oldest first, with spare capacity.
 #[derive(Debug, Drop)]
 pub struct EditLog {
     entries: Vec<Entry>,
@@ -32,7 +30,7 @@ impl Model for EditLog {
 }
 
 impl EditLog {
-    /// A log without entries, without memory.
+    /// Returns a log without entries. Does not allocate.
     pub fn new(alloc: Global) -> EditLog
         ensures { result.entries ≡ [] }
     {
@@ -42,7 +40,8 @@ impl EditLog {
         }
     }
 
-    /// Makes room for so many entries more. Room that is there stays.
+    /// Reserves capacity for `entries` more. Spare capacity never shrinks.
+    /// Returns `AllocError` if allocation fails; the log is then unchanged.
     pub fn reserve(&mut self, entries: u64) -> Result<(), AllocError>
         ensures list { self.new.entries ≡ self.old.entries }
         ensures room { OnOk result (entries ≤ self.new.spare) }
@@ -53,7 +52,7 @@ impl EditLog {
         self.entries.reserve(entries as usize)
     }
 
-    /// Adds an entry at the end, without memory.
+    /// Appends `entry`. Does not allocate.
     #[tactic(auto, using(crate::proofs::LogFacts::revision_more))]
     pub fn append(&mut self, entry: Entry)
         requires room { 1 ≤ self.old.spare }
@@ -65,7 +64,7 @@ impl EditLog {
         self.entries.push_reserved(entry);
     }
 
-    /// How many entries there are.
+    /// Returns the number of entries.
     pub fn len(&self) -> u64
         ensures count { result ≡ length self.now.entries }
         ensures small { result < 2 ^ 63 }
@@ -73,28 +72,28 @@ impl EditLog {
         self.entries.len() as u64
     }
 
-    /// For how many entries more there is room.
+    /// Returns how many entries can be appended without a further `reserve`.
     pub fn spare(&self) -> u64
         ensures { result ≡ self.now.spare }
     {
         (self.entries.capacity() - self.entries.len()) as u64
     }
 
-    /// The revision that the entries make.
+    /// Returns the revision after all entries.
     pub fn revision(&self) -> u32
         ensures { result ≡ revision (batches self.now.entries) }
     {
         self.revision
     }
 
-    /// The entry of a number, counted from 0.
+    /// Returns entry `n`, counted from 0, or `None` past the last.
     pub fn entry(&self, n: u64) -> Option<&Entry>
         ensures { option_copied result ≡ slice_get self.now.entries n }
     {
         self.entries.get(n as usize)
     }
 
-    /// The entries as a vector, without memory.
+    /// Returns the entries as a vector. Does not allocate.
     pub fn into_entries(self) -> Vec<Entry>
         ensures { result.items ≡ self.entries }
     {

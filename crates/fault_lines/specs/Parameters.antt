@@ -1,4 +1,4 @@
--- The line of a parameter of a request that does not read as what its name asks for.
+-- The line of a parameter of a request whose value is malformed.
 use Rattle.std.specs.Prelude.{ℕ, List, [], ◌∷◌, ◌++◌, codes}
 
 abbrev pub parameter_line : List ℕ → List ℕ

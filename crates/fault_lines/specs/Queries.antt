@@ -1,4 +1,4 @@
--- The line of a query's text that is refused: that it is too long, or where in it no query goes on.
+-- The line of an error of a query's text: it is too long, or no query continues from an offset.
 use Rattle.std.specs.Prelude.{ℕ, List, [], ◌∷◌, ◌++◌, codes, decimal}
 use Rattle.item_model.specs.declared.refusal.QueryError.{QueryError}
 use Rattle.item_model.specs.declared.refusal.QueryError.TheVariants.{TooLong, TooDeep, At, Memory}
@@ -9,7 +9,7 @@ abbrev pub query_reason : QueryWhy → List ℕ
 query_reason End = codes " end"
 query_reason Byte = codes " byte"
 
--- the line without its end, as a line of records carries it
+-- the line without its end, as it is in a line of records
 abbrev pub query_text : QueryError → List ℕ
 query_text TooLong = codes "query: too long"
 query_text (TooDeep place) = codes "query: too deep at " ++ decimal place

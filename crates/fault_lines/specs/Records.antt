@@ -1,4 +1,4 @@
--- The line of records that are refused: of which record, in which column, and why.
+-- The line of an error of records: which record, which column, and why.
 use Rattle.std.specs.Prelude.{ℕ, List, [], ◌∷◌, ◌++◌, codes, decimal}
 use Rattle.item_model.specs.declared.refusal.RecordWhy.{RecordWhy}
 use Rattle.item_model.specs.declared.refusal.RecordWhy.TheVariants.{Op, Kind, Number, Range, Text, Extra, Missing, Query}

@@ -1,5 +1,5 @@
-//! The lines that tell why records, a query or a parameter are refused. The command line prints them, and a share
-//! answers them in the body of a 400 reply. Contracts see each as a list of bytes (`specs/`).
+//! The lines that report errors of records, queries and parameters. The command line prints them, and a share
+//! sends them in the body of a 400 reply. Contracts see each as a list of bytes (`specs/`).
 #![tactic(auto)]
 
 mod numbers;

@@ -1,11 +1,11 @@
-//! Words with a number behind them.
+//! A text followed by a number.
 
 ghost use Rattle.std.specs.Prelude.{◌≡◌, ◌++◌, OnOk, decimal};
 
 use itoa::Buffer;
 use std::alloc::AllocError;
 
-/// Adds words and the number behind them, in decimal.
+/// Appends `words` and then `number` in decimal.
 pub fn push_number(line: &mut Vec<u8>, words: &[u8], number: u64) -> Result<(), AllocError>
     ensures text { OnOk result (line.new.items ≡ line.old.items ++ (words.now ++ decimal number)) }
 {

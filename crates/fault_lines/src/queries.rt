@@ -1,4 +1,4 @@
-//! The line of a query that is refused.
+//! The line of a malformed query.
 
 ghost use Rattle.std.specs.Prelude.{◌≡◌, ◌++◌, IfOk, OnOk};
 ghost use Rattle.fault_lines.specs.Queries.{query_reason, query_text, query_line};
@@ -7,7 +7,7 @@ use crate::numbers::push_number;
 use item_model::{QueryError, QueryWhy};
 use std::alloc::{AllocError, Global};
 
-/// The line of a query's text that is refused. Places count its bytes from 0.
+/// Returns the line of an error of a query's text, with the offset in bytes.
 pub fn query_line(alloc: Global, error: &QueryError) -> Result<Vec<u8>, AllocError>
     ensures text { IfOk result (λ line. line.items ≡ query_line error.now) }
 {
@@ -17,7 +17,7 @@ pub fn query_line(alloc: Global, error: &QueryError) -> Result<Vec<u8>, AllocErr
     Ok(line)
 }
 
-/// Adds why a query is refused, without a line's end.
+/// Appends the line without its end.
 pub fn push_query(line: &mut Vec<u8>, error: &QueryError) -> Result<(), AllocError>
     ensures text { OnOk result (line.new.items ≡ line.old.items ++ query_text error.now) }
 {

@@ -1,4 +1,4 @@
-//! The line of records that are refused.
+//! The line of malformed records.
 
 ghost use Rattle.std.specs.Prelude.{◌≡◌, ◌++◌, IfOk, OnOk};
 ghost use Rattle.fault_lines.specs.Records.{cell_reason, records_text, records_line};
@@ -9,7 +9,7 @@ use item_model::RecordWhy;
 use records_import::RecordError;
 use std::alloc::{AllocError, Global};
 
-/// The line of records that are refused. Columns count from 1, and records from 1 behind the header.
+/// Returns the line of an error of records. Columns count from 1, and records from 1 after the header.
 pub fn records_line(alloc: Global, error: &RecordError) -> Result<Vec<u8>, AllocError>
     ensures text { IfOk result (λ line. line.items ≡ records_line error.now) }
 {

@@ -1,4 +1,4 @@
-//! Batches appended to an edit file of the system, so that bench/ can kill the program and look at what is kept.
+//! Appends batches to an edit file of the system, so that bench/ can kill the program and check what is kept.
 #![tactic(auto)]
 
 use anyhow::{Context, bail};
@@ -9,12 +9,12 @@ use records_import::read_batch;
 use std::alloc::Global;
 use std::env;
 
-/// The file, and the number of batches, where no word says them.
+/// The file and the number of batches without arguments.
 const NAME: &str = "edits";
 
 const FEW: u32 = 3;
 
-/// The frame of the batch with a number, from 1 on: it puts the item with that id.
+/// Returns the frame of batch `number`, counted from 1, which puts the item with that id.
 fn frame_of(alloc: Global, number: u32) -> anyhow::Result<Frame> {
     let text = format!(in alloc; "op,kind,id,dmap.itemname\nput,item,{number},Song {number}\n")?;
     let batch = read_batch(alloc, text.as_bytes())?;
@@ -24,7 +24,7 @@ fn frame_of(alloc: Global, number: u32) -> anyhow::Result<Frame> {
     Ok(Frame::of(alloc, &batch)?)
 }
 
-/// Whether a batch is the one with that number.
+/// Returns whether the batch is the one with that number.
 fn has_number(batch: &Batch, number: u32) -> bool {
     match batch.edits.as_slice() {
         [Edit::PutItem { row }] => row.row().id == number,
@@ -32,7 +32,7 @@ fn has_number(batch: &Batch, number: u32) -> bool {
     }
 }
 
-/// How many batches there are, if they are those from number 1 on, in order.
+/// Returns the number of batches, if they are those from number 1, in order.
 fn counted(batches: &[Batch]) -> anyhow::Result<u32> {
     let mut count: u32 = 0;
     for batch in batches {

@@ -1,4 +1,4 @@
-//! `outside_disks`: what disks and files do when they run, and a caller that knows the trait alone.
+//! `outside_disks`: runs disks and files, with a caller that knows only the trait.
 
 ghost use Rattle.std.specs.Prelude.{◌<◌, length, OnOk};
 ghost use Rattle.outside_disks.specs.Disks.{Only};
@@ -10,7 +10,7 @@ use std::string::String;
 use std::test::Fail;
 use std::{env, fs};
 
-// Writes a piece at the front, and makes it safe.
+// Writes a piece at offset 0, and makes it safe.
 fn write_safely<D: Disk>(disk: &mut D, piece: &[u8]) -> Result<(), Failed>
     requires { 0 < length piece.now }
     ensures { OnOk result (Only (D.bytes disk.new) (D.images disk.new)) }
@@ -19,7 +19,7 @@ fn write_safely<D: Disk>(disk: &mut D, piece: &[u8]) -> Result<(), Failed>
     disk.sync()
 }
 
-// Writes, reads, cuts and tells the length, and answers whether all came out as the model has it.
+// Writes, reads, truncates and reads the length. Returns whether all results are those of the model.
 fn is_a_disk<D: Disk>(disk: &mut D) -> Result<bool, Failed> {
     write_safely(disk, b"abc")?;
     let mut room = [0; 4];
@@ -28,7 +28,7 @@ fn is_a_disk<D: Disk>(disk: &mut D) -> Result<bool, Failed> {
     Ok(all && disk.len()? == 3)
 }
 
-// The path of a file of this test's own.
+// The path of a file that only this test uses.
 fn own_path(rt: &HostRuntime, alloc: Global) -> Result<String, Fail> {
     let folder = env::temp_dir(rt)?;
     let mut path = String::new(alloc);
@@ -57,7 +57,7 @@ fn a_file_is_a_disk(rt: HostRuntime) -> Result<(), Fail> {
     Ok(())
 }
 
-// Makes a call, and answers whether it was done. No write and no cut begins past the end.
+// Makes a call, and returns whether it succeeded. No write and no truncation begins past the end.
 fn call(disk: &mut MemDisk, op: DiskOp, at: u64, piece: &[u8]) -> bool {
     let inside = at <= disk.bytes().len() as u64;
     match op {
@@ -69,13 +69,13 @@ fn call(disk: &mut MemDisk, op: DiskOp, at: u64, piece: &[u8]) -> bool {
     }
 }
 
-// The last call that was recorded, as what was asked, where, and whether it was done.
+// The last recorded call: its operation, its offset, and whether it succeeded.
 fn last_call(disk: &MemDisk) -> Option<(DiskOp, u64, bool)> {
     let call = disk.calls().last()?;
     Some((call.op, call.at, call.done))
 }
 
-// What is asked, where and with which piece, whether it is done, and the bytes of the disk then.
+// Operation, offset and piece of a call, whether it succeeds, and the disk's bytes afterwards.
 type Call = (DiskOp, u64, &'static str, bool, &'static str);
 
 const CALLS: [Call; 6] = [
@@ -110,7 +110,7 @@ fn a_disk_records_its_calls_and_fails_where_it_is_set_to(rt: HostRuntime) -> Res
     Ok(())
 }
 
-// Files with a disk for each room, and with room for so many names asked for.
+// Files with a disk for each of the capacities, and with capacity for `opens` requested names.
 fn files_with(alloc: Global, rooms: &[usize], opens: usize) -> Result<MemFiles, AllocError> {
     let mut disks = Vec::new(alloc);
     for room in rooms {
@@ -119,7 +119,7 @@ fn files_with(alloc: Global, rooms: &[usize], opens: usize) -> Result<MemFiles, 
     MemFiles::with_disks(alloc, disks, opens)
 }
 
-// Opens a file that has these bytes, and writes a piece to its front, unless it is empty.
+// Opens a file that has these bytes, and writes a piece at offset 0, unless it is empty.
 fn opened(
     rt: &impl Abort,
     files: &mut MemFiles,
@@ -135,7 +135,7 @@ fn opened(
     Ok(disk)
 }
 
-// Names of files, the bytes that each is found with, and what is written to its front.
+// A file's name, the bytes that it has when opened, and what is written at offset 0.
 type Turn = (&'static str, &'static str, &'static str);
 
 const WRITTEN: [Turn; 3] = [
@@ -152,7 +152,7 @@ fn are_written(rt: &impl Abort, files: &mut MemFiles, turns: &[Turn]) -> Result<
     Ok(())
 }
 
-// The same of files whose disks other files keep, so that each is found empty.
+// The same for files whose disks are closed by other files, so that each is empty when opened.
 const LENT: [Turn; 3] = [
     ("edits", "", "one"),
     ("others", "", "two"),

@@ -10,10 +10,10 @@ use std::alloc::Global;
 use std::string::String;
 use std::test::Fail;
 
-// An item, as its client sends it. Written in full, with all columns, it has 542 bytes.
+// An item as a client sends it. With all columns written it has 542 bytes.
 const ONE_ITEM: &[u8] = b"op,kind,id,dmap.itemname\nput,item,7,A\n";
 
-// Bytes, and what opening them gives: how many batches, and how many bytes the file has then.
+// Bytes, and the result of opening them: the number of batches, and the number of bytes that the file has then.
 const FILES: [(&[u8], &str); 11] = [
     (b"", "0 batches, 10 bytes"),
     (b"\x01", "0 batches, 10 bytes"),
@@ -43,14 +43,14 @@ fn disk_with(alloc: Global, bytes: &[u8], failing: &[u64]) -> Result<MemDisk, Fa
     Ok(MemDisk::new(alloc, bytes, 2_000, 60, 2_000, failing)?)
 }
 
-// Whether nothing was asked of the disk that can change it.
+// Whether no operation of the disk was called that can change it.
 fn is_untouched(disk: &MemDisk) -> bool {
     disk.calls()
         .iter()
         .all(|call| !matches!(call.op, DiskOp::WriteAt | DiskOp::Cut))
 }
 
-// What opening the bytes gives. A refused file has to be left as it was.
+// The result of opening the bytes. A refused file must be left as it was.
 fn opened(alloc: Global, bytes: &[u8]) -> Result<String, Fail> {
     match EditFile::open(alloc, disk_with(alloc, bytes, &[])?) {
         Ok((file, batches)) => {
@@ -79,7 +79,7 @@ fn files_open_as_the_table_says(rt: HostRuntime) -> Result<(), Fail> {
     Ok(())
 }
 
-// Opens a file. Gives its disk alone if one of the calls failed.
+// Opens a file. Returns only its disk if one of the calls failed.
 fn open_with(
     alloc: Global,
     start: &[u8],
@@ -92,7 +92,7 @@ fn open_with(
     }
 }
 
-// How many calls of the disk opening makes.
+// The number of disk calls of opening.
 fn opening_calls(alloc: Global, start: &[u8], failing: &[u64]) -> Result<usize, Fail> {
     let disk = match open_with(alloc, start, failing)? {
         Ok(file) => file.into_disk(),
@@ -101,7 +101,7 @@ fn opening_calls(alloc: Global, start: &[u8], failing: &[u64]) -> Result<usize, 
     Ok(disk.calls().len())
 }
 
-// Opens a file and appends a batch. Gives the disk, and whether all was done.
+// Opens a file and appends a batch. Returns the disk, and whether both succeeded.
 fn grown(alloc: Global, start: &[u8], failing: &[u64]) -> Result<(MemDisk, bool), Fail> {
     match open_with(alloc, start, failing)? {
         Ok(mut file) => {
@@ -115,13 +115,13 @@ fn grown(alloc: Global, start: &[u8], failing: &[u64]) -> Result<(MemDisk, bool)
     }
 }
 
-// A file with one batch.
+// The bytes of a file with one batch.
 fn one_batch(alloc: Global) -> Result<Vec<u8>, Fail> {
     let (disk, _done) = grown(alloc, b"", &[])?;
     Ok(Vec::from_slice(alloc, disk.bytes())?)
 }
 
-// How many batches the bytes open to.
+// The number of batches that the bytes open to.
 fn batches_in(alloc: Global, bytes: &[u8]) -> Result<usize, Fail> {
     match EditFile::open(alloc, disk_with(alloc, bytes, &[])?) {
         Ok((_file, batches)) => Ok(batches.len()),
@@ -158,19 +158,19 @@ fn overlaid(alloc: Global, bytes: &[u8], at: usize, piece: &[u8]) -> Result<Vec<
     Ok(all)
 }
 
-// A disk in memory, by the record of its calls: what it has, what of its pieces is still to be written, and whether a change may not
-// be safe.
+// A disk in memory, by the record of its calls: its bytes, which of its pieces are still to be written, and whether a
+// change may not be safe.
 #[derive(Drop)]
 struct Replay<'a> {
     bytes: Vec<u8>,
     pieces: &'a [u8],
     is_pending: bool,
-    // so many calls more were made as in a run whose images were opened
+    // this many calls are the same as in a run whose images were opened
     known: usize,
 }
 
-// Whether all that a crash may leave of a write opens to `fewest` batches, or to `most`: the piece is cut at each byte, and what is missing
-// of it is as before, or is 01.
+// Whether all images of an interrupted write open to `fewest` batches, or to `most`. The piece is cut at each byte,
+// and the rest of it is as before, or is 01.
 fn torn_writes_open(
     alloc: Global,
     bytes: &[u8],
@@ -197,7 +197,7 @@ fn torn_writes_open(
     Ok(true)
 }
 
-// The same of a cut: some length from the wanted one to the old one.
+// The same for a truncation: some length from the wanted one to the old one.
 fn torn_cuts_open(
     alloc: Global,
     bytes: &[u8],
@@ -214,7 +214,7 @@ fn torn_cuts_open(
     Ok(true)
 }
 
-// Makes one call more, and gives whether all that a crash may leave during it opens to `fewest` batches, or to `most`. A second change
+// Makes one more call, and returns whether all images of it open to `fewest` batches, or to `most`. A second change
 // while one is pending is refused, so that all images are those of one change.
 fn make_call(
     alloc: Global,
@@ -273,8 +273,8 @@ fn all_open(
     Ok(true)
 }
 
-// Whether every image of opening the bytes has their batches, and every image of an append these, or these and one more; of the first
-// `known` calls another run has shown it.
+// Whether every image of opening the bytes has their batches, and every image of an append these, or these and one
+// more. Another run has shown it for the first `known` calls.
 fn images_open(
     alloc: Global,
     start: &[u8],
@@ -307,8 +307,8 @@ fn images_open(
     Ok(opens && appends)
 }
 
-// Makes a run of which one call is set to fail, and sees that all its images open, and that an acknowledged batch is there. Gives how many
-// calls were made, and whether all was done.
+// Makes a run of which one call is set to fail. Checks that all its images open, and that an acknowledged batch is in
+// them. Returns the number of calls, and whether all succeeded.
 fn run(alloc: Global, start: &[u8], failing: &[u64], known: usize) -> Result<(usize, bool), Fail> {
     let (disk, done) = grown(alloc, start, failing)?;
     let opening = opening_calls(alloc, start, failing)?;
@@ -320,7 +320,7 @@ fn run(alloc: Global, start: &[u8], failing: &[u64], known: usize) -> Result<(us
     Ok((disk.calls().len(), done))
 }
 
-// Each call fails in turn. Gives how many calls there are; 0 if one of them was not the last.
+// Each call fails in turn. Returns the number of calls; 0 if one of them was not the last.
 fn each_fails(alloc: Global, start: &[u8]) -> Result<usize, Fail> {
     let (count, done) = run(alloc, start, &[], 0)?;
     if !done {

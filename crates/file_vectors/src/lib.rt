@@ -1,4 +1,4 @@
-//! Tests of disks and of files of batches. Nothing here is for other crates.
+//! Tests of disks and of files of batches. Other crates do not use this one.
 #![tactic(auto)]
 
 #[cfg(test)]

@@ -52,7 +52,7 @@ use Rattle.followed_shares.proofs.WholeFacts.{AreSmall, IsRow, each_filtered, ro
 
 -- ---- tags that fit below a list
 
--- of at most so many levels
+-- of at most `n` levels
 pub record IsGood (parent : Four) (n : ℕ) (t : Tree) : Type 0 where
   pub fit : fits standard_rows (Some parent) t ≡ true
   pub deep : levels t ≤ n

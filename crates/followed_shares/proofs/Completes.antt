@@ -18,6 +18,7 @@ use Rattle.share_history.specs.Mirror.{Held, mirror_look}
 use Rattle.share_history.specs.Sessions.{next_session}
 use Rattle.share_history.proofs.EditFacts.{batches-append}
 use Rattle.share_history.proofs.DeltaFacts.{listing_revision}
+use Rattle.share_history.proofs.WholeFacts.{each_both}
 use Rattle.share_asks.specs.declared.ask.Want.TheVariants as want
 use Rattle.share_replies.specs.Settings.{Settings}
 use Rattle.share_replies.specs.SmallBodies.{login_body, revision_body}
@@ -35,7 +36,7 @@ use Rattle.mirror_client.specs.declared.refusal.FollowError.{FollowError}
 use Rattle.mirror_client.specs.declared.refusal.FollowError.TheVariants.{Refused, BadReply, Ended, Listing as not_taken, Codes, LinkFault, Memory}
 use Rattle.mirror_client.specs.Exchanges.{AreAnswered, Exchange, messages}
 use Rattle.mirror_client.specs.Points.{Point}
-use Rattle.mirror_client.specs.Stages.{Asking, Begun, Closed, Holding, Leads, LeadsOn, Learned, Path, Stage, UndueBehind, UndueIn, due}
+use Rattle.mirror_client.specs.Stages.{Asking, Begun, Closed, Holding, Leads, LeadsOn, Learned, Path, Stage, UndueBehind, UndueIn, Walks, due, listings_in}
 use Rattle.mirror_client.specs.Steps.{IsRefusedBy, Known, TellsListing, UndueEnd, UndueListing, UndueTable, held_after, with_listings}
 use Rattle.mirror_client.specs.Stopping.{BeginsBad, EndsEarly, NoReply, Stops}
 use Rattle.mirror_client.specs.Tellings.{IsTag, Tells, UndueNumber, number_told}
@@ -45,7 +46,7 @@ use Rattle.followed_shares.specs.Laws.{ServedRunsGoOn}
 use Rattle.followed_shares.specs.Served.{Rise, Round, Serves, ServesRounds, ServesRun, asked_behind, points_of}
 use Rattle.share_history.specs.Whole.{IsWhole}
 use Rattle.followed_shares.proofs.BodiesRead.{listing_body_read}
-use Rattle.followed_shares.proofs.FilterShown.{each_whole, few, learned, left_owed, listing_is, login_tag, owed_split, revision_tag, split_on, standard_back, table_tag}
+use Rattle.followed_shares.proofs.FilterShown.{each_whole, few, learned, left_owed, listing_is, listing_same, login_tag, owed_split, revision_tag, split_on, standard_back, table_tag, tells}
 use Rattle.followed_shares.proofs.Successes.{Begins, answer_is, empty_served, tag_served}
 
 -- ---- what is still to come
@@ -150,7 +151,7 @@ asked_on s m rounds session k ls l bytes more answer b is rest tells = record {
         (subst (λ (a : Reply). Tells standard_rows a tag) (sym is)
         (refl, listing_body_read s.keep b.r.0 m.target m.query m.meta (held_after m.held ls).revision b.whole.0)))
 
--- behind a round the logout is due where it was the last, and else the next revision
+-- after a round the client requests the logout if it was the last, otherwise the next revision
 behind_count : (s : Settings) (m : Mirrored) (rounds session : ℕ) (k : Known) (ls : List Listing) (bytes : List ℕ) (rs : List Round) → length ls + length rs ≡ rounds
     → (last : Bool) → (length ls == rounds) ≡ last → ((last ≡ true) × (rs ≡ [])) ⊎ ((last ≡ false) × ((r : Round) × (others : List Round) × (rs ≡ r ∷ others)))
 behind_count s m rounds session k ls bytes [] count last is = inl (sym is ∙ eq-eqb (length ls) rounds (omega (arith, count)), refl)
@@ -234,7 +235,7 @@ begins_whole p bytes rest told (Codes error) owed b none = absurd none
 begins_whole p bytes rest told LinkFault owed b none = inl refl
 begins_whole p bytes rest told Memory owed b none = inr refl
 
--- what is answered is due
+-- the answer is the expected one
 pub stops_outside : (request : List ℕ) (Undue : ℕ → Reply → FollowError → Type 0) (p : Point) (taken : Option (List ℕ)) (e : FollowError) (bytes rest : List ℕ) (told : Reply)
     → p.owed ≡ Some bytes → Begins bytes rest told → ((used : ℕ) → Undue used told e → IsOutside e) → Stops request Undue p taken e → IsOutside e
 stops_outside request Undue p taken e bytes rest told owed b never (inl s) = begins_whole p bytes rest told e owed b s.cause
@@ -391,3 +392,61 @@ served_runs_go_on host m rounds p taken e now s h bytes x zero whole owed run co
     let split = owed_split p.owed x.there.owed bytes (messages x.walks.exchanges) owed x.walks.went.read in
     let ready = walk_ready host s m rounds Begun x.stage x.walks.exchanges bytes split.0 zero (run_ready s m rounds h bytes run zero whole count) x.walks.path x.walks.went.answered split.1 in
     stage_stops host s m rounds x.stage x.request x.there taken e split.0 ready (left_owed p.owed x.there.owed bytes (messages x.walks.exchanges) owed x.walks.went.read) x.is_due x.stops
+
+-- ---- what it reads
+
+-- a listing of the share at a length of its history
+pub record IsTheShares (s : Settings) (m : Mirrored) (l : Listing) : Type 0 where
+  pub point : List Entry
+  pub base : ℕ
+  pub whole : IsWhole point
+  pub is : l ≡ listing s.keep (batches point) m.target (mirror_look m.query m.meta base)
+
+abbrev AreTheShares : Settings → Mirrored → Stage → Type 0
+AreTheShares s m stage = AllByRecursion (IsTheShares s m) (listings_in stage)
+
+asked_listing : (s : Settings) (m : Mirrored) (rounds session : ℕ) (k : Known) (ls : List Listing) (l : Listing) (bytes : List ℕ) (answer : Reply)
+    (b : IsAsked s m rounds session k ls bytes) → answer ≡ (200, spelling (listing_tag s m rounds session k ls bytes b)) → TellsListing k.rows (with_listings m ls) answer l
+    → IsTheShares s m l
+unfolding listing_tag
+asked_listing s m rounds session k ls l bytes answer b is told =
+    let base : ℕ = (held_after m.held ls).revision in
+    let tag : Tree = listing_body s.keep b.r.0 m.target (mirror_look m.query m.meta base) in record {
+      point = b.r.0;
+      base = base;
+      whole = b.whole.0;
+      is = listing_same s.keep k.rows (with_listings m ls) answer l b.r.0 told
+          (tells k.rows answer tag b.standard is (listing_body_read s.keep b.r.0 m.target m.query m.meta base b.whole.0));
+    }
+
+listings_on : (s : Settings) (m : Mirrored) (rounds : ℕ) (stage next : Stage) (x : Exchange) (bytes more : List ℕ) → IsReady s m rounds stage bytes → IsReply x.message x.answer
+    → bytes ≡ print_message x.message ++ more → Leads m rounds stage x.answer next → AreTheShares s m stage → AreTheShares s m next
+listings_on s m rounds Begun next x bytes more b is split leads all = subst (AreTheShares s m) (sym leads.2) tt
+listings_on s m rounds (Learned rows) next x bytes more b is split leads all = subst (AreTheShares s m) (sym leads.2) tt
+listings_on s m rounds (Asking k ls) next x bytes more b is split leads all =
+    let a = answer_is x.message x.answer (200, spelling (listing_tag s m rounds b.0 k ls bytes b.1)) bytes more b.1.serves.0 is split (listing_begins s m rounds b.0 k ls bytes b.1) in
+    subst (AreTheShares s m) (sym leads.2)
+    (each_both (IsTheShares s m) ls (leads.0 ∷ []) all (asked_listing s m rounds b.0 k ls leads.0 bytes x.answer b.1 a.0 leads.1, tt))
+listings_on s m rounds (Holding k ls) next x bytes more b is split leads all = behind (length ls == rounds) leads
+  where
+    behind : (last : Bool) → LeadsOn last k ls x.answer next → AreTheShares s m next
+    behind true on = subst (AreTheShares s m) (sym on.1) all
+    behind false on = subst (AreTheShares s m) (sym on.1) all
+listings_on s m rounds (Closed k ls) next x bytes more b is split leads all = absurd leads
+
+walk_listings : (host : List ℕ) (s : Settings) (m : Mirrored) (rounds : ℕ) (stage last : Stage) (xs : List Exchange) (bytes more : List ℕ) → m.held.revision ≡ 0
+    → IsReady s m rounds stage bytes → Path host m rounds stage xs last → AreAnswered xs → bytes ≡ messages xs ++ more → AreTheShares s m stage → AreTheShares s m last
+walk_listings host s m rounds stage last [] bytes more zero b path are same all = subst (AreTheShares s m) (sym path) all
+walk_listings host s m rounds stage last (x ∷ xs) bytes more zero b path are same all =
+    let split = split_on x xs bytes more same in
+    walk_listings host s m rounds path.1.0 last xs (messages xs ++ more) more zero
+    (step_on host s m rounds stage path.1.0 x bytes (messages xs ++ more) zero b are.0 split path.1.1) path.1.2 are.1 refl
+    (listings_on s m rounds stage path.1.0 x bytes (messages xs ++ more) b are.0 split path.1.1 all)
+
+-- each listing that a client read from such bytes is the share's
+pub listings_are_the_shares : (host : List ℕ) (m : Mirrored) (rounds : ℕ) (p : Point) (stage : Stage) (there : Point) (s : Settings) (h : List Entry) (bytes : List ℕ)
+    → Walks host m rounds Begun p stage there → m.held.revision ≡ 0 → IsWhole h → p.owed ≡ Some bytes → (run : ServesRun s m.target m.query m.meta h bytes)
+    → length (run.first ∷ run.others) ≡ rounds → AllByRecursion (IsTheShares s m) (listings_in stage)
+listings_are_the_shares host m rounds p stage there s h bytes walks zero whole owed run count =
+    let split = owed_split p.owed there.owed bytes (messages walks.exchanges) owed walks.went.read in
+    walk_listings host s m rounds Begun stage walks.exchanges bytes split.0 zero (run_ready s m rounds h bytes run zero whole count) walks.path walks.went.answered split.1 tt

@@ -1,4 +1,4 @@
--- What a client reads where a share takes an edit or a stop.
+-- What a client reads if a share applies an edit or a stop.
 use Rattle.std.proofs.Common.{◌≡◌, ◌⊎◌, ◌<◌, ◌^◌, ◌++◌, ◌∷◌, ℕ, List, [], length, Ok, Bool, refl, sym, ◌∙◌, inl, inr, append-nil, length-append, arith}
 use Rattle.dmap_tags.specs.Spelling.{spelling}
 use Rattle.dmap_tags.specs.Tree.{Tree}

@@ -1,4 +1,4 @@
--- A client that followed a share was told what the share has, and so holds it.
+-- A client that followed a share got what the share has, and so holds it.
 use Rattle.std.proofs.Common.{rules, ◌≡◌, ◌≤◌, ◌<◌, ◌^◌, ℕ, ◌==◌, List, [], ◌∷◌, ◌++◌, take, length, map, Bool, true, false, ◌&&◌, nat_le, nat_lt, Option, Some, None, Result, Ok, Err, All, refl, sym, ap, ◌∙◌, subst, append_assoc, arith}
 use Rattle.std.specs.List.{AllByRecursion, list_all}
 use Rattle.std.specs.Str.{is_utf8}
@@ -55,7 +55,7 @@ use Rattle.followed_shares.proofs.BodiesRead.{listing_body_read, small_revision}
 use Rattle.followed_shares.proofs.Successes.{answer_is, empty_served, tag_served}
 use Rattle.share_history.proofs.WholeFacts.{point_whole}
 
--- ---- points
+-- ---- histories
 
 first_whole : (ps : List (List Entry)) (h : List Entry) → Rise ps h → IsWhole h → IsWhole (first_of ps h)
 first_whole [] h rise whole = whole
@@ -65,7 +65,7 @@ pub each_whole : (ps : List (List Entry)) (h : List Entry) → Rise ps h → IsW
 each_whole [] h rise whole = tt
 each_whole (p ∷ ps) h rise whole = (first_whole (p ∷ ps) h rise whole, each_whole ps h rise.1 whole)
 
--- the points of the listings
+-- the histories of the listings
 listing_points : List Round → List (List Entry)
 listing_points rs = map (λ (r : Round). r.0) rs
 
@@ -157,15 +157,21 @@ number_tag v small = record { spelled = refl; accepted = refl; proper = (omega a
 pub revision_tag : (h : List Entry) → IsWhole h → IsTag standard_rows (spelling (revision_body (revision (batches h)))) (revision_body (revision (batches h)))
 revision_tag h whole = number_tag (revision (batches h)) (small_revision h whole)
 
--- the listing that was taken in tells the revision of the share that answered
+-- the listing that was applied is that of the share that answered
+pub listing_same : (keep : ℕ) (rows : List CodeRow) (m : Mirrored) (answer : Reply) (l : Listing) (h : List Entry) → TellsListing rows m answer l
+    → Tells rows answer (listing_body keep h m.target (mirror_look m.query m.meta m.held.revision))
+    → l ≡ listing keep (batches h) m.target (mirror_look m.query m.meta m.held.revision)
+listing_same keep rows m answer l h t share =
+    let body : Tree = listing_body keep h m.target (mirror_look m.query m.meta m.held.revision) in
+    let same : t.tag ≡ body = tags_once rows answer.1 t.tag body t.told.1 share.1 in
+    listings_are_one m.target m.held.revision l (listing keep (batches h) m.target (mirror_look m.query m.meta m.held.revision)) body
+    (subst (λ (tag : Tree). IsListing m.target m.held.revision l tag) same t.is) (answer_is_listing keep (batches h) m.target m.query m.meta m.held.revision)
+
+-- so it has the revision of that share
 pub listing_is : (keep : ℕ) (rows : List CodeRow) (m : Mirrored) (answer : Reply) (l : Listing) (h : List Entry) → TellsListing rows m answer l
     → Tells rows answer (listing_body keep h m.target (mirror_look m.query m.meta m.held.revision)) → l.revision ≡ revision (batches h)
 listing_is keep rows m answer l h t share =
-    let body : Tree = listing_body keep h m.target (mirror_look m.query m.meta m.held.revision) in
-    let same : t.tag ≡ body = tags_once rows answer.1 t.tag body t.told.1 share.1 in
-    ap (λ (x : Listing). x.revision)
-    (listings_are_one m.target m.held.revision l (listing keep (batches h) m.target (mirror_look m.query m.meta m.held.revision)) body
-    (subst (λ (tag : Tree). IsListing m.target m.held.revision l tag) same t.is) (answer_is_listing keep (batches h) m.target m.query m.meta m.held.revision))
+    ap (λ (x : Listing). x.revision) (listing_same keep rows m answer l h t share)
     ∙ listing_revision keep (batches h) m.target (mirror_look m.query m.meta m.held.revision)
 
 -- ---- rounds
@@ -180,7 +186,7 @@ unfolding known_of
 ended host m rounds k last ls ms [] path = (refl, ap (known_of k) path)
 ended host m rounds k last ls ms (x ∷ xs) path = absurd (cc)
 
--- where a round is the last, the logout is answered, and else the next revision
+-- if a round is the last, the logout is answered, otherwise the next revision
 behind_last : (host : List ℕ) (m : Mirrored) (rounds : ℕ) (k last : Known) (ls ms : List Listing) (answer : Reply) (v : Stage) (xs : List Exchange) (b : Bool)
     → answer ≡ (204, []) → LeadsOn b k ls answer v → Path host m rounds v xs (Closed last ms) → (xs ≡ []) × (last ≡ k)
 behind_last host m rounds k last ls ms answer v xs true is leads path =
@@ -208,7 +214,7 @@ tells rows answer tag standard is read =
 pub split_on : (x : Exchange) (xs : List Exchange) (bytes more : List ℕ) → bytes ≡ messages (x ∷ xs) ++ more → bytes ≡ print_message x.message ++ (messages xs ++ more)
 split_on x xs bytes more same = same ∙ append_assoc (print_message x.message) (messages xs) more
 
--- what is told in rounds, and the table stays
+-- the answers in rounds; the table stays
 record TellsRounds (keep : ℕ) (target : Target) (query : Option Query) (meta : Meta) (base : ℕ) (k last : Known) (hs : List (List Entry)) (xs : List Exchange) : Type 0 where
   stays : last ≡ k
   told : AreTold keep k.rows target query meta base hs (each_second xs)
@@ -289,7 +295,7 @@ pub held_last : (held : Held) (ls : List Listing) → 1 ≤ length ls → last_r
 held_last held [] some = absurd (omega (arith, some))
 held_last held (l ∷ ls) some = last_told held l ls
 
--- the history at the revision of one of its points has the batches of that point
+-- the history at the revision of one of its prefixes has the batches of that prefix
 pub point_batches : (h point later : List Entry) → h ≡ point ++ later → batches (at_revision h (revision (batches point))) ≡ batches point
 point_batches h point later same =
     batches-at_revision h (revision (batches point)) ∙ ap (λ (bs : List (List Edit)). up_to bs (revision (batches point))) (ap batches same ∙ batches-append point later)

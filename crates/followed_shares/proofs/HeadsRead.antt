@@ -36,7 +36,7 @@ empty_head : Bool → ResponseHead
 empty_head last =
     record { blank = []; minor = 1; digits = codes "204"; reason = Some (codes "No Content"); line_end = crlf; fields = last_fields last; last = crlf }
 
--- the parts of a head's text, and of fields, one behind the other
+-- the parts of a head's text, and of fields, one after the other
 parts : (s t l a e c : List ℕ) → (s ++ t ++ l ++ a ++ e) ++ c ≡ s ++ (t ++ (l ++ (a ++ (e ++ c))))
 parts s t l a e c = simp append_assoc
 

@@ -1,4 +1,4 @@
--- What a client reads where a share answers with a success.
+-- What a client reads if a share answers with a success.
 use Rattle.std.proofs.Common.{◌≡◌, ◌≤◌, ◌++◌, [], ℕ, List, Bool, ◌⊎◌, inl, inr, true, false, cond, ◌&&◌, ◌==◌, not, length, refl, sym, ap, ◌∙◌, subst, true≢false, Option, Some, None, Ok, Err}
 use Rattle.std.specs.Option.{option_map_or}
 use Rattle.dmap_tags.specs.Spelling.{spelling}
@@ -63,7 +63,7 @@ due_good (Edit body') status body e = rw e refl
 due_good Stop status body e = rw e refl
 due_good (Bad fault) status body e = rw e refl
 
--- a reply that is no refusal is the success, byte by byte
+-- a reply that is not a refusal is the success, byte by byte
 pub success_bytes : (s : Settings) (h : List Entry) (want : Want) (reply : Reply) (last : Bool) (status : ℕ) (body : Body) → answer_to s h want ≡ Replies reply
     → is_bad (reply.status, reply.body) ≡ false → success s h want ≡ (status, body) → reply_bytes reply last ≡ with_head status (form_of body) (body_bytes body) last
 success_bytes s h want reply last status body answers good is =

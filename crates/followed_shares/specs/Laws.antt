@@ -1,4 +1,4 @@
--- What follows for a client that follows a share.
+-- Theorems about a client that follows a share.
 use Rattle.std.specs.Prelude.{◌≡◌, ◌≤◌, ◌⊎◌, ℕ, List, [], ◌∷◌, length, Option, Some}
 use Rattle.dmap_tags.specs.Tree.{Tree}
 use Rattle.item_model.specs.declared.changes.Entry.{Entry}
@@ -19,25 +19,25 @@ use Rattle.mirror_client.specs.Stages.{Begun, StopsFrom}
 use Rattle.share_history.specs.Whole.{IsWhole}
 use Rattle.followed_shares.specs.Served.{ServesRun}
 
--- the revision that the last round told
+-- The revision of the last round.
 abbrev pub last_revision : List Applied → ℕ
 last_revision [] = 0
 last_revision (a ∷ []) = a.revision
 last_revision (a ∷ b ∷ xs) = last_revision (b ∷ xs)
 
--- the rows of which the query holds, as the history had them at a revision
+-- The rows that the query selects at a revision of the history.
 abbrev pub rows_at : List Entry → Target → Option Query → Meta → ℕ → List (ℕ × Tree)
 rows_at h target query meta v = shown_rows target meta (rows (all_edits (at_revision h v)) target query)
 
--- a mirror that held nothing, and that followed a listing to its end over a link whose bytes are a share's to it, holds what the
--- share had at the revision of its last round
+-- A mirror at revision 0 followed a listing to its end, over a connection whose bytes are a share's. It holds what
+-- the share had at the revision of its last round.
 abbrev pub FollowersHoldTheRows : Type 0
 FollowersHoldTheRows =
     (host : List ℕ) (m : Mirrored) (rounds : ℕ) (p : Point) (taken : Option (List ℕ)) (applied : List Applied) (now : Mirrored) (s : Settings) (h : List Entry) (bytes : List ℕ)
     → Followed host m rounds p taken applied now → 1 ≤ rounds → m.held.revision ≡ 0 → IsWhole h → p.owed ≡ Some bytes → ServesRun s m.target m.query m.meta h bytes
     → now.held.rows ≡ rows_at h m.target m.query m.meta (last_revision applied)
 
--- such bytes stop no client that follows for as many rounds: what stops it is a fault of the link, or want of memory
+-- Such bytes stop no client that follows for as many rounds, unless the connection or an allocation fails.
 abbrev pub ServedRunsGoOn : Type 0
 ServedRunsGoOn =
     (host : List ℕ) (m : Mirrored) (rounds : ℕ) (p : Point) (taken : Option (List ℕ)) (e : FollowError) (now : Mirrored) (s : Settings) (h : List Entry) (bytes : List ℕ)

@@ -1,4 +1,5 @@
--- What a share sends to a client that follows it: its replies, one behind the other, at points of its history that never fall.
+-- What a share sends to a client that follows it: its replies, one after the other, at lengths of its history that
+-- never decrease.
 use Rattle.std.specs.Prelude.{◌≡◌, ⊤, ℕ, List, [], ◌∷◌, ◌++◌, Bool, Option}
 use Rattle.item_model.specs.declared.changes.Entry.{Entry}
 use Rattle.item_model.specs.declared.query.Query.{Query}
@@ -13,13 +14,13 @@ use Rattle.share_replies.specs.Settings.{Settings}
 use Rattle.share_replies.specs.Replies.{Reply, Replies, answer_to}
 use Rattle.reply_bytes.specs.ReplyBytes.{reply_bytes}
 
--- the status of the success that a client waits for
+-- The status of the success that a client expects.
 abbrev pub due_status : Want → ℕ
 due_status (Logout session) = 204
 due_status want = 200
 
--- the bytes are the share's reply at a point of its history, with the status that is due, and then a rest; the reply may say that
--- the connection ends behind it
+-- The bytes are the share's reply at a length of its history, with the expected status, and then a rest. The reply
+-- may say that the connection ends after it.
 pub record Serves (s : Settings) (want : Want) (h : List Entry) (bytes rest : List ℕ) : Type 0 where
   pub reply : Reply
   pub last : Bool
@@ -27,16 +28,16 @@ pub record Serves (s : Settings) (want : Want) (h : List Entry) (bytes rest : Li
   pub succeeds : reply.status ≡ due_status want
   pub spelled : bytes ≡ reply_bytes reply last ++ rest
 
--- a round: the point at which the listing was answered, and the one at which what was asked behind it was
+-- A round: the history that the listing was answered at, and that of the answer after it.
 abbrev pub Round : Type 0
 Round = List Entry × List Entry
 
--- behind the last round that is the logout, and behind each other one the next revision
+-- After the last round the client requests the logout, after each other one the next revision.
 abbrev pub asked_behind : ℕ → ℕ → List Round → Want
 asked_behind session base [] = Logout session
 asked_behind session base (r ∷ rs) = Update session base
 
--- rounds of the target's listing, where the base of each is the revision that the one before told
+-- Rounds of the target's listing. The base of each is the revision of the one before.
 abbrev pub ServesRounds : Settings → ℕ → Target → Option Query → Meta → ℕ → List Round → List ℕ → Type 0
 ServesRounds s session target query meta base [] bytes = bytes ≡ []
 ServesRounds s session target query meta base (r ∷ rs) bytes =
@@ -48,7 +49,7 @@ abbrev pub points_of : List Round → List (List Entry)
 points_of [] = []
 points_of (r ∷ rs) = r.0 ∷ r.1 ∷ points_of rs
 
--- each point begins the next one, and the last begins the history
+-- Each history is a prefix of the next one, and the last of `h`.
 abbrev pub first_of : List (List Entry) → List Entry → List Entry
 first_of [] h = h
 first_of (p ∷ ps) h = p
@@ -57,8 +58,8 @@ abbrev pub Rise : List (List Entry) → List Entry → Type 0
 Rise [] h = ⊤
 Rise (p ∷ ps) h = ((later : List Entry) × (first_of ps h ≡ p ++ later)) × Rise ps h
 
--- the bytes are all that a share sends to a client that learns its table, logs in, follows a listing for one round or more, and
--- logs out
+-- The bytes are all that a share sends to a client that learns its table, logs in, follows a listing for one round or
+-- more, and logs out.
 pub record ServesRun (s : Settings) (target : Target) (query : Option Query) (meta : Meta) (h : List Entry) (bytes : List ℕ) : Type 0 where
   pub table : List Entry
   pub login : List Entry

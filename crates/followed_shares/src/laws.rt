@@ -1,5 +1,5 @@
-//! What holds of all shares and of all that follow them. Each function does nothing; its contract is a fact that follows from the
-//! definitions.
+//! Theorems about all shares and the clients that follow them. Each function has an empty body; its contract is the
+//! theorem.
 
 ghost use Rattle.followed_shares.specs.Laws.{FollowersHoldTheRows, ServedRunsGoOn};
 

@@ -1,5 +1,5 @@
-//! What a client that follows a share reads of it: its replies as they were meant, and so the rows that the share has. The crate
-//! has no code that runs; commands that follow a share stand on its facts.
+//! What a client that follows a share reads of it: the replies that the share wrote, and so the rows that it has. The
+//! crate has no code that runs; the proofs of commands that follow a share use its theorems.
 #![tactic(auto)]
 
 pub mod laws;

@@ -33,7 +33,7 @@ fn artists_are_listed_once_in_the_order_of_their_bytes(rt: HostRuntime) -> Resul
     Ok(())
 }
 
-/// A rule list without a name, and a plain list of one song.
+/// A smart playlist without a name, and a playlist of one song.
 const TWO_LISTS: &str = "\
 op,kind,id,dmap.itemname,query,list,item
 put,rule,3,,'com.apple.itunes.mediakind:1',,
@@ -45,7 +45,7 @@ put,member,10,,,2,4
 const DATABASES: &[u8] =
     b"avdb\0\0\0vmstt\0\0\0\x04\0\0\0\xc8muty\0\0\0\x01\0musr\0\0\0\x04\0\0\0\x04mtco\0\0\0\x04\0\0\0\x01mrco\0\0\0\x04\0\0\0\x01mlcl\0\0\05mlit\0\0\0-miid\0\0\0\x04\0\0\0\x01minm\0\0\0\x01Smimc\0\0\0\x04\0\0\0\x06mctc\0\0\0\x04\0\0\0\x03";
 
-/// Its containers: the base playlist, a plain list and a rule list without a name.
+/// Its containers: the base playlist, a playlist and a smart playlist without a name.
 const CONTAINERS: &[u8] =
     b"aply\0\0\0\xcfmstt\0\0\0\x04\0\0\0\xc8muty\0\0\0\x01\0musr\0\0\0\x04\0\0\0\x04mtco\0\0\0\x04\0\0\0\x03mrco\0\0\0\x04\0\0\0\x03mlcl\0\0\0\x8emlit\0\0\0*miid\0\0\0\x04\0\0\0\x01minm\0\0\0\x01Sabpl\0\0\0\x01\x01mimc\0\0\0\x04\0\0\0\x06mlit\0\0\0#miid\0\0\0\x04\0\0\0\x02minm\0\0\0\x03Mixmimc\0\0\0\x04\0\0\0\x01mlit\0\0\0)miid\0\0\0\x04\0\0\0\x03minm\0\0\0\0aeSP\0\0\0\x01\x01mimc\0\0\0\x04\0\0\0\x03";
 

@@ -1,4 +1,4 @@
-//! Histories whose batches are read from records, and how their bodies are compared.
+//! Histories whose batches are read from records, and comparing their bodies.
 
 ghost use Rattle.std.specs.Prelude.{◌<◌, ◌+◌, ◌^◌, length, IsTrue};
 ghost use Rattle.share_history.specs.Histories.{batches, revision, all_edits};
@@ -28,7 +28,7 @@ pub(crate) const WITH_ALBUM: &str =
 
 pub(crate) const DROP_1: &str = "op,kind,id\ndrop,item,1\n";
 
-/// A history with a batch for each text of records.
+/// Returns a history with a batch for each text of records.
 pub(crate) fn history_of(alloc: Global, batches: &[&str]) -> Result<Vec<Entry>, Fail> {
     let mut history = Vec::new(alloc);
     for records in batches {
@@ -38,7 +38,7 @@ pub(crate) fn history_of(alloc: Global, batches: &[&str]) -> Result<Vec<Entry>, 
     Ok(history)
 }
 
-/// The query of a text, and none of the empty one.
+/// Returns the query in a text, or `None` for the empty text.
 pub(crate) fn query_of(alloc: Global, text: &str) -> Result<Option<Query>, Fail> {
     if text.is_empty() {
         return Ok(None);
@@ -46,7 +46,7 @@ pub(crate) fn query_of(alloc: Global, text: &str) -> Result<Option<Query>, Fail>
     Ok(Some(read(alloc, text)?))
 }
 
-/// Whether a history is far from the limits of revisions and edits.
+/// Returns whether a history is far below the limits of revisions and edits.
 pub(crate) fn is_small(history: &[Entry]) -> bool
     ensures revision { IsTrue result → revision (batches history.now) < 2 ^ 32 }
     ensures edits { IsTrue result → length (all_edits history.now) + 1 < 2 ^ 32 }

@@ -1,4 +1,4 @@
-//! Tests of what is true at a point of a share's history. Nothing here is for other crates.
+//! Tests of the definitions of `share_history`. No crate uses this one.
 #![tactic(auto)]
 
 #[cfg(test)]

@@ -1,4 +1,4 @@
-//! Which bases are kept, which sessions are live, and how many lists a share takes.
+//! The delta window, live sessions, and the limit on lists.
 
 use crate::histories::{DROP_1, SIX_SONGS, history_of, is_small};
 use dmap_tags::Text;
@@ -10,7 +10,7 @@ use std::test::Fail;
 
 const DROP_2: &str = "op,kind,id\ndrop,item,2\n";
 
-/// How many revisions are kept, a base, and whether it is kept.
+/// The length of the delta window, a base, and whether it is in the window.
 type Base = (u32, u32, bool);
 
 const BASES: [Base; 6] = [
@@ -50,7 +50,7 @@ fn logins(alloc: Global, count: u32) -> Result<Vec<Entry>, AllocError> {
     Ok(history)
 }
 
-/// Sessions, and whether they are live.
+/// A session, and whether it is live.
 type Session = (u32, bool);
 
 const AFTER_65_LOGINS: [Session; 3] = [(1, false), (2, true), (66, false)];
@@ -71,7 +71,7 @@ fn the_oldest_session_ends_with_the_65th_login(rt: HostRuntime) -> Result<(), Fa
     Ok(())
 }
 
-/// A batch that puts so many lists.
+/// Returns a batch that puts `count` lists.
 fn puts_lists(alloc: Global, count: u32) -> Result<Batch, AllocError> {
     let mut edits = Edits::new(alloc);
     for list in 2..count.saturating_add(2) {

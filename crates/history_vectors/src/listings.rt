@@ -27,7 +27,7 @@ const RULE_1: &str = "op,kind,id,dmap.itemname,query\nput,rule,3,,'com.apple.itu
 
 const RULE_4: &str = "op,kind,id,dmap.itemname,query\nput,rule,3,,'com.apple.itunes.mediakind:4'\n";
 
-/// A plain list of four members, of which one has no item.
+/// A playlist of four members, one of an item that does not exist.
 const MIX: &str = "\
 op,kind,id,dmap.itemname,list,item
 put,list,2,Mix,,
@@ -37,12 +37,12 @@ put,member,12,,2,1
 put,member,13,,2,99
 ";
 
-/// What is asked, and by which function.
+/// The look, and the function that lists it.
 #[derive(Clone, Copy)]
 enum Asked {
-    /// The answer to a request, where 16 revisions are kept.
+    /// The response to a request, with a window of 16.
     Answer,
-    /// The same for names alone.
+    /// The same with only names.
     Names,
     Full,
     Delta,
@@ -84,10 +84,10 @@ fn body(
     }
 }
 
-/// What is asked of a target with a query and a base, and the bytes that are answered.
+/// A look, its target, query and base, and the bytes of the body.
 type Listed = (Asked, Target, &'static str, u32, &'static [u8]);
 
-/// After these batches the listings have these bytes.
+/// Checks the bytes of listings after these batches.
 fn have_bytes(
     rt: &impl Abort,
     alloc: Global,
@@ -121,7 +121,7 @@ fn row_keys(
     keys_of(alloc, found.as_slice())
 }
 
-/// After these batches the rows of a listing have these keys.
+/// Checks the keys of a listing's rows after these batches.
 fn has_rows(
     rt: &impl Abort,
     alloc: Global,
@@ -161,7 +161,7 @@ fn full_listings_have_their_bytes(rt: HostRuntime) -> Result<(), Fail> {
     have_bytes(&rt, alloc, &[SONG_7], &OF_ONE_ITEM)
 }
 
-/// The delta since revision 3 of a query that item 1 left.
+/// The delta since revision 3 of a query that item 1 does not match any more.
 const LEFT_THE_QUERY: &[u8] =
     b"adbs\0\0\0Umstt\0\0\0\x04\0\0\0\xc8muty\0\0\0\x01\x01musr\0\0\0\x04\0\0\0\x04mtco\0\0\0\x04\0\0\0\0mrco\0\0\0\x04\0\0\0\0mlcl\0\0\0\0mudl\0\0\0\x0cmiid\0\0\0\x04\0\0\0\x01";
 
@@ -207,7 +207,7 @@ fn an_item_put_and_dropped_since_the_base_is_not_told(rt: HostRuntime) -> Result
     Ok(())
 }
 
-/// The names of a list whose rule was put again, and the items.
+/// The names of a smart playlist whose rule was put again, and the items.
 const SINCE_4: [Listed; 2] = [
     (
         Asked::Names,
@@ -264,7 +264,7 @@ fn members_are_listed_while_their_items_are_there(rt: HostRuntime) -> Result<(),
     Ok(())
 }
 
-/// A range, the key of the first row that a full listing has in it, or 0, and how many rows it has.
+/// A range, the key of its first row, or 0, and the number of its rows.
 type Cut = (Range, u32, usize);
 
 const CUTS: [Cut; 8] = [
@@ -285,7 +285,7 @@ fn first_key(rows: &[(u32, Tag)]) -> u32 {
     }
 }
 
-/// Of a full listing: how many rows there are, the key of the first that is listed, and how many are listed.
+/// Of a full listing, returns the total of rows, the key of the first listed one, and how many are listed.
 fn full_cut(
     alloc: Global,
     history: &[Entry],
@@ -314,7 +314,7 @@ fn is_delta(alloc: Global, history: &[Entry], look: &Look) -> Result<bool, Alloc
     Ok(answer.is_delta)
 }
 
-/// Full listings of the six songs are cut, and deltas are not.
+/// Checks that full listings of the six songs are cut to a range, and deltas are not.
 fn are_cut(rt: &impl Abort, alloc: Global, history: &[Entry], cuts: &[Cut]) -> Result<(), Fail> {
     for (range, first, count) in cuts {
         let look = Look {

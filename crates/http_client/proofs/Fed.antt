@@ -34,7 +34,7 @@ going taken old mid piece n kind_is at partial h open_ =
       moves old mid piece n kind_is at partial h,
     )
 
--- what was taken is a reply, or goes on
+-- the bytes taken are a reply, or it stays incomplete
 pub gathered : (taken : ℕ) (old mid new : Gathered) (piece : List ℕ) (n : ℕ) (o : Option Reply) → mid.kind ≡ old.kind → IsAt old → is_whole old.phase ≡ false
     → TakesSome old piece mid n → GivesReply mid new o → Gathers taken old piece new (Ok (n, o))
 gathered taken old mid new piece n None kind_is at partial h (same, open_) =
@@ -42,7 +42,7 @@ gathered taken old mid new piece n None kind_is at partial h (same, open_) =
 gathered taken old mid new piece n (Some reply) kind_is at partial h (idle, whole, is) =
     (h.within, idle, moves old mid piece n kind_is at partial h, (mid.message, sym h.kept, is))
 
--- the lengths of a piece that is refused
+-- the lengths of a refused piece
 pub stopped_counts : (old new : Gathered) (piece : List ℕ) (e : HeadError) → (h : IsStopped old piece new e)
     → (length (kept new) - length (kept old)) + length h.more ≡ length piece
 stopped_counts old new piece e h =
@@ -103,7 +103,7 @@ as_none fed handed r fine none h =
 more_bytes : (fed piece : List ℕ) (taken n : ℕ) → taken ≡ length fed → n ≤ length piece → taken + n ≡ length (fed ++ take n piece)
 more_bytes fed piece taken n is within = omega (arith, length-append fed (take n piece), length-take-le n piece within)
 
--- a reader that goes on has read the bytes that it took
+-- a reader without an error has read the bytes that it took
 pub read_more : (fed : List ℕ) (handed : List Reply) (r : Reader) (old new : Gathered) (piece : List ℕ) (n : ℕ) (ready : Option Reply) → r.kept ≡ kept old
     → r.error ≡ None → r.ready ≡ None → new.kind ≡ kind.Reply → Gathers r.taken old piece new (Ok (n, ready)) → HasRead fed handed r
     → AreReplies (fed ++ take n piece) (handed ++ option_to_list ready) (kept new) × (r.taken + n ≡ length (fed ++ take n piece))

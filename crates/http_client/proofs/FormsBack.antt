@@ -1,4 +1,4 @@
--- The parameters of a form that was written are told back.
+-- The parameters of a written form read back.
 use Rattle.std.proofs.Common.{◌≡◌, ◌≢◌, ◌<◌, ◌+◌, ◌/◌, nat_lt, ⊎_elim, ◌∷◌, ◌++◌, [], ℕ, List, Bool, cond, Option, Some, None, true, false, refl, ap, ◌∙◌, subst, map, All, IsUtf8, arith, append-nil}
 use Rattle.std.specs.List.{find}
 use Rattle.std.specs.Prelude.{option_map}
@@ -11,7 +11,7 @@ use Rattle.std.proofs.lemmas.Str.{utf8_lossy-IsUtf8}
 use Rattle.form_urlencoded.specs.Form.{append_pair, decode, extend_pairs, raw_pairs}
 use Rattle.form_urlencoded.proofs.FormLemmas.{IsBytePair, round_trip, split_once_before_at, split_once_after_at, split_once_before_none, split_once_after_none}
 use Rattle.percent_encoding.proofs.PercentLemmas.{IsByte}
-use Rattle.http_front.specs.Parameters.{text_of, first_named, unless_empty, told}
+use Rattle.http_front.specs.Parameters.{text_of, first_named, unless_empty, nonempty_value}
 use Rattle.http_front.specs.Targets.{path_of, query_of}
 use Rattle.http_client.specs.Targets.{Parameters, with_parameters, behind_path}
 
@@ -81,10 +81,10 @@ texts_stay (p ∷ pairs) h =
     let rest = texts_stay pairs (All-tail IsTextPair p pairs h) in
     λ i. (utf8_lossy-IsUtf8 p.0 first.name i, utf8_lossy-IsUtf8 p.1 first.value i) ∷ rest i
 
--- what a form tells is what was written
-pub told_written : (name : List ℕ) (pairs : List (List ℕ × List ℕ)) → All IsTextPair pairs → All IsBytePair pairs → told name (extend_pairs [] pairs) ≡ unless_empty (named_in name pairs)
-unfolding told
-told_written name pairs texts bytes =
+-- a form has the values that were written
+pub value_written : (name : List ℕ) (pairs : List (List ℕ × List ℕ)) → All IsTextPair pairs → All IsBytePair pairs → nonempty_value name (extend_pairs [] pairs) ≡ unless_empty (named_in name pairs)
+unfolding nonempty_value
+value_written name pairs texts bytes =
     let raws = raw_pairs (extend_pairs [] pairs) in
     let same : map text_pair raws ≡ pairs = texts_decoded raws ∙ ap (map lossy) (round_trip pairs bytes) ∙ texts_stay pairs texts in
     ap unless_empty (named_texts name raws ∙ ap (named_in name) same)
@@ -137,12 +137,12 @@ written_texts ((name, Some value) ∷ more) h =
 text_pair_bytes : (p : List ℕ × List ℕ) → IsTextPair p → IsBytePair p
 text_pair_bytes p h = (text_bytes p.0 h.name, text_bytes p.1 h.value)
 
--- a parameter is told as it was written
-pub told_back : (name : List ℕ) (ps : Parameters) → AreTexts ps → told name (with_parameters [] ps) ≡ unless_empty (value_under name ps)
-told_back name ps h =
+-- a parameter has the value that was written
+pub value_back : (name : List ℕ) (ps : Parameters) → AreTexts ps → nonempty_value name (with_parameters [] ps) ≡ unless_empty (value_under name ps)
+value_back name ps h =
     let texts = written_texts ps h in
-    ap (told name) (form_written [] ps)
-    ∙ told_written name (written ps) texts (All-weaker IsTextPair IsBytePair text_pair_bytes (written ps) texts)
+    ap (nonempty_value name) (form_written [] ps)
+    ∙ value_written name (written ps) texts (All-weaker IsTextPair IsBytePair text_pair_bytes (written ps) texts)
     ∙ ap unless_empty (under_written name ps)
 
 -- ---- a target's two parts

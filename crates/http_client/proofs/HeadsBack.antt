@@ -267,7 +267,7 @@ unfolding sent_head sent_fields length_fields
 few_fields method target host None = omega arith
 few_fields method target host (Some len) = omega arith
 
--- what was asked for
+-- the parts of the head that was sent
 pub sent_method : (method target host : List ℕ) (len : Option ℕ) → (sent_head method target host len).method ≡ method
 unfolding sent_head
 sent_method method target host len = refl

@@ -1,4 +1,4 @@
--- The parameters of a want are told as they were written, are texts, and are not long.
+-- The parameters of an operation read back as written, are texts, and are not long.
 use Rattle.std.proofs.Common.{◌≡◌, ◌≢◌, ◌≤◌, ◌<◌, ◌+◌, ◌*◌, ◌∷◌, ◌++◌, ◌==◌, [], ℕ, List, Bool, cond, nat_le, Option, Some, None, true, false, refl, sym, ap, ◌∙◌, subst, length, All, IsUtf8, inl, inr, arith, length-append}
 use Rattle.std.specs.Prelude.{⊤, codes, decimal, option_map, option_and_then}
 use Rattle.std.specs.List.{after_first, before_first, list_all}
@@ -10,7 +10,7 @@ use Rattle.std.proofs.lemmas.Str.{IsUtf8-append, IsUtf8-from_ascii}
 use Rattle.std.proofs.lemmas.Str.Ascii.{IsAscii-from_all}
 use Rattle.form_urlencoded.proofs.FormLemmas.{split_once_before_at, split_once_after_at}
 use Rattle.http_front.specs.Numbers.{has_hyphen, hyphen_range, number_in, range_from, range_in, range_of, small_number}
-use Rattle.http_front.specs.Parameters.{meta_in, told, unless_empty}
+use Rattle.http_front.specs.Parameters.{meta_in, nonempty_value, unless_empty}
 use Rattle.item_model.proofs.Few.{first_few}
 use Rattle.item_model.proofs.ReadsBack.{reads_back}
 use Rattle.item_model.specs.Names.{meta_of, named, names_text, parts}
@@ -31,7 +31,7 @@ use Rattle.share_asks.specs.Valid.{MayAsk}
 use Rattle.song_query.specs.Printing.{printed, printed_and, printed_and_more, printed_member, printed_or, printed_or_more, printed_unit}
 use Rattle.http_client.specs.Requests.{HasNumbers, HasPlaces, IsNamed, IsSmall, IsWithinLimits, IsWord}
 use Rattle.http_client.specs.Targets.{IsText, IsTextOf, Parameters, look_parameters, meta_value, parameters_of, query_value, range_value, unless_zero, with_parameters}
-use Rattle.http_client.proofs.FormsBack.{AreTexts, told_back, value_under}
+use Rattle.http_client.proofs.FormsBack.{AreTexts, value_back, value_under}
 use Rattle.http_client.proofs.NamesBack.{is_low, names_low, names_short}
 use Rattle.http_client.proofs.Numerals.{IsDigit, decimal_digits, decimal_few, decimal_some, small_back}
 use Rattle.http_client.proofs.TargetsBack.{cost}
@@ -45,8 +45,8 @@ kept_text (b ∷ bs) h = refl
 decimal_kept : (n : ℕ) → IsWord n → unless_empty (Some (decimal n)) ≡ Some (decimal n)
 decimal_kept n h = kept_text (decimal n) (decimal_some n (omega (arith, h)))
 
-pub number_under : (name : List ℕ) (ps : Parameters) (n : ℕ) → AreTexts ps → value_under name ps ≡ Some (decimal n) → IsWord n → number_in (told name (with_parameters [] ps)) ≡ Some n
-number_under name ps n texts under h = ap number_in (told_back name ps texts ∙ ap unless_empty under ∙ decimal_kept n h) ∙ small_back n h
+pub number_under : (name : List ℕ) (ps : Parameters) (n : ℕ) → AreTexts ps → value_under name ps ≡ Some (decimal n) → IsWord n → number_in (nonempty_value name (with_parameters [] ps)) ≡ Some n
+number_under name ps n texts under h = ap number_in (value_back name ps texts ∙ ap unless_empty under ∙ decimal_kept n h) ∙ small_back n h
 
 zero_untold : (base : ℕ) → IsWord base → number_in (unless_empty (unless_zero base)) ≡ Some base
 zero_untold base h = elim (cases_Bool (base == 0)) [
@@ -54,8 +54,8 @@ zero_untold base h = elim (cases_Bool (base == 0)) [
   | inr other ↦ rw other (ap number_in (decimal_kept base h) ∙ small_back base h)
 ]
 
-pub base_under : (name : List ℕ) (ps : Parameters) (base : ℕ) → AreTexts ps → value_under name ps ≡ unless_zero base → IsWord base → number_in (told name (with_parameters [] ps)) ≡ Some base
-base_under name ps base texts under h = ap number_in (told_back name ps texts ∙ ap unless_empty under) ∙ zero_untold base h
+pub base_under : (name : List ℕ) (ps : Parameters) (base : ℕ) → AreTexts ps → value_under name ps ≡ unless_zero base → IsWord base → number_in (nonempty_value name (with_parameters [] ps)) ≡ Some base
+base_under name ps base texts under h = ap number_in (value_back name ps texts ∙ ap unless_empty under) ∙ zero_untold base h
 
 -- ---- names
 
@@ -70,8 +70,8 @@ meta_back (shown.Names ps) h =
     let again : meta_of (names_text ps) ≡ Some (shown.Names ps) = reads_back h.0 (shown.Names ps) h.1 in
     ap meta_in (names_kept (names_text ps) ps again) ∙ again
 
-pub meta_under : (name : List ℕ) (ps : Parameters) (meta : Meta) → AreTexts ps → value_under name ps ≡ meta_value meta → IsNamed meta → meta_in (told name (with_parameters [] ps)) ≡ Some meta
-meta_under name ps meta texts under h = ap meta_in (told_back name ps texts ∙ ap unless_empty under) ∙ meta_back meta h
+pub meta_under : (name : List ℕ) (ps : Parameters) (meta : Meta) → AreTexts ps → value_under name ps ≡ meta_value meta → IsNamed meta → meta_in (nonempty_value name (with_parameters [] ps)) ≡ Some meta
+meta_under name ps meta texts under h = ap meta_in (value_back name ps texts ∙ ap unless_empty under) ∙ meta_back meta h
 
 few_step : (text : List ℕ) (ps : List Property) (b e a : Bool) → cond b (Some (cond e shown.Default (cond a shown.All (shown.Names (named (parts text)))))) None ≡ Some (shown.Names ps) → named (parts text) ≡ ps
 few_step text ps true true a h = absurd (cc h)
@@ -116,7 +116,7 @@ pub query_kept : (asked : Option Query) → MayAsk asked → unless_empty (query
 query_kept None h = refl
 query_kept (Some q) h = kept_text (printed (tree_of q)) (query_some (tree_of q) h)
 
--- ---- places
+-- ---- positions
 
 abbrev NoHyphen : ℕ → Type 0
 NoHyphen b = b ≢ 45
@@ -169,8 +169,8 @@ range_back (range.Span from to) h =
 range_back (range.Last count) h =
     hyphened [] (decimal count) (All-nil NoHyphen) ∙ ap (option_map (λ n. range.Last n)) (small_back count h)
 
-pub range_under : (name : List ℕ) (ps : Parameters) (r : Range) → AreTexts ps → value_under name ps ≡ range_value r → HasPlaces r → range_in (told name (with_parameters [] ps)) ≡ Some r
-range_under name ps r texts under h = ap range_in (told_back name ps texts ∙ ap unless_empty under) ∙ range_back r h
+pub range_under : (name : List ℕ) (ps : Parameters) (r : Range) → AreTexts ps → value_under name ps ≡ range_value r → HasPlaces r → range_in (nonempty_value name (with_parameters [] ps)) ≡ Some r
+range_under name ps r texts under h = ap range_in (value_back name ps texts ∙ ap unless_empty under) ∙ range_back r h
 
 -- ---- texts
 

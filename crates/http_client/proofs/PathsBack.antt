@@ -30,7 +30,7 @@ use Rattle.http_client.proofs.TargetsBack.{path_text}
 use Rattle.http_front.specs.declared.routes.Route.{Route}
 use Rattle.http_front.specs.declared.routes.Route.TheVariants.{ServerInfo, Codes, Login, Logout, Update, Databases, Lists, Items, Members, Values, Edit, Stop}
 
--- ---- rows that no path goes on with
+-- ---- routes that the path does not match
 
 nothing_left : (path : List ℕ) → (param_step {K = RouteOf Route} [] path).1 ≡ []
 unfolding param_step
@@ -57,7 +57,7 @@ or_none : (o : Option (RouteOf Route)) → or_else o None ≡ o
 or_none None = refl
 or_none (Some r) = refl
 
--- ---- a front that no route's parameter meets
+-- ---- a prefix without parameters of a route
 
 abbrev is_none : Rows → Bool
 is_none [] = true
@@ -172,7 +172,7 @@ members_named (d ∷ ds) some h =
     let first = All-head IsDigit d ds h in
     members_found d ds (omega (arith, first.1)) (All-weaker IsDigit NoSlash digit_plain (d ∷ ds) h)
 
--- ---- the places of the paths
+-- ---- the resources of the paths
 
 placed : (r : Role) (path : List ℕ) (route : Route) (p : Place) → is_utf8 path ≡ true → route_at path ≡ Some route → place_on route path ≡ Some p → for_role r p ≡ Some p
     → place_of r path ≡ Some p
@@ -187,7 +187,7 @@ list_back list h =
 items_named : (list : ℕ) → list < 2 ^ 32 → route_at (rows_path (target.Container list)) ≡ Some Members
 items_named list h = let wide : list < 2 ^ 64 = omega (arith, h) in members_named (decimal list) (decimal_some list wide) (decimal_digits list wide)
 
--- what a want's path names
+-- the resource of an operation's path
 abbrev pub place_for : Want → Place
 place_for wanted.ServerInfo = place.ServerInfo
 place_for wanted.Codes = place.Codes
@@ -243,7 +243,7 @@ routed (wanted.Edit body) h n = (Edit, refl, refl)
 routed wanted.Stop h n = (Stop, refl, refl)
 routed (wanted.Bad error) h n = absurd h
 
--- the path of a want leads to its place
+-- the path of an operation names its resource
 pub place_back : (r : Role) (want : Want) → CanSend want → HasNumbers want → IsTaken r want → place_of r (path_to want) ≡ Some (place_for want)
 place_back r want h n t =
     let found = routed want h n in

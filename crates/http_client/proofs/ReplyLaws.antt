@@ -68,7 +68,7 @@ nothing_goes e = open_goes kind.Reply (record { head = []; body = [] }) (Frame s
 pub nothing_read : AreReplies [] [] []
 nothing_read = record { joins = record { messages = []; are = tt; joined = refl }; last = none_in_nothing; goes = nothing_goes }
 
--- replies one behind the other are these replies
+-- replies one after another are these replies
 pub replies_joined : (bytes : List ℕ) (replies : List Reply) → Joins bytes replies [] → AreReplies bytes replies []
 replies_joined bytes replies j = record { joins = j; last = none_in_nothing; goes = nothing_goes }
 
@@ -88,7 +88,7 @@ replies_once bytes xs ys rest tail x none y last =
     (record { whole = messages_of y.messages ys y.are; split = y.joined; last = last }) in
     (same_replies x.messages xs ys x.are (subst (λ (ms : List Message). AllZip IsReply ms ys) (sym same.0) y.are), same.1)
 
--- the replies of a front are the first replies of all bytes
+-- the replies of a prefix are the first replies of all bytes
 pub first_replies_stay : (front more : List ℕ) (xs all : List Reply) (rest tail : List ℕ) → Joins front xs rest → Joins (front ++ more) all tail
     → HasNoMessage kind.Reply tail → (others : List Reply) × (all ≡ xs ++ others)
 first_replies_stay front more xs all rest tail j k none =

@@ -1,4 +1,4 @@
--- The text of a request is a message that spells its ask.
+-- The text of a request is a message that is this request.
 use Rattle.std.proofs.Common.{◌≡◌, ◌≤◌, ◌<◌, ◌^◌, ◌∷◌, ◌++◌, [], ℕ, List, Option, Some, None, Result, Ok, Err, true, refl, sym, ap, ◌∙◌, subst, length, arith, append_assoc, append-nil}
 use Rattle.std.specs.Prelude.{codes, IfOk, OnOk}
 use Rattle.std.specs.List.{list_all}
@@ -21,7 +21,7 @@ use Rattle.share_asks.specs.declared.ask.Verb.TheVariants as verb
 use Rattle.share_asks.specs.declared.ask.Want.{Want}
 use Rattle.share_asks.specs.declared.ask.Want.TheVariants.{ServerInfo, Codes, Login, Logout, Update, Databases, Rows, Lists, Values, Edit, Stop, Bad}
 use Rattle.http_client.specs.Laws.{RequestsReadBack}
-use Rattle.http_client.specs.Requests.{CanSend, HasNumbers, IsRead, IsSent, IsSmall, length_line, request_line, request_text, sent_body, verb_for}
+use Rattle.http_client.specs.Requests.{CanSend, HasNumbers, IsRead, IsSent, IsSmall, length_line, message_text, request_line, request_text, sent_body, verb_for}
 use Rattle.http_client.specs.Targets.{IsTextOf, target_of}
 use Rattle.http_client.proofs.HeadsBack.{AreParts, few_fields, head_framed, head_is, head_short, head_text, is_shown, length_text, length_told, line_count, printed_head, sent_head, sent_method, sent_target, stays_open, told_len}
 use Rattle.http_client.proofs.ParametersBack.{cost_of, texts_of}
@@ -54,9 +54,9 @@ behind_head : (a b c d e f : List ℕ) → (a ++ (b ++ (c ++ (d ++ e)))) ++ f �
 behind_head a b c d e f = simp append_assoc
 
 text_is : (want : Want) (host : List ℕ) → request_text want host ≡ print_message (message_for want host)
-unfolding request_text
+unfolding request_text message_text
 text_is want host =
-    let a = request_line want in
+    let a = request_line (verb_for want) (target_of want) in
     let b = field (codes "Host") host in
     let c = field (codes "Client-DAAP-Version") (codes "3.0") in
     ap (λ d. a ++ (b ++ (c ++ (d ++ (codes "\r\n" ++ sent_body want))))) (length_same (verb_for want) (length (sent_body want)))
@@ -199,7 +199,7 @@ request_read ask host text is may numbers utf8 read sent =
 pub requests_read_back : RequestsReadBack
 requests_read_back ask host may numbers utf8 read sent = request_read ask host (request_text ask.want host) refl may numbers utf8 read sent
 
--- three facts of a call's answer give a fourth
+-- from three facts of a call's result follows a fourth
 pub if_all : {T E : Type 0} {P Q : T → Type 0} {A B : Type 0} (r : Result T E) → ((v : T) → P v → A → B → Q v) → IfOk r P → OnOk r A → OnOk r B → IfOk r Q
 if_all (Ok v) f p a b = f v p a b
 if_all (Err e) f p a b = tt

@@ -42,7 +42,7 @@ has_digits status some =
         → is_some (cond (status == n) (Some text) others) ≡ true → HasDigits status
     by n text others has other some = one_status n status text others has other (status == n) refl some
 
--- ---- the parts of both texts, one behind the other
+-- ---- the parts of both texts, one after another
 
 written : (p d s u c t l a e body others : List ℕ)
     → (((((p ++ d ++ s ++ u) ++ c) ++ t ++ l ++ a ++ e) ++ c) ++ body) ++ others ≡ p ++ (d ++ (s ++ (u ++ (c ++ (t ++ (l ++ (a ++ (e ++ (c ++ (body ++ others))))))))))
@@ -54,7 +54,7 @@ read b v d r e s body more = simp append_assoc
 first_byte : (b c : ℕ) (xs ys : List ℕ) → b ∷ xs ≡ c ∷ ys → b ≡ c
 first_byte b c xs ys same = cc
 
--- no empty line stands before it
+-- no empty line precedes it
 no_blank : (ends : List LineEnd) (xs ys : List ℕ) → print_blank ends ++ ys ≡ 72 ∷ xs → ys ≡ 72 ∷ xs
 no_blank [] xs ys same = same
 no_blank (crlf ∷ ends) xs ys same = absurd (omega (arith, first_byte 13 72 _ _ same))

@@ -1,4 +1,4 @@
--- The target that a client writes: of which bytes it is, where its parts are, and how long it is.
+-- The target that a client writes: its bytes, its parts, and its length.
 use Rattle.std.proofs.Common.{◌≡◌, ◌≢◌, ◌≤◌, ◌<◌, ◌+◌, ◌*◌, ◌^◌, ◌∷◌, ◌++◌, ◌==◌, ◌&&◌, [], ℕ, List, Bool, not, nat_lt, Some, None, true, false, refl, sym, ap, ◌∙◌, subst, length, map, All, IsUtf8, ⊎_elim, arith, length-append}
 use Rattle.std.specs.Prelude.{codes, decimal}
 use Rattle.std.specs.List.{list_all}

@@ -1,9 +1,9 @@
--- What a client's request asks for is what was wanted.
+-- The request that a client writes reads back.
 use Rattle.std.proofs.Common.{◌≡◌, ℕ, List, Bool, Option, Some, None, Result, Ok, Err, true, refl, sym, ap, ◌∙◌, subst, inl}
 use Rattle.std.specs.Prelude.{codes, decimal}
 use Rattle.std.specs.Str.{bytes_eq}
 use Rattle.http_front.specs.Numbers.{number_in, range_in}
-use Rattle.http_front.specs.Parameters.{meta_in, told, unless_empty}
+use Rattle.http_front.specs.Parameters.{meta_in, nonempty_value, unless_empty}
 use Rattle.http_front.specs.Routes.{place_of, verb_of, verb_text}
 use Rattle.http_front.specs.Targets.{local_part, path_of, query_of}
 use Rattle.http_front.specs.Wants.{AskedRows, AtPlace, MetaThen, NumberThen, PlaceWant, QueryThen, RangeThen, RowsInRange, RowsWant, ValuesWant, Wants, WithMethod, filter_or}
@@ -26,7 +26,7 @@ use Rattle.share_asks.specs.declared.ask.Want.TheVariants.{ServerInfo, Codes, Lo
 use Rattle.song_query.proofs.Forms.{prints}
 use Rattle.http_client.specs.Requests.{CanSend, HasNumbers, IsRead, IsSmall, IsTaken, IsWithinLimits, IsWord, sent_body, verb_for}
 use Rattle.http_client.specs.Targets.{form_text, parameters_of, path_to, query_value, target_of, unless_zero}
-use Rattle.http_client.proofs.FormsBack.{AreTexts, or_else, told_back, value_under}
+use Rattle.http_client.proofs.FormsBack.{AreTexts, or_else, value_back, value_under}
 use Rattle.http_client.proofs.ParametersBack.{base_under, meta_under, number_under, query_kept, range_under}
 use Rattle.http_client.proofs.PathsBack.{place_back, place_for}
 use Rattle.http_client.proofs.TargetsBack.{target_path, target_query}
@@ -55,25 +55,25 @@ or_none : (o : Option (List ℕ)) → or_else o None ≡ o
 or_none None = refl
 or_none (Some v) = refl
 
--- ---- each want
+-- ---- each operation
 
 session_under : (want : Want) (session : ℕ) → AreTexts (parameters_of want) → value_under (codes "session-id") (parameters_of want) ≡ Some (decimal session) → IsWord session
-    → number_in (told (codes "session-id") (form_text want)) ≡ Some session
+    → number_in (nonempty_value (codes "session-id") (form_text want)) ≡ Some session
 session_under want session texts under h = number_under (codes "session-id") (parameters_of want) session texts under h
 
-session_back : (want : Want) (session : ℕ) (of : ℕ → Want) → number_in (told (codes "session-id") (form_text want)) ≡ Some session → want ≡ of session
-    → NumberThen (codes "session-id") (number_in (told (codes "session-id") (form_text want))) (λ s w. w ≡ of s) want
-session_back want session of e h = number_then (codes "session-id") (number_in (told (codes "session-id") (form_text want))) session (λ s w. w ≡ of s) want e h
+session_back : (want : Want) (session : ℕ) (of : ℕ → Want) → number_in (nonempty_value (codes "session-id") (form_text want)) ≡ Some session → want ≡ of session
+    → NumberThen (codes "session-id") (number_in (nonempty_value (codes "session-id") (form_text want))) (λ s w. w ≡ of s) want
+session_back want session of e h = number_then (codes "session-id") (number_in (nonempty_value (codes "session-id") (form_text want))) session (λ s w. w ≡ of s) want e h
 
 update_back : (session revision : ℕ) → AreTexts (parameters_of (Update session revision)) → HasNumbers (Update session revision)
     → PlaceWant place.Update (form_text (Update session revision)) (sent_body (Update session revision)) (Update session revision)
 update_back session revision texts n =
     let want = Update session revision in
     let query = form_text want in
-    let revised : number_in (told (codes "revision-number") query) ≡ Some revision = number_under (codes "revision-number") (parameters_of want) revision texts refl n.1 in
-    number_then (codes "session-id") (number_in (told (codes "session-id") query)) session
-    (λ s. NumberThen (codes "revision-number") (number_in (told (codes "revision-number") query)) (λ r w. w ≡ Update s r)) want (session_under want session texts refl n.0)
-    (number_then (codes "revision-number") (number_in (told (codes "revision-number") query)) revision (λ r w. w ≡ Update session r) want revised refl)
+    let revised : number_in (nonempty_value (codes "revision-number") query) ≡ Some revision = number_under (codes "revision-number") (parameters_of want) revision texts refl n.1 in
+    number_then (codes "session-id") (number_in (nonempty_value (codes "session-id") query)) session
+    (λ s. NumberThen (codes "revision-number") (number_in (nonempty_value (codes "revision-number") query)) (λ r w. w ≡ Update s r)) want (session_under want session texts refl n.0)
+    (number_then (codes "revision-number") (number_in (nonempty_value (codes "revision-number") query)) revision (λ r w. w ≡ Update session r) want revised refl)
 
 rows_back : (session : ℕ) (t : Target) (look : Look) → AreTexts (parameters_of (Rows session t look)) → CanSend (Rows session t look) → HasNumbers (Rows session t look)
     → IsSmall (Rows session t look) → RowsWant t (form_text (Rows session t look)) (Rows session t look)
@@ -81,18 +81,18 @@ rows_back session t look texts may n small =
     let want = Rows session t look in
     let query = form_text want in
     let ps = parameters_of want in
-    let based : number_in (told (codes "delta") query) ≡ Some look.base = base_under (codes "delta") ps look.base texts (or_none (unless_zero look.base)) n.2 in
-    let named : meta_in (told (codes "meta") query) ≡ Some look.meta = meta_under (codes "meta") ps look.meta texts (or_none _) small.1 in
-    let asked : told (codes "query") query ≡ query_value look.query = told_back (codes "query") ps texts ∙ ap unless_empty (or_none (query_value look.query)) ∙ query_kept look.query may in
-    let placed : range_in (told (codes "index") query) ≡ Some look.range = range_under (codes "index") ps look.range texts (or_none _) n.3 in
-    number_then (codes "session-id") (number_in (told (codes "session-id") query)) session
-    (λ s. NumberThen (codes "delta") (number_in (told (codes "delta") query)) (λ base. MetaThen (meta_in (told (codes "meta") query)) (λ meta.
+    let based : number_in (nonempty_value (codes "delta") query) ≡ Some look.base = base_under (codes "delta") ps look.base texts (or_none (unless_zero look.base)) n.2 in
+    let named : meta_in (nonempty_value (codes "meta") query) ≡ Some look.meta = meta_under (codes "meta") ps look.meta texts (or_none _) small.1 in
+    let asked : nonempty_value (codes "query") query ≡ query_value look.query = value_back (codes "query") ps texts ∙ ap unless_empty (or_none (query_value look.query)) ∙ query_kept look.query may in
+    let placed : range_in (nonempty_value (codes "index") query) ≡ Some look.range = range_under (codes "index") ps look.range texts (or_none _) n.3 in
+    number_then (codes "session-id") (number_in (nonempty_value (codes "session-id") query)) session
+    (λ s. NumberThen (codes "delta") (number_in (nonempty_value (codes "delta") query)) (λ base. MetaThen (meta_in (nonempty_value (codes "meta") query)) (λ meta.
     AskedRows query s t (record { query = None; meta = meta; base = base; range = Whole })))) want (session_under want session texts refl n.0)
-    (number_then (codes "delta") (number_in (told (codes "delta") query)) look.base (λ base. MetaThen (meta_in (told (codes "meta") query)) (λ meta.
+    (number_then (codes "delta") (number_in (nonempty_value (codes "delta") query)) look.base (λ base. MetaThen (meta_in (nonempty_value (codes "meta") query)) (λ meta.
     AskedRows query session t (record { query = None; meta = meta; base = base; range = Whole }))) want based
-    (meta_then (meta_in (told (codes "meta") query)) look.meta (λ meta. AskedRows query session t (record { query = None; meta = meta; base = look.base; range = Whole })) want named
-    (query_then (told (codes "query") query) look.query (λ o. RowsInRange query session t (record { query = o; meta = look.meta; base = look.base; range = Whole })) want asked may small.0
-    (range_then (range_in (told (codes "index") query)) look.range (λ r w. w ≡ Rows session t (record { query = look.query; meta = look.meta; base = look.base; range = r })) want placed refl))))
+    (meta_then (meta_in (nonempty_value (codes "meta") query)) look.meta (λ meta. AskedRows query session t (record { query = None; meta = meta; base = look.base; range = Whole })) want named
+    (query_then (nonempty_value (codes "query") query) look.query (λ o. RowsInRange query session t (record { query = o; meta = look.meta; base = look.base; range = Whole })) want asked may small.0
+    (range_then (range_in (nonempty_value (codes "index") query)) look.range (λ r w. w ≡ Rows session t (record { query = look.query; meta = look.meta; base = look.base; range = r })) want placed refl))))
 
 no_query : (o : Option (List ℕ)) → filter_or o None ≡ o
 no_query None = refl
@@ -104,13 +104,13 @@ values_back session browse asked texts may n small =
     let want = Values session browse asked in
     let query = form_text want in
     let ps = parameters_of want in
-    let filter : told (codes "filter") query ≡ query_value asked = told_back (codes "filter") ps texts ∙ ap unless_empty (or_none (query_value asked)) ∙ query_kept asked may in
-    let none : told (codes "query") query ≡ None = told_back (codes "query") ps texts in
-    let both : filter_or (told (codes "filter") query) (told (codes "query") query) ≡ query_value asked =
-    ap (filter_or (told (codes "filter") query)) none ∙ no_query (told (codes "filter") query) ∙ filter in
-    number_then (codes "session-id") (number_in (told (codes "session-id") query)) session
-    (λ s. QueryThen (filter_or (told (codes "filter") query) (told (codes "query") query)) (λ o w. w ≡ Values s browse o)) want (session_under want session texts refl n)
-    (query_then (filter_or (told (codes "filter") query) (told (codes "query") query)) asked (λ o w. w ≡ Values session browse o) want both may small refl)
+    let filter : nonempty_value (codes "filter") query ≡ query_value asked = value_back (codes "filter") ps texts ∙ ap unless_empty (or_none (query_value asked)) ∙ query_kept asked may in
+    let none : nonempty_value (codes "query") query ≡ None = value_back (codes "query") ps texts in
+    let both : filter_or (nonempty_value (codes "filter") query) (nonempty_value (codes "query") query) ≡ query_value asked =
+    ap (filter_or (nonempty_value (codes "filter") query)) none ∙ no_query (nonempty_value (codes "filter") query) ∙ filter in
+    number_then (codes "session-id") (number_in (nonempty_value (codes "session-id") query)) session
+    (λ s. QueryThen (filter_or (nonempty_value (codes "filter") query) (nonempty_value (codes "query") query)) (λ o w. w ≡ Values s browse o)) want (session_under want session texts refl n)
+    (query_then (filter_or (nonempty_value (codes "filter") query) (nonempty_value (codes "query") query)) asked (λ o w. w ≡ Values session browse o) want both may small refl)
 
 edit_back : (body : Result (List OneEdit) RecordError) → CanSend (Edit body) → IsRead (Edit body) → PlaceWant place.Edit (form_text (Edit body)) (sent_body (Edit body)) (Edit body)
 unfolding sent_body

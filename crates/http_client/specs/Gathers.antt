@@ -1,4 +1,4 @@
--- What a piece makes of a reply that has not come whole.
+-- What a further piece makes of an incomplete reply.
 use Rattle.std.specs.Prelude.{◌≡◌, ◌≢◌, ℕ, ◌+◌, ◌<◌, ◌≤◌, List, [], ◌++◌, length, take, true, false, Option, Some, None, Result, Ok, Err}
 use Rattle.http_heads.specs.declared.kind.Kind.TheVariants as kind
 use Rattle.http_heads.specs.declared.refusal.HeadError.{HeadError}
@@ -8,12 +8,12 @@ use Rattle.http_client.specs.declared.refusal.ReplyError.{ReplyError}
 use Rattle.http_client.specs.declared.refusal.ReplyError.TheVariants.{Bad, Memory}
 use Rattle.http_client.specs.Replies.{IsReply, Reply}
 
--- what was gathered is a whole reply, and nothing is kept then; or it goes on
+-- the buffered bytes are a complete reply, and the buffer is emptied; or they stay
 abbrev pub GivesReply : Gathered → Gathered → Option Reply → Type 0
 GivesReply old new None = (new ≡ old) × (is_whole old.phase ≡ false)
 GivesReply old new (Some reply) = IsIdle new × (is_whole old.phase ≡ true) × IsReply old.message reply
 
--- what is kept and the piece begin with refused bytes, and the place counts the bytes up to their end
+-- the buffered bytes and `piece` begin with refused bytes, and `at` counts all bytes up to their end
 pub record Behind (taken : ℕ) (old : Gathered) (piece : List ℕ) (at : ℕ) : Type 0 where
   pub front : List ℕ
   pub more : List ℕ
@@ -22,7 +22,7 @@ pub record Behind (taken : ℕ) (old : Gathered) (piece : List ℕ) (at : ℕ) :
   pub refused : IsRefused kind.Reply front cause
   pub counted : at + length more ≡ taken + length piece
 
--- it goes on, and all of the piece was taken; or it is a reply; or it is refused
+-- the reply stays incomplete, and all of `piece` was taken; or it is complete; or it is refused
 abbrev pub Gathers : ℕ → Gathered → List ℕ → Gathered → Result (ℕ × Option Reply) ReplyError → Type 0
 Gathers taken old piece new (Ok (n, None)) =
     (n ≡ length piece) × (kept new ≡ kept old ++ piece) × IsAt new × (is_whole new.phase ≡ false) × (piece ≢ [] → 0 < n)

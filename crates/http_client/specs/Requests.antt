@@ -1,5 +1,5 @@
 -- The text of a client's request (RFC 9112): the request line, the fields, an empty line and the body. And which
--- asks a client sends.
+-- requests a client sends.
 use Rattle.std.specs.Prelude.{◌≡◌, ◌≤◌, ◌<◌, ⊤, ℕ, ◌^◌, List, [], ◌++◌, length, codes, decimal, All, false, Option, Some, None, Ok, Err}
 use Rattle.http_front.specs.ReplyHeads.{ended, field}
 use Rattle.http_front.specs.Routes.{verb_text}
@@ -38,20 +38,27 @@ unfoldable pub sent_body : Want → List ℕ
 sent_body (Edit (Ok batch)) = table_text (written_rows batch)
 sent_body want = []
 
-abbrev pub request_line : Want → List ℕ
-request_line want = ended (verb_text (verb_for want) ++ (codes " " ++ (target_of want ++ codes " HTTP/1.1")))
+abbrev pub request_line : Verb → List ℕ → List ℕ
+request_line verb target = ended (verb_text verb ++ (codes " " ++ (target ++ codes " HTTP/1.1")))
 
--- a method that sends a body tells its length
+-- a method that sends a body states its length
 abbrev pub length_line : Verb → ℕ → List ℕ
 length_line verb.Get len = []
 length_line verb.Post len = field (codes "Content-Length") (decimal len)
 
-unfoldable pub request_text : Want → List ℕ → List ℕ
-request_text want host =
-    request_line want ++ (field (codes "Host") host ++ (field (codes "Client-DAAP-Version") (codes "3.0")
-    ++ (length_line (verb_for want) (length (sent_body want)) ++ (codes "\r\n" ++ sent_body want))))
+-- the fields, an empty line and the body
+abbrev pub fields_and_body : Verb → List ℕ → List ℕ → List ℕ
+fields_and_body verb host body =
+    field (codes "Host") host ++ (field (codes "Client-DAAP-Version") (codes "3.0") ++ (length_line verb (length body) ++ (codes "\r\n" ++ body)))
 
--- what may be written: queries that have a text, and edits that records give
+-- a client's request for a target, with a body if the method has one
+unfoldable pub message_text : Verb → List ℕ → List ℕ → List ℕ → List ℕ
+message_text verb target host body = request_line verb target ++ fields_and_body verb host body
+
+unfoldable pub request_text : Want → List ℕ → List ℕ
+request_text want host = message_text (verb_for want) (target_of want) host (sent_body want)
+
+-- operations that can be written: their queries have a text, and their edits are those of some records
 abbrev pub CanSend : Want → Type 0
 CanSend ServerInfo = ⊤
 CanSend Codes = ⊤
@@ -67,13 +74,13 @@ CanSend (Edit (Err error)) = ⊥
 CanSend Stop = ⊤
 CanSend (Bad error) = ⊥
 
--- the query's text has no more bytes than one that is read, and no more parentheses are open in it
+-- the query's text is within the limits of a reader, in bytes and in open parentheses
 abbrev pub IsWithinLimits : Option Query → Type 0
 IsWithinLimits None = ⊤
 IsWithinLimits (Some query) =
     (length (printed (tree_of query)) ≤ query_bytes) × IsShallow (printed (tree_of query)) (length (printed (tree_of query)))
 
--- some text asks for these properties
+-- some text selects these properties
 abbrev pub IsNamed : Meta → Type 0
 IsNamed meta = (text : List ℕ) × (meta_of text ≡ Some meta)
 
@@ -82,26 +89,26 @@ abbrev pub IsRead : Want → Type 0
 IsRead (Edit (Ok batch)) = BatchReads (table_of (table_text (written_rows batch))) (Ok batch)
 IsRead want = ⊤
 
--- 1 to 255 bytes that show
+-- 1 to 255 visible ASCII characters
 pub record IsHost (host : List ℕ) : Type 0 where
   pub some : 0 < length host
   pub short : length host ≤ 255
   pub shows : All (λ b. (33 ≤ b) × (b ≤ 126)) host
 
--- a reader of the role takes the want
+-- a reader of the role accepts the operation
 abbrev pub IsTaken : Role → Want → Type 0
 IsTaken role.Listen (Edit body) = ⊥
 IsTaken role.Listen Stop = ⊥
 IsTaken r want = ⊤
 
--- the limits of what is sent are those of what is read
+-- the operation is within the limits of a reader
 abbrev pub IsSmall : Want → Type 0
 IsSmall (Rows session target look) = IsWithinLimits look.query × IsNamed look.meta
 IsSmall (Values session browse asked) = IsWithinLimits asked
 IsSmall (Edit body) = length (sent_body (Edit body)) ≤ body_limit
 IsSmall want = ⊤
 
--- 32 bits hold the numbers
+-- the numbers fit 32 bits
 abbrev pub IsWord : ℕ → Type 0
 IsWord n = n < 2 ^ 32
 
@@ -125,7 +132,7 @@ HasNumbers (Lists session) = IsWord session
 HasNumbers (Values session browse asked) = IsWord session
 HasNumbers want = ⊤
 
--- an ask that a client sends to a host
+-- a request that a client sends to a host
 pub record IsSent (ask : Ask) (host : List ℕ) : Type 0 where
   pub host_is : IsHost host
   pub stays : ask.close ≡ false

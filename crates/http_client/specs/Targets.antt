@@ -1,5 +1,5 @@
--- What a client asks for, as the target of a request (RFC 9112, section 3.2): a path, and behind a question mark
--- the parameters that have a value.
+-- The target of a client's request (RFC 9112, section 3.2): a path, and after a question mark the parameters that
+-- have a value.
 use Rattle.std.specs.Prelude.{⊤, ℕ, List, [], ◌∷◌, ◌++◌, codes, decimal, ◌==◌, Option, Some, None, if◌then◌else◌, IsUtf8}
 use Rattle.form_urlencoded.specs.Form.{append_pair}
 use Rattle.item_model.specs.Names.{names_text}
@@ -42,7 +42,7 @@ path_to (Edit body) = codes "/edit"
 path_to Stop = codes "/stop"
 path_to (Bad error) = []
 
--- parameters in their order, each with its value, and those without one are not written
+-- parameters in their order; one without a value is not written
 abbrev pub Parameters : Type 0
 Parameters = List (List ℕ × Option (List ℕ))
 
@@ -68,7 +68,7 @@ range_value (range.Last count) = Some (codes "-" ++ decimal count)
 abbrev pub session_of : ℕ → List ℕ × Option (List ℕ)
 session_of session = (codes "session-id", Some (decimal session))
 
--- what a look does not narrow is not written
+-- the parameters of a look; one at its default has no value
 abbrev pub look_parameters : Look → Parameters
 look_parameters look =
     (codes "delta", unless_zero look.base) ∷ (codes "meta", meta_value look.meta) ∷ (codes "query", query_value look.query)
@@ -88,7 +88,7 @@ parameters_of (Edit body) = []
 parameters_of Stop = []
 parameters_of (Bad error) = []
 
--- a form and one parameter more (`form_urlencoded`)
+-- a form with one parameter more (`form_urlencoded`)
 abbrev pub with_value : List ℕ → List ℕ → Option (List ℕ) → List ℕ
 with_value form name None = form
 with_value form name (Some value) = append_pair form name value
@@ -100,7 +100,7 @@ with_parameters form ((name, value) ∷ more) = with_parameters (with_value form
 abbrev pub form_text : Want → List ℕ
 form_text want = with_parameters [] (parameters_of want)
 
--- no question mark stands where nothing follows it
+-- the form after a question mark, unless it is empty
 abbrev pub behind_path : List ℕ → List ℕ
 behind_path [] = []
 behind_path (b ∷ bs) = 63 ∷ b ∷ bs

@@ -1,4 +1,4 @@
-//! HTTP/1.x from a client's side: the text of a request, and a reader of replies, however their bytes are cut.
+//! HTTP/1.x for a client: the bytes of a request, and a reader of replies, however their bytes are split.
 #![tactic(auto)]
 
 pub mod laws;
@@ -9,4 +9,4 @@ mod requests;
 
 pub use reader::ReplyReader;
 pub use refusal::ReplyError;
-pub use requests::request;
+pub use requests::{post, request};

@@ -14,7 +14,7 @@ use share_asks::Want;
 use song_query::print;
 use std::alloc::{AllocError, Global};
 
-/// The parameters of a want, encoded.
+/// Returns the parameters of an operation, encoded.
 pub fn form_of(alloc: Global, want: &Want) -> Result<String, AllocError>
     requires { CanSend want.now }
     ensures form { IfOk result (λ form. string_bytes form ≡ with_parameters [] (parameters_of want.now)) }
@@ -65,7 +65,7 @@ fn push_session(form: &mut Serializer<Global>, session: u32) -> Result<(), Alloc
     push_number(form, "session-id", session)
 }
 
-// What a look does not narrow is not written.
+// Appends the parameters of a look, without those at their default.
 fn push_look(alloc: Global, form: &mut Serializer<Global>, look: &Look) -> Result<(), AllocError>
     requires { MayAsk look.now.query }
     ensures form { OnOk result (form.new ≡ record form.old { form = with_parameters form.old.form (look_parameters look.now) }) }

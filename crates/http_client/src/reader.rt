@@ -13,7 +13,7 @@ use http_heads::{Gatherer, HeadError, Kind, read_reply_head};
 use std::alloc::Global;
 use std::marker::Model;
 
-/// Reads replies out of bytes that come in pieces.
+/// Reads replies from bytes as they come.
 #[derive(Drop)]
 pub struct ReplyReader {
     replies: Gatherer,
@@ -34,7 +34,7 @@ impl Model for ReplyReader {
 }
 
 impl ReplyReader {
-    /// A reader that was fed nothing. It takes no memory.
+    /// Returns a reader without bytes. Does not allocate.
     pub fn new(alloc: Global) -> ReplyReader
         ensures idle { (result.ready ≡ None) × (result.error ≡ None) × (result.kept ≡ []) × (result.taken ≡ 0) }
         ensures begins { HasRead [] [] result }
@@ -47,8 +47,10 @@ impl ReplyReader {
         }
     }
 
-    /// Takes bytes up to the end of a reply, or all, and answers how many. While a reply waits it takes none. After an
-    /// error it answers that error again.
+    /// Takes bytes of `piece` up to the end of a reply, or all of them, and returns how many. Takes none while `next`
+    /// has a reply to return.
+    /// Returns `Bad` if no reply can begin with the bytes so far, and `Memory` if allocation fails. Every later call
+    /// returns the same error.
     pub fn feed(&mut self, piece: &[u8]) -> Result<usize, ReplyError>
         requires { self.old.error ≡ None → self.old.taken + length piece.now < 2 ^ 64 }
         ensures error { MatchResult result (λ _. self.new.error ≡ None)
@@ -83,7 +85,7 @@ impl ReplyReader {
         }
     }
 
-    /// Hands out the reply that waits, its body as it was gathered. Nothing is kept behind it.
+    /// Returns the complete reply, if there is one, and clears it. Its body is not copied.
     pub fn next(&mut self) -> Option<(u16, Bytes)>
         ensures result { result ≡ self.old.ready }
         ensures rest { self.new ≡ record self.old { ready = None } }
@@ -94,14 +96,14 @@ impl ReplyReader {
         self.ready.take()
     }
 
-    /// Whether the bytes so far end between two replies.
+    /// Returns whether the bytes so far end between two replies.
     pub fn between(&self) -> bool
         ensures { IsTrue result ↔ ((self.now.kept ≡ []) × (self.now.error ≡ None)) }
     {
         self.replies.len() == 0 && self.error.is_none()
     }
 
-    /// How many bytes of a reply that has not come whole are kept.
+    /// Returns how many bytes of an incomplete reply are buffered.
     pub fn held(&self) -> u64
         ensures kept { result ≡ length self.now.kept }
         ensures few { result ≤ 1073758216 }
@@ -110,7 +112,7 @@ impl ReplyReader {
     }
 }
 
-// Takes bytes up to the end of a reply, or all. `taken` is how many bytes were taken before.
+// Takes bytes up to the end of a reply, or all of them. `taken` is how many bytes were taken before.
 fn gather(
     replies: &mut Gatherer,
     taken: u64,
@@ -143,7 +145,7 @@ fn is_memory(error: &HeadError) -> bool
     matches!(error, HeadError::Memory)
 }
 
-// The reply, once it is whole. Nothing is kept then.
+// Returns the reply if it is complete, and empties the buffer.
 fn whole_reply(replies: &mut Gatherer) -> Option<(u16, Bytes)>
     requires kind { replies.old.kind ≡ Kind.Reply }
     requires at { IsAt replies.old }
@@ -154,7 +156,7 @@ fn whole_reply(replies: &mut Gatherer) -> Option<(u16, Bytes)>
     Some((status, Bytes::from(replies.body())))
 }
 
-// The status of a reply that is whole.
+// Returns the status of a complete reply.
 fn status_of(replies: &Gatherer) -> Option<u16>
     requires kind { replies.now.kind ≡ Kind.Reply }
     requires at { IsAt replies.now }

@@ -1,14 +1,14 @@
-//! Why replies are refused.
+//! Errors of replies.
 
 ghost use Rattle.std.specs.Prelude.{◌≡◌};
 
 use std::alloc::{AllocError, AllocFailed};
 use thiserror::Error;
 
-/// Why bytes are no replies.
+/// Why bytes are not replies.
 #[derive(Debug, Drop, PartialEq, Eq, Error)]
 pub enum ReplyError {
-    /// No reply begins so; `at` is the number of bytes read, up to the one that shows it.
+    /// No reply can begin with the bytes; `at` is the number of bytes read, up to the one that shows it.
     #[error("bad reply at {at}")]
     Bad { at: u64 },
     #[error("memory")]
@@ -16,7 +16,7 @@ pub enum ReplyError {
 }
 
 impl ReplyError {
-    /// The same error.
+    /// Returns an equal error.
     pub fn copy(&self) -> ReplyError
         ensures { result ≡ self.now }
     {

@@ -4,7 +4,7 @@ ghost use Rattle.std.specs.Prelude.{◌≡◌, [], ◌∷◌, ◌++◌, None, If
 ghost use Rattle.http_front.specs.Readings.{IsReading, reading};
 ghost use Rattle.http_front.specs.ReplyHeads.{field};
 ghost use Rattle.http_front.specs.Routes.{verb_text};
-ghost use Rattle.http_client.specs.Requests.{CanSend, HasListNumber, HasNumbers, HasPlaces, IsRead, IsSent, length_line, request_line, request_text, sent_body, verb_for};
+ghost use Rattle.http_client.specs.Requests.{CanSend, HasListNumber, HasNumbers, HasPlaces, IsRead, IsSent, fields_and_body, length_line, message_text, request_text, sent_body, verb_for};
 ghost use Rattle.http_client.specs.Targets.{behind_path, form_text, path_to, rows_path, target_of, values_path, IsTextOf};
 
 use crate::parameters::form_of;
@@ -15,7 +15,8 @@ use records_import::write_batch;
 use share_asks::{Ask, Verb, Want};
 use std::alloc::{AllocError, Global};
 
-/// The bytes that ask this of a host, which a reader of the ask's role reads as the ask.
+/// Returns the bytes of the request `ask` to `host`. Within the limits of a reader they read back as `ask`.
+/// Returns `AllocError` if allocation fails.
 pub fn request(alloc: Global, ask: &Ask, host: &str) -> Result<Bytes, AllocError>
     requires { CanSend ask.now.want }
     ensures text { IfOk result (λ b. b ≡ request_text ask.now.want host.now) }
@@ -25,7 +26,19 @@ pub fn request(alloc: Global, ask: &Ask, host: &str) -> Result<Bytes, AllocError
     text_of(alloc, &ask.want, host)
 }
 
-#[tactic(auto, unfolding(crate::specs::Requests::request_text))]
+/// Returns the bytes of a POST request for `path`, with `body` as its body.
+#[tactic(auto, unfolding(crate::specs::Requests::message_text))]
+pub fn post(alloc: Global, path: &str, host: &str, body: &[u8]) -> Result<Bytes, AllocError>
+    ensures { IfOk result (λ b. b ≡ message_text Verb.Post path.now host.now body.now) }
+{
+    let mut text = Vec::new(alloc);
+    push_method(&mut text, Verb::Post)?;
+    text.extend_from_slice(path.as_bytes())?;
+    push_rest(&mut text, Verb::Post, host, body)?;
+    Ok(Bytes::from(text))
+}
+
+#[tactic(auto, unfolding(crate::specs::Requests::request_text, crate::specs::Requests::message_text))]
 fn text_of(alloc: Global, want: &Want, host: &str) -> Result<Bytes, AllocError>
     requires { CanSend want.now }
     ensures text { IfOk result (λ b. b ≡ request_text want.now host.now) }
@@ -35,16 +48,13 @@ fn text_of(alloc: Global, want: &Want, host: &str) -> Result<Bytes, AllocError>
     let form = form_of(alloc, want)?;
     let body = body_of(alloc, want)?;
     let mut text = Vec::new(alloc);
-    push_line(&mut text, want, form.as_bytes())?;
-    push_field(&mut text, b"Host", host.as_bytes())?;
-    push_field(&mut text, b"Client-DAAP-Version", b"3.0")?;
-    push_length(&mut text, verb_for(want), body.as_slice().len())?;
-    text.extend_from_slice(b"\r\n")?;
-    text.extend_from_slice(body.as_slice())?;
+    push_method(&mut text, verb_for(want))?;
+    push_target(&mut text, want, form.as_bytes())?;
+    push_rest(&mut text, verb_for(want), host, body.as_slice())?;
     Ok(Bytes::from(text))
 }
 
-// The numbers of a want are those of their types.
+// States that the numbers of `want` are in the ranges of their types. Does nothing when it runs.
 fn know_numbers(want: &Want)
     ensures { HasNumbers want.now }
 {
@@ -127,15 +137,23 @@ fn verb_text(verb: Verb) -> &'static str
     }
 }
 
-fn push_line(text: &mut Vec<u8>, want: &Want, form: &[u8]) -> Result<(), AllocError>
-    requires { form.now ≡ form_text want.now }
-    ensures { OnOk result (text.new.items ≡ text.old.items ++ request_line want.now) }
+fn push_method(text: &mut Vec<u8>, verb: Verb) -> Result<(), AllocError>
+    ensures { OnOk result (text.new.items ≡ text.old.items ++ (verb_text verb ++ codes " ")) }
 {
-    text.extend_from_slice(verb_text(verb_for(want)).as_bytes())?;
-    text.extend_from_slice(b" ")?;
-    push_target(text, want, form)?;
-    text.extend_from_slice(b" HTTP/1.1")?;
-    text.extend_from_slice(b"\r\n")
+    text.extend_from_slice(verb_text(verb).as_bytes())?;
+    text.extend_from_slice(b" ")
+}
+
+// Appends what follows the target.
+fn push_rest(text: &mut Vec<u8>, verb: Verb, host: &str, body: &[u8]) -> Result<(), AllocError>
+    ensures { OnOk result (text.new.items ≡ text.old.items ++ (codes " HTTP/1.1\r\n" ++ fields_and_body verb host.now body.now)) }
+{
+    text.extend_from_slice(b" HTTP/1.1\r\n")?;
+    push_field(text, b"Host", host.as_bytes())?;
+    push_field(text, b"Client-DAAP-Version", b"3.0")?;
+    push_length(text, verb, body.len())?;
+    text.extend_from_slice(b"\r\n")?;
+    text.extend_from_slice(body)
 }
 
 #[tactic(auto, unfolding(crate::specs::Targets::target_of))]
@@ -204,7 +222,7 @@ fn values_path(browse: Browse) -> &'static str
     }
 }
 
-// A method that sends a body tells its length.
+// Appends the length of the body, if the method sends one.
 fn push_length(text: &mut Vec<u8>, verb: Verb, len: usize) -> Result<(), AllocError>
     ensures { OnOk result (text.new.items ≡ text.old.items ++ length_line verb len) }
 {

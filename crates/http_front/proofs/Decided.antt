@@ -1,4 +1,4 @@
--- Every request asks something, and so all bytes have a reading.
+-- Every request has an operation, and so all bytes have a reading.
 use Rattle.std.proofs.Common.{◌≡◌, ◌≢◌, ◌⊎◌, ℕ, List, [], ◌∷◌, Bool, true, false, All, Option, Some, None, Result, Ok, Err, refl, ap, inl, inr}
 use Rattle.std.specs.Prelude.{codes}
 use Rattle.std.specs.List.{AllZip}
@@ -33,7 +33,7 @@ use Rattle.song_query.specs.Answers.{Answers}
 use Rattle.song_query.proofs.Decided.{answer_for}
 use Rattle.http_front.specs.Asks.{Spells}
 use Rattle.http_front.specs.Numbers.{number_in, range_in}
-use Rattle.http_front.specs.Parameters.{told, meta_in}
+use Rattle.http_front.specs.Parameters.{nonempty_value, meta_in}
 use Rattle.http_front.specs.Readings.{IsReading, Reading, reading}
 use Rattle.http_front.specs.Routes.{place_of, verb_of, verb_text}
 use Rattle.http_front.specs.Targets.{local_part, path_of, query_of}
@@ -69,29 +69,29 @@ query_for (Some text) Then next = let a = answer_for text in answered text a.0 a
 
 in_range_for : (query : List ℕ) (session : ℕ) (target : Target) (look : Look) → HasWant (RowsInRange query session target look)
 in_range_for query session target look =
-    range_for (range_in (told (codes "index") query)) (λ range want. want ≡ Rows session target (record look { range = range }))
+    range_for (range_in (nonempty_value (codes "index") query)) (λ range want. want ≡ Rows session target (record look { range = range }))
     (λ range. (Rows session target (record look { range = range }), refl))
 
 asked_for : (query : List ℕ) (session : ℕ) (target : Target) (look : Look) → HasWant (AskedRows query session target look)
 asked_for query session target look =
-    query_for (told (codes "query") query) (λ asked. RowsInRange query session target (record look { query = asked }))
+    query_for (nonempty_value (codes "query") query) (λ asked. RowsInRange query session target (record look { query = asked }))
     (λ asked. in_range_for query session target (record look { query = asked }))
 
 rows_for : (target : Target) (query : List ℕ) → HasWant (RowsWant target query)
 rows_for target query =
-    number_for (codes "session-id") (number_in (told (codes "session-id") query))
-    (λ session. NumberThen (codes "delta") (number_in (told (codes "delta") query)) (λ base. MetaThen (meta_in (told (codes "meta") query)) (λ meta.
+    number_for (codes "session-id") (number_in (nonempty_value (codes "session-id") query))
+    (λ session. NumberThen (codes "delta") (number_in (nonempty_value (codes "delta") query)) (λ base. MetaThen (meta_in (nonempty_value (codes "meta") query)) (λ meta.
     AskedRows query session target (record { query = None; meta = meta; base = base; range = Whole }))))
-    (λ session. number_for (codes "delta") (number_in (told (codes "delta") query)) (λ base. MetaThen (meta_in (told (codes "meta") query)) (λ meta.
+    (λ session. number_for (codes "delta") (number_in (nonempty_value (codes "delta") query)) (λ base. MetaThen (meta_in (nonempty_value (codes "meta") query)) (λ meta.
     AskedRows query session target (record { query = None; meta = meta; base = base; range = Whole })))
-    (λ base. meta_for (meta_in (told (codes "meta") query)) (λ meta. AskedRows query session target (record { query = None; meta = meta; base = base; range = Whole }))
+    (λ base. meta_for (meta_in (nonempty_value (codes "meta") query)) (λ meta. AskedRows query session target (record { query = None; meta = meta; base = base; range = Whole }))
     (λ meta. asked_for query session target (record { query = None; meta = meta; base = base; range = Whole }))))
 
 values_for : (browse : Browse) (query : List ℕ) → HasWant (ValuesWant browse query)
 values_for browse query =
-    number_for (codes "session-id") (number_in (told (codes "session-id") query))
-    (λ session. QueryThen (filter_or (told (codes "filter") query) (told (codes "query") query)) (λ asked want. want ≡ Values session browse asked))
-    (λ session. query_for (filter_or (told (codes "filter") query) (told (codes "query") query)) (λ asked want. want ≡ Values session browse asked)
+    number_for (codes "session-id") (number_in (nonempty_value (codes "session-id") query))
+    (λ session. QueryThen (filter_or (nonempty_value (codes "filter") query) (nonempty_value (codes "query") query)) (λ asked want. want ≡ Values session browse asked))
+    (λ session. query_for (filter_or (nonempty_value (codes "filter") query) (nonempty_value (codes "query") query)) (λ asked want. want ≡ Values session browse asked)
     (λ asked. (Values session browse asked, refl)))
 
 body_reads : (body : List ℕ) (answer : Result (List OneEdit) RecordError) → answer ≢ Err record_fault.Memory → BatchReads (table_of body) answer → BodyReads body answer
@@ -101,9 +101,9 @@ body_reads body (Err e) fine x = ((λ (is : e ≡ record_fault.Memory). fine (ap
 edit_for : (query body : List ℕ) → HasWant (PlaceWant place.Edit query body)
 edit_for query body = let a = batch_for (table_of body) in (Edit a.0, (a.0, body_reads body a.0 a.1 a.2, refl))
 
-session_for : (query : List ℕ) (of : ℕ → Want) → HasWant (NumberThen (codes "session-id") (number_in (told (codes "session-id") query)) (λ session want. want ≡ of session))
+session_for : (query : List ℕ) (of : ℕ → Want) → HasWant (NumberThen (codes "session-id") (number_in (nonempty_value (codes "session-id") query)) (λ session want. want ≡ of session))
 session_for query of =
-    number_for (codes "session-id") (number_in (told (codes "session-id") query)) (λ session want. want ≡ of session) (λ session. (of session, refl))
+    number_for (codes "session-id") (number_in (nonempty_value (codes "session-id") query)) (λ session want. want ≡ of session) (λ session. (of session, refl))
 
 place_for : (p : Place) (query body : List ℕ) → HasWant (PlaceWant p query body)
 place_for place.ServerInfo query body = (ServerInfo, refl)
@@ -111,9 +111,9 @@ place_for place.Codes query body = (Codes, refl)
 place_for place.Login query body = (Login, refl)
 place_for place.Logout query body = session_for query (λ session. Logout session)
 place_for place.Update query body =
-    number_for (codes "session-id") (number_in (told (codes "session-id") query))
-    (λ session. NumberThen (codes "revision-number") (number_in (told (codes "revision-number") query)) (λ revision want. want ≡ Update session revision))
-    (λ session. number_for (codes "revision-number") (number_in (told (codes "revision-number") query)) (λ revision want. want ≡ Update session revision)
+    number_for (codes "session-id") (number_in (nonempty_value (codes "session-id") query))
+    (λ session. NumberThen (codes "revision-number") (number_in (nonempty_value (codes "revision-number") query)) (λ revision want. want ≡ Update session revision))
+    (λ session. number_for (codes "revision-number") (number_in (nonempty_value (codes "revision-number") query)) (λ revision want. want ≡ Update session revision)
     (λ revision. (Update session revision, refl)))
 place_for place.Databases query body = session_for query (λ session. Databases session)
 place_for place.Lists query body = session_for query (λ session. Lists session)
@@ -130,7 +130,7 @@ at_place_for : (o : Option Place) (method query body : List ℕ) → HasWant (At
 at_place_for None method query body = (Bad fault.Path, refl)
 at_place_for (Some p) method query body = method_for (bytes_eq method (verb_text (verb_of p))) p query body
 
--- a request is an ask
+-- every request is some `Ask`
 pub spelled_for : (role : Role) (m : Message) → IsMessage Request m → (ask : Ask) × Spells role m ask
 spelled_for role m whole =
     let answer = whole.tells.1 in

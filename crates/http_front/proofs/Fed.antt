@@ -19,7 +19,7 @@ use Rattle.http_front.proofs.ReadingLaws.{flat_both, joins_stay, none_in_nothing
 as_request : (g : Gathered) → g.kind ≡ Request → IsAt g → Stands Request g.message g.phase
 as_request g kind at = subst (λ (k : Kind). Stands k g.message g.phase) kind at
 
--- a request goes on
+-- a request stays incomplete
 pub goes_on : (role : Role) (fed : List ℕ) (handed : List Ask) (old new : Gathered) (piece : List ℕ) → IsReading role fed (reading handed (kept old) None)
     → new.kind ≡ Request → kept new ≡ kept old ++ piece → IsAt new → is_whole new.phase ≡ false → IsReading role (fed ++ piece) (reading handed (kept new) None)
 goes_on role fed handed old new piece h kind more at partial = record {
@@ -81,7 +81,7 @@ pub no_some : (o : Option Ask) → is_some o ≡ false → o ≡ None
 no_some None e = refl
 no_some (Some ask) e = absurd (cc)
 
--- a reader that goes on has read the bytes that it took
+-- a reader without an error has read the bytes that it took
 pub read_more : (fed : List ℕ) (handed : List Ask) (r : Reader) (old new : Gathered) (piece : List ℕ) (n : ℕ) (ready : Option Ask) → r.kept ≡ kept old → r.error ≡ None
     → r.ready ≡ None → new.kind ≡ Request → Gathers r.role old piece new (Ok (n, ready)) → HasRead fed handed r
     → IsReading r.role (fed ++ take n piece) (reading (handed ++ option_to_list ready) (kept new) None)
@@ -99,7 +99,7 @@ read_more fed handed r old new piece n (Some ask) keeps fine none kind (within, 
     subst (λ (rest : List ℕ). IsReading r.role (fed ++ take n piece) (reading (handed ++ ask ∷ []) rest None)) nothing
     (comes_whole r.role fed handed (kept old) (take n piece) m ask before whole spells)
 
--- a reader that is refused has read no more asks
+-- a reader with an error has read no more requests
 pub read_error : (fed : List ℕ) (handed : List Ask) (r s : Reader) (old new : Gathered) (piece : List ℕ) (e : HeadError) → r.kept ≡ kept old → r.error ≡ None
     → r.ready ≡ None → s.role ≡ r.role → s.ready ≡ None → Gathers r.role old piece new (Err e) → HasRead fed handed r → ReadAs (fed ++ piece) handed s (Some e)
 read_error fed handed r s old new piece e keeps fine none role idle refuses h =

@@ -1,4 +1,4 @@
--- The first place of a byte, and what stands around it.
+-- The first position of a byte, and what is before and after it.
 use Rattle.std.proofs.Common.{◌≡◌, ℕ, suc, ◌+◌, ◌<◌, ◌≤◌, List, [], ◌∷◌, length, Bool, true, false, not, ◌||◌, nat_lt, cond, Some, None, refl, sym, ◌∙◌, inl, inr, arith}
 use Rattle.std.proofs.lemmas.Bool.{cases_Bool, cond-true, ltb-false, ltb-true, lt-ltb, le-ltb}
 use Rattle.std.proofs.lemmas.List.{take_all, drop_all}
@@ -22,7 +22,7 @@ module _ {X : Type 0} (p : X → Bool) where
   pub nothing_behind : (xs : List X) → position p xs ≡ None → after_first p xs ≡ []
   nothing_behind xs e = let past : length xs ≤ position_or_len p xs = no_position xs e in drop_all (position_or_len p xs + 1) xs (omega arith)
 
-  -- an element passes exactly where one is found
+  -- an element passes exactly if one is found
   pub any_within : (xs : List X) → list_any p xs ≡ nat_lt (position_or_len p xs) (length xs)
   any_within [] = refl
   any_within (x ∷ xs) = by_test (p x) (any_within xs)

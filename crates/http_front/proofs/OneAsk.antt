@@ -1,4 +1,4 @@
--- A request is one ask.
+-- A message is at most one request.
 use Rattle.std.proofs.Common.{◌≡◌, ◌≢◌, ℕ, List, Bool, true, false, Option, Some, None, Result, Ok, Err, sym, ap, ◌∙◌, inl, inr, subst}
 use Rattle.std.specs.Prelude.{codes}
 use Rattle.std.specs.Str.{bytes_eq}
@@ -27,7 +27,7 @@ use Rattle.share_asks.specs.declared.ask.AskError.TheVariants as fault
 use Rattle.song_query.proofs.Once.{one_answer as one_text_answer}
 use Rattle.http_front.specs.Asks.{Asks, Spells}
 use Rattle.http_front.specs.Numbers.{number_in, range_in}
-use Rattle.http_front.specs.Parameters.{told, meta_in}
+use Rattle.http_front.specs.Parameters.{nonempty_value, meta_in}
 use Rattle.http_front.specs.Routes.{place_of, verb_of, verb_text}
 use Rattle.http_front.specs.Targets.{local_part, path_of, query_of}
 use Rattle.http_front.specs.Wants.{NumberThen, MetaThen, RangeThen, QueryThen, RowsInRange, AskedRows, RowsWant, ValuesWant, filter_or, BodyReads, PlaceWant, WithMethod, AtPlace, Wants}
@@ -76,29 +76,29 @@ query_one (Some text) Then one v w (inr (d, some, x, p)) (inr (e, other, y, q)) 
 
 in_range_one : (query : List ℕ) (session : ℕ) (target : Target) (look : Look) → IsOne (RowsInRange query session target look)
 in_range_one query session target look =
-    range_one (range_in (told (codes "index") query)) (λ range want. want ≡ Rows session target (record look { range = range }))
+    range_one (range_in (nonempty_value (codes "index") query)) (λ range want. want ≡ Rows session target (record look { range = range }))
     (λ range. is_one (Rows session target (record look { range = range })))
 
 asked_one : (query : List ℕ) (session : ℕ) (target : Target) (look : Look) → IsOne (AskedRows query session target look)
 asked_one query session target look =
-    query_one (told (codes "query") query) (λ asked. RowsInRange query session target (record look { query = asked }))
+    query_one (nonempty_value (codes "query") query) (λ asked. RowsInRange query session target (record look { query = asked }))
     (λ asked. in_range_one query session target (record look { query = asked }))
 
 rows_one : (target : Target) (query : List ℕ) → IsOne (RowsWant target query)
 rows_one target query =
-    number_one (codes "session-id") (number_in (told (codes "session-id") query))
-    (λ session. NumberThen (codes "delta") (number_in (told (codes "delta") query)) (λ base. MetaThen (meta_in (told (codes "meta") query)) (λ meta.
+    number_one (codes "session-id") (number_in (nonempty_value (codes "session-id") query))
+    (λ session. NumberThen (codes "delta") (number_in (nonempty_value (codes "delta") query)) (λ base. MetaThen (meta_in (nonempty_value (codes "meta") query)) (λ meta.
     AskedRows query session target (record { query = None; meta = meta; base = base; range = All }))))
-    (λ session. number_one (codes "delta") (number_in (told (codes "delta") query)) (λ base. MetaThen (meta_in (told (codes "meta") query)) (λ meta.
+    (λ session. number_one (codes "delta") (number_in (nonempty_value (codes "delta") query)) (λ base. MetaThen (meta_in (nonempty_value (codes "meta") query)) (λ meta.
     AskedRows query session target (record { query = None; meta = meta; base = base; range = All })))
-    (λ base. meta_one (meta_in (told (codes "meta") query)) (λ meta. AskedRows query session target (record { query = None; meta = meta; base = base; range = All }))
+    (λ base. meta_one (meta_in (nonempty_value (codes "meta") query)) (λ meta. AskedRows query session target (record { query = None; meta = meta; base = base; range = All }))
     (λ meta. asked_one query session target (record { query = None; meta = meta; base = base; range = All }))))
 
 values_one : (browse : Browse) (query : List ℕ) → IsOne (ValuesWant browse query)
 values_one browse query =
-    number_one (codes "session-id") (number_in (told (codes "session-id") query))
-    (λ session. QueryThen (filter_or (told (codes "filter") query) (told (codes "query") query)) (λ asked want. want ≡ Values session browse asked))
-    (λ session. query_one (filter_or (told (codes "filter") query) (told (codes "query") query)) (λ asked want. want ≡ Values session browse asked)
+    number_one (codes "session-id") (number_in (nonempty_value (codes "session-id") query))
+    (λ session. QueryThen (filter_or (nonempty_value (codes "filter") query) (nonempty_value (codes "query") query)) (λ asked want. want ≡ Values session browse asked))
+    (λ session. query_one (filter_or (nonempty_value (codes "filter") query) (nonempty_value (codes "query") query)) (λ asked want. want ≡ Values session browse asked)
     (λ asked. is_one (Values session browse asked)))
 
 pub body_batch : (body : List ℕ) (answer : Result (List OneEdit) RecordError) → BodyReads body answer → BatchReads (table_of body) answer
@@ -109,9 +109,9 @@ edit_one : (query body : List ℕ) → IsOne (PlaceWant place.Edit query body)
 edit_one query body v w (a, x, p) (b, y, q) =
     p ∙ ap (λ (answer : Result (List OneEdit) RecordError). Edit answer) (one_batch_answer (table_of body) a b (body_batch body a x) (body_batch body b y)) ∙ sym q
 
-session_one : (query : List ℕ) (of : ℕ → Want) → IsOne (NumberThen (codes "session-id") (number_in (told (codes "session-id") query)) (λ session want. want ≡ of session))
+session_one : (query : List ℕ) (of : ℕ → Want) → IsOne (NumberThen (codes "session-id") (number_in (nonempty_value (codes "session-id") query)) (λ session want. want ≡ of session))
 session_one query of =
-    number_one (codes "session-id") (number_in (told (codes "session-id") query)) (λ session want. want ≡ of session) (λ session. is_one (of session))
+    number_one (codes "session-id") (number_in (nonempty_value (codes "session-id") query)) (λ session want. want ≡ of session) (λ session. is_one (of session))
 
 place_one : (p : Place) (query body : List ℕ) → IsOne (PlaceWant p query body)
 place_one place.ServerInfo query body = is_one _
@@ -119,9 +119,9 @@ place_one place.Codes query body = is_one _
 place_one place.Login query body = is_one _
 place_one place.Logout query body = session_one query (λ session. Logout session)
 place_one place.Update query body =
-    number_one (codes "session-id") (number_in (told (codes "session-id") query))
-    (λ session. NumberThen (codes "revision-number") (number_in (told (codes "revision-number") query)) (λ revision want. want ≡ Update session revision))
-    (λ session. number_one (codes "revision-number") (number_in (told (codes "revision-number") query)) (λ revision want. want ≡ Update session revision)
+    number_one (codes "session-id") (number_in (nonempty_value (codes "session-id") query))
+    (λ session. NumberThen (codes "revision-number") (number_in (nonempty_value (codes "revision-number") query)) (λ revision want. want ≡ Update session revision))
+    (λ session. number_one (codes "revision-number") (number_in (nonempty_value (codes "revision-number") query)) (λ revision want. want ≡ Update session revision)
     (λ revision. is_one (Update session revision)))
 place_one place.Databases query body = session_one query (λ session. Databases session)
 place_one place.Lists query body = session_one query (λ session. Lists session)

@@ -1,4 +1,4 @@
--- What bytes read as: one reading at most, of which the first asks and a refusal stay, whatever follows.
+-- Readings of bytes: there is at most one, and its first requests and its refusal stay, whatever follows.
 use Rattle.std.proofs.Common.{◌≡◌, ◌≢◌, ℕ, List, [], ◌∷◌, ◌++◌, length, drop, All, Option, Some, None, option_to_list, refl, sym, ap, ap₂, ◌∙◌, inl, inr, subst, append_assoc, append-nil}
 use Rattle.std.proofs.lemmas.List.{drop_at}
 use Rattle.std.proofs.lemmas.List.Elements.{All-nil, All-cons}
@@ -18,14 +18,14 @@ use Rattle.http_front.specs.Readings.{Reading, reading, Joins, FaultIs, IsReadin
 use Rattle.http_front.specs.Readers.{Reader, HasRead, ReadAs}
 use Rattle.http_front.proofs.OneAsk.{one_ask}
 
--- ---- requests and their asks
+-- ---- messages and their requests
 
 pub messages_of : (role : Role) (ms : List Message) (asks : List Ask) → AllZip (Spells role) ms asks → All (IsMessage Request) ms
 messages_of role [] asks h = All-nil (IsMessage Request)
 messages_of role (m ∷ ms) [] h = absurd h
 messages_of role (m ∷ ms) (a ∷ asks) h = All-cons (IsMessage Request) m ms h.0.1.0 (messages_of role ms asks h.1)
 
--- the asks of more requests begin with those of the first
+-- more messages have the requests of the first ones first
 pub first_asks : (role : Role) (ms ns : List Message) (asks all : List Ask) → AllZip (Spells role) ms asks → AllZip (Spells role) (ms ++ ns) all
     → (others : List Ask) × (all ≡ asks ++ others) × AllZip (Spells role) ns others
 first_asks role [] ns [] all h k = (all, refl, k)
@@ -73,7 +73,7 @@ nothing_goes e = open_goes Request (record { head = []; body = [] }) (Frame star
 pub nothing_read : (role : Role) → IsReading role [] (reading [] [] None)
 nothing_read role = record { joins = record { requests = []; spell = tt; joined = refl }; last = none_in_nothing; fault_is = nothing_goes }
 
--- requests that are asks, one behind the other, read as these asks
+-- requests one after another read as exactly these requests
 pub reading_of_joined : (role : Role) (bytes : List ℕ) (asks : List Ask) → Joins role bytes asks [] → IsReading role bytes (reading asks [] None)
 reading_of_joined role bytes asks j = record { joins = j; last = none_in_nothing; fault_is = nothing_goes }
 
@@ -88,7 +88,7 @@ fault_not_memory rest (Some e) h is =
     let same : e ≡ Memory = cc in
     never_memory h.front (subst (λ (x : HeadError). IsRefused Request h.front x) same h.refused)
 
--- want of memory is no fault of bytes
+-- an allocation failure is not an error of bytes
 pub memory_is_no_fault : (role : Role) (bytes : List ℕ) (r : Reading) → IsReading role bytes r → r.fault ≢ Some Memory
 memory_is_no_fault role bytes r h = fault_not_memory r.rest r.fault h.fault_is
 
@@ -139,12 +139,12 @@ behind role front more asks rest r j h =
     let split = first_asks role j.requests f.0 asks r.asks j.spell (subst (λ (ms : List Message). AllZip (Spells role) ms r.asks) f.1 h.joins.spell) in
     (split.0, split.1, record { requests = f.0; spell = split.2; joined = f.2 })
 
--- what was asked so far are the first asks of all bytes
+-- the requests so far are the first requests of all bytes
 pub first_asks_stay : (role : Role) (front more : List ℕ) (asks : List Ask) (rest : List ℕ) (r : Reading) → Joins role front asks rest → IsReading role (front ++ more) r
     → GoesOn asks r.asks
 first_asks_stay role front more asks rest r j h = let b = behind role front more asks rest r j h in (b.0, b.1)
 
--- and what is behind them reads as the others
+-- and the bytes after them read as the others
 pub joined_reading : (role : Role) (front more : List ℕ) (asks : List Ask) (rest : List ℕ) (r : Reading) → Joins role front asks rest → IsReading role (front ++ more) r
     → IsReading role (rest ++ more) (reading (drop (length asks) r.asks) r.rest r.fault)
 joined_reading role front more asks rest r j h =
@@ -185,7 +185,7 @@ refusal_stays role bytes more r e h is = record {
   fault_is = refused_stays r.rest more r.fault e is h.fault_is;
 }
 
--- the asks are of the reader's role
+-- the requests have the reader's role
 pub asks_of_role : (role : Role) (bytes : List ℕ) (asks : List Ask) (rest : List ℕ) → Joins role bytes asks rest → All (λ a. a.role ≡ role) asks
 asks_of_role role bytes asks rest j = of_role j.requests asks j.spell
   where
@@ -203,7 +203,7 @@ read_as fed handed r error is h = subst (λ (o : Option HeadError). ReadAs fed h
 no_more : (asks : List Ask) (ready : Option Ask) → ready ≡ None → asks ++ option_to_list ready ≡ asks
 no_more asks ready is = ap (λ (o : Option Ask). asks ++ option_to_list o) is ∙ append-nil asks
 
--- where nothing waits and nothing is refused, what was fed reads as what was handed out, and what is kept
+-- without a complete request or an error, the bytes fed read as the requests returned and the buffered bytes
 pub reads_all : (fed : List ℕ) (handed : List Ask) (r : Reader) → HasRead fed handed r → r.error ≡ None → r.ready ≡ None → IsReading r.role fed (reading handed r.kept None)
 reads_all fed handed r h fine none =
     subst (λ (asks : List Ask). IsReading r.role fed (reading asks r.kept None)) (no_more handed r.ready none) (read_as fed handed r None fine h)
@@ -228,7 +228,7 @@ parted role [] (x ∷ xs) ys k = absurd k
 parted role (m ∷ ms) (x ∷ xs) ys k =
     let rest = parted role ms xs ys k.1 in (m ∷ rest.0, rest.1, ap (λ (l : List Message). m ∷ l) rest.2, (k.0, rest.3))
 
--- bytes that begin with some asks begin with the first of them
+-- bytes that begin with some requests begin with the first of them
 pub earlier_asks : (role : Role) (bytes : List ℕ) (asks others : List Ask) (rest : List ℕ) → Joins role bytes (asks ++ others) rest → (left : List ℕ) × Joins role bytes asks left
 earlier_asks role bytes asks others rest j = let parts = parted role j.requests asks others j.spell in (
   flat_map print_message parts.1 ++ rest,
@@ -266,7 +266,7 @@ joined_by : (fed : List ℕ) (handed : List Ask) (r : Reader) (error : Option He
 joined_by fed handed r None h = unwaited fed handed r r.ready refl h
 joined_by fed handed r (Some e) h = (h.0, h.1)
 
--- what was handed out are requests of what was fed
+-- the requests returned are requests of the bytes fed
 pub handed_join : (fed : List ℕ) (handed : List Ask) (r : Reader) → HasRead fed handed r → (rest : List ℕ) × Joins r.role fed handed rest
 handed_join fed handed r h = joined_by fed handed r r.error h
 

@@ -1,4 +1,4 @@
--- Why records are refused is valid: nothing in it is want of memory.
+-- The errors of records are valid: none is an allocation failure.
 use Rattle.std.proofs.Common.{◌≡◌, ℕ, suc, ◌+◌, List, [], ◌∷◌, ◌++◌, length, drop, get_or, Bool, true, false, ◌==◌, nat_lt, Option, Some, None, Result, Ok, Err, IfErr, inl, inr, sym, ap, subst}
 use Rattle.std.specs.Prelude.{codes, if◌then◌else◌, nat_le, ◌&&◌, ◌^◌, ⊤}
 use Rattle.std.specs.Str.{bytes_eq, is_utf8}
@@ -13,7 +13,7 @@ use Rattle.item_model.specs.declared.query.Query.{Query}
 use Rattle.item_model.specs.declared.refusal.QueryError.{QueryError}
 use Rattle.item_model.specs.declared.refusal.RecordWhy.{RecordWhy}
 use Rattle.item_model.specs.declared.refusal.RecordWhy.TheVariants as reason
-use Rattle.records_import.specs.Actions.{drop_action, least_id, put_action, uses}
+use Rattle.records_import.specs.Actions.{drop_of_kind, least_id, put_of_kind, uses}
 use Rattle.records_import.specs.Columns.{column_named, columns_of, header_of, is_named, unless_known}
 use Rattle.records_import.specs.Limits.{most_records}
 use Rattle.records_import.specs.Number.{cell_number}
@@ -137,9 +137,9 @@ action_found : (row : ℕ) (op cell : List ℕ) → IfErr (action_of row op cell
 action_found row op cell = by_op (bytes_eq op (codes "put")) (bytes_eq op (codes "drop"))
   where
     by_op : (put drops : Bool)
-        → IfErr (if put then or_fault (Field row 2 reason.Kind) (put_action cell) else (if drops then or_fault (Field row 2 reason.Kind) (drop_action cell) else Err (Field row 1 reason.Op))) IsValidRefusal
-    by_op true drops = or_valid row (put_action cell)
-    by_op false true = or_valid row (drop_action cell)
+        → IfErr (if put then or_fault (Field row 2 reason.Kind) (put_of_kind cell) else (if drops then or_fault (Field row 2 reason.Kind) (drop_of_kind cell) else Err (Field row 1 reason.Op))) IsValidRefusal
+    by_op true drops = or_valid row (put_of_kind cell)
+    by_op false true = or_valid row (drop_of_kind cell)
     by_op false false = tt
 
 action_valid : (row : ℕ) (columns : List Column) (cells : Cells) (r : Result Action RecordError) (fault : RecordError) → IfErr r IsValidRefusal

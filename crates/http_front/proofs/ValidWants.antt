@@ -1,4 +1,5 @@
--- What a request asks for is valid and readable: queries are proper, edits are ones that records give, and no error is want of memory.
+-- The operation of a request is valid and readable: queries are proper, edits are ones that records give, and no
+-- error is an allocation failure.
 use Rattle.std.proofs.Common.{◌≡◌, ℕ, List, Bool, true, false, Option, Some, None, Result, Ok, Err, inl, inr, sym, subst}
 use Rattle.std.specs.Prelude.{codes}
 use Rattle.std.specs.Str.{bytes_eq}
@@ -23,7 +24,7 @@ use Rattle.share_asks.specs.declared.ask.Want.TheVariants.{ServerInfo, Codes, Lo
 use Rattle.song_query.proofs.ReadLaws.{answers_proper}
 use Rattle.http_front.specs.Asks.{Asks}
 use Rattle.http_front.specs.Numbers.{number_in, range_in}
-use Rattle.http_front.specs.Parameters.{told, meta_in}
+use Rattle.http_front.specs.Parameters.{nonempty_value, meta_in}
 use Rattle.http_front.specs.Readable.{IsReadableWant}
 use Rattle.http_front.specs.Routes.{place_of, verb_of, verb_text}
 use Rattle.http_front.specs.Targets.{local_part, path_of, query_of}
@@ -66,29 +67,29 @@ query_valid (Some text) Then safe w (inr (e, other, x, is)) = subst Fits (sym is
 
 in_range_valid : (query : List ℕ) (session : ℕ) (target : Target) (look : Look) → MayAsk look.query → IsSafe (RowsInRange query session target look)
 in_range_valid query session target look may =
-    range_valid (range_in (told (codes "index") query)) (λ range want. want ≡ Rows session target (record look { range = range }))
+    range_valid (range_in (nonempty_value (codes "index") query)) (λ range want. want ≡ Rows session target (record look { range = range }))
     (λ range. is_valid (Rows session target (record look { range = range })) (may, tt))
 
 asked_valid : (query : List ℕ) (session : ℕ) (target : Target) (look : Look) → IsSafe (AskedRows query session target look)
 asked_valid query session target look =
-    query_valid (told (codes "query") query) (λ asked. RowsInRange query session target (record look { query = asked }))
+    query_valid (nonempty_value (codes "query") query) (λ asked. RowsInRange query session target (record look { query = asked }))
     (λ asked may. in_range_valid query session target (record look { query = asked }) may)
 
 rows_valid : (target : Target) (query : List ℕ) → IsSafe (RowsWant target query)
 rows_valid target query =
-    number_valid (codes "session-id") (number_in (told (codes "session-id") query))
-    (λ session. NumberThen (codes "delta") (number_in (told (codes "delta") query)) (λ base. MetaThen (meta_in (told (codes "meta") query)) (λ meta.
+    number_valid (codes "session-id") (number_in (nonempty_value (codes "session-id") query))
+    (λ session. NumberThen (codes "delta") (number_in (nonempty_value (codes "delta") query)) (λ base. MetaThen (meta_in (nonempty_value (codes "meta") query)) (λ meta.
     AskedRows query session target (record { query = None; meta = meta; base = base; range = All }))))
-    (λ session. number_valid (codes "delta") (number_in (told (codes "delta") query)) (λ base. MetaThen (meta_in (told (codes "meta") query)) (λ meta.
+    (λ session. number_valid (codes "delta") (number_in (nonempty_value (codes "delta") query)) (λ base. MetaThen (meta_in (nonempty_value (codes "meta") query)) (λ meta.
     AskedRows query session target (record { query = None; meta = meta; base = base; range = All })))
-    (λ base. meta_valid (meta_in (told (codes "meta") query)) (λ meta. AskedRows query session target (record { query = None; meta = meta; base = base; range = All }))
+    (λ base. meta_valid (meta_in (nonempty_value (codes "meta") query)) (λ meta. AskedRows query session target (record { query = None; meta = meta; base = base; range = All }))
     (λ meta. asked_valid query session target (record { query = None; meta = meta; base = base; range = All }))))
 
 values_valid : (browse : Browse) (query : List ℕ) → IsSafe (ValuesWant browse query)
 values_valid browse query =
-    number_valid (codes "session-id") (number_in (told (codes "session-id") query))
-    (λ session. QueryThen (filter_or (told (codes "filter") query) (told (codes "query") query)) (λ asked want. want ≡ Values session browse asked))
-    (λ session. query_valid (filter_or (told (codes "filter") query) (told (codes "query") query)) (λ asked want. want ≡ Values session browse asked)
+    number_valid (codes "session-id") (number_in (nonempty_value (codes "session-id") query))
+    (λ session. QueryThen (filter_or (nonempty_value (codes "filter") query) (nonempty_value (codes "query") query)) (λ asked want. want ≡ Values session browse asked))
+    (λ session. query_valid (filter_or (nonempty_value (codes "filter") query) (nonempty_value (codes "query") query)) (λ asked want. want ≡ Values session browse asked)
     (λ asked may. is_valid (Values session browse asked) (may, tt)))
 
 body_valid : (body : List ℕ) (answer : Result (List OneEdit) RecordError) → BodyReads body answer → Fits (Edit answer)
@@ -100,9 +101,9 @@ unfolding IsSafe
 edit_valid query body w (answer, reads, is) = subst Fits (sym is) (body_valid body answer reads)
 
 session_valid : (query : List ℕ) (of : ℕ → Want) → ((n : ℕ) → Fits (of n))
-    → IsSafe (NumberThen (codes "session-id") (number_in (told (codes "session-id") query)) (λ session want. want ≡ of session))
+    → IsSafe (NumberThen (codes "session-id") (number_in (nonempty_value (codes "session-id") query)) (λ session want. want ≡ of session))
 session_valid query of valid =
-    number_valid (codes "session-id") (number_in (told (codes "session-id") query)) (λ session want. want ≡ of session) (λ session. is_valid (of session) (valid session))
+    number_valid (codes "session-id") (number_in (nonempty_value (codes "session-id") query)) (λ session want. want ≡ of session) (λ session. is_valid (of session) (valid session))
 
 place_valid : (p : Place) (query body : List ℕ) → IsSafe (PlaceWant p query body)
 place_valid place.ServerInfo query body = is_valid ServerInfo (tt, tt)
@@ -110,9 +111,9 @@ place_valid place.Codes query body = is_valid Codes (tt, tt)
 place_valid place.Login query body = is_valid Login (tt, tt)
 place_valid place.Logout query body = session_valid query (λ session. Logout session) (λ n. (tt, tt))
 place_valid place.Update query body =
-    number_valid (codes "session-id") (number_in (told (codes "session-id") query))
-    (λ session. NumberThen (codes "revision-number") (number_in (told (codes "revision-number") query)) (λ revision want. want ≡ Update session revision))
-    (λ session. number_valid (codes "revision-number") (number_in (told (codes "revision-number") query)) (λ revision want. want ≡ Update session revision)
+    number_valid (codes "session-id") (number_in (nonempty_value (codes "session-id") query))
+    (λ session. NumberThen (codes "revision-number") (number_in (nonempty_value (codes "revision-number") query)) (λ revision want. want ≡ Update session revision))
+    (λ session. number_valid (codes "revision-number") (number_in (nonempty_value (codes "revision-number") query)) (λ revision want. want ≡ Update session revision)
     (λ revision. is_valid (Update session revision) (tt, tt)))
 place_valid place.Databases query body = session_valid query (λ session. Databases session) (λ n. (tt, tt))
 place_valid place.Lists query body = session_valid query (λ session. Lists session) (λ n. (tt, tt))

@@ -1,5 +1,5 @@
--- The parameters of a request, read as a form (`form_urlencoded`). Of a repeated name the first counts, and then
--- an empty value counts as absent.
+-- The parameters of a request, read as a form (`form_urlencoded`). Of a repeated name the first is used; if it is
+-- empty, the parameter is absent.
 use Rattle.std.specs.Prelude.{ℕ, List, [], ◌∷◌, find, Option, Some, None, option_map}
 use Rattle.std.specs.Str.{bytes_eq}
 use Rattle.std.specs.Str.Lossy.{utf8_lossy}
@@ -8,7 +8,7 @@ use Rattle.item_model.specs.Names.{meta_of}
 use Rattle.item_model.specs.declared.request.Meta.{Meta}
 use Rattle.item_model.specs.declared.request.Meta.TheVariants.{Default}
 
--- the text that an encoded name or value stands for
+-- the text of an encoded name or value
 abbrev pub text_of : List ℕ → List ℕ
 text_of raw = utf8_lossy (decode raw)
 
@@ -20,9 +20,9 @@ unless_empty None = None
 unless_empty (Some []) = None
 unless_empty (Some (b ∷ bs)) = Some (b ∷ bs)
 
--- the value that a query string tells under a name
-unfoldable pub told : List ℕ → List ℕ → Option (List ℕ)
-told name query = unless_empty (first_named name (raw_pairs query))
+-- the value of the parameter `name` in a query string
+unfoldable pub nonempty_value : List ℕ → List ℕ → Option (List ℕ)
+nonempty_value name query = unless_empty (first_named name (raw_pairs query))
 
 abbrev pub meta_in : Option (List ℕ) → Option Meta
 meta_in None = Some Default

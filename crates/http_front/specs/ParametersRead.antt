@@ -1,4 +1,4 @@
--- What reading a parameter answers, if there is memory.
+-- The result of reading a parameter, unless allocation fails.
 use Rattle.std.specs.Prelude.{◌≡◌, ◌≢◌, ⊤, ℕ, List, Option, Some, None, Result, Ok, Err}
 use Rattle.item_model.specs.declared.query.Query.{Query}
 use Rattle.item_model.specs.declared.refusal.QueryError.TheVariants as query_fault
@@ -9,7 +9,7 @@ use Rattle.song_query.specs.Answers.{Answers}
 use Rattle.http_front.specs.declared.parameters.Flaw.{Flaw}
 use Rattle.http_front.specs.declared.parameters.Flaw.TheVariants.{Bad, Memory}
 
--- the value, or that the parameter of this name is bad
+-- the value, or the error for the parameter `name`
 abbrev pub ReadsAs : {A : Type 0} → List ℕ → Option A → Result A Flaw → Type 0
 ReadsAs name (Some value) (Ok read) = read ≡ value
 ReadsAs name None (Ok read) = ⊥
@@ -17,7 +17,7 @@ ReadsAs name (Some value) (Err (Bad error)) = ⊥
 ReadsAs name None (Err (Bad error)) = error ≡ fault.Parameter name
 ReadsAs name value (Err Memory) = ⊤
 
--- the query that the text is, or why it is none
+-- the query in the text, or its error
 abbrev pub ReadsQuery : Option (List ℕ) → Result (Option Query) Flaw → Type 0
 ReadsQuery None (Ok read) = read ≡ None
 ReadsQuery None (Err (Bad error)) = ⊥
@@ -27,7 +27,7 @@ ReadsQuery (Some text) (Err (Bad (fault.Query error))) = (error ≢ query_fault.
 ReadsQuery (Some text) (Err (Bad _)) = ⊥
 ReadsQuery text (Err Memory) = ⊤
 
--- what is wanted, or what is wrong
+-- the operation or its error, unless allocation fails
 abbrev pub Gives : (Want → Type 0) → Result Want Flaw → Type 0
 Gives P (Ok want) = P want
 Gives P (Err (Bad error)) = P (wanted.Bad error)

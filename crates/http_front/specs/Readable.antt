@@ -1,4 +1,4 @@
--- Wants that can be written down: what is to be edited is what some records read as.
+-- Operations that can be written: their edits are those of some records.
 use Rattle.std.specs.Prelude.{⊤, Ok}
 use Rattle.records_import.specs.Written.{IsReadable}
 use Rattle.share_asks.specs.declared.ask.Want.{Want}

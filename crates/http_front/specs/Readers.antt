@@ -13,14 +13,16 @@ use Rattle.http_front.specs.Readable.{IsReadableWant}
 use Rattle.http_front.specs.Readings.{Joins, IsReading, reading}
 use Rattle.http_front.specs.Routes.{Rows, all_routes}
 
--- its role, the bytes that it keeps of the next request, the ask that waits, and the error that stopped it
+-- its role, the buffered bytes of the next request, the complete request that `next` returns, and the error that
+-- stopped it
 pub record Reader : Type 0 where
   pub role : Role
   pub kept : List ℕ
   pub ready : Option Ask
   pub error : Option HeadError
 
--- what a reader keeps is no whole request, and nothing where an ask waits or an error stopped it
+-- the buffered bytes are not a complete request; there are none if `ready` has a request or an error stopped the
+-- reader
 pub record Holds (rows : Rows) (g : Gathered) (ready : Option Ask) (error : Option HeadError) : Type 0 where
   pub routes : rows ≡ all_routes
   pub kind : g.kind ≡ Request
@@ -34,24 +36,24 @@ pub record Holds (rows : Rows) (g : Gathered) (ready : Option Ask) (error : Opti
 abbrev pub waiting : Reader → List Ask
 waiting r = option_to_list r.ready
 
--- what was fed reads as the asks that were handed out, the one that waits, and what is kept; or as the asks that
--- were handed out and a rest that is refused, or for which there was no memory
+-- the bytes fed read as the requests returned, the one in `ready`, and the buffered bytes; or as the requests
+-- returned and a rest that is refused, or at which allocation failed
 abbrev pub ReadAs : List ℕ → List Ask → Reader → Option HeadError → Type 0
 ReadAs fed handed r None = IsReading r.role fed (reading (handed ++ waiting r) r.kept None)
 ReadAs fed handed r (Some e) =
     (rest : List ℕ) × Joins r.role fed handed rest × (r.ready ≡ None) × (e ≢ Memory → IsReading r.role fed (reading handed rest (Some e)))
 
--- the reader was fed these bytes and has handed out these asks
+-- the reader was fed these bytes and has returned these requests
 abbrev pub HasRead : List ℕ → List Ask → Reader → Type 0
 HasRead fed handed r = ReadAs fed handed r r.error
 
--- what a call of `feed` adds to the bytes that were fed
+-- the bytes that a call of `feed` adds
 abbrev pub fed_with : List ℕ → List ℕ → Result ℕ HeadError → List ℕ
 fed_with fed piece (Ok n) = fed ++ take n piece
 fed_with fed piece (Err e) = fed ++ piece
 
--- what a piece makes of a request that has not come whole: it goes on, and all of the piece was taken; or it is an
--- ask, and nothing is kept; or it is refused
+-- what `piece` makes of an incomplete request: it stays incomplete, and all of `piece` was taken; or it is complete,
+-- and nothing is buffered; or it is refused
 abbrev pub Gathers : Role → Gathered → List ℕ → Gathered → Result (ℕ × Option Ask) HeadError → Type 0
 Gathers role old piece new (Ok (n, None)) =
     (n ≡ length piece) × (kept new ≡ kept old ++ piece) × IsAt new × (is_whole new.phase ≡ false) × (piece ≢ [] → 0 < n)

@@ -1,4 +1,4 @@
--- What bytes read as, whatever pieces they come in: asks, then bytes that begin with no whole request, and why
+-- The reading of bytes, however they are split: requests, then bytes that begin with no complete request, and why
 -- those are refused, if they are.
 use Rattle.std.specs.Prelude.{◌≡◌, ℕ, List, ◌++◌, Option, Some, None}
 use Rattle.std.specs.List.{flat_map, AllZip}
@@ -17,7 +17,7 @@ pub record Reading : Type 0 where
 abbrev pub reading : List Ask → List ℕ → Option HeadError → Reading
 reading asks rest fault = record { asks = asks; rest = rest; fault = fault }
 
--- the bytes are requests that are the asks, one behind the other, and then the rest
+-- the bytes are the requests, one after another, and then the rest
 pub record Joins (role : Role) (bytes : List ℕ) (asks : List Ask) (rest : List ℕ) : Type 0 where
   pub requests : List Message
   pub spell : AllZip (Spells role) requests asks
@@ -32,6 +32,6 @@ pub record IsReading (role : Role) (bytes : List ℕ) (r : Reading) : Type 0 whe
   pub last : HasNoMessage Request r.rest
   pub fault_is : FaultIs r.rest r.fault
 
--- the asks begin with these
+-- the requests begin with these
 abbrev pub GoesOn : List Ask → List Ask → Type 0
 GoesOn asks all = (others : List Ask) × (all ≡ asks ++ others)

@@ -37,7 +37,7 @@ type_field Dmap = field (codes "Content-Type") (codes "application/x-dmap-tagged
 type_field Plain = field (codes "Content-Type") (codes "text/plain")
 type_field (Allow verb) = []
 
--- a reply without content tells no length
+-- a reply without content states no length
 abbrev pub length_field : ℕ → ℕ → List ℕ
 length_field status len = if status == 204 then [] else field (codes "Content-Length") (decimal len)
 
@@ -47,7 +47,7 @@ allow_field Dmap = []
 allow_field Plain = []
 allow_field (Allow verb) = field (codes "Allow") (verb_text verb)
 
--- the connection ends behind the last reply
+-- the last reply announces that the connection closes
 abbrev pub last_field : Bool → List ℕ
 last_field true = field (codes "Connection") (codes "close")
 last_field false = []

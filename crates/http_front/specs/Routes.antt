@@ -1,4 +1,4 @@
--- The paths that name requests, by the router's own rule (`matchit`), and what they name.
+-- The paths of requests, matched by the router's rule (`matchit`), and the resources that they name.
 use Rattle.std.specs.Prelude.{ℕ, List, [], ◌∷◌, fold, drop, codes, ◌==◌, Option, Some, None, option_map, option_and_then, Result, Ok, Err, if◌then◌else◌}
 use Rattle.std.specs.List.{before_first}
 use Rattle.std.specs.Str.{is_utf8}
@@ -52,11 +52,11 @@ all_routes = rows_of table
 unfoldable pub route_at : List ℕ → Option Route
 route_at path = option_map (λ found. found.value) (first all_routes path)
 
--- the number between the third slash of a path to a container and the next
+-- the number between the third slash and the next in the path of a container
 abbrev pub list_in : List ℕ → Option ℕ
 list_in path = small_number (before_first (λ b. b == 47) (drop 24 path))
 
--- what a path to a route names; a container's path names nothing where its number is none
+-- the resource of a route; a container's path names none if its number is malformed
 abbrev pub place_on : Route → List ℕ → Option Place
 place_on ServerInfo path = Some place.ServerInfo
 place_on Codes path = Some place.Codes
@@ -71,7 +71,7 @@ place_on (Values browse) path = Some (place.Values browse)
 place_on Edit path = Some place.Edit
 place_on Stop path = Some place.Stop
 
--- edits and the stop are asked for in one role alone
+-- edits and the stop are only for the role `Edit`
 abbrev pub for_role : Role → Place → Option Place
 for_role role.Listen place.Edit = None
 for_role role.Listen place.Stop = None
@@ -80,7 +80,7 @@ for_role r p = Some p
 abbrev pub place_at : List ℕ → Option Place
 place_at path = option_and_then (λ route. place_on route path) (route_at path)
 
--- what a path names in a role
+-- the resource that a path names for a role
 abbrev pub place_of : Role → List ℕ → Option Place
 place_of r path = if is_utf8 path then option_and_then (for_role r) (place_at path) else None
 

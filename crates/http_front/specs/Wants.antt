@@ -1,5 +1,5 @@
--- What a request asks for. What follows a parameter is looked at only where that is good, so the order in which
--- parameters are refused is the order in which they stand here.
+-- The operation of a request. A parameter is checked only if those before it are good, so they are refused in the
+-- order of this page.
 use Rattle.std.specs.Prelude.{◌≡◌, ◌≢◌, ◌⊎◌, ℕ, List, codes, Bool, true, false, Option, Some, None, Result, Ok, Err}
 use Rattle.std.specs.Str.{bytes_eq}
 use Rattle.item_model.specs.declared.changes.Edit.{Edit as OneEdit}
@@ -22,18 +22,18 @@ use Rattle.share_asks.specs.declared.ask.Want.{Want}
 use Rattle.share_asks.specs.declared.ask.Want.TheVariants.{ServerInfo, Codes, Login, Logout, Update, Databases, Rows, Lists, Values, Edit, Stop, Bad}
 use Rattle.song_query.specs.Answers.{Answers}
 use Rattle.http_front.specs.Numbers.{number_in, range_in}
-use Rattle.http_front.specs.Parameters.{told, meta_in}
+use Rattle.http_front.specs.Parameters.{nonempty_value, meta_in}
 use Rattle.http_front.specs.Routes.{place_of, verb_of, verb_text}
 use Rattle.http_front.specs.declared.routes.Place.{Place}
 use Rattle.http_front.specs.declared.routes.Place.TheVariants as place
 
--- a number that is refused ends it, and else the rest says what is wanted
+-- a malformed number is the error; otherwise `Then` defines the operation
 abbrev pub NumberThen : List ℕ → Option ℕ → (ℕ → Want → Type 0) → Want → Type 0
 NumberThen name None Then want = want ≡ Bad (fault.Parameter name)
 NumberThen name (Some n) Then want = Then n want
 
 abbrev pub WithNumber : List ℕ → List ℕ → (ℕ → Want → Type 0) → Want → Type 0
-WithNumber name query Then want = NumberThen name (number_in (told name query)) Then want
+WithNumber name query Then want = NumberThen name (number_in (nonempty_value name query)) Then want
 
 abbrev pub MetaThen : Option Meta → (Meta → Want → Type 0) → Want → Type 0
 MetaThen None Then want = want ≡ Bad (fault.Parameter (codes "meta"))
@@ -43,7 +43,7 @@ abbrev pub RangeThen : Option Range → (Range → Want → Type 0) → Want →
 RangeThen None Then want = want ≡ Bad (fault.Parameter (codes "index"))
 RangeThen (Some range) Then want = Then range want
 
--- the same of a text that is a query, if there is one
+-- the same for a query, if there is a text
 abbrev pub QueryThen : Option (List ℕ) → (Option Query → Want → Type 0) → Want → Type 0
 QueryThen None Then want = Then None want
 QueryThen (Some text) Then want =
@@ -63,37 +63,37 @@ DatabasesWant query = WithNumber (codes "session-id") query (λ session want. wa
 abbrev pub ListsWant : List ℕ → Want → Type 0
 ListsWant query = WithNumber (codes "session-id") query (λ session want. want ≡ Lists session)
 
--- the rows of a look that are in the range
+-- the rows of a look in the range
 abbrev pub RowsInRange : List ℕ → ℕ → Target → Look → Want → Type 0
 RowsInRange query session target look =
-    RangeThen (range_in (told (codes "index") query)) (λ range want. want ≡ Rows session target (record look { range = range }))
+    RangeThen (range_in (nonempty_value (codes "index") query)) (λ range want. want ≡ Rows session target (record look { range = range }))
 
--- of which the query holds
+-- the rows of a look that match the query
 abbrev pub AskedRows : List ℕ → ℕ → Target → Look → Want → Type 0
 AskedRows query session target look =
-    QueryThen (told (codes "query") query) (λ asked. RowsInRange query session target (record look { query = asked }))
+    QueryThen (nonempty_value (codes "query") query) (λ asked. RowsInRange query session target (record look { query = asked }))
 
 abbrev pub RowsWant : Target → List ℕ → Want → Type 0
 RowsWant target query = WithNumber (codes "session-id") query (λ session.
     WithNumber (codes "delta") query (λ base.
-    MetaThen (meta_in (told (codes "meta") query)) (λ meta.
+    MetaThen (meta_in (nonempty_value (codes "meta") query)) (λ meta.
     AskedRows query session target (record { query = None; meta = meta; base = base; range = All }))))
 
--- the text by which values are browsed: the filter where there is one, and else the query
+-- the text that selects values: the filter if it is present, otherwise the query
 abbrev pub filter_or : Option (List ℕ) → Option (List ℕ) → Option (List ℕ)
 filter_or None query = query
 filter_or (Some filter) query = Some filter
 
 abbrev pub ValuesWant : Browse → List ℕ → Want → Type 0
 ValuesWant browse query = WithNumber (codes "session-id") query (λ session.
-    QueryThen (filter_or (told (codes "filter") query) (told (codes "query") query)) (λ asked want. want ≡ Values session browse asked))
+    QueryThen (filter_or (nonempty_value (codes "filter") query) (nonempty_value (codes "query") query)) (λ asked want. want ≡ Values session browse asked))
 
 -- what a body reads as: edits, or why it is refused
 abbrev pub BodyReads : List ℕ → Result (List OneEdit) RecordError → Type 0
 BodyReads body (Ok edits) = BatchReads (table_of body) (Ok edits)
 BodyReads body (Err error) = (error ≢ record_fault.Memory) × BatchReads (table_of body) (Err error)
 
--- what a request with the right method asks for at a place
+-- the operation of a request to a resource with the right method
 abbrev pub PlaceWant : Place → List ℕ → List ℕ → Want → Type 0
 PlaceWant place.ServerInfo query body want = want ≡ ServerInfo
 PlaceWant place.Codes query body want = want ≡ Codes
@@ -111,7 +111,7 @@ abbrev pub WithMethod : Bool → Place → List ℕ → List ℕ → Want → Ty
 WithMethod true p query body want = PlaceWant p query body want
 WithMethod false p query body want = want ≡ Bad (fault.Method (verb_of p))
 
--- the path is judged first, then the method, then the parameters
+-- the path is checked first, then the method, then the parameters
 abbrev pub AtPlace : Option Place → List ℕ → List ℕ → List ℕ → Want → Type 0
 AtPlace None method query body want = want ≡ Bad fault.Path
 AtPlace (Some p) method query body want = WithMethod (bytes_eq method (verb_text (verb_of p))) p query body want

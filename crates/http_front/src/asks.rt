@@ -1,4 +1,4 @@
-//! The ask that a request is.
+//! Parsing one request.
 
 ghost use Rattle.std.specs.Prelude.{◌≡◌, length, Ok, MatchResult};
 ghost use Rattle.httparse.specs.Grammar.{RequestHead};
@@ -14,7 +14,8 @@ use matchit::Router;
 use share_asks::{Ask, Role};
 use std::alloc::Global;
 
-/// The ask of a request with this head and this body.
+/// Returns the request with this head and body.
+/// Returns `Memory` if allocation fails, and no other error.
 pub fn read_ask(
     alloc: Global,
     router: &Router<Route>,

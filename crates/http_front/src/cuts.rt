@@ -1,11 +1,11 @@
-//! Bytes in front of a byte, and those behind it.
+//! Splitting bytes at a byte.
 
 ghost use Rattle.std.specs.Prelude.{◌≡◌, ◌==◌, [], is_some};
 ghost use Rattle.std.specs.List.{before_first, after_first, list_any, position};
 ghost use Rattle.std.specs.Option.{option_map_or};
 
-/// What stands before the first byte `at`, and what stands behind it if there is one.
-pub fn cut(bytes: &[u8], at: u8) -> (&[u8], Option<&[u8]>)
+/// Returns the bytes before the first `at`, and those after it if there is one.
+pub fn split_at_first(bytes: &[u8], at: u8) -> (&[u8], Option<&[u8]>)
     ensures before { result.0.now ≡ before_first (λ b. b == at) bytes.now }
     ensures found { is_some result.1 ≡ list_any (λ b. b == at) bytes.now }
     ensures behind { option_map_or (λ rest. rest.now) result.1 [] ≡ after_first (λ b. b == at) bytes.now }

@@ -1,28 +1,28 @@
-//! Facts about what bytes read as. The functions do nothing: each has a fact as its contract.
+//! Laws of readings. Each function has an empty body; its contract is a theorem.
 
 ghost use Rattle.http_front.specs.Laws.{ReadingsAreOne, FirstAsksStay, RefusalsStay, JoinedRequestsRead, NothingReads, AllBytesRead};
 
-/// Bytes have one reading at most.
+/// Bytes have at most one reading.
 pub fn readings_are_one()
     ensures { ReadingsAreOne }
 {}
 
-/// The asks of a front are the first asks of all bytes.
+/// The requests of a prefix are the first requests of all bytes.
 pub fn first_asks_stay()
     ensures { FirstAsksStay }
 {}
 
-/// No further bytes mend what is refused.
+/// A refusal stays, whatever bytes follow.
 pub fn refusals_stay()
     ensures { RefusalsStay }
 {}
 
-/// Requests that spell asks, joined, read as these asks and nothing else.
+/// Requests one after another read as exactly these requests.
 pub fn joined_requests_read()
     ensures { JoinedRequestsRead }
 {}
 
-/// Nothing reads as nothing.
+/// The empty bytes read as no requests.
 pub fn nothing_reads()
     ensures { NothingReads }
 {}

@@ -1,5 +1,5 @@
-//! What the bytes of a connection ask of a share: requests of HTTP/1.x are read as asks, however the bytes are cut,
-//! and refused in the call that takes the byte which shows it; and the heads of the replies.
+//! Reads HTTP/1.x requests to a share from the bytes of a connection, however they are split, and writes heads of
+//! replies. An error comes in the call that takes the byte which shows it.
 #![tactic(auto)]
 
 mod asks;

@@ -3,14 +3,14 @@
 ghost use Rattle.std.specs.Prelude.{◌≡◌};
 ghost use Rattle.http_front.specs.Numbers.{small_number, range_of, hyphen_range, range_from};
 
-use crate::cuts::cut;
+use crate::cuts::split_at_first;
 use item_model::Range;
 use records_import::read_number;
 
-/// The digits of a number at most.
+/// The most digits of a number.
 const DIGITS: usize = 10;
 
-/// A number of 1 to 10 digits that 32 bits hold.
+/// Returns the number that 1 to 10 digits write, if it fits 32 bits.
 #[tactic(auto, unfolding(crate::specs::Numbers::small_number))]
 pub fn small_number(text: &[u8]) -> Option<u32>
     ensures { result ≡ small_number text.now }
@@ -21,11 +21,11 @@ pub fn small_number(text: &[u8]) -> Option<u32>
     }
 }
 
-/// One place, a part between two, or the last rows.
+/// Returns the range: one row, a span of rows, or the last rows.
 pub fn range_of(text: &[u8]) -> Option<Range>
     ensures { result ≡ range_of text.now }
 {
-    let (before, behind) = cut(text, b'-');
+    let (before, behind) = split_at_first(text, b'-');
     match behind {
         Some(behind) => hyphen_range(before, behind),
         None => Some(Range::One {

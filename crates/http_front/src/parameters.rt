@@ -1,4 +1,4 @@
-//! Parameters by their names.
+//! Parameters by name.
 
 ghost use Rattle.std.specs.Prelude.{◌≡◌, ◌≢◌, List, ℕ, codes, Some, None, Ok, Err, IfOk, string_bytes, option_map, MatchOption};
 ghost use Rattle.std.specs.Str.{bytes_eq};
@@ -6,7 +6,7 @@ ghost use Rattle.form_urlencoded.specs.Form.{raw_pairs};
 ghost use Rattle.item_model.specs.Names.{meta_of};
 ghost use Rattle.song_query.specs.Answers.{Answers};
 ghost use Rattle.http_front.specs.Numbers.{number_in, range_in};
-ghost use Rattle.http_front.specs.Parameters.{text_of, first_named, unless_empty, told, meta_in};
+ghost use Rattle.http_front.specs.Parameters.{text_of, first_named, unless_empty, nonempty_value, meta_in};
 ghost use Rattle.http_front.specs.ParametersRead.{ReadsAs, ReadsQuery};
 
 use crate::numbers::{range_of, small_number};
@@ -16,7 +16,7 @@ use item_model::{Meta, MetaError, Query, QueryError, Range};
 use share_asks::AskError;
 use std::alloc::{AllocError, Global};
 
-/// What ends the reading of parameters.
+/// Errors of parameters.
 #[derive(Debug, Drop)]
 pub enum Flaw {
     Bad(AskError),
@@ -33,11 +33,11 @@ impl From<AllocError> for Flaw {
     }
 }
 
-/// The number under a name, 0 where there is none.
+/// Returns the number of a parameter, or 0 if it is absent.
 pub fn number(alloc: Global, query: &[u8], name: &str) -> Result<u32, Flaw>
-    ensures { ReadsAs name.now (number_in (told name.now query.now)) result }
+    ensures { ReadsAs name.now (number_in (nonempty_value name.now query.now)) result }
 {
-    let Some(text) = told(alloc, query, name)? else {
+    let Some(text) = nonempty_value(alloc, query, name)? else {
         return Ok(0);
     };
     match small_number(text.as_bytes()) {
@@ -47,9 +47,9 @@ pub fn number(alloc: Global, query: &[u8], name: &str) -> Result<u32, Flaw>
 }
 
 pub fn meta(alloc: Global, query: &[u8]) -> Result<Meta, Flaw>
-    ensures { ReadsAs (codes "meta") (meta_in (told (codes "meta") query.now)) result }
+    ensures { ReadsAs (codes "meta") (meta_in (nonempty_value (codes "meta") query.now)) result }
 {
-    let Some(text) = told(alloc, query, "meta")? else {
+    let Some(text) = nonempty_value(alloc, query, "meta")? else {
         return Ok(Meta::Default);
     };
     match Meta::read(alloc, text.as_str()) {
@@ -60,9 +60,9 @@ pub fn meta(alloc: Global, query: &[u8]) -> Result<Meta, Flaw>
 }
 
 pub fn range(alloc: Global, query: &[u8]) -> Result<Range, Flaw>
-    ensures { ReadsAs (codes "index") (range_in (told (codes "index") query.now)) result }
+    ensures { ReadsAs (codes "index") (range_in (nonempty_value (codes "index") query.now)) result }
 {
-    let Some(text) = told(alloc, query, "index")? else {
+    let Some(text) = nonempty_value(alloc, query, "index")? else {
         return Ok(Range::All);
     };
     match range_of(text.as_bytes()) {
@@ -71,7 +71,7 @@ pub fn range(alloc: Global, query: &[u8]) -> Result<Range, Flaw>
     }
 }
 
-/// The query that a text is, if there is one.
+/// Returns the query in a text, or `None` without a text.
 pub fn query_in(alloc: Global, text: Option<&str>) -> Result<Option<Query>, Flaw>
     ensures { ReadsQuery (option_map (λ t. t.now) text.entry) result }
 {
@@ -85,10 +85,10 @@ pub fn query_in(alloc: Global, text: Option<&str>) -> Result<Option<Query>, Flaw
     }
 }
 
-/// The value under a name, unless it is empty.
-#[tactic(auto, unfolding(crate::specs::Parameters::told))]
-pub fn told(alloc: Global, query: &[u8], name: &str) -> Result<Option<String>, AllocError>
-    ensures { IfOk result (λ text. option_map string_bytes text ≡ told name.now query.now) }
+/// Returns the value of the first parameter called `name`, unless it is empty.
+#[tactic(auto, unfolding(crate::specs::Parameters::nonempty_value))]
+pub fn nonempty_value(alloc: Global, query: &[u8], name: &str) -> Result<Option<String>, AllocError>
+    ensures { IfOk result (λ text. option_map string_bytes text ≡ nonempty_value name.now query.now) }
 {
     let Some(text) = first_named(alloc, query, name)? else {
         return Ok(None);
@@ -124,7 +124,7 @@ fn text_of(alloc: Global, raw: &[u8]) -> Result<String, AllocError>
     text.into_owned(alloc)
 }
 
-// The flaw of a parameter.
+// Returns the error for the parameter called `name`.
 fn bad(alloc: Global, name: &str) -> Flaw
     ensures { ReadsAs {A = ℕ} name.now None (Err result) }
 {

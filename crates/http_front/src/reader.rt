@@ -16,7 +16,7 @@ use share_asks::{Ask, Role};
 use std::alloc::{AllocError, Global};
 use std::marker::Model;
 
-/// Reads asks out of bytes that come in pieces.
+/// Reads requests from bytes as they come.
 #[derive(Drop)]
 pub struct HeadReader {
     alloc: Global,
@@ -43,7 +43,8 @@ impl Model for HeadReader {
 }
 
 impl HeadReader {
-    /// A reader that was fed nothing.
+    /// Returns a reader without bytes.
+    /// Returns `AllocError` if allocation fails.
     pub fn new(alloc: Global, role: Role) -> Result<HeadReader, AllocError>
         ensures role { IfOk result (λ r. r.role ≡ role) }
         ensures idle { IfOk result (λ r. (r.ready ≡ None) × (r.error ≡ None) × (r.kept ≡ [])) }
@@ -59,8 +60,10 @@ impl HeadReader {
         })
     }
 
-    /// Takes bytes up to the end of a request, or all, and answers how many. While an ask waits it takes none. After
-    /// an error it answers that error again.
+    /// Takes bytes of `piece` up to the end of a request, or all of them, and returns how many. Takes none while
+    /// `next` has a request to return.
+    /// Returns an error if no request can begin with the bytes so far, and `Memory` if allocation fails. Every later
+    /// call returns the same error.
     pub fn feed(&mut self, piece: &[u8]) -> Result<usize, HeadError>
         ensures role { self.new.role ≡ self.old.role }
         ensures error { MatchResult result (λ _. self.new.error ≡ None)
@@ -99,7 +102,7 @@ impl HeadReader {
         }
     }
 
-    /// Hands out the ask that waits.
+    /// Returns the complete request, if there is one, and clears it.
     pub fn next(&mut self) -> Option<Ask>
         ensures result { result ≡ self.old.ready }
         ensures rest { self.new ≡ record self.old { ready = None } }
@@ -111,14 +114,14 @@ impl HeadReader {
         self.ready.take()
     }
 
-    /// Whether the bytes so far end between two requests.
+    /// Returns whether the bytes so far end between two requests.
     pub fn between(&self) -> bool
         ensures { IsTrue result ↔ ((self.now.kept ≡ []) × (self.now.error ≡ None)) }
     {
         self.requests.len() == 0 && self.error.is_none()
     }
 
-    /// How many bytes of a request that has not come whole are kept.
+    /// Returns how many bytes of an incomplete request are buffered.
     pub fn held(&self) -> u64
         ensures kept { result ≡ length self.now.kept }
         ensures few { result ≤ 4210688 }
@@ -127,7 +130,7 @@ impl HeadReader {
     }
 }
 
-// Takes bytes up to the end of a request, or all, and reads the request's ask.
+// Takes bytes up to the end of a request, or all, and parses the request if it is complete.
 fn gather(
     alloc: Global,
     router: &Router<Route>,

@@ -10,7 +10,8 @@ use itoa::Buffer;
 use share_asks::BodyForm;
 use std::alloc::{AllocError, Global};
 
-/// The head of a reply with a body of this form and length; `last` says that the connection ends behind it.
+/// Returns the head of a reply with a body of this form and length; `last` says that the connection closes after it.
+/// Returns `AllocError` if allocation fails.
 #[tactic(auto, unfolding(crate::specs::ReplyHeads::reply_head_text))]
 pub fn reply_head(
     alloc: Global,
@@ -32,7 +33,7 @@ pub fn reply_head(
     Ok(Bytes::from(head))
 }
 
-/// The head of a reply with status 500, which has no body. It takes no memory.
+/// Returns the head of a reply with status 500, which has no body. Does not allocate.
 pub fn failure_head(last: bool) -> &'static str
     ensures { result.now ≡ reply_head_text 500 NoBody 0 last }
 {

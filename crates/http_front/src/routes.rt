@@ -1,17 +1,17 @@
-//! The paths that name requests.
+//! The paths of requests.
 
 ghost use Rattle.std.specs.Prelude.{◌≡◌, map, true, false, IfOk, MatchOption};
 ghost use Rattle.std.specs.Str.{is_utf8};
 ghost use Rattle.http_front.specs.Routes.{rows_of, all_routes, route_at, list_in, place_on, place_at, for_role, place_of, verb_of, verb_text};
 
-use crate::cuts::cut;
+use crate::cuts::split_at_first;
 use crate::numbers::small_number;
 use item_model::{Browse, Target};
 use matchit::Router;
 use share_asks::{Role, Verb};
 use std::alloc::{AllocError, Global};
 
-/// What a path leads to.
+/// What the router finds for a path.
 #[derive(Clone, Copy, Debug, PartialEq, Eq)]
 pub enum Route {
     ServerInfo,
@@ -22,14 +22,14 @@ pub enum Route {
     Databases,
     Lists,
     Items,
-    /// The items of the container whose number stands in the path.
+    /// The items of the container whose number is in the path.
     Members,
     Values(Browse),
     Edit,
     Stop,
 }
 
-/// What a path names.
+/// The resource that a path names.
 #[derive(Clone, Copy, Debug, PartialEq, Eq)]
 pub enum Place {
     ServerInfo,
@@ -69,10 +69,10 @@ static ROUTES: [(&str, Route); 15] = [
     ("/stop", Route::Stop),
 ];
 
-/// The bytes of a path before a container's number.
+/// The offset of a container's number in its path.
 const LIST_AT: usize = 24;
 
-/// A router of all paths.
+/// Returns a router of all paths.
 #[tactic(auto, unfolding(crate::specs::Routes::all_routes))]
 pub fn router(alloc: Global) -> Result<Router<Route>, AllocError>
     ensures { IfOk result (λ router. router ≡ all_routes) }
@@ -85,7 +85,7 @@ fn router_of(alloc: Global, table: &[(&str, Route)]) -> Result<Router<Route>, Al
 {
     let mut router = Router::new(alloc);
     for (path, route) in table {
-        // No two of the paths are in each other's way, so what can fail is memory.
+        // No two of the paths conflict, so only allocation can fail.
         if router.insert(path, *route).is_err() {
             return Err(AllocError);
         }
@@ -93,7 +93,7 @@ fn router_of(alloc: Global, table: &[(&str, Route)]) -> Result<Router<Route>, Al
     Ok(router)
 }
 
-/// What a path names in a role.
+/// Returns the resource that a path names for a role.
 pub fn place_of(router: &Router<Route>, role: Role, path: &[u8]) -> Option<Place>
     requires { router.now ≡ all_routes }
     ensures { result ≡ place_of role path.now }
@@ -159,7 +159,7 @@ fn list_in(path: &[u8]) -> Option<u32>
     ensures { result ≡ list_in path.now }
 {
     let (_, rest) = path.split_at(LIST_AT.min(path.len()));
-    let (list, _) = cut(rest, b'/');
+    let (list, _) = split_at_first(rest, b'/');
     small_number(list)
 }
 
@@ -172,7 +172,7 @@ fn for_role(role: Role, place: Place) -> Option<Place>
     }
 }
 
-/// The method of the requests at a place.
+/// Returns the method of requests to a resource.
 pub fn verb_of(place: Place) -> Verb
     ensures { result ≡ verb_of place }
 {

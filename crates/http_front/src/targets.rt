@@ -3,18 +3,18 @@
 ghost use Rattle.std.specs.Prelude.{◌≡◌};
 ghost use Rattle.http_front.specs.Targets.{from_slash, local_part, path_of, query_of};
 
-use crate::cuts::cut;
+use crate::cuts::split_at_first;
 
-/// The path of a target, and what stands behind its question mark.
+/// Returns the path of a target, and the bytes after its question mark.
 pub fn path_and_query(target: &[u8]) -> (&[u8], &[u8])
     ensures path { result.0.now ≡ path_of (local_part target.now) }
     ensures query { result.1.now ≡ query_of (local_part target.now) }
 {
-    let (path, query) = cut(local_part(target), b'?');
+    let (path, query) = split_at_first(local_part(target), b'?');
     (path, query.unwrap_or(b""))
 }
 
-// A target without a scheme and a host.
+// Returns a target without its scheme and host.
 fn local_part(target: &[u8]) -> &[u8]
     ensures { result.now ≡ local_part target.now }
 {

@@ -1,12 +1,12 @@
-//! What a request asks for.
+//! The operation of a request.
 
 ghost use Rattle.std.specs.Prelude.{◌≡◌, [], codes, Some, IfOk, option_map, string_bytes};
-ghost use Rattle.http_front.specs.Parameters.{told};
+ghost use Rattle.http_front.specs.Parameters.{nonempty_value};
 ghost use Rattle.http_front.specs.ParametersRead.{Gives, ReadsQuery};
 ghost use Rattle.http_front.specs.Routes.{all_routes};
 ghost use Rattle.http_front.specs.Wants.{LogoutWant, UpdateWant, DatabasesWant, ListsWant, RowsWant, ValuesWant, filter_or, AskedRows, RowsInRange, PlaceWant, Wants};
 
-use crate::parameters::{Flaw, meta, number, query_in, range, told};
+use crate::parameters::{Flaw, meta, nonempty_value, number, query_in, range};
 use crate::routes::{Place, Route, place_of, verb_of, verb_text};
 use item_model::{Browse, Look, Query, Range, Target};
 use matchit::Router;
@@ -14,7 +14,7 @@ use records_import::{RecordError, read_batch};
 use share_asks::{AskError, Role, Want};
 use std::alloc::{AllocError, Global};
 
-/// A request that came whole.
+/// The parts of a complete request.
 #[derive(Clone, Copy, Debug)]
 pub struct Request<'b> {
     pub method: &'b [u8],
@@ -23,7 +23,7 @@ pub struct Request<'b> {
     pub body: &'b [u8],
 }
 
-/// What a request wants of a reader in the role.
+/// Returns the operation of a request to a reader of the role.
 pub fn read_want(
     alloc: Global,
     router: &Router<Route>,
@@ -129,7 +129,7 @@ fn rows(alloc: Global, target: Target, query: &[u8]) -> Result<Want, Flaw>
     asked_rows(alloc, query, session, target, look)
 }
 
-// The rows of a look of which the query that is asked holds.
+// Adds the query to a look, and then the range.
 fn asked_rows(
     alloc: Global,
     query: &[u8],
@@ -152,13 +152,13 @@ fn asked_rows(
 }
 
 fn asked(alloc: Global, query: &[u8]) -> Result<Option<Query>, Flaw>
-    ensures { ReadsQuery (told (codes "query") query.now) result }
+    ensures { ReadsQuery (nonempty_value (codes "query") query.now) result }
 {
-    let text = told(alloc, query, "query")?;
+    let text = nonempty_value(alloc, query, "query")?;
     query_in(alloc, text.as_deref())
 }
 
-// The rows of a look that are in the range.
+// Adds the range to a look.
 fn rows_in_range(
     alloc: Global,
     query: &[u8],
@@ -196,13 +196,13 @@ fn values(alloc: Global, browse: Browse, query: &[u8]) -> Result<Want, Flaw>
     }
 }
 
-// The filter where there is one, and else the query.
+// Returns the filter if it is present, otherwise the query.
 fn filter_or_query(alloc: Global, query: &[u8]) -> Result<Option<String>, AllocError>
-    ensures { IfOk result (λ text. option_map string_bytes text ≡ filter_or (told (codes "filter") query.now) (told (codes "query") query.now)) }
+    ensures { IfOk result (λ text. option_map string_bytes text ≡ filter_or (nonempty_value (codes "filter") query.now) (nonempty_value (codes "query") query.now)) }
 {
-    match told(alloc, query, "filter")? {
+    match nonempty_value(alloc, query, "filter")? {
         Some(filter) => Ok(Some(filter)),
-        None => told(alloc, query, "query"),
+        None => nonempty_value(alloc, query, "query"),
     }
 }
 

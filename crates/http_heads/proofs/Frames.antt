@@ -1,4 +1,4 @@
--- A scan ends where a framed head does, and so a framed head is no front of another.
+-- A scan ends exactly at the end of a framed head, and so no framed head is a prefix of another.
 use Rattle.std.proofs.Common.{◌≡◌, ◌≢◌, ℕ, suc, ◌+◌, List, [], ◌∷◌, ◌++◌, length, Option, Some, None, option_and_then, Bool, true, false, not, ◌&&◌, if◌then◌else◌, ◌==◌, refl, sym, ap, ◌∙◌, subst, append_assoc, append-nil, arith, add-zero, add-one, zero-add, inl, inr}
 use Rattle.std.proofs.lemmas.Bool.{and_parts, and_from, not-true, cond-true, cond-false, eqb-true, ne_eqb, true≢false, cases_Bool, not_from_false}
 use Rattle.std.proofs.lemmas.List.{length_push, nil_from_length}
@@ -17,7 +17,7 @@ begun_of [] = Nothing
 begun_of (b ∷ []) = begun_with Nothing b
 begun_of (b ∷ c ∷ cs) = Text
 
--- so many full lines, and this part of a line
+-- the state after `lines` full lines and this part of a line
 abbrev pub within_line : ℕ → List ℕ → Scan
 within_line n part = record { full = n; begun = begun_of part }
 
@@ -90,7 +90,7 @@ over_full n (line ∷ lines) e =
     ∙ over_full (suc n) lines parts.1
     ∙ ap (λ m. Some (within_line m [])) (let same : suc n + length lines ≡ n + suc (length lines) = omega arith in same)
 
--- the scan ends with the last of these bytes, after so many full lines
+-- the scan ends with the last of these bytes, after `lines` full lines
 pub record EndsAt (bytes : List ℕ) (lines : ℕ) : Type 0 where
   pub front : List ℕ
   pub byte : ℕ
@@ -136,7 +136,7 @@ framed_ends bytes lines (f, h, spelled, count) =
       count = e.count ∙ sym count;
     }
 
--- where two scans of the same bytes end, they are one
+-- two scans of the same bytes end at the same byte
 same_end : (s t u : Scan) (f : List ℕ) (x : ℕ) (p : List ℕ) (g : List ℕ) (y : ℕ) (q : List ℕ) → after s f ≡ Some t → after_byte t x ≡ None
     → after s g ≡ Some u → after_byte u y ≡ None → f ++ x ∷ p ≡ g ++ y ∷ q → (f ≡ g) × (x ≡ y) × (p ≡ q)
 same_end s t u [] x p [] y q a b c d e = (refl, (let same : x ≡ y = cc in same), (let same : p ≡ q = cc in same))
@@ -160,7 +160,7 @@ same_end s t u (z ∷ zs) x p (w ∷ ws) y q a b c d e =
 regroup : (f : List ℕ) (x : ℕ) (p : List ℕ) → (f ++ x ∷ []) ++ p ≡ f ++ x ∷ p
 regroup f x p = append_assoc f (x ∷ []) p
 
--- no framed head is a front of another
+-- no framed head is a prefix of another
 pub framed_once : (a b p q : List ℕ) (m n : ℕ) → IsFramed a m → IsFramed b n → a ++ p ≡ b ++ q → (a ≡ b) × (p ≡ q) × (m ≡ n)
 framed_once a b p q m n x y e =
     let ends = framed_ends a m x in
@@ -176,7 +176,7 @@ framed_once a b p q m n x y e =
       (let scan : ends.scan ≡ other.scan = cc in sym ends.count ∙ ap (λ (s : Scan). s.full) scan ∙ other.count),
     )
 
--- bytes over which the scan goes on have no framed head at their front
+-- if the scan of bytes does not end, then they do not begin with a framed head
 pub no_frame : (bytes : List ℕ) (s : Scan) → after start bytes ≡ Some s → HasNoFrame bytes
 no_frame bytes s e front rest lines split h =
     let ends = framed_ends front lines h in
@@ -348,6 +348,6 @@ stands_along front (b ∷ bs) s t h e =
     option_and_then_some (λ u. after u bs) (after_byte s b) t e
     (λ u k l. subst (λ (p : List ℕ). Stands p t) (append_assoc front (b ∷ []) bs) (stands_along (front ++ b ∷ []) bs u t (stands_more front s u b h k) l))
 
--- where a scan ends, a framed head does
+-- if a scan ends, then so does a framed head
 pub framed_end : (front : List ℕ) (s : Scan) (b : ℕ) → after start front ≡ Some s → after_byte s b ≡ None → IsFramed (front ++ b ∷ []) s.full
 framed_end front s b e h = framed_more front s b (stands_along [] front start s nothing_stands e) h

@@ -1,5 +1,5 @@
--- What stands at the front of bytes is decided: a message, a refusal, or a message that waits for more; and so
--- bytes are cut into messages and a rest.
+-- It is decided what bytes begin with: a message, a refusal, or a part of a message; and so bytes split into messages
+-- and a rest.
 use Rattle.std.proofs.Common.{◌≡◌, ℕ, zero, suc, ◌<◌, ◌≤◌, ◌⊎◌, List, [], ◌∷◌, ◌++◌, length, take, drop, Bool, true, false, nat_le, if◌then◌else◌, Option, Some, None, Result, Ok, Err, codes, refl, sym, ap, ◌∙◌, subst, inl, inr, arith, append_assoc, append-nil, length-append}
 use Rattle.std.specs.List.{flat_map}
 use Rattle.std.proofs.lemmas.Bool.{cases_lt}
@@ -33,7 +33,7 @@ record FrameAt (bytes : List ℕ) : Type 0 where
   split : bytes ≡ front ++ rest
   framed : IsFramed front lines
 
--- a framed head, or a scan that goes on
+-- a framed head, or a scan that does not end
 seek : (seen bytes : List ℕ) (s : Scan) → after start seen ≡ Some s → FrameAt (seen ++ bytes) ⊎ ((t : Scan) × (after start (seen ++ bytes) ≡ Some t))
 seek seen [] s e = inr (s, ap (after start) (append-nil seen) ∙ e)
 seek seen (b ∷ bs) s e =
@@ -57,9 +57,9 @@ seek seen (b ∷ bs) s e =
 sought : (bytes : List ℕ) → FrameAt bytes ⊎ ((t : Scan) × (after start bytes ≡ Some t))
 sought bytes = seek [] bytes start refl
 
--- ---- what a framed head tells
+-- ---- the length after a framed head
 
--- a length is told, or it is refused
+-- a length is stated, or the head is refused
 TellsSome : Kind → List ℕ → ℕ → Type 0
 TellsSome kind front lines = ((n : ℕ) × Tells kind front lines (Ok n)) ⊎ ((e : HeadError) × Tells kind front lines (Err e))
 
@@ -108,16 +108,16 @@ tells_some Reply front lines = elim (reply_head_decides front) [
   | inr none ↦ inr (Head, (refl, inl none))
 ]
 
--- ---- fronts
+-- ---- prefixes
 
--- a message is at the front
+-- the bytes begin with a message
 record MessageAt (kind : Kind) (bytes : List ℕ) : Type 0 where
   message : Message
   more : List ℕ
   whole : IsMessage kind message
   split : bytes ≡ print_message message ++ more
 
--- no message is at the front, and nothing is refused
+-- the bytes begin with no message, and nothing is refused
 pub record Waits (kind : Kind) (bytes : List ℕ) : Type 0 where
   pub none : HasNoMessage kind bytes
   pub goes : (e : HeadError) → Refuses kind bytes e → ⊥
@@ -136,7 +136,7 @@ scan_waits kind bytes t goes short =
     subst (Waits kind) (append-nil bytes)
     (record { none = open_none kind m (Frame t) (goes, short, refl) refl; goes = λ e. open_goes kind m (Frame t) e (goes, short, refl) refl })
 
--- behind a head that tells a length
+-- after a head that states a length
 behind_head : (kind : Kind) (bytes front rest : List ℕ) (n : ℕ) → bytes ≡ front ++ rest → HasHead kind front n → AtFront kind bytes
 unfolding AtFront
 behind_head kind bytes front rest n split h = elim (cases_lt (length rest) n) [
@@ -190,9 +190,9 @@ at_front kind bytes = elim (sought (take head_limit bytes)) [
   | inr (t, goes) ↦ at_scan kind bytes t goes
 ]
 
--- ---- bytes cut into messages
+-- ---- bytes split into messages
 
--- bytes cut into messages and a rest, of which it is known whether it is refused
+-- bytes split into messages and a rest, which is refused or not
 pub record Cut (kind : Kind) (bytes : List ℕ) : Type 0 where
   pub messages : List Message
   pub rest : List ℕ
@@ -235,6 +235,6 @@ cut_within (suc n) kind bytes short = elim (at_front kind bytes) [
   | inr (inr waits) ↦ nothing_cut kind bytes waits.none (inr waits.goes)
 ]
 
--- all bytes can be cut
+-- all bytes can be split
 pub cut_for : (kind : Kind) (bytes : List ℕ) → Cut kind bytes
 cut_for kind bytes = cut_within (suc (length bytes)) kind bytes (omega arith)

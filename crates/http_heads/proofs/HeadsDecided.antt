@@ -1,4 +1,4 @@
--- Whether bytes are a head is decided, and which: by the grammar, piece by piece.
+-- Whether bytes are a head is decided, and which: by the grammar, part by part.
 use Rattle.std.proofs.Common.{◌≡◌, ◌≢◌, ℕ, zero, suc, ◌<◌, ◌≤◌, ◌⊎◌, List, [], ◌∷◌, ◌++◌, length, Bool, true, false, Option, Some, None, refl, sym, ap, ap₂, ◌∙◌, subst, inl, inr, ⊎_elim, arith, append_assoc, append-nil, length-append}
 use Rattle.std.specs.Prelude.{IsUtf8}
 use Rattle.std.specs.Char.{is_ascii_digit}
@@ -15,7 +15,7 @@ use Rattle.httparse.proofs.RunLemmas.{run_unique, run_unstopped}
 use Rattle.http_heads.specs.Heads.{HasNoHead, HasNoReplyHead, IsHead, IsReplyHead}
 use Rattle.http_heads.specs.Limits.{field_limit}
 
--- texts begin with the piece, or they do not
+-- texts begin with the part, or they do not
 abbrev Decides : {A : Type 0} → Piece A → Type 0
 Decides G = (text : List ℕ) → Begins G text ⊎ (Begins G text → ⊥)
 
@@ -62,7 +62,7 @@ newline_decides text = elim (bytes_decide (10 ∷ []) text) [
 
 -- ---- runs
 
--- the longest front of bytes that pass a test
+-- the longest prefix of bytes that pass a test
 record Front (test : ℕ → Bool) (text : List ℕ) : Type 0 where
   run : List ℕ
   rest : List ℕ
@@ -86,7 +86,7 @@ front_of test (b ∷ bs) = elim (cases_Bool (test b)) [
       ends = f.ends;
     }
 
--- all bytes pass, so no run is stopped
+-- if all bytes pass, then no run ends before them
 unstopped : (test : ℕ → Bool) (text run w r : List ℕ) → AllPass test run → text ≡ run ++ [] → text ≡ w ++ r → Stops test r → ⊥
 unstopped test text run w r pass whole split stops =
     run_unstopped test w r (subst (AllPass test) (sym (append-nil run) ∙ sym whole ∙ split) pass) stops
@@ -155,7 +155,7 @@ newline_shorter : (end : LineEnd) (text rest : List ℕ) → text ≡ print_end 
 newline_shorter crlf text rest e = omega (arith, ap length e)
 newline_shorter lf text rest e = omega (arith, ap length e)
 
--- empty lines behind an empty line
+-- empty lines after an empty line
 ended_blank : (end : LineEnd) (text rest : List ℕ) → text ≡ print_end end ++ rest → (Begins Blank rest → ⊥) → (ends : List LineEnd) (r : List ℕ) → Blank ends text r → ⊥
 ended_blank end text rest h none [] r x = newline_not_stopped end rest r (sym h ∙ x.0) x.1
 ended_blank end text rest h none (e ∷ es) r x =

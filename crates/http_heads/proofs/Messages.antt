@@ -1,4 +1,4 @@
--- What is at the front of bytes: a message, a refusal, or neither, and each of them is one.
+-- What bytes begin with: a message, a refusal, or neither, and each of them is unique.
 use Rattle.std.proofs.Common.{◌≡◌, ◌≢◌, ℕ, zero, suc, ◌+◌, ◌<◌, ◌≤◌, List, [], ◌∷◌, ◌++◌, length, true, false, Some, None, Result, Ok, Err, All, refl, sym, ap, ap₂, ◌∙◌, subst, inl, inr, arith, append_assoc, append-nil, length-append}
 use Rattle.std.proofs.lemmas.List.Elements.{All-head, All-tail}
 use Rattle.std.specs.List.{flat_map}
@@ -19,7 +19,7 @@ use Rattle.http_heads.specs.Limits.{head_limit, line_limit}
 use Rattle.http_heads.specs.Messages.{Message, print_message, HasHead, IsMessage, HasNoMessage, IsRefused, Refuses, SplitsAs}
 use Rattle.http_heads.proofs.Frames.{framed_once, no_frame}
 
--- ---- what a framed head tells is one
+-- ---- a framed head has one reading
 
 pub one_head : (bytes : List ℕ) (h k : RequestHead) → IsHead bytes h → IsHead bytes k → h ≡ k
 one_head bytes h k x y = (request_unique bytes h k [] [] x.0 y.0).0
@@ -77,7 +77,7 @@ one_refusal Reply front lines d e (is, x) (too, y) = is ∙ sym too
 
 -- ---- messages
 
--- where two fronts of the same bytes differ in length, the longer one begins with the shorter one
+-- of two prefixes of the same bytes the longer begins with the shorter
 pub longer_front : (a b p q : List ℕ) → length b ≤ length a → a ++ p ≡ b ++ q → (c : List ℕ) × (a ≡ b ++ c)
 longer_front a [] p q h e = (a, refl)
 longer_front [] (y ∷ ys) p q h e = absurd (omega arith)
@@ -87,7 +87,7 @@ longer_front (x ∷ xs) (y ∷ ys) p q h e =
     let behind = longer_front xs ys p q (omega arith) rest in
     (behind.0, (let whole : (x ∷ xs) ≡ y ∷ (ys ++ behind.0) = cc (first, behind.1) in whole))
 
--- two fronts of the same bytes with one length are one
+-- two prefixes of the same bytes with one length are equal
 pub same_fronts : (a b p q : List ℕ) → length a ≡ length b → a ++ p ≡ b ++ q → (a ≡ b) × (p ≡ q)
 same_fronts [] [] p q h e = (refl, e)
 same_fronts [] (y ∷ ys) p q h e = absurd (omega arith)
@@ -101,7 +101,7 @@ same_fronts (x ∷ xs) (y ∷ ys) p q h e =
 regroup : (a b c : List ℕ) → (a ++ b) ++ c ≡ a ++ (b ++ c)
 regroup a b c = append_assoc a b c
 
--- the head at the front of bytes is one, with the length that it tells
+-- bytes begin with at most one head, and its length is one
 pub heads_once : (kind : Kind) (a b p q : List ℕ) (m n : ℕ) → HasHead kind a m → HasHead kind b n → a ++ p ≡ b ++ q → (a ≡ b) × (p ≡ q) × (m ≡ n)
 heads_once kind a b p q m n x y e =
     let same = framed_once a b p q x.lines y.lines x.framed y.framed e in
@@ -109,7 +109,7 @@ heads_once kind a b p q m n x y e =
     subst (λ (c : List ℕ). Tells kind c x.lines (Ok n)) (sym same.0) (subst (λ (l : ℕ). Tells kind b l (Ok n)) (sym same.2) y.tells) in
     (same.0, same.1, one_told kind a x.lines m n x.tells tells)
 
--- no message is a front of another
+-- no message is a prefix of another
 pub message_once : (kind : Kind) (a b : Message) (p q : List ℕ) → IsMessage kind a → IsMessage kind b → print_message a ++ p ≡ print_message b ++ q → (a ≡ b) × (p ≡ q)
 message_once kind a b p q x y e =
     let heads = heads_once kind a.head b.head (a.body ++ p) (b.body ++ q) (length a.body) (length b.body) x y
@@ -140,7 +140,7 @@ refused_none kind bytes e r m more h split =
     refused_head_none kind m.head r.front r.more (m.body ++ more) (length m.body) e h r.refused
     (sym r.split ∙ split ∙ regroup m.head m.body more)
 
--- where one front has no framed head and is as long as a head may be, another that is refused is the same one
+-- a prefix without a framed head that is as long as a head may be is the only refused one
 limit_front : (kind : Kind) (a b p q : List ℕ) (d e : HeadError) → HasNoFrame a → length a ≡ head_limit → d ≡ HeadTooLarge → IsRefused kind b e → a ++ p ≡ b ++ q
     → (a ≡ b) × (p ≡ q) × (d ≡ e)
 limit_front kind a b p q d e none len is (inl (lines, framed, short, tells)) same =
@@ -149,7 +149,7 @@ limit_front kind a b p q d e none len is (inl (lines, framed, short, tells)) sam
 limit_front kind a b p q d e none len is (inr (too, also, other)) same =
     let one = same_fronts a b p q (len ∙ sym also) same in (one.0, one.1, is ∙ sym too)
 
--- the refused front is one
+-- the refused prefix is one
 pub refused_once : (kind : Kind) (a b p q : List ℕ) (d e : HeadError) → IsRefused kind a d → IsRefused kind b e → a ++ p ≡ b ++ q → (a ≡ b) × (p ≡ q) × (d ≡ e)
 refused_once kind a b p q d e (inl (m, x, short, tells)) (inl (n, y, also, told)) same =
     let one = framed_once a b p q m n x y same in
@@ -176,7 +176,7 @@ refusals_are_one kind bytes more d e x y =
 
 -- ---- what is gathered
 
--- a message that is not whole is no message, and nothing of it is refused
+-- an incomplete message is not a message, and nothing of it is refused
 scanned_none : (kind : Kind) (m : Message) (scan : Scan) → Stands kind m (Frame scan) → HasNoMessage kind (print_message m)
 scanned_none kind m scan (goes, short, none) n more h split =
     no_frame m.head scan goes n.head (n.body ++ more) h.lines (sym (ap (λ b. m.head ++ b) none ∙ append-nil m.head) ∙ split ∙ regroup n.head n.body more) h.framed
@@ -221,7 +221,7 @@ some_bytes : (piece : List ℕ) → piece ≢ [] → 0 < length piece
 some_bytes [] some = absurd (some refl)
 some_bytes (b ∷ bs) some = omega arith
 
--- a piece that has bytes brings the message on
+-- every nonempty piece moves the message on
 pub moves : (old new : Gathered) (piece : List ℕ) (n : ℕ) → new.kind ≡ old.kind → IsAt old → is_whole old.phase ≡ false → TakesSome old piece new n → piece ≢ []
     → 0 < n
 moves old new piece zero kind at part h some =
@@ -232,7 +232,7 @@ moves old new piece (suc n) kind at part h some = omega arith
 
 -- ---- lists of messages
 
--- the messages of a front are the first messages of all bytes
+-- the messages of a prefix are the first messages of all bytes
 pub goes_further : (kind : Kind) (ms ns : List Message) (rest tail : List ℕ) → All (IsMessage kind) ms → All (IsMessage kind) ns
     → flat_map print_message ms ++ rest ≡ flat_map print_message ns ++ tail → HasNoMessage kind tail
     → (others : List Message) × (ns ≡ ms ++ others) × (rest ≡ flat_map print_message others ++ tail) × All (IsMessage kind) others
@@ -262,7 +262,7 @@ splits_once kind bytes ms ns rest tail x y =
 
 -- ---- lengths
 
--- refused bytes are no more than a head may have
+-- refused bytes are at most as many as a head may have
 pub refused_short : (kind : Kind) (bytes : List ℕ) (e : HeadError) → IsRefused kind bytes e → length bytes ≤ head_limit
 refused_short kind bytes e (inl (lines, framed, short, tells)) = short
 refused_short kind bytes e (inr (is, len, none)) = omega arith

@@ -1,4 +1,4 @@
--- A scan over bytes: in stages, and where it ends.
+-- A scan over bytes, in stages, and its end.
 use Rattle.std.proofs.Common.{◌≡◌, ℕ, suc, ◌+◌, ◌≤◌, List, [], ◌∷◌, ◌++◌, length, Option, Some, None, option_and_then, Bool, true, false, if◌then◌else◌, ◌==◌, refl, ap, ◌∙◌, arith}
 use Rattle.std.proofs.lemmas.Option.{option_and_then_some}
 use Rattle.http_heads.specs.declared.scanning.Begun.{Begun}
@@ -6,7 +6,7 @@ use Rattle.http_heads.specs.declared.scanning.Begun.TheVariants.{Nothing, Return
 use Rattle.http_heads.specs.declared.scanning.Scan.{Scan}
 use Rattle.http_heads.specs.Scanning.{begun_with, at_line_end, after_byte, after}
 
--- a scan over one part goes on over the next
+-- a scan over two parts is the scan over the second after the first
 pub after_both : (s t : Scan) (a b : List ℕ) → after s a ≡ Some t → after s (a ++ b) ≡ after t b
 after_both s t [] b e = ap (λ u. after u b) (let same : s ≡ t = cc in same)
 after_both s t (x ∷ xs) b e =
@@ -21,7 +21,7 @@ after_more s t bytes b e = after_both s t bytes (b ∷ []) e ∙ kept (after_byt
     kept None = refl
     kept (Some u) = refl
 
--- a scan that has ended does not go on
+-- a scan that has ended does not continue
 pub after_ended : (s t : Scan) (front : List ℕ) (b : ℕ) (rest : List ℕ) → after s front ≡ Some t → after_byte t b ≡ None
     → after s (front ++ b ∷ rest) ≡ None
 after_ended s t front b rest e h = after_both s t front (b ∷ rest) e ∙ ap (option_and_then (λ u. after u rest)) h
@@ -41,7 +41,7 @@ byte_full s t b e = by_end (b == 10) e
     by_end true h = line_end_full s.begun s.full t h
     by_end false h = grind arith
 
--- there are no more full lines than bytes
+-- there are at most as many full lines as bytes
 pub full_within : (s t : Scan) (bytes : List ℕ) → after s bytes ≡ Some t → t.full ≤ s.full + length bytes
 full_within s t [] e = let same : s ≡ t = cc in grind arith
 full_within s t (b ∷ bs) e =

@@ -1,4 +1,4 @@
--- What a gatherer keeps after a further piece, over plain variables.
+-- What a gatherer buffers after a further piece, over plain variables.
 use Rattle.std.proofs.Common.{◌≡◌, ℕ, ◌+◌, ◌-◌, ◌<◌, ◌≤◌, min, List, [], ◌∷◌, ◌++◌, length, take, drop, get_or, true, nat_lt, Some, None, Result, Ok, Err, IfOk, refl, sym, ap, ap₂, ◌∙◌, subst, inl, inr, arith, append_assoc, append-nil, length-append, take-add}
 use Rattle.std.proofs.lemmas.Bool.{cases_Bool, cond-true, cond-false, ltb-true, ltb-false}
 use Rattle.std.proofs.lemmas.List.{take_more, take_all, take-take, take-append-drop, length-take-le, length-take, length-drop}
@@ -20,7 +20,7 @@ use Rattle.http_heads.proofs.Scans.{after_both}
 pub at_phase : (g : Gathered) (phase : Phase) → IsAt g → g.phase ≡ phase → Stands g.kind g.message phase
 at_phase g phase h e = subst (λ (p : Phase). Stands g.kind g.message p) e h
 
--- the phase behind a part of the body stands for what is kept then
+-- the phase after a part of the body says what is then buffered
 pub stands_behind : (kind : Kind) (m : Message) (told : ℕ) → HasHead kind m.head told → length m.body ≤ told → Stands kind m (phase_behind told (length m.body))
 stands_behind kind m told h few = elim (cases_Bool (nat_lt (length m.body) told)) [
   | inl short ↦
@@ -91,7 +91,7 @@ ended head piece sought room n scan last goes is some within front end =
     length_take : (k : ℕ) (xs : List ℕ) → length (take k xs) ≤ k
     length_take k xs = omega (arith, length-take k xs)
 
--- the bytes behind those that were looked at stand behind the refused ones, and else there are none
+-- the bytes after the scanned ones follow the refused ones
 pub went_on : (old : Gathered) (piece sought : List ℕ) (room : ℕ) (new : Gathered) (result : Result ℕ HeadError) → sought ≡ take room piece
     → room ≡ min (head_limit - length old.message.head) (length piece) → length old.message.head < head_limit → old.message.body ≡ []
     → IfOk result (λ n. (n ≡ length sought) × (length (kept new) < head_limit)) → Takes old sought new result → Takes old piece new result
@@ -122,7 +122,7 @@ went_on old piece sought room new (Err e) is room_is short none all h =
       refused = stopped.refused;
     }
 
--- a framed head that is refused, and the rest of the piece behind it
+-- a framed head that is refused, and the rest of the piece after it
 pub refused_head : (old new : Gathered) (piece : List ℕ) (n lines : ℕ) (e : HeadError) → n ≤ length piece → old.message.body ≡ []
     → IsFramed (old.message.head ++ take n piece) lines → length (old.message.head ++ take n piece) ≤ head_limit
     → new.message.head ≡ old.message.head ++ take n piece → new.message.body ≡ old.message.body → Tells old.kind new.message.head lines (Err e)

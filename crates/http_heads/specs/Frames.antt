@@ -1,5 +1,5 @@
--- Where a head ends, whatever it says. A line is bytes ended by a line feed, and a carriage return just before
--- that is no part of it. A framed head is empty lines, then lines that are not empty, and one empty line.
+-- Where a head ends, whatever it says. A line is bytes ended by a line feed; a carriage return just before it is not
+-- part of the line. A framed head is empty lines, then lines that are not empty, and one empty line.
 use Rattle.std.specs.Prelude.{◌≡◌, ◌≢◌, ℕ, List, [], ◌∷◌, ◌++◌, length, Bool, true, false, not, ◌&&◌, ◌==◌}
 use Rattle.std.specs.List.{flat_map, list_all}
 
@@ -11,7 +11,7 @@ abbrev pub has_no_byte : List ℕ → Bool
 has_no_byte [] = true
 has_no_byte (b ∷ bs) = false
 
--- nothing, or a carriage return alone
+-- nothing, or only a carriage return
 abbrev pub is_empty_line : List ℕ → Bool
 is_empty_line [] = true
 is_empty_line (b ∷ bs) = (b == 13) && has_no_byte bs
@@ -40,7 +40,7 @@ pub record IsFrame (f : Frame) : Type 0 where
   pub some : f.full ≢ []
   pub last : is_empty_line f.last ≡ true
 
--- the bytes are a framed head with so many lines that are not empty
+-- the bytes are a framed head with `lines` lines that are not empty
 abbrev pub IsFramed : List ℕ → ℕ → Type 0
 IsFramed bytes lines = (f : Frame) × IsFrame f × (bytes ≡ print_frame f) × (lines ≡ length f.full)
 

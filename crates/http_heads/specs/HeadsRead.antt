@@ -1,4 +1,4 @@
--- A head that was read, by where its parts are and by what it says.
+-- A head as the program reads it: where its parts are, and its contents.
 use Rattle.std.specs.Prelude.{◌≡◌, ℕ, List, Ok, Some}
 use Rattle.httparse.specs.Grammar.{RequestHead, ResponseHead, status_code}
 use Rattle.httparse.specs.Spans.{IsRequestAt, IsRequestWithin, IsResponseAt, IsResponseWithin}
@@ -10,7 +10,7 @@ use Rattle.http_heads.specs.Heads.{IsHead, IsReplyHead, reply_tells}
 use Rattle.http_heads.specs.declared.heads.Head.{Head}
 use Rattle.http_heads.specs.declared.replies.ReplyHead.{ReplyHead}
 
--- the spans are those of the head that the bytes are
+-- the spans are those of the head in the bytes
 pub record Reads (bytes : List ℕ) (room : List HeaderSpan) (spans : RequestSpans) : Type 0 where
   pub within : IsRequestWithin bytes room spans
   pub head : RequestHead
@@ -23,7 +23,7 @@ pub record ReadsReply (bytes : List ℕ) (room : List HeaderSpan) (spans : Respo
   pub is : IsReplyHead bytes head
   pub at : IsResponseAt bytes room spans head
 
--- what the head says is told
+-- the fields of `head` are those of the head `h`
 pub record TellsHead (bytes : List ℕ) (h : RequestHead) (head : Head) : Type 0 where
   pub is : IsHead bytes h
   pub method : head.method.now ≡ h.method

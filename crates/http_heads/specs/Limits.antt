@@ -1,11 +1,11 @@
--- How much of a message is read.
+-- Limits of a message.
 use Rattle.std.specs.Prelude.{ℕ}
 
--- a head: 16 KiB
+-- the bytes of a head: 16 KiB
 abbrev pub head_limit : ℕ
 head_limit = 16384
 
--- the lines of a request's head that are not empty: the request line and one for each field
+-- the nonempty lines of a request's head: the request line and one for each field
 abbrev pub line_limit : ℕ
 line_limit = 65
 
@@ -16,7 +16,7 @@ field_limit = 64
 abbrev pub body_limit : ℕ
 body_limit = 4194304
 
--- the body of a reply: the longest top tag, 1 GiB of payload behind its head of eight bytes
+-- the body of a reply: the longest top tag, with 1 GiB of payload after its head of eight bytes
 abbrev pub reply_limit : ℕ
 reply_limit = 1073741832
 

@@ -1,4 +1,4 @@
-//! Bytes that came.
+//! A growing buffer of bytes.
 
 ghost use Rattle.std.specs.Prelude.{◌≡◌, [], ◌++◌, length, OnOk, OnErr};
 
@@ -6,7 +6,7 @@ use std::alloc::{AllocError, Global};
 use std::marker::Model;
 use std::mem;
 
-/// Bytes that grow as they come, never by a length that was only announced.
+/// Bytes that came. The buffer never grows by a length that was only announced.
 #[derive(Debug, Drop)]
 pub struct Buffer {
     bytes: Vec<u8>,
@@ -47,7 +47,7 @@ impl Buffer {
         self.bytes.clear();
     }
 
-    /// Adds the piece. An `Err` changes nothing.
+    /// Appends `piece`. After an `Err` nothing has changed.
     pub fn extend(&mut self, piece: &[u8]) -> Result<(), AllocError>
         ensures ok { OnOk result (self.new ≡ self.old ++ piece.now) }
         ensures err { OnErr result (self.new ≡ self.old) }
@@ -55,7 +55,7 @@ impl Buffer {
         self.bytes.extend_from_slice(piece)
     }
 
-    /// Hands the bytes out, without memory, and is then empty.
+    /// Returns the bytes and leaves the buffer empty. Does not allocate.
     pub fn take_out(&mut self) -> Vec<u8>
         ensures out { result.items ≡ self.old }
         ensures emptied { self.new ≡ [] }

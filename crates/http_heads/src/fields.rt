@@ -11,7 +11,8 @@ use crate::limits::{BODY_BYTES, DIGITS, REPLY_BYTES};
 use crate::refusal::HeadError;
 use httparse::spans::HeaderSpan;
 
-/// The length of a request's body.
+/// Returns the length of a request's body.
+/// Returns `Length` if the fields do not determine it, and `BodyTooLarge` if it is past the limit.
 pub fn read_body_length(bytes: &[u8], spans: &[HeaderSpan]) -> Result<usize, HeadError>
     requires { All (IsHeaderWithin (length bytes.now)) spans.now }
     ensures { result ≡ body_length (map (header_bytes bytes.now) spans.now) }
@@ -26,7 +27,7 @@ pub fn read_body_length(bytes: &[u8], spans: &[HeaderSpan]) -> Result<usize, Hea
     }
 }
 
-/// The length of a reply's body.
+/// Returns the length of a reply's body, or `None` if the fields do not determine it or it is past the limit.
 pub fn read_reply_length(status: u16, bytes: &[u8], spans: &[HeaderSpan]) -> Option<usize>
     requires { All (IsHeaderWithin (length bytes.now)) spans.now }
     ensures { result ≡ reply_length status (map (header_bytes bytes.now) spans.now) }
@@ -40,14 +41,14 @@ pub fn read_reply_length(status: u16, bytes: &[u8], spans: &[HeaderSpan]) -> Opt
     }
 }
 
-// A reply without content needs no length.
+// Returns the length of a body without a length field: a reply without content needs none.
 fn untold_length(status: u16) -> Option<u128>
     ensures { result ≡ untold_length status }
 {
     if status == 204 { Some(0) } else { None }
 }
 
-/// Whether the connection is to end after the reply.
+/// Returns whether the connection closes after the reply (RFC 9112, section 9).
 pub fn is_last(version: u8, bytes: &[u8], spans: &[HeaderSpan]) -> bool
     requires { All (IsHeaderWithin (length bytes.now)) spans.now }
     ensures { result ≡ asks_to_close version (map (header_bytes bytes.now) spans.now) }
@@ -76,7 +77,7 @@ fn has_field(bytes: &[u8], spans: &[HeaderSpan], name: &[u8]) -> bool
     next_named(bytes, spans, name).is_some()
 }
 
-// The length that at most one field tells.
+// Returns the length in the one `Content-Length` field, or `absent` without such a field.
 fn read_told_length(bytes: &[u8], spans: &[HeaderSpan], absent: Option<u128>) -> Option<u128>
     requires { All (IsHeaderWithin (length bytes.now)) spans.now }
     ensures { result ≡ told_length absent (values (codes "content-length") (map (header_bytes bytes.now) spans.now)) }
@@ -90,7 +91,7 @@ fn read_told_length(bytes: &[u8], spans: &[HeaderSpan], absent: Option<u128>) ->
     read_number(value)
 }
 
-// The value of the first field of a name, and the fields behind it.
+// Returns the value of the first field called `name`, and the fields after it.
 fn next_named<'b>(
     bytes: &'b [u8],
     spans: &'b [HeaderSpan],
@@ -118,7 +119,7 @@ fn is_same_name(a: &[u8], b: &[u8]) -> bool
     a.eq_ignore_ascii_case(b)
 }
 
-// Whether a part between commas is the token `close`.
+// Returns whether one of the parts between commas is the token `close`.
 fn has_close(value: &[u8]) -> bool
     ensures { result ≡ has_close value.now }
 {
@@ -164,7 +165,7 @@ fn is_blank(byte: u8) -> bool
     byte == b' ' || byte == b'\t'
 }
 
-// The number that 1 to 20 digits write. Twenty go past 64 bits, and stay far below 128.
+// Returns the number that 1 to 20 digits write. Twenty may exceed 64 bits, but never 128.
 #[tactic(auto, unfolding(crate::specs::Fields::number_of))]
 fn read_number(text: &[u8]) -> Option<u128>
     ensures { result ≡ number_of text.now }

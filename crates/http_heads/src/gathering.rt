@@ -1,4 +1,4 @@
-//! Messages gathered from bytes that come in pieces.
+//! Messages gathered from bytes.
 
 ghost use Rattle.std.specs.Prelude.{◌≡◌, ◌≤◌, ◌<◌, ◌+◌, ◌⊎◌, [], ◌++◌, length, take, false, true, Some, None, Ok, Err, IfOk, IfErr, IfSome, IsNone, ◌↔◌, MatchOption, MatchResult};
 ghost use Rattle.http_heads.specs.Frames.{IsFramed};
@@ -18,17 +18,17 @@ use crate::scanning::Scan;
 use std::alloc::Global;
 use std::marker::Model;
 
-/// How far a message has come.
+/// How much of a message has come.
 #[derive(Clone, Copy, Debug, PartialEq, Eq)]
 pub enum Phase {
-    /// The end of its head is looked for.
+    /// A part of its head; `scan` searches for the end.
     Frame { scan: Scan },
-    /// Its head has come, and tells the length of its body.
+    /// Its head, which states that the body has `told` bytes, and a part of the body.
     Body { told: usize },
     Whole,
 }
 
-/// Gathers messages of one kind, one after the other. Each byte of a head is looked at once for its end.
+/// Gathers messages of one kind, one after another. Each byte of a head is scanned once for the head's end.
 #[derive(Debug, Drop)]
 pub struct Gatherer {
     kind: Kind,
@@ -46,7 +46,7 @@ impl Model for Gatherer {
 }
 
 impl Gatherer {
-    /// A gatherer to which nothing came.
+    /// Returns a gatherer without bytes.
     pub fn new(alloc: Global, kind: Kind) -> Gatherer
         ensures kind { result.kind ≡ kind }
         ensures idle { IsIdle result }
@@ -59,8 +59,9 @@ impl Gatherer {
         }
     }
 
-    /// Takes bytes up to the end of the message, or all, and answers how many. After an error nothing but what is
-    /// kept means anything.
+    /// Takes bytes of `piece` up to the end of the message, or all of them, and returns how many. After an error
+    /// only the buffered bytes are specified: `refused_len` counts them, and `clear` discards them.
+    /// Returns an error if no message can begin with the bytes so far, and `Memory` if allocation fails.
     pub fn take(&mut self, piece: &[u8]) -> Result<usize, HeadError>
         requires at { IsAt self.old }
         requires open { is_whole self.old.phase ≡ false }
@@ -74,7 +75,7 @@ impl Gatherer {
         }
     }
 
-    /// The head and the body of the message, once it is whole.
+    /// Returns the head and the body of the message if it is complete.
     pub fn message(&self) -> Option<(&[u8], &[u8])>
         ensures none { IsNone result ↔ (is_whole self.now.phase ≡ false) }
         ensures parts { IfSome result (λ m. (m.0.now ≡ self.now.message.head) × (m.1.now ≡ self.now.message.body)) }
@@ -85,7 +86,7 @@ impl Gatherer {
         }
     }
 
-    /// How many bytes are kept.
+    /// Returns how many bytes are buffered.
     pub fn len(&self) -> usize
         requires { IsAt self.now }
         ensures len { result ≡ length (kept self.now) }
@@ -94,7 +95,7 @@ impl Gatherer {
         self.head.len() + self.body.len()
     }
 
-    /// How many bytes are kept when an error came: those up to the byte that shows it.
+    /// Returns how many bytes are buffered after an error: those up to the one that shows it.
     pub fn refused_len(&self) -> usize
         requires { length (kept self.now) ≤ head_limit }
         ensures { result ≡ length (kept self.now) }
@@ -102,7 +103,7 @@ impl Gatherer {
         self.head.len() + self.body.len()
     }
 
-    /// Forgets what is kept.
+    /// Discards all buffered bytes.
     pub fn clear(&mut self)
         ensures kind { self.new.kind ≡ self.old.kind }
         ensures idle { IsIdle self.new }
@@ -112,7 +113,7 @@ impl Gatherer {
         self.phase = Phase::Frame { scan: Scan::new() };
     }
 
-    /// Hands the body out as it is, without memory, and forgets the rest.
+    /// Returns the body without copying it, and discards the rest. Does not allocate.
     pub fn body(&mut self) -> Vec<u8>
         ensures body { result.items ≡ self.old.message.body }
         ensures kind { self.new.kind ≡ self.old.kind }
@@ -123,7 +124,7 @@ impl Gatherer {
         body
     }
 
-    // Bytes of the head, up to its end, and of the body behind it.
+    // Takes bytes of the head up to its end, and then bytes of the body.
     fn take_head(&mut self, scan: Scan, piece: &[u8]) -> Result<usize, HeadError>
         requires at { IsAt self.old }
         requires phase { self.old.phase ≡ Phase.Frame scan }
@@ -139,7 +140,7 @@ impl Gatherer {
         }
     }
 
-    // Bytes with which the head does not end.
+    // Takes bytes within which the head does not end.
     fn go_on(&mut self, scan: Scan, sought: &[u8]) -> Result<usize, HeadError>
         requires room { length self.old.message.head + length sought.now ≤ head_limit }
         requires goes { after start (self.old.message.head ++ sought.now) ≡ Some scan }
@@ -156,7 +157,7 @@ impl Gatherer {
         Ok(sought.len())
     }
 
-    // The head ends with the first n bytes.
+    // Takes the first `n` bytes, which end the head, and then bytes of the body.
     fn end_head(&mut self, lines: u64, n: usize, piece: &[u8]) -> Result<usize, HeadError>
         requires within { n ≤ length piece.now }
         requires framed { IsFramed (self.old.message.head ++ take n piece.now) lines }
@@ -171,7 +172,7 @@ impl Gatherer {
         Ok(n + self.take_body(told, rest)?)
     }
 
-    // Bytes of the body, up to its end.
+    // Takes bytes of the body, up to its end.
     fn take_body(&mut self, told: usize, piece: &[u8]) -> Result<usize, HeadError>
         requires head { HasHead self.old.kind self.old.message.head told }
         requires within { length self.old.message.body ≤ told }
@@ -196,7 +197,7 @@ fn phase_behind(told: usize, len: usize) -> Phase
     }
 }
 
-// What a framed head with so many full lines tells.
+// Returns the length of the body after a framed head with `lines` full lines.
 fn told_by(kind: Kind, framed: &[u8], lines: u64) -> Result<usize, HeadError>
     ensures { Tells kind framed.now lines result }
 {

@@ -14,18 +14,19 @@ use crate::refusal::HeadError;
 use httparse::Status;
 use httparse::spans::{EMPTY_HEADER_SPAN, HeaderSpan, RequestSpans, parse_request};
 
-/// What a request's head says.
+/// The contents of a request's head.
 #[derive(Debug, Drop)]
 pub struct Head<'b> {
     pub method: &'b [u8],
     pub target: &'b [u8],
-    /// Whether the connection is to end after the reply.
+    /// Whether the connection closes after the reply.
     pub close: bool,
     /// The length of the body.
     pub len: usize,
 }
 
-/// Reads bytes that are a request's head, as a whole.
+/// Reads `bytes`, all of them, as a request's head.
+/// Returns `Head` if they are not one, and `Length` or `BodyTooLarge` for the length of its body.
 pub fn read_head(bytes: &[u8]) -> Result<Head<'_>, HeadError>
     ensures { MatchResult result (λ head. (h : RequestHead) × TellsHead bytes.now h head) (λ e. RefusesRead bytes.now e) }
 {

@@ -1,6 +1,6 @@
-//! Which messages are read.
+//! The kinds of messages.
 
-/// A request is read by a server, a reply by a client.
+/// A server reads requests, a client replies.
 #[derive(Clone, Copy, Debug, PartialEq, Eq)]
 pub enum Kind {
     Request,

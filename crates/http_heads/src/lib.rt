@@ -1,5 +1,5 @@
-//! The heads of HTTP/1.x messages (RFC 9112), and the messages that bytes are: requests and replies are gathered
-//! from bytes as they come, however they are cut, and refused exactly where no message begins so.
+//! Heads of HTTP/1.x messages (RFC 9112), and the messages in bytes. Requests and replies are gathered from bytes as
+//! they come, however they are split, and are refused exactly if no message can begin so.
 #![tactic(auto)]
 
 mod buffer;

@@ -5,13 +5,14 @@ ghost use Rattle.std.specs.Prelude.{◌≡◌};
 use std::alloc::{AllocError, AllocFailed};
 use thiserror::Error;
 
-/// Why bytes are refused, which no further bytes can mend.
+/// Why no message can begin with bytes, whatever follows; or `Memory`.
 #[derive(Debug, Drop, PartialEq, Eq, Error)]
 pub enum HeadError {
-    /// No head that is read.
+    /// The bytes are not a head of the grammar, with at most 64 fields; or, of a reply, the body's length is not
+    /// determined.
     #[error("no head")]
     Head,
-    /// The length of the body is not told as it must be.
+    /// The fields do not determine the length of the body.
     #[error("length")]
     Length,
     #[error("body too large")]
@@ -23,7 +24,7 @@ pub enum HeadError {
 }
 
 impl HeadError {
-    /// The same error.
+    /// Returns an equal error.
     pub fn copy(&self) -> HeadError
         ensures { result ≡ self.now }
     {

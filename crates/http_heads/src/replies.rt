@@ -10,7 +10,7 @@ use crate::limits::FIELDS;
 use httparse::Status;
 use httparse::spans::{EMPTY_HEADER_SPAN, HeaderSpan, ResponseSpans, parse_response};
 
-/// What a reply's head says.
+/// The contents of a reply's head.
 #[derive(Debug, Drop)]
 pub struct ReplyHead {
     pub status: u16,
@@ -18,7 +18,8 @@ pub struct ReplyHead {
     pub len: usize,
 }
 
-/// Reads bytes that are a reply's head, as a whole.
+/// Reads `bytes`, all of them, as a reply's head. Returns `None` if they are not one, or its body has no valid
+/// length.
 pub fn read_reply_head(bytes: &[u8]) -> Option<ReplyHead>
     ensures { MatchOption result (RefusesReply bytes.now) (λ head. (h : ResponseHead) × TellsReplyHead bytes.now h head) }
 {

@@ -3,17 +3,17 @@
 ghost use Rattle.std.specs.Prelude.{◌≡◌, ◌≢◌, ◌<◌, ◌≤◌, ◌+◌, ◌-◌, ◌^◌, length, take, slice_index, Some, None, IfSome, IfNone};
 ghost use Rattle.http_heads.specs.Scanning.{start, begun_with, at_line_end, after_byte, after};
 
-/// What the line that has not ended yet has.
+/// What the current line has so far.
 #[derive(Clone, Copy, Debug, PartialEq, Eq)]
 pub enum Begun {
     Nothing,
-    /// A carriage return alone.
+    /// Only a carriage return.
     Return,
     /// More, so that the line is not empty.
     Text,
 }
 
-/// How many full lines came, and what the next line has begun with.
+/// The number of complete nonempty lines, and the start of the next line.
 #[derive(Clone, Copy, Debug, PartialEq, Eq)]
 pub struct Scan {
     pub full: u64,
@@ -21,7 +21,7 @@ pub struct Scan {
 }
 
 impl Scan {
-    /// Before the first byte.
+    /// Returns the state before the first byte.
     pub fn new() -> Scan
         ensures { result ≡ start }
     {
@@ -31,7 +31,7 @@ impl Scan {
         }
     }
 
-    /// Looks for the end of the head, and answers how many bytes of the piece stand up to it.
+    /// Scans for the end of the head. Returns the number of bytes of `piece` up to and with it, or `None`.
     pub fn find_end(&mut self, piece: &[u8]) -> Option<usize>
         requires { self.old.full + length piece.now < 2 ^ 64 }
         ensures none { IfNone result (after self.old piece.now ≡ Some self.new) }
@@ -48,7 +48,7 @@ impl Scan {
         None
     }
 
-    // The scan behind a further byte, unless that ends the head.
+    // Returns the state after `byte`, or `None` if the head ends with it.
     fn behind(self, byte: u8) -> Option<Scan>
         requires { self.full + 1 < 2 ^ 64 }
         ensures { result ≡ after_byte self byte }
@@ -75,7 +75,7 @@ impl Scan {
         }
     }
 
-    // Behind an empty line.
+    // Returns the state after an empty line.
     fn unless_last(self) -> Option<Scan>
         requires { self.begun ≢ Begun.Text }
         ensures { result ≡ at_line_end self.begun self.full }

@@ -1,4 +1,4 @@
-//! `http_client`: bytes with the replies that they are known to be.
+//! `http_client`: bytes and the replies that they are known to be.
 
 ghost use Rattle.std.specs.Prelude.{◌≡◌, ◌≤◌, ◌<◌, ◌+◌, ◌^◌, length, None, true, IfOk};
 
@@ -7,7 +7,7 @@ use std::alloc::{AllocError, Global};
 use std::process::Abort;
 use std::test::Fail;
 
-/// Feeds a piece whole, and tells the replies that come and the error that ends it.
+/// Feeds all of `piece`, and appends the replies and a final error to the text.
 fn feed(
     alloc: Global,
     reader: &mut ReplyReader,
@@ -38,7 +38,7 @@ fn feed(
     Ok(true)
 }
 
-/// The statuses and the lengths of the bodies of replies that come in two pieces.
+/// Returns the statuses and the lengths of the bodies of replies in two chunks, split at `at`.
 fn read(alloc: Global, bytes: &[u8], at: usize) -> Result<String, AllocError>
     requires within { at ≤ length bytes.now }
     requires few { length bytes.now < 2 ^ 32 }
@@ -55,7 +55,7 @@ fn read(alloc: Global, bytes: &[u8], at: usize) -> Result<String, AllocError>
     Ok(told)
 }
 
-/// Compares what replies are, wherever they are cut.
+/// Compares the replies in bytes, split at every position.
 fn are_read(
     rt: &impl Abort,
     alloc: Global,
@@ -116,7 +116,7 @@ fn bad_replies_tell_their_place(rt: HostRuntime) -> Result<(), Fail> {
     are_read(&rt, rt.alloc(), &BAD_REPLIES)
 }
 
-/// A reply that waits, and nothing if none does.
+/// Returns the complete reply as text, empty if there is none.
 fn next(alloc: Global, reader: &mut ReplyReader) -> Result<String, AllocError> {
     match reader.next() {
         Some((status, body)) => {

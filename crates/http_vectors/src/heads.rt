@@ -1,4 +1,4 @@
-//! `http_heads`: bytes with the messages, or the refusals, that they are known to be.
+//! `http_heads`: bytes and the messages, or the refusals, that they are known to be.
 
 ghost use Rattle.std.specs.Prelude.{◌<◌};
 
@@ -7,7 +7,7 @@ use std::alloc::{AllocError, Global};
 use std::process::Abort;
 use std::test::Fail;
 
-/// The lengths of the head and the body of the message at the front of bytes that come in pieces of that size.
+/// Returns the lengths of the head and the body of the first message in bytes, which come in chunks of `size`.
 fn first_message(
     alloc: Global,
     kind: Kind,
@@ -34,7 +34,7 @@ fn shown(alloc: Global, kind: Kind, text: &str, size: usize) -> Result<String, A
     format!(in alloc; "{message:?}")
 }
 
-/// Sizes of pieces.
+/// Sizes of chunks.
 const SIZES: [usize; 5] = [1, 2, 3, 7, 1_000];
 
 fn come_as(
@@ -104,7 +104,7 @@ fn replies_come_whole(rt: HostRuntime) -> Result<(), Fail> {
     come_as(&rt, rt.alloc(), Kind::Reply, &REPLIES, &SIZES)
 }
 
-/// The method, the target and whether the connection ends, of bytes that are the head of a request.
+/// Returns the method, the target and whether the connection closes, of bytes that are the head of a request.
 fn head(alloc: Global, text: &str) -> Result<String, Fail> {
     let head = read_head(text.as_bytes())?;
     let method = String::from_utf8_lossy(alloc, head.method)?;

@@ -1,4 +1,4 @@
-//! Tests of HTTP's heads, requests, clients and replies. Nothing here is for other crates.
+//! Tests of HTTP's heads, requests, clients and replies. No crate uses this one.
 #![tactic(auto)]
 
 #[cfg(test)]

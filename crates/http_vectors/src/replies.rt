@@ -1,4 +1,4 @@
-//! `reply_bytes`: replies as they are on a connection, and sinks that fail.
+//! `reply_bytes`: the bytes of replies, and sinks that fail.
 
 ghost use Rattle.std.specs.Prelude.{IfOk};
 ghost use Rattle.listing_plan.specs.Plans.{IsWritable};
@@ -33,7 +33,8 @@ fn planned(alloc: Global, body: Body) -> Result<Plan, AllocError>
     }
 }
 
-/// A status, a form, a body, whether the connection ends, and the most bytes that a call takes, with what is written.
+/// A status, a form, a body, whether the connection closes, and the most bytes that the sink takes in a call, with
+/// what is written.
 type Reply = (u16, BodyForm, Body, bool, usize, &'static str);
 
 const REPLIES: [Reply; 4] = [

@@ -1,4 +1,4 @@
-//! `http_front`: requests with what they are known to ask.
+//! `http_front`: requests and what they are known to be parsed as.
 
 ghost use Rattle.std.specs.Prelude.{◌<◌};
 
@@ -7,7 +7,7 @@ use std::alloc::{AllocError, Global};
 use std::process::Abort;
 use std::test::Fail;
 
-/// Adds the ask that waits, if one does.
+/// Appends the complete request to the text, if there is one.
 fn tell_next(alloc: Global, reader: &mut HeadReader, told: &mut String) -> Result<(), AllocError> {
     if let Some(ask) = reader.next() {
         let last = if ask.close { "!" } else { "" };
@@ -17,7 +17,7 @@ fn tell_next(alloc: Global, reader: &mut HeadReader, told: &mut String) -> Resul
     Ok(())
 }
 
-// Without clauses, so that no other proof looks into what a reader has read.
+// Without clauses, so that no other proof depends on what a reader has read.
 fn step<'b>(
     alloc: Global,
     reader: &mut HeadReader,
@@ -36,7 +36,7 @@ fn step<'b>(
     }
 }
 
-/// Feeds a piece whole, and adds the asks that come and the error that ends it. Each step takes a byte at least.
+/// Feeds all of `piece`, and appends the requests and a final error. Each step takes at least one byte.
 fn feed(
     alloc: Global,
     reader: &mut HeadReader,
@@ -76,7 +76,7 @@ fn read_by(
     Ok(told)
 }
 
-/// What bytes that come in pieces of that size are told to ask, with two points where they end inside a request.
+/// Returns the requests in bytes that come in chunks of `size`; two dots mark bytes that end inside a request.
 fn read(alloc: Global, role: Role, bytes: &[u8], size: usize) -> Result<String, AllocError>
     requires { 0 < size }
 {
@@ -84,7 +84,7 @@ fn read(alloc: Global, role: Role, bytes: &[u8], size: usize) -> Result<String, 
     read_by(alloc, &mut reader, bytes, size)
 }
 
-/// Compares what requests ask.
+/// Compares the parsed requests.
 fn ask(
     rt: &impl Abort,
     alloc: Global,
@@ -98,7 +98,7 @@ fn ask(
     Ok(())
 }
 
-/// Compares what requests without fields ask, by their targets.
+/// Compares the parsed requests without fields, by their targets.
 fn get(rt: &impl Abort, alloc: Global, rows: &[(&'static str, &'static str)]) -> Result<(), Fail> {
     for (target, told) in rows {
         let request = format!(in alloc; "GET {target} HTTP/1.1\r\n\r\n")?;
@@ -302,7 +302,7 @@ fn heads_are_refused(rt: HostRuntime) -> Result<(), Fail> {
     ask(&rt, rt.alloc(), Role::Listen, &REFUSED_HEADS)
 }
 
-/// What a request asks that has a text between two others, so many times.
+/// Returns a text with `part` repeated `count` times between two others.
 fn filled(
     alloc: Global,
     front: &str,
@@ -318,13 +318,13 @@ fn filled(
     Ok(request)
 }
 
-/// A request with so many fields, and what it asks.
+/// Parses a request with `count` fields, and returns the result as text.
 fn with_fields(alloc: Global, count: usize) -> Result<String, AllocError> {
     let request = filled(alloc, "GET /login HTTP/1.1\r\n", "A:\r\n", count, "\r\n")?;
     read(alloc, Role::Listen, request.as_bytes(), 1_000)
 }
 
-/// The length of a request whose head has a field with so many bytes as value, behind 27 others, and what it asks.
+/// Returns the length of a request whose field has a value of `len` bytes, and the parsed request.
 fn with_value(alloc: Global, len: usize) -> Result<String, AllocError> {
     let request = filled(alloc, "GET /login HTTP/1.1\r\nA: ", "a", len, "\r\n\r\n")?;
     let told = read(alloc, Role::Listen, request.as_bytes(), 1_000)?;
@@ -365,7 +365,8 @@ fn pieces_make_no_difference(rt: HostRuntime) -> Result<(), Fail> {
     Ok(())
 }
 
-/// The answer to bytes, how many are held then, and whether the reader is between requests. Without clauses.
+/// Returns the result of `feed`, the number of buffered bytes, and whether the reader is between requests. Without
+/// clauses.
 fn fed(alloc: Global, reader: &mut HeadReader, bytes: &[u8]) -> Result<String, AllocError> {
     let answer = reader.feed(bytes);
     format!(in alloc; "{answer:?} {} {};", reader.held(), reader.between())
@@ -386,7 +387,7 @@ fn fed_parts(
     Ok(told)
 }
 
-/// Feeds a reader with parts, one after another. It is dropped in one place, since its proof costs by these.
+/// Feeds a reader with parts, one after another. It is dropped at one place, because each drop costs proof time.
 fn answers(alloc: Global, parts: &[&'static str]) -> Result<String, AllocError> {
     let mut reader = HeadReader::new(alloc, Role::Listen)?;
     fed_parts(alloc, &mut reader, parts)
@@ -403,7 +404,7 @@ fn a_refusal_comes_at_its_byte(rt: HostRuntime) -> Result<(), Fail> {
     Ok(())
 }
 
-/// A status, a form, the length of a body and whether the connection ends, with the head of that reply.
+/// A status, a form, the length of a body and whether the connection closes, with the head of that reply.
 type Reply = (u16, BodyForm, u64, bool, &'static str);
 
 const REPLIES: [Reply; 10] = [
@@ -508,7 +509,7 @@ fn is_failure(last: bool, text: &str) -> bool {
     failure_head(last) == text
 }
 
-/// Whether the head of a failure that ends a connection is the same, however it is made.
+/// Returns whether both functions write the same head of a failure that closes the connection.
 fn is_one_failure(alloc: Global) -> Result<bool, AllocError> {
     let head = reply_head(alloc, 500, BodyForm::NoBody, 0, true)?;
     Ok(head.as_slice() == failure_head(true).as_bytes())

@@ -1,4 +1,4 @@
-//! `http_client`: requests with their texts, and asks that are read back from them.
+//! `http_client`: requests with their texts, and requests that are read back from them.
 
 ghost use Rattle.std.specs.Prelude.{◌≡◌, IfSome};
 ghost use Rattle.records_import.specs.Written.{IsReadable};
@@ -19,7 +19,7 @@ fn shown(alloc: Global, ask: &Ask) -> Result<String, AllocError> {
     format!(in alloc; "{ask:?}")
 }
 
-/// The ask that waits, as it is shown, and nothing where none does.
+/// Returns the complete request as text, empty if there is none.
 fn next_shown(alloc: Global, reader: &mut HeadReader) -> Result<String, AllocError> {
     match reader.next() {
         Some(ask) => shown(alloc, &ask),
@@ -27,7 +27,7 @@ fn next_shown(alloc: Global, reader: &mut HeadReader) -> Result<String, AllocErr
     }
 }
 
-/// The ask that bytes are, as it is shown, and nothing where they are no request or more than one.
+/// Returns the request in bytes as text, empty if they are not exactly one.
 fn fed_shown(alloc: Global, reader: &mut HeadReader, bytes: &[u8]) -> Result<String, AllocError> {
     match reader.feed(bytes) {
         Ok(taken) if taken == bytes.len() => next_shown(alloc, reader),
@@ -49,7 +49,7 @@ fn reads_back(alloc: Global, ask: &Ask) -> Result<bool, AllocError>
     Ok(told.as_str() == asked.as_str())
 }
 
-/// Whether a request for this is read as its ask.
+/// Returns whether the text of a request with this operation reads as that request.
 fn sends(alloc: Global, role: Role, want: Want) -> Result<bool, AllocError>
     requires { CanSend want }
 {
@@ -61,7 +61,7 @@ fn sends(alloc: Global, role: Role, want: Want) -> Result<bool, AllocError>
     reads_back(alloc, &ask)
 }
 
-/// What is wanted without a query.
+/// An operation without a query.
 #[derive(Clone, Copy)]
 enum Asked {
     ServerInfo,
@@ -112,7 +112,7 @@ fn wants_without_queries_read_back(rt: HostRuntime) -> Result<(), Fail> {
     send_plain(&rt, rt.alloc(), &PLAIN_WANTS)
 }
 
-/// The query that a text is, if it is one.
+/// Returns the query in a text, if it is one.
 fn query_of(alloc: Global, text: &str) -> Option<Query>
     ensures { MayAsk result }
 {
@@ -122,7 +122,7 @@ fn query_of(alloc: Global, text: &str) -> Option<Query>
     }
 }
 
-/// Rows with a query, which is left out where its text is empty.
+/// Returns the operation that lists rows with a query, without one if its text is empty.
 fn rows(
     alloc: Global,
     query: &str,
@@ -158,7 +158,7 @@ fn sends_some(alloc: Global, want: Option<Want>) -> Result<bool, AllocError>
     }
 }
 
-/// Rows without a query: names, a target, a base and a range.
+/// A listing of rows without a query: names, a target, a base and a range.
 type RowsAsked = (&'static str, Target, u32, Range);
 
 /// The largest number.
@@ -201,7 +201,7 @@ fn looks_read_back(rt: HostRuntime) -> Result<(), Fail> {
     send_looks(&rt, rt.alloc(), &LOOKS)
 }
 
-/// A query whose value has all bytes that show, a space among them, and longer characters.
+/// Returns a query whose value has all visible ASCII characters, a space, and longer characters.
 fn query_of_all_bytes(alloc: Global) -> Result<String, AllocError> {
     let mut text = String::from_str(alloc, "'dmap.itemname:")?;
     for byte in 32..127 {
@@ -214,7 +214,7 @@ fn query_of_all_bytes(alloc: Global) -> Result<String, AllocError> {
     Ok(text)
 }
 
-/// Whether a query is one, and rows and values that it is asked with read back.
+/// Returns whether `text` is a query, and rows and values with it read back.
 fn sends_query(alloc: Global, text: &str, browse: Browse) -> Result<bool, AllocError> {
     let asked = rows(alloc, text, "", Target::Items, 0, Range::All);
     let query = query_of(alloc, text);
@@ -257,7 +257,7 @@ fn queries_read_back(rt: HostRuntime) -> Result<(), Fail> {
     Ok(())
 }
 
-/// So many names, of all properties in turn.
+/// Returns `count` names, of all properties in turn.
 fn names(alloc: Global, count: usize) -> Result<String, AllocError> {
     let mut text = String::new(alloc);
     for i in 0..count {
@@ -269,7 +269,7 @@ fn names(alloc: Global, count: usize) -> Result<String, AllocError> {
     Ok(text)
 }
 
-/// A query of 4,096 bytes, of which a form writes few as they are.
+/// Returns a query of 4,096 bytes, most of which a form has to escape.
 fn longest_query(alloc: Global) -> Result<String, AllocError> {
     let mut text = String::from_str(alloc, "'a:")?;
     for _ in 0..4_092 {
@@ -293,7 +293,7 @@ fn the_longest_request_reads_back(rt: HostRuntime) -> Result<(), Fail> {
     Ok(())
 }
 
-/// The batch that records are.
+/// Returns the batch in records.
 fn batch_of(alloc: Global, records: &[u8]) -> Option<Batch>
     ensures { IfSome result (λ batch. IsReadable batch) }
 {
@@ -310,7 +310,7 @@ fn edit(alloc: Global, records: &[u8]) -> Option<Want>
     Some(Want::Edit { body: Ok(batch) })
 }
 
-/// Records with a name of all bytes that show and longer characters, and of every other kind.
+/// Returns records with a name of all visible ASCII characters and longer ones, and of every other kind.
 fn records_of_all_kinds(alloc: Global) -> Result<String, AllocError> {
     let mut text = String::from_str(
         alloc,
@@ -348,7 +348,7 @@ fn written(alloc: Global, want: Want) -> Result<Bytes, AllocError>
     request(alloc, &ask, "h:1")
 }
 
-/// Whether these bytes are written for a want.
+/// Returns whether these bytes are written for an operation.
 fn writes(alloc: Global, want: Want, line: &str, behind: &str) -> Result<bool, AllocError>
     requires { CanSend want }
 {
@@ -407,7 +407,7 @@ fn requests_are_written_so(rt: HostRuntime) -> Result<(), Fail> {
     Ok(())
 }
 
-/// What is written for the batch that records are.
+/// Returns the records written for the batch in `records`.
 fn written_records(alloc: Global, records: &[u8]) -> Result<Bytes, AllocError> {
     match batch_of(alloc, records) {
         Some(batch) => write_batch(alloc, &batch),
@@ -415,7 +415,7 @@ fn written_records(alloc: Global, records: &[u8]) -> Result<Bytes, AllocError> {
     }
 }
 
-/// The length of a body, an empty line and the body.
+/// Returns the length of a body, an empty line and the body.
 fn with_length(alloc: Global, body: &[u8]) -> Result<String, AllocError> {
     let len = body.len();
     let text = String::from_utf8_lossy(alloc, body)?;
@@ -432,7 +432,7 @@ fn an_edit_tells_the_length_of_its_records(rt: HostRuntime) -> Result<(), Fail> 
     Ok(())
 }
 
-/// What the request of another client is read as.
+/// Parses the request of another client, and returns it as text.
 fn gets(alloc: Global, target: &str) -> Result<String, AllocError> {
     let text = format!(in alloc; "GET {target} HTTP/1.1\r\n\r\n")?;
     told(alloc, Role::Listen, text.as_bytes())
@@ -475,7 +475,7 @@ fn parameters_are_left_out_or_given_twice(rt: HostRuntime) -> Result<(), Fail> {
     get(&rt, rt.alloc(), &TARGETS)
 }
 
-/// What rows with so many names ask.
+/// Parses a listing of rows with `count` names, and returns it as text.
 fn gets_names(alloc: Global, count: usize) -> Result<String, AllocError> {
     let names = names(alloc, count)?;
     let target = format!(in alloc; "/databases/1/items?query=x&index=x&meta={names}")?;

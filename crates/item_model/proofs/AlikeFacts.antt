@@ -1,4 +1,4 @@
--- Two items show equal tags of some properties exactly where they have equal values of each.
+-- Two items have equal tags of some properties exactly if they have equal values of each.
 use Rattle.std.proofs.Common.{◌≡◌, ◌==◌, ◌&&◌, ◌+◌, ◌<◌, ℕ, Bool, true, false, List, [], ◌∷◌, length, get_or, drop, Option, Some, None, is_some, refl, sym, ap, subst, ◌∙◌, true≢false, eq-eqb}
 use Rattle.std.specs.List.{cons_option}
 use Rattle.std.specs.Option.{option_map}
@@ -71,7 +71,7 @@ text_no_number Version n bytes = refl
 text_no_number Members n bytes = refl
 text_no_number Opaque n bytes = refl
 
--- values of one kind are sent as equal leaves exactly where they are equal
+-- values have equal leaves of one kind exactly if they are equal
 values_alike : (kind : Kind) (v w : PropValue) → is_same_value (value_leaf kind v) (value_leaf kind w) ≡ is_equal_value v w
 values_alike kind (Number n) (Number m) = numbers_alike kind n m
 values_alike kind (Number n) (Words others) = number_no_text kind n others
@@ -85,7 +85,7 @@ tags_alike p v w =
 
 -- ---- codes
 
--- the code of a property names it
+-- a property is found by its code
 pub code_back : (p : Property) → property_coded (property_code p) ≡ Some p
 unfolding property_coded
 code_back Minm = refl
@@ -115,7 +115,7 @@ code_back Aemk = refl
 code_back Asda = refl
 code_back Asdm = refl
 
--- no two properties have one code
+-- no two properties have the same code
 pub one_coded : (p q : Property) → is_code (property_code p) (property_code q) ≡ true → p ≡ q
 one_coded p q h =
     let found : Some p ≡ Some q = sym (code_back p) ∙ ap property_coded (one_code (property_code p) (property_code q) h) ∙ code_back q in
@@ -131,7 +131,7 @@ other_code p q w item lacks has =
 code_swapped : (c d : Four) → is_code d c ≡ true → is_code c d ≡ true
 code_swapped c d h = subst (λ e. is_code c e ≡ true) (sym (one_code d c h)) (code_itself c)
 
--- ---- rows of tags
+-- ---- lists of tags
 
 module _ (p : Property) (a : Leaf) (rest : Trees) (item : List (Property × PropValue)) (lacks : value_of p item ≡ None) where
   abbrev its_tag : Tree
@@ -177,7 +177,7 @@ alike_cons : (old new : Entries) (p : Property) (ps : List Property)
     → are_same_tags (shown_trees old (p ∷ ps)) (shown_trees new (p ∷ ps)) ≡ (have_equal_value (value_of p old) (value_of p new) && are_same_tags (shown_trees old ps) (shown_trees new ps))
 alike_cons old new p ps = both_first old new p ps (value_of p old) (value_of p new) refl refl
 
--- the same at a place in the list
+-- the same at an index in the list
 pub alike_at : (old new : Entries) (ps : List Property) (i : ℕ) (d : Property) → i < length ps
     → are_same_tags (shown_trees old (drop i ps)) (shown_trees new (drop i ps))
     ≡ (have_equal_value (value_of (get_or ps i d) old) (value_of (get_or ps i d) new) && are_same_tags (shown_trees old (drop (i + 1) ps)) (shown_trees new (drop (i + 1) ps)))
@@ -186,7 +186,7 @@ alike_at old new ps i d h =
 
 -- ---- rows
 
--- the keys of a row are its id, whatever its key as a member
+-- apart from the key as a member, the keys of a row are its id
 pub rows_alike : (old new : Row) (member : Option ℕ) (ps : List Property)
     → is_same_tag (listed_row old member ps) (listed_row new member ps) ≡ ((old.id == new.id) && are_same_tags (shown_trees old.item ps) (shown_trees new.item ps))
 rows_alike old new None ps = ap (λ b. b && are_same_tags (shown_trees old.item ps) (shown_trees new.item ps)) (and-true (old.id == new.id))

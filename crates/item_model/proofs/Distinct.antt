@@ -1,4 +1,4 @@
--- First mentions stay as they are, and are no more than what was mentioned.
+-- First mentions are unchanged by taking first mentions, and are no more than the mentions.
 use Rattle.std.proofs.Common.{◌≡◌, ◌≤◌, ◌+◌, ℕ, Bool, true, false, not, List, [], ◌∷◌, length, cond, refl, ap, sym, subst, ◌∙◌, arith, Option, Some, None}
 use Rattle.std.specs.List.{filter, filter_map, cons_option}
 use Rattle.item_model.specs.declared.property.Property.{Property}
@@ -14,7 +14,7 @@ twice_step : (N : Property → Bool) (x : Property) (xs : List Property) (b : Bo
 twice_step N x xs true h ih = rw h (ap (λ ys. x ∷ ys) ih)
 twice_step N x xs false h ih = ih
 
--- a test passed twice is passed once
+-- a filter applied twice is the filter applied once
 twice : (N : Property → Bool) (xs : List Property) → filter N (filter N xs) ≡ filter N xs
 twice N [] = refl
 twice N (x ∷ xs) = twice_step N x xs (N x) refl (twice N xs)
@@ -25,7 +25,7 @@ order_step M N x xs true false h k ih = rw k ih
 order_step M N x xs false true h k ih = rw h ih
 order_step M N x xs false false h k ih = ih
 
--- two tests pass in either order
+-- two filters may be applied in either order
 order : (M N : Property → Bool) (xs : List Property) → filter M (filter N xs) ≡ filter N (filter M xs)
 order M N [] = refl
 order M N (x ∷ xs) = order_step M N x xs (M x) (N x) refl refl (order M N xs)
@@ -36,12 +36,12 @@ but_step q x rest firsts true h ih =
 but_step q x rest firsts false h ih =
     rw h (ap (λ ys. x ∷ ys) (ap (but x) ih ∙ order (λ r. not (is_same x r)) (λ r. not (is_same q r)) firsts))
 
--- the first mentions without a property are those of the rest
+-- the first mentions without a property are those of the others
 first_but : (q : Property) (xs : List Property) → first_mentions (but q xs) ≡ but q (first_mentions xs)
 first_but q [] = refl
 first_but q (x ∷ xs) = but_step q x (but q xs) (first_mentions xs) (is_same q x) refl (first_but q xs)
 
--- the first mentions of first mentions are all of them
+-- the first mentions of first mentions are the same
 pub first_again : (xs : List Property) → first_mentions (first_mentions xs) ≡ first_mentions xs
 first_again [] = refl
 first_again (q ∷ xs) =

@@ -10,17 +10,17 @@ use Rattle.item_model.proofs.Ranks.{at_rank, rank_below}
 use Rattle.item_model.proofs.Mentions.{first_last, mentions_first}
 use Rattle.item_model.proofs.Distinct.{first_again}
 
--- what properties weigh together
+-- the weight of properties together
 abbrev pub total : (Property → ℕ) → List Property → ℕ
 total w [] = 0
 total w (x ∷ xs) = w x + total w xs
 
--- what those weigh that pass a test
+-- the weight of those that pass a test
 abbrev passing : (Property → ℕ) → (Property → Bool) → List Property → ℕ
 passing w f [] = 0
 passing w f (x ∷ xs) = cond (f x) (w x + passing w f xs) (passing w f xs)
 
--- those that pass, but for one
+-- the test without one property
 abbrev but : (Property → Bool) → Property → Property → Bool
 but f x y = f y && not (is_same x y)
 
@@ -98,7 +98,7 @@ total_ones (x ∷ xs) = omega (arith, total_ones xs)
 pub first_few : (xs : List Property) → length (first_mentions xs) ≤ 26
 first_few xs = omega (arith, total_ones (first_mentions xs), first_weighed (λ _. 1) xs)
 
--- the properties by which nothing is named are each there once
+-- the lists for requests that name nothing have each property once
 pub all_once : first_mentions all_properties ≡ all_properties
 all_once = refl
 
@@ -109,25 +109,25 @@ default_once = refl
 pub mention_last : (ps : List Property) (p : Property) → first_mentions ps ++ new_mention (first_mentions ps) p ≡ first_mentions (ps ++ p ∷ [])
 mention_last ps p = ap (λ b. first_mentions ps ++ cond b [] (p ∷ [])) (mentions_first ps p) ∙ sym (first_last ps p)
 
--- and the mentions stay first ones
+-- and the mentions are still first ones
 pub mention_once : (ps : List Property) (p : Property) → first_mentions ps ≡ ps → first_mentions (ps ++ new_mention ps p) ≡ ps ++ new_mention ps p
 mention_once ps p h =
     let last : ps ++ new_mention ps p ≡ first_mentions (ps ++ p ∷ []) = subst (λ qs. qs ++ new_mention qs p ≡ first_mentions (ps ++ p ∷ [])) h (mention_last ps p) in
     ap first_mentions last ∙ first_again (ps ++ p ∷ []) ∙ sym last
 
--- a new property comes behind those that are kept, each once
+-- a new property comes after those so far, each once
 pub kept_once : (room : List Property) (n : ℕ) (p : Property) → n < length room → mentions (take n room) p ≡ false → first_mentions (take n room) ≡ take n room → first_mentions (take (n + 1) (slice_set room n p)) ≡ take (n + 1) (slice_set room n p)
 kept_once room n p lt new h =
     let e : take (n + 1) (slice_set room n p) ≡ take n room ++ p ∷ [] = take_more_set room n p lt in
     rw e (subst (λ b. first_mentions (take n room ++ cond b [] (p ∷ [])) ≡ take n room ++ cond b [] (p ∷ [])) new (mention_once (take n room) p h))
 
--- a new property that still fits has a place left
+-- a new property that still fits leaves an index for it
 pub place_left : (room : List Property) (n : ℕ) (p : Property) → length room ≡ 26 → n ≤ 26 → mentions (take n room) p ≡ false → length (take n room ++ new_mention (take n room) p) ≤ 26 → n < length room
 place_left room n p full few new h =
     let le : n ≤ length room = omega (arith, full, few) in
     let fits : length (take n room ++ p ∷ []) ≤ 26 = subst (λ b. length (take n room ++ cond b [] (p ∷ [])) ≤ 26) new h in
     omega (arith, full, fits, length-append (take n room) (p ∷ []), length-take-le n room le)
 
--- and there is room for it
+-- and there is capacity for it
 pub mention_room : (ps : List Property) (p : Property) → length (first_mentions ps ++ new_mention (first_mentions ps) p) ≤ 26
 mention_room ps p = rw (mention_last ps p) (first_few (ps ++ p ∷ []))

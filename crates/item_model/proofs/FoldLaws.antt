@@ -1,4 +1,4 @@
--- How folding meets the lowering of ASCII letters.
+-- Folding, and the lowering of ASCII letters.
 use Rattle.std.proofs.Common.{◌≡◌, ◌<◌, ◌≤◌, ◌++◌, ℕ, suc, List, [], ◌∷◌, length, length-append, append-nil, get_or, All, refl, sym, ap, ap₂, subst, ◌∙◌, inl, inr, IsUtf8, IsAscii, chars, encode_utf8, encode_utf8_all, arith}
 use Rattle.std.proofs.lemmas.List.{map-append}
 use Rattle.std.proofs.lemmas.Bool.{cases_lt}
@@ -28,7 +28,7 @@ filled : (c : ℕ) (xs : List ℕ) → 1 ≤ length (or_itself c xs)
 filled c [] = omega arith
 filled c (x ∷ xs) = omega arith
 
--- folding leaves no character out
+-- folding drops no character
 never_shorter : (cs : List ℕ) → length cs ≤ length (default_case_fold cs)
 never_shorter [] = omega arith
 never_shorter (c ∷ cs) =
@@ -39,7 +39,7 @@ first_same [] ys c cs e h k = absurd (omega arith)
 first_same (x ∷ []) ys c cs e h k = (cc, cc)
 first_same (x ∷ z ∷ xs) ys c cs e h k = absurd (omega (arith, ap length e, length-append xs ys))
 
--- a character that folds to itself is no capital letter of ASCII
+-- a character that folds to itself is not a capital letter of ASCII
 stays_low : (c : ℕ) → full_fold c ≡ c ∷ [] → to_ascii_lowercase c ≡ c
 stays_low c e =
     elim (cases_lt c 128) [
@@ -54,7 +54,7 @@ highs_stay : (bs : List ℕ) → ((k : ℕ) → k < length bs → 128 ≤ get_or
 highs_stay [] h = refl
 highs_stay (b ∷ bs) h = ap₂ ◌∷◌ (high_stays b (h 0 (omega arith))) (highs_stay bs (λ k l. h (suc k) (omega arith)))
 
--- the bytes of a character beyond ASCII are beyond it
+-- the bytes of a character above ASCII are above it
 inside_high : (c : ℕ) → 128 ≤ c → (k : ℕ) → k < length (encode_utf8 c) → 128 ≤ get_or (encode_utf8 c) k 0
 inside_high c h k l =
     elim (cases_lt (get_or (encode_utf8 c) k 0) 128) [
@@ -62,7 +62,7 @@ inside_high c h k l =
       | inr high ↦ high
     ]
 
--- the bytes of a character that is no capital letter have none
+-- the bytes of a character that is not a capital letter of ASCII are not capital letters
 char_stays : (c : ℕ) → to_ascii_lowercase c ≡ c → lowered (encode_utf8 c) ≡ encode_utf8 c
 char_stays c h =
     elim (cases_lt c 128) [
@@ -70,7 +70,7 @@ char_stays c h =
       | inr wide ↦ highs_stay (encode_utf8 c) (inside_high c wide)
     ]
 
--- nor have those of characters that fold to themselves
+-- nor are those of characters that fold to themselves
 all_stay : (cs : List ℕ) → default_case_fold cs ≡ cs → lowered (encode_utf8_all cs) ≡ encode_utf8_all cs
 all_stay [] e = refl
 all_stay (c ∷ cs) e =

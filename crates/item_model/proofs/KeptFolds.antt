@@ -1,4 +1,4 @@
--- What is kept for each property as values are put, and that it serves them.
+-- The texts stored for the properties as values are put, and that they serve the values.
 use Rattle.std.proofs.Common.{◌≡◌, ◌++◌, ◌==◌, ℕ, Bool, true, false, not, nat_lt, List, [], ◌∷◌, filter, Option, Some, None, Bor, unwrap_or, cond, refl, sym, ap, subst, ◌∙◌, arith}
 use Rattle.std.proofs.lemmas.Bool.Decides.{nat_tests}
 use Rattle.item_model.specs.declared.property.Property.{Property}
@@ -20,7 +20,7 @@ Entry = Property × PropValue
 abbrev pub others : Property → List Kept → List Kept
 others p folds = filter (λ fold. not (is_same fold.0 p)) folds
 
--- l is the place of an entry's property, m that of the one that is put, n that of the one that is asked for
+-- the ranks: l of an entry's property, m of the one put, n of the one looked up
 module _ {A : Type 0} (l m n : ℕ) (put here old new : Option A) where
   replaced : (l == m) ≡ true → new ≡ cond (m == n) put old → new ≡ cond (m == n) put (cond (l == n) here old)
   replaced h e = grind (arith, nat_tests)
@@ -39,7 +39,7 @@ nothing : (b : Bool) (x : Option (List ℕ)) → x ≡ cond b x x
 nothing true x = refl
 nothing false x = refl
 
--- without what was kept for one property, what is kept for the others is as before
+-- after the text of one property is removed, those of the others are as before
 pub kept_without : (p q : Property) (folds : List Kept) → kept_for q (others p folds) ≡ cond (is_same p q) None (kept_for q folds)
 kept_without p q [] = nothing (is_same p q) None
 kept_without p q (f ∷ folds) = without_step p q f folds (others p folds) (is_same f.0 p) refl (kept_without p q folds)
@@ -48,7 +48,7 @@ last_step : (p q : Property) (text : List ℕ) (f : Kept) (folds rest : List Kep
 last_step p q text f folds rest true h e = replaced (rank_of f.0) (rank_of p) (rank_of q) (Some text) (Some f.1) _ _ h e
 last_step p q text f folds rest false h e = passed (rank_of f.0) (rank_of p) (rank_of q) (Some text) (Some f.1) _ _ h e
 
--- a text that comes last in its place is the one that is kept for the property
+-- a text appended after that removal is the one stored for the property
 pub kept_last : (p q : Property) (text : List ℕ) (folds : List Kept) → kept_for q (others p folds ++ (p, text) ∷ []) ≡ cond (is_same p q) (Some text) (kept_for q folds)
 kept_last p q text [] = refl
 kept_last p q text (f ∷ folds) =
@@ -60,7 +60,7 @@ value_step p q v e es with true s l m h =
 value_step p q v e es with false true l m h = replaced (rank_of e.0) (rank_of p) (rank_of q) (Some v) (Some e.1) _ _ m refl
 value_step p q v e es with false false l m h = refl
 
--- the value of each property behind a put
+-- the value of each property after a put
 pub value_with : (p q : Property) (v : PropValue) (es : List Entry) → value_of q (with_value p v es) ≡ cond (is_same p q) (Some v) (value_of q es)
 value_with p q v [] = refl
 value_with p q v (e ∷ es) =
@@ -70,7 +70,7 @@ serves_step : (s : Bool) (fold kept : Option (List ℕ)) (v : PropValue) (value 
 serves_step true fold kept v value h k = h
 serves_step false fold kept v value h k = k
 
--- what is kept for the value that is put serves it, and the others are served as before
+-- the text stored for the value that is put serves it, and the others are served as before
 pub folds_with : (p : Property) (v : PropValue) (fold : Option (List ℕ)) (es new : List Entry) (folds kept : List Kept) → new ≡ with_value p v es → ((q : Property) → kept_for q kept ≡ cond (is_same p q) fold (kept_for q folds)) → Serves fold v → AreFolds es folds → AreFolds new kept
 unfolding AreFolds
 folds_with p v fold es new folds kept is each h before =
@@ -81,12 +81,12 @@ pub folds_none : AreFolds [] []
 unfolding AreFolds
 folds_none = λ q. tt
 
--- what serves the property's value
+-- the stored text serves the property's value
 pub folds_at : (p : Property) (es : List Entry) (folds : List Kept) → AreFolds es folds → ServesIfAny (kept_for p folds) (value_of p es)
 unfolding AreFolds
 folds_at p es folds h = h p
 
--- what is kept for a text, or the text itself where nothing is, is searched for it
+-- the stored text, or the text itself if none is stored, is one to search for the text
 kept_searched : (text : List ℕ) (kept : Option (List ℕ)) → IsKeptFor text kept → IsSearchedFor text (unwrap_or kept text)
 kept_searched text None h = h
 kept_searched text (Some fold) h = ap lowered h ∙ lowered_folded text

@@ -1,4 +1,4 @@
--- Properties each once, where they are first mentioned, and what a listing shows of them.
+-- Properties each once, at their first mention, and what a listing shows of them.
 use Rattle.std.proofs.Common.{◌≡◌, ◌+◌, ◌<◌, ◌++◌, ℕ, Bool, true, false, not, ◌||◌, List, [], ◌∷◌, length, take, get_or, cond, refl, ap, sym, ◌∙◌, append_assoc, append-nil, subst, Option, Some, None}
 use Rattle.std.proofs.lemmas.List.{take_more}
 use Rattle.std.proofs.lemmas.List.Elements.{filter-append, filter_map-append}
@@ -19,7 +19,7 @@ pick N true false p h = refl
 pick N false true p h = rw h refl
 pick N false false p h = rw h refl
 
--- a last mention adds the property where it is new
+-- a last mention adds the property if it is new
 pub first_last : (ps : List Property) (p : Property) → first_mentions (ps ++ p ∷ []) ≡ first_mentions ps ++ new_mention ps p
 first_last [] p = refl
 first_last (q ∷ ps) p =
@@ -28,7 +28,7 @@ first_last (q ∷ ps) p =
     ∙ filter-append _ (first_mentions ps) (new_mention ps p)
     ∙ ap (λ xs. filter (λ r. not (is_same q r)) (first_mentions ps) ++ xs) (pick (λ r. not (is_same q r)) (mentions ps p) (is_same q p) p refl))
 
--- one more property is shown behind those before
+-- one more property appends its tag
 pub shown_more : (old : List Tree) (item : List (Property × PropValue)) (ps : List Property) (i : ℕ) (d : Property) → i < length ps → (old ++ shown item (take i ps)) ++ shown item (get_or ps i d ∷ []) ≡ old ++ shown item (take (i + 1) ps)
 shown_more old item ps i d h =
     append_assoc old _ _
@@ -58,7 +58,7 @@ mentions_first [] p = refl
 mentions_first (q ∷ ps) p =
     either_way (is_same q p) _ _ (λ h. others q p (first_mentions ps) h ∙ mentions_first ps p)
 
--- a known name adds its property where it is new
+-- a known name adds its property if it is new
 pub known_first : (seen : List Property) (o : Option Property) → with_known (first_mentions seen) o ≡ first_mentions (seen ++ option_to_list o)
 known_first seen None = ap first_mentions (sym (append-nil seen))
 known_first seen (Some p) =
@@ -68,7 +68,7 @@ known_then : (seen : List Property) (o : Option Property) (rest : List Property)
 known_then seen None rest = ap (λ xs. xs ++ rest) (append-nil seen)
 known_then seen (Some p) rest = append_assoc seen (p ∷ []) rest
 
--- names in a row give the known ones, each once
+-- a list of names adds the known ones, each once
 pub names_first : (seen : List Property) (names : List (List ℕ)) → with_names (first_mentions seen) names ≡ first_mentions (seen ++ filter_map property_named names)
 names_first seen [] = ap first_mentions (sym (append-nil seen))
 names_first seen (name ∷ names) =

@@ -14,7 +14,7 @@ onto_nothing_step : (b : Bool) (c : ℕ) (xs : List (List ℕ)) → cond b ([] �
 onto_nothing_step true c xs = refl
 onto_nothing_step false c xs = onto_again c xs
 
--- there is a first part, and nothing before it
+-- nothing before the first part changes nothing
 pub onto_nothing : (text : List ℕ) → parts text ≡ onto [] (parts text)
 onto_nothing [] = refl
 onto_nothing (c ∷ cs) = onto_nothing_step (c == 44) c (parts cs)
@@ -54,7 +54,7 @@ front_step true c front xs h = absurd (cc)
 front_step false c front [] h = refl
 front_step false c front (x ∷ xs) h = refl
 
--- bytes without a comma belong to the first part
+-- bytes without a comma are in the first part
 pub part_front : (front rest : List ℕ) → list_any (λ c. c == 44) front ≡ false → parts (front ++ rest) ≡ onto front (parts rest)
 part_front [] rest h = onto_nothing rest
 part_front (c ∷ front) rest h =

@@ -1,4 +1,4 @@
--- The place of a property among the entries of an item, what is set there, and what is found.
+-- The index of a property among the entries of an item, and the values that are set and found there.
 use Rattle.std.proofs.Common.{◌≡◌, ◌<◌, ◌≤◌, ◌+◌, ◌++◌, ℕ, zero, suc, Bool, true, false, nat_lt, nat_le, ◌==◌, List, [], ◌∷◌, length, get_or, set, take, drop, if◌then◌else◌, cond, Option, Some, None, IfSome, option_copied, Bor, refl, ap, sym, subst, arith}
 use Rattle.std.specs.List.{insert}
 use Rattle.std.proofs.Math.Seq.{drop-length}
@@ -20,19 +20,19 @@ same_rank m n x y z e = grind (arith, nat_tests)
 higher_rank : (m n : ℕ) (x y z : List Entry) → n < m → z ≡ (if nat_lt m n then x else if m == n then y else z)
 higher_rank m n x y z h = grind (arith, nat_tests)
 
--- where the property's entry is, its value is replaced
+-- if the property has an entry, its value is replaced
 pub same_here : (p : Property) (v : PropValue) (es : List Entry) (i : ℕ) (d : Entry) → i < length es → rank_of (get_or es i d).0 ≡ rank_of p → set es i (p, v) ≡ take i es ++ with_value p v (drop i es)
 same_here p v [] i d h k = absurd (omega arith)
 same_here p v (e ∷ es) zero d h k = same_rank (rank_of e.0) (rank_of p) _ _ _ k
 same_here p v (e ∷ es) (suc i) d h k = ap (λ xs. e ∷ xs) (same_here p v es i d (omega arith) k)
 
--- before the first entry of a later property, the value comes in
+-- before the first entry of a later property, the value is inserted
 pub new_here : (p : Property) (v : PropValue) (es : List Entry) (i : ℕ) (d : Entry) → i < length es → rank_of p < rank_of (get_or es i d).0 → insert es i (p, v) ≡ take i es ++ with_value p v (drop i es)
 new_here p v [] i d h k = absurd (omega arith)
 new_here p v (e ∷ es) zero d h k = higher_rank (rank_of e.0) (rank_of p) _ _ _ k
 new_here p v (e ∷ es) (suc i) d h k = ap (λ xs. e ∷ xs) (new_here p v es i d (omega arith) k)
 
--- with no later property, it comes last
+-- if there is no later property, it is appended
 pub new_last : (p : Property) (v : PropValue) (es : List Entry) → insert es (length es) (p, v) ≡ take (length es) es ++ with_value p v (drop (length es) es)
 new_last p v es = rw (drop-length es) refl
 
@@ -50,7 +50,7 @@ stays_step p v n e es with false true l m f h k ih =
 stays_step p v n e es with false false l m f h k ih =
     and_from _ _ (le-leb _ _ h) (and_from _ _ f (and_from _ _ (above _ _ l m) (and_parts _ _ k).1))
 
--- a value of the property leaves the ranks rising and the values fitting
+-- setting a value of the property keeps the ranks ascending and the values fitting
 pub stays_item : (p : Property) (v : PropValue) (n : ℕ) (es : List Entry) → is_value_of p v ≡ true → n ≤ rank_of p → rises_from n es ≡ true → rises_from n (with_value p v es) ≡ true
 stays_item p v n [] f h k = and_from _ _ (le-leb _ _ h) (and_from _ _ f refl)
 stays_item p v n (e ∷ es) f h k =
@@ -61,7 +61,7 @@ fits_step : (p : Property) (e : Entry) (rest : Option PropValue) (s : Bool) → 
 fits_step p e rest true m f ih = subst (λ q. is_value_of q e.1 ≡ true) (same_property e.0 p m) f
 fits_step p e rest false m f ih = ih
 
--- what an item has of a property is of its kind and range
+-- a value of an item is of its property's kind and range
 pub value_fits : (p : Property) (n : ℕ) (es : List Entry) → rises_from n es ≡ true → IfSome (value_of p es) (λ v. is_value_of p v ≡ true)
 value_fits p n [] h = tt
 value_fits p n (e ∷ es) h =
@@ -74,7 +74,7 @@ texts_step p v e es with true s new old others rest = (old, rest)
 texts_step p v e es with false true new old others rest = (new, others)
 texts_step p v e es with false false new old others rest = (new, (old, others))
 
--- a text that is UTF-8 leaves all texts UTF-8
+-- setting a text that is UTF-8 keeps all texts UTF-8
 pub stay_texts : (p : Property) (v : PropValue) (es : List Entry) → IsText v → AreTexts es → AreTexts (with_value p v es)
 stay_texts p v [] new h = (new, tt)
 stay_texts p v (e ∷ es) new h = texts_step p v e es (with_value p v es) (nat_lt (rank_of e.0) (rank_of p)) (is_same e.0 p) new h.0 h.1 (stay_texts p v es new h.1)

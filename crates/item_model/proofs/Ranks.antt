@@ -1,4 +1,4 @@
--- A property is known by its place in the order of listings.
+-- A property is determined by its rank in the order of listings.
 use Rattle.std.proofs.Common.{◌≡◌, ◌<◌, ℕ, true, slice_index_or, refl, sym, ap, ◌∙◌, arith}
 use Rattle.std.proofs.lemmas.Bool.{eqb-true}
 use Rattle.item_model.specs.declared.property.Property.{Property}
@@ -8,7 +8,7 @@ use Rattle.item_model.specs.Properties.{property_count, all_properties, rank_of,
 abbrev pub property_at : ℕ → Property
 property_at n = slice_index_or all_properties n Minm
 
--- the table has each property at its place
+-- the table has each property at its rank
 pub at_rank : (p : Property) → property_at (rank_of p) ≡ p
 at_rank Minm = refl
 at_rank Mikd = refl
@@ -37,13 +37,13 @@ at_rank Aemk = refl
 at_rank Asda = refl
 at_rank Asdm = refl
 
--- two properties with one place are one
+-- properties with the same rank are equal
 pub same_property : (p q : Property) → is_same p q ≡ true → p ≡ q
 same_property p q h =
     let e : rank_of p ≡ rank_of q = eqb-true _ _ h in
     sym (at_rank p) ∙ ap property_at e ∙ at_rank q
 
--- each place is below the number of properties
+-- each rank is below the number of properties
 pub rank_below : (p : Property) → rank_of p < property_count
 rank_below Minm = omega arith
 rank_below Mikd = omega arith

@@ -1,4 +1,4 @@
--- A printed `meta` text reads as what was printed, where a text reads as that at all.
+-- A printed `meta` text reads as what was printed, if some text reads as that.
 use Rattle.std.proofs.Common.{◌≡◌, ◌≤◌, ◌<◌, ◌++◌, ◌==◌, ℕ, Bool, true, false, nat_le, List, [], ◌∷◌, length, map, codes, cond, refl, ap, subst, ◌∙◌, arith, append-nil, Some, None, Result, Ok, Err, IfOk}
 use Rattle.std.specs.List.{filter_map, list_any}
 use Rattle.std.specs.Str.{bytes_eq}
@@ -15,7 +15,7 @@ use Rattle.item_model.specs.Names.{parts, named, meta_of, meta_text, names_text,
 use Rattle.item_model.proofs.Parts.{part_front}
 use Rattle.item_model.proofs.Distinct.{first_again, first_fewer, known_fewer}
 
--- a property is that of its name
+-- a property is found by its name
 pub named_again : (p : Property) → property_named (property_name p) ≡ Some p
 unfolding property_named
 named_again Minm = refl
@@ -184,7 +184,7 @@ reads_back text (Names ps) h =
     omega (arith, some, first_fewer (filter_map property_named (parts text)), known_fewer property_named (parts text)) in
     names_read ps again (subst (λ qs. length qs ≤ names_limit) came.known few)
 
--- the same of the text that a call answers
+-- the same for the text that a call returns
 pub printed_reads : {E : Type 0} → (r : Result (List ℕ) E) (meta : Meta) → IfOk r (λ printed. printed ≡ meta_text meta) → IfOk r (λ printed. (text : List ℕ) → meta_of text ≡ Some meta → meta_of printed ≡ Some meta)
 printed_reads (Ok printed) meta h = λ text k. rw h (reads_back text meta k)
 printed_reads (Err e) meta h = tt

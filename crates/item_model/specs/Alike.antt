@@ -13,7 +13,7 @@ is_equal_value (Number n) (Words others) = false
 is_equal_value (Words bytes) (Number m) = false
 is_equal_value (Words bytes) (Words others) = bytes_eq bytes others
 
--- equal values, or none on either side
+-- equal values, or no value on either side
 abbrev pub have_equal_value : Option PropValue → Option PropValue → Bool
 have_equal_value None None = true
 have_equal_value None (Some w) = false

@@ -1,4 +1,4 @@
--- The folded texts that an item keeps beside its values, and what a condition is handed of an item.
+-- The folded texts that an item stores with its values, and the value of an item that a condition compares.
 use Rattle.std.specs.Prelude.{◌≡◌, ℕ, List, [], ◌∷◌, Option, Some, None, ⊤, if◌then◌else◌}
 use Rattle.item_model.specs.declared.property.Property.{Property}
 use Rattle.item_model.specs.declared.item.PropValue.{PropValue}
@@ -9,12 +9,12 @@ use Rattle.item_model.specs.Properties.{is_same}
 use Rattle.item_model.specs.Items.{value_of}
 use Rattle.item_model.specs.Folding.{folded, IsSearchedFor}
 
--- the text that is kept for a property
+-- the text stored for a property
 abbrev pub kept_for : Property → List (Property × List ℕ) → Option (List ℕ)
 kept_for p [] = None
 kept_for p (f ∷ folds) = if is_same f.0 p then Some f.1 else kept_for p folds
 
--- what is kept for a text is the text folded, and nothing is kept only where its ASCII letters lowered are that
+-- the stored text is the text folded; none is stored only if lowering the text's ASCII letters folds it
 abbrev pub IsKeptFor : List ℕ → Option (List ℕ) → Type 0
 IsKeptFor text None = IsSearchedFor text text
 IsKeptFor text (Some fold) = fold ≡ folded text
@@ -27,11 +27,11 @@ abbrev pub ServesIfAny : Option (List ℕ) → Option PropValue → Type 0
 ServesIfAny kept None = ⊤
 ServesIfAny kept (Some v) = Serves kept v
 
--- each value has what serves it; what is kept for a property without a value serves nobody
+-- each value has a stored text that serves it, or needs none; a property without a value has no condition
 unfoldable pub AreFolds : List (Property × PropValue) → List (Property × List ℕ) → Type 0
 AreFolds entries folds = (p : Property) → ServesIfAny (kept_for p folds) (value_of p entries)
 
--- what is handed out for a value: the number, or what may be searched for the text
+-- what `sought` returns for a value: the number, or a text that may be searched for the property's
 abbrev pub IsSought : PropValue → Sought → Type 0
 IsSought (Number n) (SoughtNumber m) = m ≡ n
 IsSought (Number n) (SoughtText s) = ⊥

@@ -10,7 +10,7 @@ use Rattle.item_model.specs.declared.item.PropValue.TheVariants.{Number, Text as
 use Rattle.item_model.specs.Limits.{text_limit}
 use Rattle.item_model.specs.Properties.{rank_of, is_same, property_kind}
 
--- how many numbers there are of a kind, from 0 on; a kind that is no number has none
+-- how many numbers there are of a kind, from 0; a kind that is not a number has none
 abbrev pub numbers_of : Kind → ℕ
 numbers_of U8 = 2 ^ 8
 numbers_of U16 = 2 ^ 16
@@ -26,7 +26,7 @@ numbers_of Version = 0
 numbers_of Members = 0
 numbers_of Opaque = 0
 
--- a text that is not empty and not too long, where the kind is text
+-- whether a text of this kind may have these bytes: they are neither empty nor too long
 abbrev pub is_text_of : Kind → List ℕ → Bool
 is_text_of Text bytes = nat_lt 0 (length bytes) && nat_le (length bytes) text_limit
 is_text_of U8 bytes = false
@@ -51,7 +51,7 @@ is_of_kind kind (Words bytes) = is_text_of kind bytes
 abbrev pub is_value_of : Property → PropValue → Bool
 is_value_of p v = is_of_kind (property_kind p) v
 
--- the ranks rise from the given one on, and each value is its property's
+-- the ranks ascend from n, and each value is of its property
 abbrev pub rises_from : ℕ → List (Property × PropValue) → Bool
 rises_from n [] = true
 rises_from n (e ∷ entries) = nat_le n (rank_of e.0) && (is_value_of e.0 e.1 && rises_from (rank_of e.0 + 1) entries)
@@ -67,7 +67,7 @@ IsText (Words bytes) = is_utf8 bytes ≡ true
 abbrev pub AreTexts : List (Property × PropValue) → Type 0
 AreTexts entries = AllByRecursion (λ e. IsText e.1) entries
 
--- the value of a property, and none where the item lacks it
+-- the value of a property, or None if the item lacks it
 abbrev pub value_of : Property → List (Property × PropValue) → Option PropValue
 value_of p [] = None
 value_of p (e ∷ entries) = if is_same e.0 p then Some e.1 else value_of p entries
@@ -80,12 +80,12 @@ with_value p v (e ∷ entries) =
     else if is_same e.0 p then (p, v) ∷ entries
     else (p, v) ∷ e ∷ entries
 
--- the property has the entry there, which a new value replaces
+-- the property has an entry at this index, which a new value replaces
 pub record Replaces (p : Property) (entries : List (Property × PropValue)) (place : ℕ) : Type 0 where
   pub within : place < length entries
   pub set : (v : PropValue) → slice_set entries place (p, v) ≡ with_value p v entries
 
--- no entry is the property's, and it comes in there
+-- no entry is of the property, and one is inserted at this index
 pub record ComesIn (p : Property) (entries : List (Property × PropValue)) (place : ℕ) : Type 0 where
   pub within : place ≤ length entries
   pub set : (v : PropValue) → insert entries place (p, v) ≡ with_value p v entries

@@ -1,4 +1,4 @@
--- How long a text and how many names may be.
+-- The maximum length of a text and number of names.
 use Rattle.std.specs.Prelude.{ℕ}
 
 -- the text of a property, or the name of a list, in bytes

@@ -1,5 +1,5 @@
--- What a listing shows of a row: its key in a container, its id, and of the properties that are asked for
--- those that the item has.
+-- What a listing shows of a row: its key in a container, its id, and of the requested properties those that the
+-- item has.
 use Rattle.std.specs.Prelude.{ℕ, List, [], ◌∷◌, ◌++◌, Option, Some, None, Bool, not, if◌then◌else◌}
 use Rattle.std.specs.List.{filter, filter_map, list_any}
 use Rattle.std.specs.Option.{option_map}
@@ -18,7 +18,7 @@ use Rattle.item_model.specs.declared.request.Meta.TheVariants.{Default, All, Nam
 use Rattle.item_model.specs.Properties.{all_properties, is_same, property_code, property_kind}
 use Rattle.item_model.specs.Items.{value_of}
 
--- each property once, where it is first mentioned
+-- each property once, at its first mention
 abbrev pub first_mentions : List Property → List Property
 first_mentions [] = []
 first_mentions (p ∷ ps) = p ∷ filter (λ q. not (is_same p q)) (first_mentions ps)
@@ -26,21 +26,21 @@ first_mentions (p ∷ ps) = p ∷ filter (λ q. not (is_same p q)) (first_mentio
 abbrev pub mentions : List Property → Property → Bool
 mentions ps p = list_any (λ q. is_same q p) ps
 
--- what a property adds to those that were mentioned before
+-- what a property adds to those mentioned before
 abbrev pub new_mention : List Property → Property → List Property
 new_mention ps p = if mentions ps p then [] else p ∷ []
 
--- what a listing shows where nothing is asked for, in order
+-- what a listing shows if the request names nothing, in order
 abbrev pub default_projection : List Property
 default_projection = Mikd ∷ Minm ∷ Asar ∷ Asal ∷ Astn ∷ Astm ∷ []
 
--- the properties that are asked for, in order
+-- the properties that are requested, in order
 abbrev pub asked : Meta → List Property
 asked Default = default_projection
 asked All = all_properties
 asked (Names ps) = first_mentions ps
 
--- a number of that kind; no item has a number of a kind that isn't named first
+-- a number of that kind; no item has a number of one of the last kinds
 abbrev pub number_leaf : Kind → ℕ → Leaf
 number_leaf U8 n = tree.U8 n
 number_leaf U16 n = tree.U16 n
@@ -68,7 +68,7 @@ property_tag p v = leaf (property_code p) (value_leaf (property_kind p) v)
 abbrev pub shown : List (Property × PropValue) → List Property → List Tree
 shown item ps = filter_map (λ p. option_map (property_tag p) (value_of p item)) ps
 
--- the key of a member of a container, where there is one, and the item's id
+-- the key of a member of a container, if there is one, and the item's id
 abbrev pub keys : Option ℕ → ℕ → List Tree
 keys None id = leaf (code "miid") (tree.U32 id) ∷ []
 keys (Some member) id = leaf (code "mcti") (tree.U32 member) ∷ leaf (code "miid") (tree.U32 id) ∷ []

@@ -1,12 +1,12 @@
 -- Proper queries: those that some text of the query grammar reads as. Each name has one or more of its
--- characters, each list two or more members, and each pattern at least one piece.
+-- characters, each list two or more members, and each pattern at least one part.
 use Rattle.std.specs.Prelude.{◌≡◌, ℕ, List, [], ◌∷◌, Bool, true, false, ◌&&◌, ◌||◌, ◌==◌}
 use Rattle.std.specs.Char.{is_ascii_alphanumeric}
 use Rattle.item_model.specs.QueryTree.{QueryTree, condition, and_of, or_of, QueryTrees, no_queries, more_queries}
 use Rattle.item_model.specs.QuerySeen.{tree_of}
 use Rattle.item_model.specs.declared.query.Query.{Query}
 
--- a letter, a digit, a point, a low line or a hyphen
+-- a letter, a digit, a dot, an underscore or a hyphen
 abbrev pub is_name_byte : ℕ → Bool
 is_name_byte c = is_ascii_alphanumeric c || (c == 46 || (c == 95 || c == 45))
 

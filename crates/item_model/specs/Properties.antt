@@ -1,5 +1,5 @@
--- The properties of an item, as DAAP names them: each has a content code, a name, a kind of values and a
--- place in the order of listings.
+-- The properties of an item, as DAAP names them: each has a content code, a name, a kind of values and a rank in
+-- the order of listings.
 use Rattle.std.specs.Prelude.{Bool, ◌==◌, ℕ, List, [], ◌∷◌, Option, codes}
 use Rattle.std.specs.List.{find}
 use Rattle.std.specs.Str.{bytes_eq}
@@ -48,7 +48,7 @@ property_name p = (property_row p).1
 abbrev pub property_kind : Property → Kind
 property_kind p = (property_row p).2
 
--- the place of a property in the order of listings
+-- the index of a property in the order of listings
 abbrev pub rank_of : Property → ℕ
 rank_of Minm = 0
 rank_of Mikd = 1
@@ -90,10 +90,10 @@ all_properties =
     Minm ∷ Mikd ∷ Mper ∷ Asar ∷ Asal ∷ Asaa ∷ Asgn ∷ Ascp ∷ Ascm ∷ Agrp ∷ Asfm ∷ Asyr ∷ Astn ∷ Astc ∷ Asdn ∷ Asdc ∷ Asbr
     ∷ Asbt ∷ Astm ∷ Assr ∷ Assz ∷ Asur ∷ Asco ∷ Aemk ∷ Asda ∷ Asdm ∷ []
 
--- the property of a name, and none where no property has it
+-- the property with a name, or None
 unfoldable pub property_named : List ℕ → Option Property
 property_named name = find (λ p. bytes_eq (property_name p) name) all_properties
 
--- the property of a content code, and none where no property has it
+-- the property with a content code, or None
 unfoldable pub property_coded : Four → Option Property
 property_coded c = find (λ p. bytes_eq (code_bytes (property_code p)) (code_bytes c)) all_properties

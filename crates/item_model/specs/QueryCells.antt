@@ -1,5 +1,5 @@
--- How proofs tell one query from another: a query as a row of cells, where a list is its mark, the cells of
--- its members and an end. It serves no contract by itself.
+-- A query as a list of cells, in which a list is a beginning, the cells of its members and an end. Equality of
+-- queries is decided on their cells. Only the form in which queries are stored needs this, no contract cites it.
 use Rattle.std.specs.Prelude.{◌≡◌, ℕ, zero, suc, List, [], ◌∷◌, ◌⊎◌, Bool, true, false, refl}
 use Rattle.std.proofs.Common.{inl, inr, ap, ◌∙◌}
 use Rattle.std.specs.Coded.{Coded, code_by, coded×, coded⊎, coded_ℕ, coded_bool, coded_list}
@@ -9,7 +9,7 @@ use Rattle.item_model.specs.declared.condition.Cond.{Cond}
 use Rattle.item_model.specs.declared.condition.Op.{Op}
 use Rattle.item_model.specs.declared.condition.Op.TheVariants.{Is, IsNot, Less, More}
 
--- a condition's name, the number of its operator, and its pieces
+-- a condition's name, the number of its operator, and the parts of its pattern
 abbrev pub CondParts : Type 0
 CondParts = List ℕ × (ℕ × List (List ℕ))
 
@@ -44,7 +44,7 @@ abbrev pub cond_code : Coded Cond
 cond_code =
     code_by CondParts (coded× (coded_list coded_ℕ) (coded× coded_ℕ (coded_list (coded_list coded_ℕ)))) cond_parts parts_cond cond_again
 
--- a condition, a list's beginning, which says whether all have to hold, or a list's end
+-- a condition, the beginning of a list (true for `and_of`), or the end of one
 abbrev pub Cell : Type 0
 Cell = Cond ⊎ (Bool ⊎ Unit {0})
 
@@ -74,7 +74,7 @@ abbrev pub listed : Bool → QueryTrees → QueryTree
 listed true qs = and_of qs
 listed false qs = or_of qs
 
--- a list's queries are closed by its mark
+-- the queries up to an end become a list
 abbrev pub closed : Bool → QueryTrees → List QueryTrees → Read
 closed b qs [] = record { here = more_queries (listed b qs) no_queries; around = [] }
 closed b qs (next ∷ around) = record { here = more_queries (listed b qs) next; around = around }

@@ -1,4 +1,4 @@
--- What a query holds is smaller than the query.
+-- The contents of a query are smaller than the query.
 use Rattle.std.specs.Prelude.{◌≤◌, List, [], ◌∷◌, map}
 use Rattle.std.proofs.Common.{arith}
 use denote.Param.Weighed.{most}
@@ -8,7 +8,7 @@ use Rattle.item_model.specs.declared.query.Query.{Query}
 use Rattle.item_model.specs.declared.query.Query.TheVariants.{Cond, And, Or}
 use Rattle.item_model.specs.declared.query.Queries.TheDeep.{deep-Query}
 
--- no list of queries is as large as the query that holds it
+-- a list of queries is smaller than the query that has it
 pub query_falls : (q : Query) → deep-Query q ≤ query_size (tree_of q)
 query_falls (Cond c) = omega arith
 query_falls (And qs) = omega arith

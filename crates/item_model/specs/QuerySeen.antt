@@ -1,4 +1,4 @@
--- The tree that a query of the program stands for.
+-- The tree that represents a query of the program.
 use Rattle.item_model.specs.QueryTree.{QueryTree, condition, and_of, or_of, queries_of}
 use Rattle.item_model.specs.declared.query.Query.{Query}
 use Rattle.item_model.specs.declared.query.Query.TheVariants.{Cond, And, Or}

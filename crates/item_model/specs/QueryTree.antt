@@ -20,7 +20,7 @@ abbrev pub query_list : QueryTrees → List QueryTree
 query_list no_queries = []
 query_list (more_queries q qs) = q ∷ query_list qs
 
--- how large a query is: larger than what is in it
+-- a size for recursion: a query is larger than its contents
 abbrev mutual
   pub query_size : QueryTree → ℕ
   query_size (condition c) = 1

@@ -1,5 +1,5 @@
--- Valid edits and batches: the ids are ones that records may give, the name of a list is not too long, and
--- a rule is proper. Container 1 is always there and no edit's.
+-- Valid edits and batches: the ids are ones that records may have, the name of a list is not too long, and a rule is
+-- proper. Container 1 always exists, and no edit names it.
 use Rattle.std.specs.Prelude.{◌≡◌, ℕ, ◌^◌, List, Bool, true, ◌&&◌, nat_le, nat_lt, length, All}
 use Rattle.item_model.specs.QuerySeen.{tree_of}
 use Rattle.item_model.specs.Proper.{is_proper}

@@ -1,4 +1,4 @@
-//! Whether a listing shows two rows as equal tags.
+//! Compares the tags that list two rows.
 
 ghost use Rattle.std.specs.Prelude.{◌≡◌, ℕ, Option};
 ghost use Rattle.dmap_tags.specs.SameTags.{is_same_tag, are_same_tags};
@@ -9,7 +9,8 @@ ghost use Rattle.item_model.specs.Alike.{is_equal_value, have_equal_value, shown
 use crate::item::{Item, PropValue, Row};
 use crate::property::Property;
 
-/// Whether the `mlit` tags of two rows with these properties are equal, under one key. Compares without allocating.
+/// Returns whether the `mlit` tags of two rows with these properties are equal, if both rows are listed under the same
+/// key. Does not allocate.
 #[tactic(auto, using(crate::proofs::AlikeFacts::rows_alike))]
 pub fn is_shown_alike(old: &Row, new: &Row, properties: &[Property]) -> bool
     ensures { (member : Option ℕ) → result ≡ is_same_tag (listed_row old.now member properties.now) (listed_row new.now member properties.now) }
@@ -17,7 +18,7 @@ pub fn is_shown_alike(old: &Row, new: &Row, properties: &[Property]) -> bool
     old.id == new.id && have_alike(&old.item, &new.item, properties)
 }
 
-// Whether the items have equal values of each property.
+// Returns whether the items have equal values of each property.
 #[tactic(auto, using(crate::proofs::AlikeFacts::alike_at))]
 fn have_alike(old: &Item, new: &Item, properties: &[Property]) -> bool
     ensures { result ≡ are_same_tags (shown_trees old.now properties.now) (shown_trees new.now properties.now) }

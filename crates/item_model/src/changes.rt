@@ -8,21 +8,21 @@ use dmap_tags::Text;
 use std::alloc::{AllocError, Global};
 use std::marker::Model;
 
-/// One change of the library or of its lists. Ids of items and members begin at 1, ids of lists at 2.
+/// One change of the library or of its lists. Ids of items and members are at least 1, ids of lists at least 2.
 #[derive(Debug, Drop)]
 pub enum Edit {
     PutItem { row: SharedRow },
     DropItem { id: u32 },
     PutList { list: u32, name: Text },
     PutRule { list: u32, name: Text, rule: Query },
-    /// Drops a plain list or a rule list.
+    /// Drops a playlist or a smart playlist.
     DropList { list: u32 },
     PutMember { list: u32, member: u32, item: u32 },
     DropMember { list: u32, member: u32 },
 }
 
 impl Edit {
-    /// An edit with the same contents, which shares the row with this one.
+    /// Returns a copy, which shares the row with this edit.
     pub fn copy(&self) -> Result<Edit, AllocError>
         ensures { IfOk result (λ c. c ≡ self.now) }
     {
@@ -52,7 +52,7 @@ impl Edit {
     }
 }
 
-/// Edits in order.
+/// A list of edits.
 #[derive(Debug, Drop)]
 pub struct Edits {
     items: Vec<Edit>,
@@ -72,7 +72,7 @@ impl Model for Edits {
 }
 
 impl Edits {
-    /// No edits, without memory.
+    /// Returns an empty list. Does not allocate.
     pub fn new(alloc: Global) -> Edits
         ensures { result ≡ [] }
     {
@@ -81,7 +81,7 @@ impl Edits {
         }
     }
 
-    /// The edits of the vector, which is taken over as it is.
+    /// Returns the edits of the vector, without copying them.
     pub fn of(items: Vec<Edit>) -> Edits
         ensures { result ≡ items.items }
     {
@@ -94,14 +94,14 @@ impl Edits {
         self.items.as_slice()
     }
 
-    /// The edits as a vector, without memory.
+    /// Returns the edits as a vector. Does not allocate.
     pub fn into_vec(self) -> Vec<Edit>
         ensures { result.items ≡ self }
     {
         self.items
     }
 
-    /// Adds an edit at the end. An `Err` changes nothing.
+    /// Appends an edit. If it fails, the edits are unchanged.
     pub fn push(&mut self, edit: Edit) -> Result<(), AllocError>
         ensures ok { OnOk result (self.new ≡ self.old ++ edit ∷ []) }
         ensures err { OnErr result (self.new ≡ self.old) }
@@ -110,7 +110,7 @@ impl Edits {
         Ok(())
     }
 
-    /// Edits of their own with the same contents.
+    /// Returns copies of the edits, which share their rows.
     pub fn copy(&self) -> Result<Edits, AllocError>
         ensures { IfOk result (λ c. c ≡ self.now) }
     {
@@ -119,7 +119,6 @@ impl Edits {
     }
 }
 
-// Copies of edits, in order.
 fn copies(alloc: Global, edits: &[Edit]) -> Result<Vec<Edit>, AllocError>
     ensures { IfOk result (λ v. v.items ≡ edits.now) }
 {
@@ -130,7 +129,7 @@ fn copies(alloc: Global, edits: &[Edit]) -> Result<Vec<Edit>, AllocError>
     Ok(copies)
 }
 
-/// The edits that are made together or not at all.
+/// Edits that are made together or not at all.
 #[derive(Debug, Drop)]
 pub struct Batch {
     pub edits: Edits,
@@ -150,7 +149,7 @@ impl Model for Batch {
 }
 
 impl Batch {
-    /// A batch of its own with the same edits.
+    /// Returns a copy of the batch.
     pub fn copy(&self) -> Result<Batch, AllocError>
         ensures { IfOk result (λ c. c ≡ self.now) }
     {
@@ -160,7 +159,7 @@ impl Batch {
     }
 }
 
-/// What a share's history has of one pass or connection, whose number is `by`.
+/// An entry of a share's history, added by the handle or connection with number `by`.
 #[derive(Debug, Drop)]
 pub enum Entry {
     Edits { by: u32, batch: Batch },
@@ -169,7 +168,7 @@ pub enum Entry {
     Stop { by: u32 },
 }
 
-/// The entries of a history, in order.
+/// A list of entries, oldest first.
 #[derive(Debug, Drop)]
 pub struct Entries {
     items: Vec<Entry>,
@@ -189,7 +188,7 @@ impl Model for Entries {
 }
 
 impl Entries {
-    /// No entries, without memory.
+    /// Returns an empty list. Does not allocate.
     pub fn new(alloc: Global) -> Entries
         ensures { result ≡ [] }
     {
@@ -198,7 +197,7 @@ impl Entries {
         }
     }
 
-    /// The entries of the vector, which is taken over as it is.
+    /// Returns the entries of the vector, without copying them.
     pub fn of(items: Vec<Entry>) -> Entries
         ensures { result ≡ items.items }
     {
@@ -211,14 +210,14 @@ impl Entries {
         self.items.as_slice()
     }
 
-    /// The entries as a vector, without memory.
+    /// Returns the entries as a vector. Does not allocate.
     pub fn into_vec(self) -> Vec<Entry>
         ensures { result.items ≡ self }
     {
         self.items
     }
 
-    /// Adds an entry at the end. An `Err` changes nothing.
+    /// Appends an entry. If it fails, the entries are unchanged.
     pub fn push(&mut self, entry: Entry) -> Result<(), AllocError>
         ensures ok { OnOk result (self.new ≡ self.old ++ entry ∷ []) }
         ensures err { OnErr result (self.new ≡ self.old) }

@@ -9,12 +9,12 @@ use dmap_tags::Text;
 use std::alloc::{AllocError, Global};
 use std::marker::Model;
 
-/// How a condition compares.
+/// The operator of a condition.
 #[derive(Clone, Copy, Debug, PartialEq, Eq)]
 pub enum Op {
     /// The property matches the pattern.
     Is,
-    /// It does not.
+    /// The property does not match the pattern.
     IsNot,
     /// The property is a number below the pattern's.
     Less,
@@ -22,8 +22,8 @@ pub enum Op {
     More,
 }
 
-/// The literal pieces of a condition's value, one or more, with a wildcard between each two. The pieces are kept folded
-/// as well.
+/// The literal parts of a condition's value, one or more, with a wildcard between each two. The folded parts are
+/// stored too.
 #[derive(Debug, Drop)]
 pub struct Pattern {
     pieces: Vec<Text>,
@@ -41,7 +41,7 @@ impl Model for Pattern {
     ghost invariant = { λ a. a.folds.items ≡ map folded a.pieces.items };
 }
 
-/// A condition on the property of a name.
+/// A condition on the property with the name.
 #[derive(Debug, Drop)]
 pub struct Cond {
     pub name: Text,
@@ -50,10 +50,8 @@ pub struct Cond {
 }
 
 impl Pattern {
-    /// The pattern of the pieces, which are taken over as they are.
-    ///
-    /// # Errors
-    /// Returns `AllocError` if memory runs out.
+    /// Returns the pattern with these parts, without copying them. Returns `AllocError` if the folded parts cannot be
+    /// allocated.
     pub fn new(alloc: Global, pieces: Vec<Text>) -> Result<Pattern, AllocError>
         requires { 0 < length pieces.items }
         ensures { IfOk result (λ p. p ≡ pieces.items) }
@@ -62,24 +60,21 @@ impl Pattern {
         Ok(Pattern { pieces, folds })
     }
 
-    /// The pieces as they were written, without memory.
+    /// Returns the parts as they were written.
     pub fn pieces(&self) -> &[Text]
         ensures { result.now ≡ self.now }
     {
         self.pieces.as_slice()
     }
 
-    /// The pieces folded, without memory.
+    /// Returns the folded parts.
     pub fn folded(&self) -> &[Text]
         ensures { result.now ≡ map folded self.now }
     {
         self.folds.as_slice()
     }
 
-    /// A pattern of its own with the same pieces.
-    ///
-    /// # Errors
-    /// Returns `AllocError` if memory runs out.
+    /// Returns a copy of the pattern.
     pub fn copy(&self) -> Result<Pattern, AllocError>
         ensures { IfOk result (λ c. c ≡ self.now) }
     {
@@ -91,7 +86,7 @@ impl Pattern {
 }
 
 impl Cond {
-    /// A condition of its own with the same contents.
+    /// Returns a copy of the condition.
     pub fn copy(&self) -> Result<Cond, AllocError>
         ensures { IfOk result (λ c. c ≡ self.now) }
     {

@@ -11,18 +11,15 @@ use caseless::default_case_fold_str;
 use dmap_tags::Text;
 use std::alloc::{AllocError, Global};
 
-/// What a condition compares of a property.
+/// The value of a property that a condition compares.
 #[derive(Clone, Copy, Debug)]
 pub enum Sought<'a> {
     Number(u64),
-    /// A text which, with its ASCII letters lowered, is the property's text folded.
+    /// A text that equals the property's folded text after its ASCII letters are lowered.
     Text(&'a str),
 }
 
-/// The text with its letters folded by Unicode's full default case folding, as conditions compare it.
-///
-/// # Errors
-/// Returns `AllocError` if memory runs out.
+/// Returns the text folded by Unicode's full default case folding, as conditions compare it.
 #[tactic(auto, unfolding(crate::specs::Folding::folded))]
 pub fn folded(alloc: Global, text: &str) -> Result<String, AllocError>
     ensures { IfOk result (λ b. string_bytes b ≡ folded text.now) }
@@ -30,7 +27,7 @@ pub fn folded(alloc: Global, text: &str) -> Result<String, AllocError>
     default_case_fold_str(alloc, text)
 }
 
-// What is kept beside the text to be searched: nothing where lowering the text's own ASCII letters folds it.
+// Returns the folded text to store with `text`, or `None` if lowering the ASCII letters of `text` folds it.
 pub(crate) fn fold_of(alloc: Global, text: &str) -> Result<Option<Text>, AllocError>
     ensures { IfOk result (IsKeptFor text.now) }
 {
@@ -44,7 +41,7 @@ pub(crate) fn fold_of(alloc: Global, text: &str) -> Result<Option<Text>, AllocEr
     Ok(Some(Text::of(alloc, folded.as_str())?))
 }
 
-// The folded texts, in order.
+// Returns the folded texts, in order.
 pub(crate) fn folds_of(alloc: Global, texts: &[Text]) -> Result<Vec<Text>, AllocError>
     ensures { IfOk result (λ v. v.items ≡ map folded texts.now) }
 {
@@ -67,7 +64,7 @@ pub(crate) fn find_fold(folds: &[(Property, Text)], property: Property) -> Optio
     None
 }
 
-// Keeps the text for the property, or nothing, in place of what was kept.
+// Stores the folded text of the property, or removes it if `fold` is `None`.
 pub(crate) fn keep(
     folds: &mut Vec<(Property, Text)>,
     property: Property,

@@ -11,7 +11,7 @@ use std::alloc::{AllocError, AllocFailed, Global};
 use std::marker::Model;
 use thiserror::Error;
 
-/// How many bytes the text of a property, or the name of a list, has at most.
+/// The maximum length in bytes of the text of a property, or of the name of a list.
 pub const TEXT_BYTES: usize = 255;
 
 /// The value of a property.
@@ -25,7 +25,7 @@ pub enum PropValue {
 #[derive(Debug, Drop)]
 pub struct Item {
     entries: Vec<(Property, PropValue)>,
-    // A text is kept here only where lowering its ASCII letters does not fold it.
+    // The folded texts, except those that lowering the text's ASCII letters yields.
     folds: Vec<(Property, Text)>,
 }
 
@@ -51,7 +51,7 @@ pub struct Row {
     pub item: Item,
 }
 
-/// Why a property is not put.
+/// Errors of `Item::put`.
 #[derive(Debug, Drop, PartialEq, Eq, Error)]
 pub enum ItemError {
     /// The value is not of the property's kind or range.
@@ -82,7 +82,7 @@ impl<T: Drop> From<AllocFailed<T>> for ItemError {
 }
 
 impl PropValue {
-    /// Whether the value is of the property's kind and range.
+    /// Returns whether the value is of the property's kind and range.
     pub fn is_value_of(&self, property: Property) -> bool
         ensures { result ≡ is_value_of property self.now }
     {
@@ -92,7 +92,7 @@ impl PropValue {
         }
     }
 
-    // What an item keeps beside the value.
+    // Returns the folded text that an item stores with the value.
     fn fold(&self, alloc: Global) -> Result<Option<Text>, AllocError>
         ensures serves { IfOk result (λ kept. Serves kept self.now) }
         ensures text { IsText self.now }
@@ -103,7 +103,7 @@ impl PropValue {
         }
     }
 
-    /// A value of its own with the same contents.
+    /// Returns a copy of the value.
     pub fn copy(&self) -> Result<PropValue, AllocError>
         ensures { IfOk result (λ v. v ≡ self.now) }
     {
@@ -136,7 +136,7 @@ fn is_text_of(kind: Kind, text: &str) -> bool
 }
 
 impl Item {
-    /// An item without properties, without memory.
+    /// Returns an item without properties. Does not allocate.
     pub fn new(alloc: Global) -> Item
         ensures { result ≡ [] }
     {
@@ -146,7 +146,7 @@ impl Item {
         }
     }
 
-    /// The value of the property, without memory.
+    /// Returns the value of the property.
     pub fn get(&self, property: Property) -> Option<&PropValue>
         ensures value { option_copied result ≡ value_of property self.now }
         ensures fits { IfSome result (λ v. is_value_of property v.now ≡ true) }
@@ -154,7 +154,7 @@ impl Item {
         find_value(self.entries.as_slice(), property)
     }
 
-    /// What a condition compares of the property, without memory.
+    /// Returns the value that a condition compares. Does not allocate.
     pub fn sought(&self, property: Property) -> Option<Sought<'_>>
         ensures { IsSoughtIfAny (value_of property self.now) result }
     {
@@ -167,8 +167,8 @@ impl Item {
         }
     }
 
-    /// The property's text folded, where the item keeps that beside the text: not where lowering the text's own ASCII
-    /// letters folds it. Without memory.
+    /// Returns the property's folded text if the item stores it: if lowering the ASCII letters of the text itself
+    /// folds it, the item stores none.
     pub fn kept_fold(&self, property: Property) -> Option<&str>
         ensures { ServesIfAny (option_copied result) (value_of property self.now) }
     {
@@ -178,7 +178,8 @@ impl Item {
         }
     }
 
-    /// Sets the property. After an `Err` the item is as before.
+    /// Sets the property. Returns `Range` if the value is not of the property's kind and range, and `Memory` if an
+    /// allocation fails. If it fails, the item is unchanged.
     pub fn put(&mut self, property: Property, value: PropValue) -> Result<(), ItemError>
         ensures put { OnOk result (self.new ≡ with_value property value self.old) }
         ensures range { (result ≡ Err ItemError.Range) ↔ (is_value_of property value ≡ false) }
@@ -194,8 +195,8 @@ impl Item {
         Ok(())
     }
 
-    /// What every item has: its properties are in order, each once, with a value of its kind and range, and its texts are
-    /// UTF-8. The call does nothing.
+    /// Ensures what every item has: its properties are in order, each once, with a value of its kind and range, and its
+    /// texts are UTF-8. The body is empty.
     pub fn is_whole(&self)
         ensures item { is_item self.now ≡ true }
         ensures texts { AreTexts self.now }
@@ -203,7 +204,7 @@ impl Item {
         let _ = &self.entries;
     }
 
-    /// Lets go of room for further properties, without memory.
+    /// Frees spare capacity.
     pub(crate) fn shrink(&mut self)
         ensures { self.new ≡ self.old }
     {
@@ -211,7 +212,7 @@ impl Item {
         self.folds.shrink_to_fit();
     }
 
-    /// An item of its own with the same properties.
+    /// Returns a copy of the item.
     pub fn copy(&self) -> Result<Item, AllocError>
         ensures { IfOk result (λ item. item ≡ self.now) }
     {
@@ -223,7 +224,7 @@ impl Item {
 }
 
 impl Row {
-    /// A row of its own with the same contents.
+    /// Returns a copy of the row.
     pub fn copy(&self) -> Result<Row, AllocError>
         ensures { IfOk result (λ row. row ≡ self.now) }
     {
@@ -245,7 +246,7 @@ fn find_value(entries: &[(Property, PropValue)], property: Property) -> Option<&
     None
 }
 
-// Where the property's entry is, or where it comes in.
+// Returns the index of the property's entry, or as `Err` the index at which to insert it.
 fn place_of(entries: &[(Property, PropValue)], property: Property) -> Result<usize, usize>
     ensures { MatchResult result (Replaces property entries.now) (ComesIn property entries.now) }
 {
@@ -261,7 +262,7 @@ fn place_of(entries: &[(Property, PropValue)], property: Property) -> Result<usi
     Err(entries.len())
 }
 
-// There is room for one entry more.
+// Requires capacity for one more entry.
 fn set(entries: &mut Vec<(Property, PropValue)>, property: Property, value: PropValue)
     requires { vec_len entries.old < vec_capacity entries.old }
     ensures { entries.new.items ≡ with_value property value entries.old.items }

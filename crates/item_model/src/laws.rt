@@ -1,4 +1,4 @@
-//! What is always so. Each function does nothing; its contract is the fact.
+//! What always holds. Each function has an empty body; its contract is a theorem.
 
 ghost use Rattle.std.specs.Prelude.{◌≡◌};
 ghost use Rattle.item_model.specs.Limits.{text_limit, names_limit};

@@ -1,6 +1,6 @@
-//! Items and their properties, queries, edits and what a request asks for, as plain data, and the tag that
+//! Items and their properties, queries, edits and the parameters of a request, as plain data, and the tag that
 //! lists an item. Contracts see an item as its list of properties and values, a query as a tree, and the
-//! listed tag as the list of what was asked and is there.
+//! tag of an item as the list of the requested properties that the item has.
 #![tactic(auto)]
 
 mod alike;

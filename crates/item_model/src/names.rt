@@ -13,10 +13,10 @@ use dmap_tags::Text;
 use std::alloc::{AllocError, AllocFailed, Global};
 use thiserror::Error;
 
-/// Why the text of a `meta` parameter is refused.
+/// Errors of `Meta::read`.
 #[derive(Debug, Drop, PartialEq, Eq, Error)]
 pub enum MetaError {
-    /// It has more than 256 names, known or not.
+    /// The text has more than 256 names, known or not.
     #[error("too many names")]
     TooMany,
     #[error("memory")]
@@ -34,7 +34,7 @@ impl From<AllocError> for MetaError {
 }
 
 impl Meta {
-    /// Reads a `meta` parameter: the empty text, `all`, or names with commas between them (DAAP).
+    /// Parses a `meta` parameter: the empty text, `all`, or names with commas between them (DAAP).
     pub fn read(alloc: Global, text: &str) -> Result<Meta, MetaError>
         ensures read { IfOk result (λ meta. meta_of text.now ≡ Some meta) }
         ensures too_many { (result ≡ Err MetaError.TooMany) ↔ (meta_of text.now ≡ None) }
@@ -45,7 +45,7 @@ impl Meta {
         Ok(read_asked(alloc, text)?)
     }
 
-    /// The text that asks for it. Where no property is named, that is a single comma.
+    /// Returns a text that requests these properties. If no property is named, it is a single comma.
     pub fn print(&self, alloc: Global) -> Result<Text, AllocError>
         ensures printed { IfOk result (λ text. text ≡ meta_text self.now) }
         ensures reads_back { IfOk result (λ printed. (text : List ℕ) → meta_of text ≡ Some self.now → meta_of printed ≡ Some self.now) }
@@ -95,7 +95,7 @@ fn read_names(alloc: Global, text: &[u8]) -> Result<Properties, AllocError>
     Ok(properties)
 }
 
-/// The part before the first comma, and the text behind that comma, if there is one.
+/// Returns the part before the first comma, and the text after that comma if there is one.
 pub fn first_part(text: &[u8]) -> (&[u8], Option<&[u8]>)
     ensures parts { parts text.now ≡ result.0.now ∷ parts_behind (option_copied result.1) }
     ensures shorter { IfSome result.1 (λ rest. length rest.now < length text.now) }

@@ -15,8 +15,8 @@ use crate::shown::ShownProperties;
 use dmap_tags::{Code, Kind, Tag, Tags, Value};
 use std::alloc::{AllocError, Global};
 
-/// The `mlit` of a row: its `mcti` where it is a member of a container, its `miid`, and the properties that
-/// are asked for and there, in order of first mention (DAAP's listings).
+/// Returns the `mlit` of a row: its `mcti` if it is a member of a container, its `miid`, and the properties that are
+/// requested and that the item has, in order of first mention (DAAP's listings).
 pub fn project(
     alloc: Global,
     row: &Row,
@@ -53,7 +53,7 @@ fn number(code: Code, n: u32) -> Tag
     }
 }
 
-// Those of the properties that the item has.
+// Appends the tags of those of the properties that the item has.
 fn push_shown(tags: &mut Tags, item: &Item, properties: &[Property]) -> Result<(), AllocError>
     ensures { OnOk result (tags.new ≡ tags.old ++ shown item.now properties.now) }
 {

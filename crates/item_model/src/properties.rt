@@ -6,7 +6,7 @@ use crate::property::Property;
 use std::alloc::{AllocError, Global};
 use std::marker::Model;
 
-/// Properties in order, as a request names them.
+/// A list of properties, in the order in which a request names them.
 #[derive(Debug, Drop)]
 pub struct Properties {
     items: Vec<Property>,
@@ -22,7 +22,7 @@ impl Model for Properties {
 }
 
 impl Properties {
-    /// No properties, without memory.
+    /// Returns an empty list. Does not allocate.
     pub fn new(alloc: Global) -> Properties
         ensures { result ≡ [] }
     {
@@ -31,7 +31,7 @@ impl Properties {
         }
     }
 
-    /// The properties of the vector, which is taken over as it is.
+    /// Returns the properties of the vector, without copying them.
     pub fn of(items: Vec<Property>) -> Properties
         ensures { result ≡ items.items }
     {
@@ -44,14 +44,14 @@ impl Properties {
         self.items.as_slice()
     }
 
-    /// The properties as a vector, without memory.
+    /// Returns the properties as a vector. Does not allocate.
     pub fn into_vec(self) -> Vec<Property>
         ensures { result.items ≡ self }
     {
         self.items
     }
 
-    /// Adds a property at the end. An `Err` changes nothing.
+    /// Appends a property. If it fails, the properties are unchanged.
     pub fn push(&mut self, property: Property) -> Result<(), AllocError>
         ensures ok { OnOk result (self.new ≡ self.old ++ property ∷ []) }
         ensures err { OnErr result (self.new ≡ self.old) }
@@ -60,7 +60,7 @@ impl Properties {
         Ok(())
     }
 
-    /// Properties of their own, the same in order.
+    /// Returns a copy of the list.
     pub fn copy(&self) -> Result<Properties, AllocError>
         ensures { IfOk result (λ c. c ≡ self.now) }
     {

@@ -69,7 +69,7 @@ pub const PROPERTIES: [Property; 26] = [
     Property::Asdm,
 ];
 
-/// The properties that a listing shows where nothing else is asked, in order.
+/// The properties that a listing shows if the request names none, in order.
 pub const DEFAULT_PROJECTION: [Property; 6] = [
     Property::Mikd,
     Property::Minm,
@@ -80,14 +80,14 @@ pub const DEFAULT_PROJECTION: [Property; 6] = [
 ];
 
 impl Property {
-    /// The place in the order of listings, from 0.
+    /// Returns the property's index in the order of listings, from 0.
     pub fn rank(self) -> usize
         ensures { result ≡ rank_of self }
     {
         self as usize
     }
 
-    // The content code, the name and the kind.
+    // Returns the content code, the name and the kind of the property.
     fn row(self) -> (Code, &'static str, Kind)
         ensures { (result.0, result.1.now, result.2) ≡ property_row self }
     {
@@ -121,35 +121,35 @@ impl Property {
         }
     }
 
-    /// The content code of its tags.
+    /// Returns the content code of the property's tags.
     pub fn code(self) -> Code
         ensures { result ≡ property_code self }
     {
         self.row().0
     }
 
-    /// The name in queries, records and the `meta` parameter.
+    /// Returns the property's name in queries, records and the `meta` parameter.
     pub fn name(self) -> &'static str
         ensures { result.now ≡ property_name self }
     {
         self.row().1
     }
 
-    /// The kind of its values.
+    /// Returns the kind of the property's values.
     pub fn kind(self) -> Kind
         ensures { result ≡ property_kind self }
     {
         self.row().2
     }
 
-    /// The property of that name.
+    /// Returns the property with the name.
     pub fn by_name(name: &str) -> Option<Property>
         ensures { result ≡ property_named name.now }
     {
         property_of_name(name.as_bytes())
     }
 
-    /// The property with that content code.
+    /// Returns the property with the content code.
     pub fn by_code(code: Code) -> Option<Property>
         ensures { result ≡ property_coded code }
     {

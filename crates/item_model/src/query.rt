@@ -6,7 +6,7 @@ use crate::condition::Cond;
 use std::alloc::{AllocError, Global};
 use std::marker::Model;
 
-/// Which rows are asked for. The members of `And` and of `Or` are two or more.
+/// A condition on rows. `And` and `Or` have two or more members.
 #[cycle(query)]
 #[derive(Debug, Drop)]
 pub enum Query {
@@ -47,7 +47,7 @@ impl Model for Queries {
 impl Queries {
     ghost use Rattle.item_model.specs.QuerySeen.{tree_of};
 
-    /// No queries, without memory.
+    /// Returns an empty list. Does not allocate.
     pub fn new(alloc: Global) -> Queries
         ensures { result ≡ [] }
     {
@@ -56,7 +56,7 @@ impl Queries {
         }
     }
 
-    /// The queries of the vector, which is taken over as it is.
+    /// Returns the queries of the vector, without copying them.
     pub fn of(items: Vec<Query>) -> Queries
         ensures { result ≡ map tree_of items.items }
     {
@@ -69,14 +69,14 @@ impl Queries {
         self.items.as_slice()
     }
 
-    /// The queries as a vector, without memory.
+    /// Returns the queries as a vector. Does not allocate.
     pub fn into_vec(self) -> Vec<Query>
         ensures { map tree_of result.items ≡ self }
     {
         self.items
     }
 
-    /// Adds a query at the end. An `Err` changes nothing.
+    /// Appends a query. If it fails, the queries are unchanged.
     pub fn push(&mut self, query: Query) -> Result<(), AllocError>
         ensures ok { OnOk result (self.new ≡ self.old ++ tree_of query ∷ []) }
         ensures err { OnErr result (self.new ≡ self.old) }
@@ -85,7 +85,7 @@ impl Queries {
         Ok(())
     }
 
-    /// The only query, or the queries as they are where they are none or several.
+    /// Returns the query if there is exactly one, and the list as it is otherwise.
     pub fn single(self) -> Result<Query, Queries>
         ensures { MatchResult result (λ query. self ≡ tree_of query ∷ []) (λ queries. (queries ≡ self) × (length self ≢ 1)) }
     {
@@ -99,7 +99,7 @@ impl Queries {
         }
     }
 
-    /// Queries of their own with the same contents.
+    /// Returns copies of the queries, in order.
     #[cycle(copy)]
     pub fn copy(&self) -> Result<Queries, AllocError>
         ensures { IfOk result (λ c. c ≡ self.now) }
@@ -110,7 +110,7 @@ impl Queries {
 }
 
 impl Query {
-    /// A query of its own with the same contents.
+    /// Returns a copy of the query.
     #[cycle(copy)]
     pub fn copy(&self) -> Result<Query, AllocError>
         ensures { IfOk result (λ c. c ≡ self.now) }
@@ -123,7 +123,7 @@ impl Query {
     }
 }
 
-/// Copies of queries, in order.
+/// Returns copies of queries, in order.
 #[cycle(copy)]
 fn copies(alloc: Global, queries: &[Query]) -> Result<Vec<Query>, AllocError>
     ensures { IfOk result (λ v. v.items ≡ queries.now) }

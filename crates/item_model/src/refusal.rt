@@ -1,20 +1,20 @@
-//! Why queries and records are refused.
+//! Errors of queries and records.
 
 ghost use Rattle.std.specs.Prelude.{◌≡◌};
 
 use std::alloc::{AllocError, AllocFailed};
 use thiserror::Error;
 
-/// Why a query's text is refused at a place.
+/// Why the text of a query is malformed at an offset.
 #[derive(Clone, Copy, Debug, PartialEq, Eq)]
 pub enum QueryWhy {
-    /// The text ends where a query would go on.
+    /// The text ends before the query does.
     End,
-    /// No query has this byte here.
+    /// No query continues with this byte.
     Byte,
 }
 
-/// Why a query's text is refused. Places are bytes from 0.
+/// Errors of a query's text. A `place` is an offset in bytes, from 0.
 #[derive(Debug, Drop, PartialEq, Eq, Error)]
 pub enum QueryError {
     #[error("too long")]
@@ -47,23 +47,23 @@ impl<T: Drop> From<AllocFailed<T>> for QueryError {
     }
 }
 
-/// Why a cell of a record is refused.
+/// Errors of a cell of a record.
 #[derive(Debug, Drop, PartialEq, Eq)]
 pub enum RecordWhy {
-    /// The first cell is no operation.
+    /// The first cell is not an operation.
     Op,
-    /// The second cell is nothing that the operation applies to.
+    /// The operation does not apply to the second cell.
     Kind,
-    /// Not 1 to 20 decimal digits.
+    /// The cell is not 1 to 20 decimal digits.
     Number,
-    /// Outside the range of the id or the property.
+    /// The number is outside the range of the id or the property.
     Range,
-    /// Not UTF-8, or longer than a text may be.
+    /// The text is not UTF-8, or too long.
     Text,
-    /// A cell that the record has no use for is not empty.
+    /// A cell that the record does not use is not empty.
     Extra,
-    /// A cell that the record needs is empty or not there.
+    /// A cell that the record needs is empty or missing.
     Missing,
-    /// The cell's query is refused.
+    /// The cell's query is malformed.
     Query(QueryError),
 }

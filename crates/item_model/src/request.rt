@@ -1,4 +1,4 @@
-//! What a request asks for.
+//! The parameters of a request.
 
 ghost use Rattle.std.specs.Prelude.{◌≡◌, IfOk};
 
@@ -6,16 +6,16 @@ use crate::properties::Properties;
 use crate::query::Query;
 use std::alloc::AllocError;
 
-/// How many names the `meta` parameter has at most.
+/// The maximum number of names in the `meta` parameter.
 pub const META_NAMES: usize = 256;
 
 /// Which properties a listing shows.
 #[derive(Debug, Drop)]
 pub enum Meta {
-    /// Those of the default projection.
+    /// The default projection.
     Default,
     All,
-    /// Those named, in this order.
+    /// The named properties, in this order.
     Names(Properties),
 }
 
@@ -26,19 +26,19 @@ pub enum Target {
     Container(u32),
 }
 
-/// Which rows of a full listing are shown. Places are counted from 0.
+/// Which rows of a full listing are shown, by their indices from 0.
 #[derive(Clone, Copy, Debug, PartialEq, Eq)]
 pub enum Range {
     All,
     One { at: u32 },
     From { at: u32 },
-    /// From one place to another, both included.
+    /// The rows from one index to another, both included.
     Span { from: u32, to: u32 },
     /// The last rows.
     Last { count: u32 },
 }
 
-/// What a listing is asked with. A base is a revision, 0 where the whole is asked for.
+/// The parameters of a listing. `base` is a revision, 0 for a full listing.
 #[derive(Debug, Drop)]
 pub struct Look {
     pub query: Option<Query>,
@@ -47,7 +47,7 @@ pub struct Look {
     pub range: Range,
 }
 
-/// What the values of a property are browsed by.
+/// The property whose values are browsed.
 #[derive(Clone, Copy, Debug, PartialEq, Eq)]
 pub enum Browse {
     Artists,
@@ -57,7 +57,7 @@ pub enum Browse {
 }
 
 impl Meta {
-    /// A value of its own with the same properties.
+    /// Returns a copy.
     pub fn copy(&self) -> Result<Meta, AllocError>
         ensures { IfOk result (λ c. c ≡ self.now) }
     {
@@ -70,7 +70,7 @@ impl Meta {
 }
 
 impl Look {
-    /// A look of its own with the same contents.
+    /// Returns a copy.
     pub fn copy(&self) -> Result<Look, AllocError>
         ensures { IfOk result (λ c. c ≡ self.now) }
     {

@@ -7,8 +7,8 @@ use std::alloc::{AllocError, Global};
 use std::marker::Model;
 use std::sync::Arc;
 
-/// A row that may have several owners, in any threads, so that a batch, the history that keeps it and a store have its
-/// texts once. Contracts see the row.
+/// A row that may have several owners, in any threads. So a batch, the history with the batch and a store share its
+/// texts. Contracts see the row.
 #[derive(Debug, Drop)]
 pub struct SharedRow {
     row: Arc<Row, Global>,
@@ -24,7 +24,7 @@ impl Model for SharedRow {
 }
 
 impl SharedRow {
-    /// The row's first owner. Its item lets go of the room that it does not need, since no shared row changes.
+    /// Returns the row with one owner. Frees the spare capacity of its item, since no shared row changes.
     pub fn new(alloc: Global, mut row: Row) -> Result<SharedRow, AllocError>
         ensures { IfOk result (λ shared. shared ≡ row) }
     {
@@ -41,7 +41,7 @@ impl SharedRow {
         &self.row
     }
 
-    /// One more owner. It is refused where the count of owners is full, and takes no memory of its own.
+    /// Adds an owner. Returns `AllocError` if the count of owners is at its maximum. Does not allocate.
     pub fn share(&self) -> Result<SharedRow, AllocError>
         ensures { IfOk result (λ shared. shared ≡ self.now) }
     {
@@ -51,7 +51,7 @@ impl SharedRow {
     }
 }
 
-// A shared row may go from thread to thread and be read in several: without this no crate above could hand one on.
+// A shared row may be sent to another thread and be read by several: without this no crate above could do so.
 fn may_be_shared<T: Send + Sync>() {}
 
 fn rows_may_be_shared() {

@@ -7,7 +7,7 @@ use crate::property::{DEFAULT_PROJECTION, PROPERTIES, Property};
 use crate::request::Meta;
 use std::marker::Model;
 
-/// The properties that a listing shows, in order, each once. They are found without memory, since there are 26 at most.
+/// The properties that a listing shows, in order, each once. There are 26 at most, so this does not allocate.
 #[derive(Debug, Drop)]
 pub struct ShownProperties {
     room: [Property; 26],
@@ -27,7 +27,7 @@ impl Model for ShownProperties {
 }
 
 impl ShownProperties {
-    /// Those that are asked for.
+    /// Returns the properties that `meta` requests.
     #[tactic(auto, using(crate::proofs::Few::default_once, crate::proofs::Few::all_once))]
     pub fn of(meta: &Meta) -> ShownProperties
         ensures { result ≡ asked meta.now }
@@ -56,7 +56,7 @@ impl ShownProperties {
         }
     }
 
-    // Adds a property, unless it is there.
+    // Appends a property, unless it is already there.
     fn mention(&mut self, property: Property)
         requires { length (self.old ++ new_mention self.old property) ≤ 26 }
         ensures { self.new ≡ self.old ++ new_mention self.old property }

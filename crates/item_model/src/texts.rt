@@ -6,7 +6,7 @@ use dmap_tags::Text;
 use std::alloc::{AllocError, Global};
 use std::marker::Model;
 
-/// Texts in order.
+/// A list of texts.
 #[derive(Debug, Drop)]
 pub struct Texts {
     items: Vec<Text>,
@@ -21,7 +21,7 @@ impl Model for Texts {
 }
 
 impl Texts {
-    /// No texts, without memory.
+    /// Returns an empty list. Does not allocate.
     pub fn new(alloc: Global) -> Texts
         ensures { result ≡ [] }
     {
@@ -30,7 +30,7 @@ impl Texts {
         }
     }
 
-    /// The texts of the vector, which is taken over as it is.
+    /// Returns the texts of the vector, without copying them.
     pub fn of(items: Vec<Text>) -> Texts
         ensures { result ≡ items.items }
     {
@@ -43,14 +43,14 @@ impl Texts {
         self.items.as_slice()
     }
 
-    /// The texts as a vector, without memory.
+    /// Returns the texts as a vector. Does not allocate.
     pub fn into_vec(self) -> Vec<Text>
         ensures { result.items ≡ self }
     {
         self.items
     }
 
-    /// Adds a text at the end. An `Err` changes nothing.
+    /// Appends a text. If it fails, the texts are unchanged.
     pub fn push(&mut self, text: Text) -> Result<(), AllocError>
         ensures ok { OnOk result (self.new ≡ self.old ++ text ∷ []) }
         ensures err { OnErr result (self.new ≡ self.old) }
@@ -59,7 +59,7 @@ impl Texts {
         Ok(())
     }
 
-    /// Texts of their own with the same contents.
+    /// Returns copies of the texts, in order.
     pub fn copy(&self) -> Result<Texts, AllocError>
         ensures { IfOk result (λ c. c ≡ self.now) }
     {
@@ -68,7 +68,7 @@ impl Texts {
     }
 }
 
-// Copies of texts, in order.
+// Returns copies of texts, in order.
 pub(crate) fn copies(alloc: Global, texts: &[Text]) -> Result<Vec<Text>, AllocError>
     ensures { IfOk result (λ v. v.items ≡ texts.now) }
 {

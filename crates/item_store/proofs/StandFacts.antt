@@ -1,5 +1,5 @@
 -- What a store stands for before and after each of its calls.
-use Rattle.std.proofs.Common.{◌≡◌, ◌≤◌, ◌<◌, ◌+◌, ◌-◌, ◌⊎◌, ℕ, true, false, cond, ◌||◌, ◌==◌, List, [], ◌∷◌, ◌++◌, length, drop, map, flat_map, min, is_some, refl, sym, ap, subst, ◌∙◌, ⊎_elim, true≢false, arith, Ok, Err}
+use Rattle.std.proofs.Common.{◌≡◌, ◌≤◌, ◌<◌, ◌+◌, ◌-◌, ◌⊎◌, ℕ, true, false, cond, ◌||◌, ◌==◌, List, [], ◌∷◌, ◌++◌, length, drop, map, flat_map, min, Option, Some, None, is_some, unwrap_or, refl, sym, ap, subst, ◌∙◌, ⊎_elim, true≢false, arith, Ok, Err}
 use Rattle.std.specs.Prelude.{Result, IfOk}
 use Rattle.std.specs.List.{list_any}
 use Rattle.std.specs.Map.{keys_of}
@@ -12,17 +12,19 @@ use Rattle.item_model.specs.declared.changes.Edit.{Edit}
 use Rattle.item_model.specs.declared.request.Target.TheVariants.{Items}
 use Rattle.item_model.specs.Valid.{AreValid}
 use Rattle.share_history.specs.Numbers.{first_revision}
-use Rattle.share_history.specs.Keyed.{ascending}
+use Rattle.share_history.specs.Keyed.{at, ascending, IsAscending}
 use Rattle.share_history.specs.Histories.{edits, revision, up_to, later}
 use Rattle.share_history.specs.Named.{names_item}
-use Rattle.share_history.specs.LastSaid.{item_at}
+use Rattle.share_history.specs.LastSaid.{last_said, says_item, item_at}
 use Rattle.share_history.specs.Rows.{library}
 use Rattle.share_history.specs.Kept.{touched}
 use Rattle.share_history.proofs.KeyedFacts.{has, is_eq-cmp, sorted-ascending, has-ascending}
-use Rattle.share_history.proofs.EditFacts.{edits_more, revision_more, up_to-revision, item_stays, up_to-all, up_to-same}
-use Rattle.share_history.proofs.RowFacts.{ids_are}
+use Rattle.share_history.proofs.EditFacts.{edits_more, revision_more, up_to-revision, item_stays, up_to-all, up_to-same, said_on}
+use Rattle.share_history.proofs.RowFacts.{ids_are, library_is, at-library}
+use Rattle.share_history.proofs.OwnFacts.{item_id}
 use Rattle.share_history.proofs.TouchFacts.{touched_are}
 use Rattle.share_history.proofs.ValidFacts.{valid_front}
+use Rattle.row_sheets.specs.Changes.{changed}
 use Rattle.item_store.specs.Store.{Store}
 use Rattle.item_store.specs.Stands.{floor_of, items_in, named_items, StandsFor, IsUnchanged}
 use Rattle.key_versions.specs.Found.{newest_value}
@@ -106,14 +108,32 @@ changed_told items lists listed (Ok v) base passed keys {s} {now} same named fro
 
 -- ---- apply
 
-pub applied : (bs : List (List Edit)) (batch : List Edit) (s : Store) (n low count : ℕ) (named : List (List ℕ)) (mid new : Held Row)
+-- the rows after a batch are those that stand where it says nothing
+pub present_more : (bs : List (List Edit)) (batch : List Edit) (old new : List (ℕ × Row)) (changes : List (ℕ × Option Row))
+    → old ≡ library (edits bs) → ((id : ℕ) → at id changes ≡ last_said (says_item id) batch)
+    → IsAscending new → ((id : ℕ) → at id new ≡ changed changes old id) → new ≡ library (edits (bs ++ batch ∷ []))
+present_more bs batch old new changes was said ascends each =
+    library_is (edits (bs ++ batch ∷ [])) new ascends
+    (λ id. each id ∙ (λ i. unwrap_or (said id i) (at id (was i))) ∙ ap (unwrap_or (last_said (says_item id) batch)) (at-library (edits bs) id)
+    ∙ sym (said_on (says_item id) (edits bs) batch None) ∙ ap (λ es. item_at es id) (sym (edits_more bs batch)))
+
+-- a row that is said of an id has it
+pub said_own : (id : ℕ) (row : Row) (es : List Edit) → last_said (says_item id) es ≡ Some (Some row) → row.id ≡ id
+said_own id row es is = item_id es id row (ap (λ said. unwrap_or said None) is)
+
+-- the batches up to the revision before the last are those before it
+up_to_last : (bs : List (List Edit)) (batch : List Edit) (n : ℕ) → n ≡ revision bs + 1 → up_to (bs ++ batch ∷ []) (n - 1) ≡ bs
+up_to_last bs batch n next = ap (up_to (bs ++ batch ∷ [])) (let last : n - 1 ≡ revision bs = omega (arith, next) in last) ∙ up_to-revision bs (batch ∷ [])
+
+pub applied : (bs : List (List Edit)) (batch : List Edit) (s : Store) (n low count : ℕ) (named : List (List ℕ)) (mid new : Held Row) (present before_it : List (ℕ × Row))
     → StandsFor bs s → AreValid batch → n ≡ s.revision + 1 → low ≡ floor_of s.keep s.revision
     → named ≡ drop (low - s.low) (s.named ++ named_items batch ∷ [])
     → ((es : List Edit) → AreItems n es s.versions s.count → AreItems n (es ++ batch) mid count)
     → ((q base : ℕ) → base < n → value_at mid q base ≡ value_at s.versions q base)
     → ((q base : ℕ) → low ≤ base → value_at new q base ≡ value_at mid q base)
-    → StandsFor (bs ++ batch ∷ []) (record { keep = s.keep; revision = n; low = low; can_undo = true; count = count; count_before = s.count; named = named; versions = new })
-applied bs batch s n low count named mid new h valid next floor lists items before pruned =
+    → present ≡ library (edits (bs ++ batch ∷ [])) → before_it ≡ s.present
+    → StandsFor (bs ++ batch ∷ []) (record { keep = s.keep; revision = n; low = low; can_undo = true; count = count; count_before = s.count; named = named; versions = new; present = present; before = before_it })
+applied bs batch s n low count named mid new present before_it h valid next floor lists items before pruned all_now all_before =
     let all : List (List Edit) = bs ++ batch ∷ [] in
     let made : n ≡ revision all = omega (arith, next, h.revision, revision_more bs batch) in
     let now : AreItems n (edits bs ++ batch) mid count = items (edits bs) (items_now h n next) in
@@ -141,10 +161,9 @@ applied bs batch s n low count named mid new h valid next floor lists items befo
       least = omega (arith, floor);
       reach = omega (arith, floor, next);
       undo = λ _. omega (arith, floor, next);
-      count_before = λ _.
-          h.count
-          ∙ ap (λ cs. length (library (edits cs)))
-          (sym (ap (up_to all) (let last : n - 1 ≡ revision bs = omega (arith, next, h.revision) in last) ∙ up_to-revision bs (batch ∷ [])));
+      count_before = λ _. h.count ∙ ap (λ cs. length (library (edits cs))) (sym (up_to_last bs batch n (next ∙ ap (λ v. v + 1) h.revision)));
+      present = all_now;
+      before = λ _. all_before ∙ h.present ∙ ap (λ cs. library (edits cs)) (sym (up_to_last bs batch n (next ∙ ap (λ v. v + 1) h.revision)));
     }
 
 up_to_least : (bs : List (List Edit)) (base v : ℕ) → v ≡ revision bs → up_to bs (min base v) ≡ up_to bs base
@@ -156,7 +175,7 @@ up_to_least bs base v is =
 
 left_same : (s : Store) (n : ℕ) (named : List (List ℕ)) (new : Held Row) → n ≡ s.revision + 1 → named ≡ s.named
     → (1 ≤ n → (q base : ℕ) → (value_at new q base ≡ value_at s.versions q base) ⊎ (value_at new q base ≡ value_at s.versions q (min base (n - 1))))
-    → IsUnchanged s (record { keep = s.keep; revision = s.revision; low = s.low; can_undo = s.can_undo; count = s.count; count_before = s.count_before; named = named; versions = new })
+    → IsUnchanged s (record { keep = s.keep; revision = s.revision; low = s.low; can_undo = s.can_undo; count = s.count; count_before = s.count_before; named = named; versions = new; present = s.present; before = s.before })
 left_same s n named new next lists rows = record {
   keep = refl;
   revision = refl;
@@ -177,14 +196,16 @@ left_same s n named new next lists rows = record {
     reach = h.reach;
     undo = h.undo;
     count_before = h.count_before;
+    present = h.present;
+    before = h.before;
   };
 }
 
 pub not_applied : {s now : Store} → s ≡ now → (n : ℕ) (named : List (List ℕ)) (new : Held Row) → n ≡ now.revision + 1 → named ≡ s.named
     → (1 ≤ n → (q base : ℕ) → (value_at new q base ≡ value_at s.versions q base) ⊎ (value_at new q base ≡ value_at s.versions q (min base (n - 1))))
-    → IsUnchanged now (record { keep = s.keep; revision = s.revision; low = s.low; can_undo = s.can_undo; count = s.count; count_before = s.count_before; named = named; versions = new })
+    → IsUnchanged now (record { keep = s.keep; revision = s.revision; low = s.low; can_undo = s.can_undo; count = s.count; count_before = s.count_before; named = named; versions = new; present = s.present; before = s.before })
 not_applied {s} same n named new next lists rows =
-    subst (λ old. IsUnchanged old (record { keep = s.keep; revision = s.revision; low = s.low; can_undo = s.can_undo; count = s.count; count_before = s.count_before; named = named; versions = new }))
+    subst (λ old. IsUnchanged old (record { keep = s.keep; revision = s.revision; low = s.low; can_undo = s.can_undo; count = s.count; count_before = s.count_before; named = named; versions = new; present = s.present; before = s.before }))
     same (left_same s n named new (next ∙ ap (λ t. t.revision + 1) (sym same)) lists rows)
 
 -- ---- undo
@@ -198,13 +219,14 @@ row_before bs batch q base unnamed =
     ∙ ap (λ cs. item_at (edits cs) q) (sym (up_to-all bs base (omega (arith, above)))))
     (cases_lt base (revision bs + 1))
 
-pub undone : (bs : List (List Edit)) (batch : List Edit) (s : Store) (n : ℕ) (named : List (List ℕ)) (new : Held Row)
+pub undone : (bs : List (List Edit)) (batch : List Edit) (s : Store) (n : ℕ) (named : List (List ℕ)) (new : Held Row) (present none : List (ℕ × Row))
     → StandsFor (bs ++ batch ∷ []) s → s.can_undo ≡ true → n ≡ s.revision - 1
     → ((front : List (List ℕ)) (ids : List ℕ) → s.named ≡ front ++ ids ∷ [] → named ≡ front)
     → (1 ≤ s.revision → (front : List (List ℕ)) (ids : List ℕ) → s.named ≡ front ++ ids ∷ []
     → (q base : ℕ) → value_at new q base ≡ value_at s.versions q (cond (is_among q ids) (min base (s.revision - 1)) base))
-    → StandsFor bs (record { keep = s.keep; revision = n; low = s.low; can_undo = false; count = s.count_before; count_before = s.count_before; named = named; versions = new })
-undone bs batch s n named new h can last lists rows =
+    → present ≡ s.before
+    → StandsFor bs (record { keep = s.keep; revision = n; low = s.low; can_undo = false; count = s.count_before; count_before = s.count_before; named = named; versions = new; present = present; before = none })
+undone bs batch s n named new present none h can last lists rows all_now =
     let was : s.revision - 1 ≡ revision bs = omega (arith, h.revision, revision_more bs batch) in
     let low : s.low ≤ revision bs = omega (arith, h.undo can, was) in
     let front : List (List ℕ) = map named_items (drop (s.low - first_revision) bs) in
@@ -226,10 +248,12 @@ undone bs batch s n named new h can last lists rows =
           (λ unnamed. ap (λ b. value_at s.versions q (cond b (min base (s.revision - 1)) base)) unnamed
           ∙ h.rows q base le ∙ row_before bs batch q base (sym (among_named q batch) ∙ unnamed))
           (cases_Bool (is_among q (named_items batch)));
-      count = h.count_before can ∙ ap (λ cs. length (library (edits cs))) (ap (up_to (bs ++ batch ∷ [])) was ∙ up_to-revision bs (batch ∷ []));
+      count = h.count_before can ∙ ap (λ cs. length (library (edits cs))) (up_to_last bs batch s.revision (h.revision ∙ revision_more bs batch));
       named = lists front (named_items batch) parts;
       least = h.least;
       reach = omega (arith, h.undo can, last);
       undo = λ e. absurd (true≢false (sym e));
       count_before = λ e. absurd (true≢false (sym e));
+      present = all_now ∙ h.before can ∙ ap (λ cs. library (edits cs)) (up_to_last bs batch s.revision (h.revision ∙ revision_more bs batch));
+      before = λ e. absurd (true≢false (sym e));
     }

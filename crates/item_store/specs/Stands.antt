@@ -40,6 +40,9 @@ pub record StandsFor (bs : List (List Edit)) (store : Store) : Type 0 where
   -- what takes the last batch back is there too
   pub undo : store.can_undo ≡ true → store.low ≤ floor_of store.keep (store.revision - 1)
   pub count_before : store.can_undo ≡ true → store.count_before ≡ length (library (edits (up_to bs (store.revision - 1))))
+  -- and so are all rows, as they are now and as they were before the last batch
+  pub present : store.present ≡ library (edits bs)
+  pub before : store.can_undo ≡ true → store.before ≡ library (edits (up_to bs (store.revision - 1)))
 
 -- the store is as it was for whoever uses it
 pub record IsUnchanged (old new : Store) : Type 0 where

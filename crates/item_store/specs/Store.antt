@@ -17,3 +17,6 @@ pub record Store : Type 0 where
   pub named : List (List ℕ)
   -- the rows of each id, the newest first, each with the revision that it came with
   pub versions : Held Row
+  -- the rows of all items by their ids, and what they were before the last batch
+  pub present : List (ℕ × Row)
+  pub before : List (ℕ × Row)

@@ -3,6 +3,7 @@
 #![tactic(auto)]
 
 mod batches;
+mod changes;
 mod edits;
 mod store;
 

@@ -11,12 +11,15 @@ ghost use Rattle.share_history.specs.Rows.{library};
 ghost use Rattle.item_store.specs.Stands.{floor_of, StandsFor, IsUnchanged};
 
 use crate::batches::{ids_after, listed, prune_to, take_back_batch, take_in_batch};
+use crate::changes::changes_of;
 use item_model::{Edit, Row, SharedRow};
 use key_versions::Versions;
+use row_sheets::RowSheets;
 use share_history::FIRST_REVISION;
 use std::alloc::{AllocError, Global};
 use std::collections::VecDeque;
 use std::marker::Model;
+use std::mem;
 
 /// The items that batches of edits leave, with what they were as far back as is kept.
 #[derive(Debug, Drop)]
@@ -32,6 +35,9 @@ pub struct ItemStore {
     // the ids that each batch after `low` put or dropped, in order
     named: VecDeque<Vec<u32>>,
     held: Versions<SharedRow>,
+    // the rows of all items, and what they were before the last batch
+    present: RowSheets,
+    before: RowSheets,
 }
 
 impl Model for ItemStore {
@@ -41,7 +47,7 @@ impl Model for ItemStore {
 
     ghost use Rattle.std.specs.Prelude.{map};
 
-    ghost view = { λ a. record { keep = a.keep; revision = a.revision; low = a.low; can_undo = a.can_undo; count = a.count; count_before = a.count_before; named = map (λ v. v.items) a.named.items; versions = a.held } };
+    ghost view = { λ a. record { keep = a.keep; revision = a.revision; low = a.low; can_undo = a.can_undo; count = a.count; count_before = a.count_before; named = map (λ v. v.items) a.named.items; versions = a.held; present = a.present; before = a.before } };
 }
 
 impl ItemStore {
@@ -63,6 +69,8 @@ impl ItemStore {
             count_before: 0,
             named: VecDeque::new(alloc),
             held: Versions::new(alloc),
+            present: RowSheets::new(alloc),
+            before: RowSheets::new(alloc),
         }
     }
 
@@ -75,12 +83,32 @@ impl ItemStore {
         ensures keep { self.new.keep ≡ self.old.keep }
         ensures unchanged { OnErr result (IsUnchanged self.old self.new) }
     {
+        let changes = changes_of(self.alloc, edits)?;
+        let present = self.present.with_changes(changes.as_slice())?;
+        self.take_in(edits, revision, present)
+    }
+
+    // Takes in a batch that leaves these rows.
+    fn take_in(
+        &mut self,
+        batch: &[Edit],
+        revision: u32,
+        present: RowSheets,
+    ) -> Result<(), AllocError>
+        requires next { revision ≡ self.old.revision + 1 }
+        requires valid { AreValid batch.now }
+        requires present { (bs : List (List Edit)) → StandsFor bs self.old → present ≡ library (edits (bs ++ batch.now ∷ [])) }
+        ensures stands { OnOk result ((bs : List (List Edit)) → StandsFor bs self.old → StandsFor (bs ++ batch.now ∷ []) self.new) }
+        ensures undo { OnOk result (self.new.can_undo ≡ true) }
+        ensures keep { self.new.keep ≡ self.old.keep }
+        ensures unchanged { OnErr result (IsUnchanged self.old self.new) }
+    {
         let taken = take_in_batch(
             self.alloc,
             &mut self.held,
             &mut self.named,
             self.count,
-            edits,
+            batch,
             revision,
         );
         match taken {
@@ -91,6 +119,7 @@ impl ItemStore {
                 self.low = low;
                 self.count_before = self.count;
                 self.count = count;
+                turn(&mut self.present, &mut self.before, present);
                 self.revision = revision;
                 self.can_undo = true;
                 Ok(())
@@ -108,6 +137,7 @@ impl ItemStore {
     {
         take_back_batch(&mut self.held, &mut self.named, self.revision);
         self.count = self.count_before;
+        turn_back(self.alloc, &mut self.present, &mut self.before);
         self.revision = self.revision.saturating_sub(1);
         self.can_undo = false;
     }
@@ -164,6 +194,20 @@ impl ItemStore {
         floor(self.keep, self.revision)
     }
 
+    /// All items by their ids.
+    pub fn rows(&self) -> &RowSheets
+        ensures { (bs : List (List Edit)) → StandsFor bs self.now → result.now ≡ library (edits bs) }
+    {
+        &self.present
+    }
+
+    /// The same as an owner of them. It copies a pointer for each sheet, and reads no row.
+    pub fn sheets(&self) -> Result<RowSheets, AllocError>
+        ensures { IfOk result (λ rows. (bs : List (List Edit)) → StandsFor bs self.now → rows ≡ library (edits bs)) }
+    {
+        self.present.share()
+    }
+
     /// The ids of all items, ascending.
     pub fn ids(&self) -> Result<Vec<u32>, AllocError>
         ensures { IfOk result (λ ids. (bs : List (List Edit)) → StandsFor bs self.now → ids.items ≡ keys_of (library (edits bs))) }
@@ -184,6 +228,21 @@ impl ItemStore {
         };
         listed(self.alloc, &ids)
     }
+}
+
+// Makes these rows the present ones, and those that were present the ones before.
+fn turn(present: &mut RowSheets, before: &mut RowSheets, rows: RowSheets)
+    ensures present { present.new ≡ rows }
+    ensures before { before.new ≡ present.old }
+{
+    *before = mem::replace(present, rows);
+}
+
+// Makes the rows before the present ones, and leaves none before them.
+fn turn_back(alloc: Global, present: &mut RowSheets, before: &mut RowSheets)
+    ensures { present.new ≡ before.old }
+{
+    *present = mem::replace(before, RowSheets::new(alloc));
 }
 
 // The least base that `keep` allows at a revision.

@@ -1,4 +1,4 @@
--- A reader that was fed bytes piece by piece, and what it found in them.
+-- A reader that was fed bytes chunk by chunk, and what it found in them.
 use Rattle.std.proofs.Common.{◌≡◌, ◌≢◌, ◌<◌, ◌≤◌, ◌++◌, ◌∷◌, [], ℕ, List, length, take, drop, None, Some, Result, Ok, Err, IfErr, MatchResult, inl, inr, refl, sym, ap, ◌∙◌, subst, arith, append_assoc, append-nil}
 use Rattle.std.proofs.lemmas.List.{take-append-drop, length-drop}
 use Rattle.code_table.specs.Standard.{standard_rows}
@@ -12,14 +12,14 @@ use Rattle.json_commands.specs.Whole.{json_limit}
 use Rattle.json_commands.specs.Json.{HasTagsFault, walked}
 use Rattle.json_commands.specs.Fed.{HasFed, IsFed, Feeds}
 
--- it took as many bytes as it was fed
+-- it counts the bytes that it was fed
 pub fed_taken : (fed : List ℕ) (r : Reader) → IsFed fed r → taken r ≡ length fed
 fed_taken fed r h = let read : ReadAs fed h.read.0 r None = subst (ReadAs fed h.read.0 r) h.going h.read.1 in read.1
 
 walked_by : (bytes : List ℕ) (r : Reader) → r.rows ≡ standard_rows → r.limit ≡ json_limit → walk_of r.rows r.limit bytes ≡ walked bytes
 walked_by bytes r rows limit = ap (λ rs. walk_of rs r.limit bytes) rows ∙ ap (λ l. walk_of standard_rows l bytes) limit
 
--- the fault that it found is that of the bytes
+-- the error that it found is that of the bytes
 pub fed_fault : (bytes : List ℕ) (handed : List Event) (r : Reader) (e : StreamError) → r.rows ≡ standard_rows → r.limit ≡ json_limit → r.error ≡ Some e → Tells bytes handed r
     → e ≢ stream.Memory → HasTagsFault e bytes
 fed_fault bytes handed r e rows limit failed tells known =
@@ -37,7 +37,7 @@ some_left : (bytes : List ℕ) → bytes ≢ [] → 0 < length bytes
 some_left [] h = absurd (h refl)
 some_left (b ∷ bytes) h = omega arith
 
--- bytes that are left were fed, and the reader stopped at a fault
+-- the bytes that were left were fed, and the reader stopped at an error
 pub feeds_fault : (all left : List ℕ) (old new : Reader) (e : StreamError) → Feeds all left old → new.rows ≡ old.rows → new.limit ≡ old.limit → new.error ≡ Some e
     → ((fed : List ℕ) (handed : List Event) → HasRead fed handed old → Tells (fed ++ left) handed new) → e ≢ stream.Memory → HasTagsFault e all
 feeds_fault all left old new e h rows limit failed tells known =
@@ -74,7 +74,7 @@ pub nothing_left : (left : List ℕ) → length left ≡ 0 → left ≡ []
 nothing_left [] h = refl
 nothing_left (b ∷ left) h = absurd (cc)
 
--- nothing is left, and the reader was told so
+-- no bytes are left, and the reader was finished
 pub feeds_end : (all left : List ℕ) (r : Reader) (result : Result (Unit {0}) StreamError) → Feeds all left r → left ≡ []
     → ((fed : List ℕ) (handed : List Event) → HasRead fed handed r → r.error ≡ None
     → MatchResult result (λ _. (walk_of r.rows r.limit fed).ending ≡ between) (λ e. ((walk_of r.rows r.limit fed).ending ≡ inside) × (e ≡ stream.Truncated (length fed))))

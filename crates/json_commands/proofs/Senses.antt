@@ -1,4 +1,4 @@
--- What the meanings owe: an input has one status, and no fault where the command is done.
+-- The specifications are sensible: an input has one status, and no error if the command succeeds.
 use Rattle.std.proofs.Common.{◌≡◌, ℕ, zero, suc, List, [], ◌∷◌, Some, inl, inr, refl, sym, subst, ap, ◌∙◌, arith}
 use Rattle.std.proofs.lemmas.Bool.{true≢false}
 use Rattle.code_table.specs.Standard.{standard_rows}

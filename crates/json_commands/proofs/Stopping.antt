@@ -1,4 +1,4 @@
--- When a command that reads its input whole stops.
+-- Why a command that reads its whole input stops.
 use Rattle.std.proofs.Common.{Vec, Global, ◌≡◌, ◌≤◌, ◌<◌, ◌+◌, ℕ, List, length, Err, IfSome, refl, arith}
 use Rattle.std.specs.Io.KnownBytes.{Consumes, IsAtEnd}
 use Rattle.daap_outside.specs.Counts.{Rose}

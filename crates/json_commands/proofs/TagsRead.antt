@@ -53,7 +53,7 @@ read_all bytes left lines nothing h = record {
   lines = h.lines_are;
 }
 
--- the tag that was read off the front was taken
+-- the first tag was read and removed
 pub takes_tag : (bytes rest lines more : List ℕ) (t : Tree) (n : ℕ) → take n bytes ≡ spelling t → rest ≡ drop n bytes → is_accepted standard_rows json_limit t ≡ true
     → IsProperTag t → more ≡ lines ++ json_line t → TakesTag bytes rest lines more
 takes_tag bytes rest lines more t n front behind_is accepted proper added = record {

@@ -1,4 +1,4 @@
--- The command `json`: the JSON of each top tag of the input, a line each.
+-- The command `json`: a line of JSON for each top-level tag of the input.
 use Rattle.std.specs.Prelude.{◌≡◌, ◌≢◌, ◌⊎◌, ◌++◌, ◌∷◌, [], ℕ, List, length, flat_map, true}
 use Rattle.serde_json.specs.Written.{compact_text}
 use Rattle.dmap_tags.specs.Spelling.{spelling, spellings}
@@ -27,7 +27,7 @@ json_line t = compact_text (json_of t) ++ 10 ∷ []
 abbrev pub json_lines : List Tree → List ℕ
 json_lines ts = flat_map json_line ts
 
--- bytes begin with a tag, whose line is added to those before
+-- `bytes` begin with a tag, whose line is appended to `lines`
 pub record TakesTag (bytes rest lines more : List ℕ) : Type 0 where
   pub tag : Tree
   pub split : bytes ≡ spelling tag ++ rest
@@ -35,18 +35,18 @@ pub record TakesTag (bytes rest lines more : List ℕ) : Type 0 where
   pub proper : IsProperTag tag
   pub added : more ≡ lines ++ json_line tag
 
--- the bytes are top tags of the standard table, each within the limit, and the output is their lines
+-- the bytes are top-level tags of the standard table, each within the limit, and the output is their lines
 pub record GivesJson (bytes output : List ℕ) : Type 0 where
   pub tags : List Tree
   pub spelled : bytes ≡ spellings (trees_of tags)
   pub accepted : AreAccepted standard_rows json_limit tags
   pub lines : output ≡ json_lines tags
 
--- what bytes say as tags, the limit of the input being that of a top tag
+-- the tags of the bytes; a top-level tag may be as long as the input
 abbrev pub walked : List ℕ → Walk
 walked bytes = walk_of standard_rows json_limit bytes
 
--- the first faulty place of bytes, or that they end inside a top tag
+-- the error of the first malformed tag, or that the bytes end inside a top-level tag
 abbrev pub HasTagsFault : StreamError → List ℕ → Type 0
 HasTagsFault error bytes = ((walked bytes).ending ≡ broken error) ⊎ (((walked bytes).ending ≡ inside) × (error ≡ stream.Truncated (length bytes)))
 
@@ -75,11 +75,11 @@ json_meaning = record {
   leaves_net = true;
 }
 
--- the command stops so; memory may fail at any time
+-- why the command stops; an allocation may fail at any time
 abbrev pub StopsJson : InputSeen → InputSeen → Fault TagsFault → Type 0
 StopsJson before after stop = StopsBy json_cause IsWithin (Unit {0}) before after stop
 
--- the fault of bytes that are no tags
+-- the error of bytes that are not tags
 abbrev pub IsTagsFault : List ℕ → Fault TagsFault → Type 0
 IsTagsFault bytes (fault.Own (tags.Broken error)) = (error ≢ stream.Memory) × HasTagsFault error bytes
 IsTagsFault bytes (fault.Own tags.TooLong) = ⊥

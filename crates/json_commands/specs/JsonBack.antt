@@ -1,4 +1,4 @@
--- The command `json --back`: the bytes of the tags whose JSON the lines of the input are.
+-- The command `json --back`: the bytes of the tags that the lines of the input read as.
 use Rattle.std.specs.Prelude.{◌≡◌, ◌≢◌, ◌≤◌, ◌⊎◌, ◌+◌, ◌++◌, ◌∷◌, [], ℕ, zero, suc, List, true, false, codes, decimal}
 use Rattle.std.specs.Str.{is_utf8}
 use Rattle.dmap_tags.specs.Spelling.{spelling, spellings}
@@ -33,7 +33,7 @@ pub record GivesTags (text output : List ℕ) : Type 0 where
   pub lines : AreJsonLines tags text
   pub spelled : output ≡ spellings (trees_of tags)
 
--- the first line of a text reads as a tag, whose bytes are added to those before
+-- the first line of `text` reads as a tag, whose encoding is appended to `bytes`
 pub record TakesLine (text rest bytes more : List ℕ) : Type 0 where
   pub tag : Tree
   pub ended : has 10 text ≡ true
@@ -41,16 +41,16 @@ pub record TakesLine (text rest bytes more : List ℕ) : Type 0 where
   pub rest_is : rest ≡ behind 10 text
   pub added : more ≡ bytes ++ spelling tag
 
--- a line that reads as none
+-- a line that does not read as a tag
 abbrev pub IsNoTag : List ℕ → Type 0
 IsNoTag line = (is_utf8 line ≡ false) ⊎ ((is_utf8 line ≡ true) × ((e : JsonError) × ((e ≢ json.Memory) × Explains standard_rows line e)))
 
--- n lines read as tags, and the next has no line feed or reads as none
+-- n lines read as tags, and the next has no line feed or does not read as one
 abbrev pub StopsAfter : ℕ → List ℕ → Type 0
 StopsAfter zero text = (text ≢ []) × ((has 10 text ≡ false) ⊎ ((has 10 text ≡ true) × IsNoTag (before 10 text)))
 StopsAfter (suc n) text = (has 10 text ≡ true) × (((t : Tree) × IsJsonLine (before 10 text) t) × StopsAfter n (behind 10 text))
 
--- the text stops at that line, from 1
+-- `line`, counted from 1, is the first that is refused
 abbrev pub StopsOn : ℕ → List ℕ → Type 0
 StopsOn line text = (n : ℕ) × ((line ≡ n + 1) × StopsAfter n text)
 
@@ -87,11 +87,11 @@ json_back_meaning = record {
   leaves_net = true;
 }
 
--- the command stops so; memory may fail at any time
+-- why the command stops; an allocation may fail at any time
 abbrev pub StopsBack : InputSeen → InputSeen → Fault LineFault → Type 0
 StopsBack before after stop = StopsBy line_cause IsWithin (Unit {0}) before after stop
 
--- the fault of a text
+-- the error of a text
 abbrev pub IsLinesFault : List ℕ → Fault LineFault → Type 0
 IsLinesFault text (fault.Own (Line line)) = StopsOn line text
 IsLinesFault text (fault.Own TooLong) = ⊥

@@ -1,4 +1,4 @@
-//! The command `json`: the JSON of each top tag of the input.
+//! The command `json`: the JSON of each top-level tag of the input.
 
 ghost use Rattle.std.specs.Prelude.{◌≡◌, ◌≢◌, ◌++◌, ◌∷◌, [], ℕ, List, IfOk, IfErr, IfSome, MatchResult, OnOk, length, ◌+◌, ◌<◌, ◌^◌};
 ghost use Rattle.serde_json.specs.Written.{compact_text};
@@ -13,7 +13,7 @@ ghost use Rattle.json_commands.specs.Fed.{Feeds, HasFed};
 
 use crate::whole::{INPUT_LIMIT, TAG_LIMITS};
 use code_table::CodeTable;
-use command_core::{Fault, Outcome, read_fault, written};
+use command_core::{Fault, Outcome, read_fault, write_result};
 use daap_outside::{Sink, Source, read_within};
 use dmap_json::to_json;
 use dmap_stream::{DmapReader, StreamError, read_tag};
@@ -21,7 +21,7 @@ use dmap_tags::Tag;
 use std::alloc::{AllocError, Global};
 use tag_commands::TagsFault;
 
-/// Does `json`: writes a line of JSON for each top tag of the input, once all of it has been read.
+/// Runs `json`: reads the whole input, then writes a line of JSON for each of its top-level tags.
 pub fn write_json<I: Source, W: Sink>(alloc: Global, input: &mut I, output: &mut W) -> Outcome
     ensures { (around : Around) → IsAnswered json_meaning
         (told_beside around
@@ -32,10 +32,10 @@ pub fn write_json<I: Source, W: Sink>(alloc: Global, input: &mut I, output: &mut
         result }
 {
     let answer = input_lines(alloc, input);
-    written(alloc, output, answer)
+    write_result(alloc, output, answer)
 }
 
-/// Reads the input to its end, and returns the lines of its tags.
+/// Reads the input to its end. Returns the lines of its tags.
 fn input_lines<I: Source>(alloc: Global, input: &mut I) -> Result<Vec<u8>, Fault<TagsFault>>
     ensures given { IfOk result (λ lines. IsGiven GivesJson
         (input_seen (I.left input.old) (I.faults input.old))
@@ -53,7 +53,7 @@ fn input_lines<I: Source>(alloc: Global, input: &mut I) -> Result<Vec<u8>, Fault
     bytes_lines(alloc, bytes.as_slice())
 }
 
-/// The lines of the tags that bytes are.
+/// Returns the lines of the tags that `bytes` are, or the first malformed tag.
 fn bytes_lines(alloc: Global, bytes: &[u8]) -> Result<Vec<u8>, Fault<TagsFault>>
     requires { IsWithin bytes.now }
     ensures given { IfOk result (λ lines. GivesJson bytes.now lines.items) }
@@ -69,7 +69,7 @@ fn bytes_lines(alloc: Global, bytes: &[u8]) -> Result<Vec<u8>, Fault<TagsFault>>
     }
 }
 
-/// The lines of the tags that bytes are, one after another; `None` if they are no such tags.
+/// Returns the lines of the tags that `bytes` are, or `None` if `bytes` are not tags.
 fn tag_lines(alloc: Global, table: &CodeTable, bytes: &[u8]) -> Result<Option<Vec<u8>>, AllocError>
     requires { table.now ≡ standard_rows }
     ensures { IfOk result (λ r. IfSome r (λ lines. GivesJson bytes.now lines.items)) }
@@ -85,7 +85,7 @@ fn tag_lines(alloc: Global, table: &CodeTable, bytes: &[u8]) -> Result<Option<Ve
     Ok(Some(lines))
 }
 
-/// Adds the line of the tag in front of bytes, and returns what is behind it; `None` if they begin with no tag.
+/// Appends the line of the first tag of `bytes`. Returns the bytes after that tag, or `None` if there is no such tag.
 fn push_first<'a>(
     alloc: Global,
     table: &CodeTable,
@@ -105,7 +105,7 @@ fn push_first<'a>(
     Ok(Some(rest))
 }
 
-/// Adds the line of a tag.
+/// Appends the line of `tag`.
 fn push_line(
     alloc: Global,
     table: &CodeTable,
@@ -123,7 +123,7 @@ fn push_line(
     Ok(())
 }
 
-/// The first faulty place in bytes, or that they end inside a tag.
+/// Returns the error of the first malformed tag of `bytes`, or that they end inside a tag.
 fn first_fault(alloc: Global, table: &CodeTable, bytes: &[u8]) -> Result<(), StreamError>
     requires rows { table.now ≡ standard_rows }
     requires within { IsWithin bytes.now }
@@ -140,7 +140,7 @@ fn first_fault(alloc: Global, table: &CodeTable, bytes: &[u8]) -> Result<(), Str
     reader.finish()
 }
 
-/// Feeds bytes to a reader until a tag's event is ready, drops what is ready, and returns the bytes that are left.
+/// Feeds `bytes` to `reader` until an event is ready, and drops the event. Returns the bytes that are left.
 fn feed_some<'a>(reader: &mut DmapReader, bytes: &'a [u8]) -> Result<&'a [u8], StreamError>
     requires some { bytes.now ≢ [] }
     requires counted { taken reader.old + length bytes.now < 2 ^ 64 }

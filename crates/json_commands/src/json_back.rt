@@ -1,4 +1,4 @@
-//! The command `json --back`: the bytes of the tags whose JSON the input's lines are.
+//! The command `json --back`: reads lines of JSON, and writes the bytes of their tags.
 
 ghost use Rattle.std.specs.Prelude.{◌≡◌, ◌≢◌, ◌++◌, [], IfOk, IfErr, MatchOption, OnOk};
 ghost use Rattle.code_table.specs.Standard.{standard_rows};
@@ -11,18 +11,18 @@ ghost use Rattle.json_commands.specs.JsonBack.{line_text, line_status, GivesTags
 use crate::lines::{split_line, tag_of};
 use crate::whole::INPUT_LIMIT;
 use code_table::CodeTable;
-use command_core::{Fault, Outcome, Refusal, read_fault, written};
+use command_core::{Fault, Outcome, Refusal, read_fault, write_result};
 use daap_outside::{Sink, Source, read_within};
 use dmap_tags::{Tag, encode_into};
 use fault_lines::push_number;
 use std::alloc::{AllocError, Global};
 
-/// Why an input is not taken as lines of JSON.
+/// Why an input is refused.
 #[derive(Debug, Drop)]
 pub enum LineFault {
-    /// This line, counted from 1, is the first that reads as no tag or has no line feed.
+    /// Line number `line`, counted from 1, is the first that does not read as a tag or has no line feed.
     Line { line: u64 },
-    /// It has more bytes than are read.
+    /// The input has more than `INPUT_LIMIT` bytes.
     TooLong,
 }
 
@@ -55,7 +55,7 @@ fn numbered_line(alloc: Global, number: u64) -> Result<Vec<u8>, AllocError>
     Ok(line)
 }
 
-/// Does `json --back`: writes the bytes of the tags that the input's lines read as, once all of it has been read.
+/// Runs `json --back`: reads the whole input, then writes the bytes of the tags that its lines read as.
 pub fn read_json<I: Source, W: Sink>(alloc: Global, input: &mut I, output: &mut W) -> Outcome
     ensures { (around : Around) → IsAnswered json_back_meaning
         (told_beside around
@@ -66,10 +66,10 @@ pub fn read_json<I: Source, W: Sink>(alloc: Global, input: &mut I, output: &mut 
         result }
 {
     let answer = input_tags(alloc, input);
-    written(alloc, output, answer)
+    write_result(alloc, output, answer)
 }
 
-/// Reads the input to its end, and returns the bytes of the tags that its lines read as.
+/// Reads the input to its end. Returns the bytes of the tags that its lines read as.
 fn input_tags<I: Source>(alloc: Global, input: &mut I) -> Result<Vec<u8>, Fault<LineFault>>
     ensures given { IfOk result (λ bytes. IsGiven GivesTags
         (input_seen (I.left input.old) (I.faults input.old))
@@ -87,7 +87,7 @@ fn input_tags<I: Source>(alloc: Global, input: &mut I) -> Result<Vec<u8>, Fault<
     text_tags(alloc, text.as_slice())
 }
 
-/// The bytes of the tags that the lines of a text read as.
+/// Returns the bytes of the tags that the lines of `text` read as, or the first line that is refused.
 fn text_tags(alloc: Global, text: &[u8]) -> Result<Vec<u8>, Fault<LineFault>>
     requires { IsWithin text.now }
     ensures given { IfOk result (λ bytes. GivesTags text.now bytes.items) }
@@ -107,8 +107,8 @@ fn text_tags(alloc: Global, text: &[u8]) -> Result<Vec<u8>, Fault<LineFault>>
     Ok(bytes)
 }
 
-/// Adds the bytes of the tag that the first line of a text reads as, and returns what is behind the line; `None` if the
-/// line reads as none or has no line feed.
+/// Appends the bytes of the tag that the first line of `text` reads as. Returns what follows the line, or `None` if the
+/// line does not read as a tag or has no line feed.
 fn push_first<'a>(
     alloc: Global,
     table: &CodeTable,
@@ -130,7 +130,7 @@ fn push_first<'a>(
     Ok(Some(rest))
 }
 
-/// Adds the bytes of a tag. A line within the limit spells no payload that is too long, so only an allocation fails.
+/// Appends the bytes of `tag`. A line within the limit has no payload that is too long, so only an allocation fails.
 fn push_tag(tag: Tag, bytes: &mut Vec<u8>) -> Result<(), AllocError>
     ensures { OnOk result (bytes.new.items ≡ bytes.old.items ++ spelling tag) }
 {

@@ -1,5 +1,5 @@
-//! The commands that write tags as JSON, a line for each top tag, and read such lines back. Each has its meaning in a
-//! file of `specs/`, and its function ends as that says, however the input comes in pieces.
+//! The commands that write tags as JSON, a line for each top-level tag, and read such lines back. Each has its
+//! specification in a file of `specs/`, and its function ends as that says, however the input is chunked.
 #![tactic(auto)]
 
 mod json;

@@ -1,4 +1,4 @@
-//! Lines of a text, and the tags that they read as.
+//! Splits a text into lines, and reads a line as a tag.
 
 ghost use Rattle.std.specs.Prelude.{◌≡◌, true, false, IfOk, MatchOption};
 ghost use Rattle.code_table.specs.Standard.{standard_rows};
@@ -11,7 +11,7 @@ use dmap_tags::Tag;
 use std::alloc::{AllocError, Global};
 use std::str::from_utf8;
 
-/// The first line of a text without its line feed, and what follows; `None` if there is no line feed.
+/// Returns the first line of `text` without its line feed, and what follows; `None` if there is no line feed.
 pub(crate) fn split_line(text: &[u8]) -> Option<(&[u8], &[u8])>
     ensures { MatchOption result (has 10 text.now ≡ false)
         (λ r. (has 10 text.now ≡ true) × ((r.0.now ≡ before 10 text.now) × (r.1.now ≡ behind 10 text.now))) }
@@ -24,7 +24,7 @@ pub(crate) fn split_line(text: &[u8]) -> Option<(&[u8], &[u8])>
     None
 }
 
-/// The tag that a line reads as.
+/// Returns the tag that `line` reads as, or `None` if it does not read as one.
 pub(crate) fn tag_of(
     alloc: Global,
     table: &CodeTable,

@@ -2,8 +2,8 @@
 
 use dmap_stream::Limits;
 
-/// The most bytes that the input may have: 64 MiB.
+/// The input may have at most 64 MiB.
 pub const INPUT_LIMIT: u64 = 67_108_864;
 
-/// So the payload of a top tag has no more either.
+/// The payload of a top-level tag may be as long as the input.
 pub const TAG_LIMITS: Limits = Limits { top: 67_108_864 };

@@ -37,12 +37,12 @@ stops_share contents path first bs fault.Memory stood stops = tt
 
 -- ---- what a refusal leaves
 
--- the same bytes stand for the same batches
+-- the same bytes represent the same batches
 same_stands : (before now : Option Contents) (path : List ℕ) → IfSome before (λ c. Puts path (bytes_at c path) c now) → LeavesStanding path before now
 same_stands None now path puts bs stands = tt
 same_stands (Some c) now path puts bs stands = record { bytes = bytes_at c path; stands = stands; told = puts }
 
--- bytes stand for one list of batches
+-- bytes represent at most one list of batches
 stands_still : (before now : Option Contents) (path : List ℕ) (bs : List (List Edit)) → StandsAt before path bs → LeavesAt path bs before now → LeavesStanding path before now
 stands_still None now path bs stood left other stands = tt
 stands_still (Some c) now path bs stood left other stands = subst (λ l. PutsBatches path l c now) (one_list (bytes_at c path) bs other stood stands) left
@@ -65,12 +65,12 @@ leaves_share before now path bs all fault.Read stood stops left = tt
 leaves_share before now path bs all fault.Memory stood stops (inl failed) = absurd (cc)
 leaves_share before now path bs all fault.Memory stood stops (inr left) = stands_still before now path bs stood left
 
--- a refusal that no call on the file led to leaves the count
+-- a refusal that does not come from a call on the file leaves the error counter unchanged
 pub counts_nothing : {T : Type 0} (n : ℕ) (r : Result T (Fault FileFault)) → IfErr r (CountsFault n n) → CountsStop n n r
 counts_nothing n (Ok x) counted = refl
 counts_nothing n (Err stop) counted = counted
 
--- nor does one that is handed on
+-- .. also if it is passed on
 pub counts_same : {T : Type 0} (n : ℕ) (r : Result T (Fault FileFault)) (stop : Fault FileFault) → IsErrAnd r (λ e. e ≡ stop) → CountsFault n n stop → CountsStop n n r
 counts_same n (Ok x) stop is counted = absurd is
 counts_same n (Err e) stop is counted = subst (CountsFault n n) (sym is) counted

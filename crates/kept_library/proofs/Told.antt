@@ -1,4 +1,4 @@
--- What is told of a file under its name, when it is opened and when it is given back.
+-- What is known of a file under its name, when it is opened and when it is closed.
 use Rattle.std.proofs.Common.{◌≡◌, ℕ, true, false, List, [], ◌∷◌, Option, Some, None, is_some, IfSome, MatchBool, if◌then◌else◌, ap, ◌∙◌, subst, append_assoc, refl, inl, inr}
 use Rattle.item_model.specs.declared.changes.Edit.{Edit}
 use Rattle.outside_disks.specs.Contents.{Contents, OpensFile, ClosesFile}
@@ -17,14 +17,14 @@ pub told_at : (P : List ℕ → Type 0) (contents : Option Contents) (path : Lis
 told_at P None path opened_as bytes opens here = tt
 told_at P (Some c) path opened_as bytes opens here = subst (λ (o : Option (List ℕ)). IfSome o P) opens.1 here
 
--- a disk that is given back as it was leaves its bytes
+-- a disk that is closed unchanged leaves its bytes
 pub same_at : (contents now : Option Contents) (path : List ℕ) (opened_as bytes opened_as' bytes' : Option (List ℕ)) → OpensFile contents path opened_as bytes
     → opened_as' ≡ opened_as → bytes' ≡ bytes → ClosesFile contents now opened_as' bytes' → IfSome contents (λ c. Puts path (bytes_at c path) c now)
 same_at None now path opened_as bytes opened_as' bytes' opens name same closes = tt
 same_at (Some c) now path opened_as bytes opened_as' bytes' opens name same closes =
     subst (λ b. ClosesFile (Some c) now (Some path) b) (same ∙ opens.1) (subst (λ n. ClosesFile (Some c) now n bytes') (name ∙ opens.0) closes)
 
--- a file at rest stands for its batches
+-- the bytes of a file without a pending change represent its batches
 pub rest_stands : (bytes : List ℕ) (closing : ℕ) (batches : List (List Edit)) → AtRest bytes closing batches → FileStands bytes batches
 rest_stands bytes closing batches rest = inr (record {
   frames = rest.frames;
@@ -36,13 +36,13 @@ rest_stands bytes closing batches rest = inr (record {
 })
 
 module _ {D : Type 0} (g : Ghosts D) {f : faulted.Ghosts D} where
-  -- its place is its name
+  -- the disk's name is the file's name
   pub placed_at : (contents : Option Contents) (path : List ℕ) (opened_as bytes : Option (List ℕ)) (file : EditFile D g f) → OpensFile contents path opened_as bytes
       → is_some (g.bytes file.disk) ≡ is_some bytes → g.opened_as file.disk ≡ opened_as → IfSome contents (λ _. place_of g file ≡ Some path)
   placed_at None path opened_as bytes file opens told name = tt
   placed_at (Some c) path opened_as bytes file opens told name = λ i. if (told ∙ ap is_some opens.1) i then (name ∙ opens.0) i else None
 
-  -- a file that is given back leaves its batches
+  -- a file that is closed leaves its batches
   pub leaves_at : (path : List ℕ) (bs : List (List Edit)) (before now : Option Contents) (file : EditFile D g f) → is_broken g file ≡ false → HasBatches g file bs
       → IfSome before (λ _. place_of g file ≡ Some path) → ClosesFile before now (g.opened_as file.disk) (g.bytes file.disk) → LeavesAt path bs before now
   leaves_at path bs None now file sound has place closes = tt
@@ -57,7 +57,7 @@ module _ {D : Type 0} (g : Ghosts D) {f : faulted.Ghosts D} where
       by_bytes (Some b) name is rest closed =
           record { bytes = b; stands = rest_stands b file.closing bs rest.0; told = subst (λ n. ClosesFile (Some c) now n (Some b)) is closed }
 
-  -- one that has failed leaves its batches, or one more: the bytes of its disk are what a crash may leave
+  -- a file whose append failed leaves its batches, or one more: the bytes of its disk are what a crash may leave
   pub leaves_broken : ((disk : D) (told : List ℕ) → g.bytes disk ≡ Some told → g.images disk told) → (path : List ℕ) (bs : List (List Edit)) (before now : Option Contents) (file : EditFile D g f)
       → is_broken g file ≡ true → HasBatches g file bs → IfSome before (λ _. place_of g file ≡ Some path) → ClosesFile before now (g.opened_as file.disk) (g.bytes file.disk)
       → LeavesOrOneMore path bs before now

@@ -1,4 +1,4 @@
--- The lines that a user sees of a file of edits, and the statuses that the program ends with.
+-- The lines that a user sees for the errors of an edit file, and the statuses that the program ends with.
 use Rattle.std.specs.Prelude.{ℕ, List, [], ◌∷◌, ◌++◌, codes, decimal}
 use Rattle.command_core.specs.declared.fault.Fault.{Fault}
 use Rattle.command_core.specs.declared.fault.Fault.TheVariants as fault
@@ -9,7 +9,7 @@ use Rattle.share_core.specs.declared.share.OpenError.TheVariants as opens
 use Rattle.kept_library.specs.declared.fault.FileFault.{FileFault}
 use Rattle.kept_library.specs.declared.fault.FileFault.TheVariants.{NotEditFile, Failed, TooManyEdits, TooManyLists}
 
--- of a call on a file that failed
+-- a call on a file failed
 abbrev pub failed_line : List ℕ
 failed_line = codes "file failed" ++ 10 ∷ []
 
@@ -28,7 +28,7 @@ file_status Failed = failed_status
 file_status TooManyEdits = 8
 file_status TooManyLists = 8
 
--- the faults that refusals of a file, and of a share, are
+-- the command's errors if the file, or the share, is refused
 abbrev pub file_fault : FileError → Fault FileFault
 file_fault (refusal.NotEditFile at) = fault.Own (NotEditFile at)
 file_fault refusal.Failed = fault.Own Failed

@@ -1,4 +1,4 @@
--- A share that is opened with the batches of a file, and with one batch more, which the file keeps from then on.
+-- A share that is opened with the batches of a file and with one more batch, which the file then keeps too.
 use Rattle.std.specs.Prelude.{◌≡◌, ℕ, ◌<◌, ◌≤◌, List, [], ◌++◌, length, false, Option, Some, IfSome, unwrap_or, Result, MatchResult}
 use Rattle.std.specs.FinMap as finite
 use Rattle.item_model.specs.declared.changes.Edit.{Edit}
@@ -20,11 +20,11 @@ use Rattle.kept_library.specs.declared.fault.FileFault.{FileFault}
 use Rattle.kept_library.specs.declared.fault.FileFault.TheVariants.{NotEditFile, Failed, TooManyEdits, TooManyLists}
 use Rattle.kept_library.specs.declared.opening.KeptLibrary.{KeptLibrary}
 
--- the bytes under a name; a file that is not there has none
+-- the bytes under a name; a file that does not exist has none
 abbrev pub bytes_at : Contents → List ℕ → List ℕ
 bytes_at contents path = unwrap_or (finite.get contents path) []
 
--- the bytes under the name stand for the batches, where they are told
+-- the bytes under the name represent the batches, if they are known
 abbrev pub StandsAt : Option Contents → List ℕ → List (List Edit) → Type 0
 StandsAt contents path bs = IfSome contents (λ c. FileStands (bytes_at c path) bs)
 
@@ -37,8 +37,8 @@ pub record AreFew (bs : List (List Edit)) : Type 0 where
   pub few_lists : LeaveFewLists bs
 
 module _ {D : Type 0} (g : Ghosts D) {f : faulted.Ghosts D} where
-  -- the share begins with the batches that the file stood for, and with the first one, which are few enough for it, and the file keeps
-  -- those of the share's history
+  -- the share begins with the batches that the file represented and then `first`, within its limits, and the file keeps
+  -- the batches of the share's history
   pub record HasOpened (contents : Option Contents) (path : List ℕ) (settings : Settings) (first : List Edit) (kept : KeptLibrary D g f) : Type 0 where
     pub before : List (List Edit)
     pub stood : StandsAt contents path before
@@ -49,7 +49,7 @@ module _ {D : Type 0} (g : Ghosts D) {f : faulted.Ghosts D} where
     pub place : IfSome contents (λ _. place_of g kept.file ≡ Some path)
     pub faultless : f.faults (disk_of g kept.file) ≡ 0
 
--- why the batches open no share; memory may be wanted at any time
+-- why the batches open no share; an allocation may fail at any time
 abbrev pub StopsShare : List (List Edit) → Fault FileFault → Type 0
 StopsShare bs (fault.Own (NotEditFile at)) = ⊥
 StopsShare bs (fault.Own Failed) = Unit {0}
@@ -58,13 +58,13 @@ StopsShare bs (fault.Own TooManyLists) = LeaveManyLists bs
 StopsShare bs fault.Read = ⊥
 StopsShare bs fault.Memory = Unit {0}
 
--- the batches that the file stood for, with the first one, are too many for a share in some way
+-- the batches that the file represented, with `first`, pass a limit of a share
 pub record AreRefused (contents : Option Contents) (path : List ℕ) (first : List Edit) (TooMany : List (List Edit) → Type 0) : Type 0 where
   pub before : List (List Edit)
   pub stood : StandsAt contents path before
   pub many : TooMany (before ++ if_filled first)
 
--- why no share was opened; memory may be wanted at any time
+-- why no share was opened; an allocation may fail at any time
 abbrev pub StopsOpening : Option Contents → List ℕ → List Edit → Fault FileFault → Type 0
 StopsOpening contents path first (fault.Own (NotEditFile at)) = IfSome contents (λ c. BreaksAt (bytes_at c path) at)
 StopsOpening contents path first (fault.Own Failed) = Unit {0}
@@ -73,17 +73,17 @@ StopsOpening contents path first (fault.Own TooManyLists) = AreRefused contents 
 StopsOpening contents path first fault.Read = ⊥
 StopsOpening contents path first fault.Memory = Unit {0}
 
--- the file stood for some batches, and does so still
+-- the file represented some batches, and still represents them
 pub record LeavesBatches (path : List ℕ) (before now : Option Contents) : Type 0 where
   pub batches : List (List Edit)
   pub stood : StandsAt before path batches
   pub left : LeavesAt path batches before now
 
--- whatever batches the file stood for, it stands for still
+-- whatever batches the file represented, it still represents
 abbrev pub LeavesStanding : List ℕ → (before now : Option Contents) → Type 0
 LeavesStanding path before now = (bs : List (List Edit)) → StandsAt before path bs → LeavesAt path bs before now
 
--- what is under the file's name after a refusal: the same bytes, or the same batches; a call that failed may come in the midst of a change
+-- what is under the file's name after a refusal: the same bytes, or the same batches; a call may fail within a change
 abbrev pub LeavesRefused : (before now : Option Contents) → List ℕ → Fault FileFault → Type 0
 LeavesRefused before now path (fault.Own (NotEditFile at)) = IfSome before (λ c. Puts path (bytes_at c path) c now)
 LeavesRefused before now path (fault.Own Failed) = Unit {0}
@@ -92,7 +92,7 @@ LeavesRefused before now path (fault.Own TooManyLists) = LeavesBatches path befo
 LeavesRefused before now path fault.Read = Unit {0}
 LeavesRefused before now path fault.Memory = LeavesStanding path before now
 
--- the count of faults rises exactly with a fault of a file
+-- the error counter rises exactly if the file failed
 abbrev pub CountsFault : ℕ → ℕ → Fault FileFault → Type 0
 CountsFault before now (fault.Own (NotEditFile at)) = now ≡ before
 CountsFault before now (fault.Own Failed) = Rose before now

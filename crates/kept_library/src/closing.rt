@@ -1,4 +1,4 @@
-//! Giving back the disk of a file that kept edits.
+//! Closes the disk of a file that kept edits.
 
 ghost use Rattle.std.specs.Prelude.{◌≡◌, List, ℕ, Some, true, false, is_err, IfSome};
 ghost use Rattle.item_model.specs.declared.changes.Edit.{Edit};
@@ -9,8 +9,8 @@ ghost use Rattle.kept_library.specs.Closing.{LeavesAt, LeavesOrOneMore};
 use daap_outside::{Failed, Files};
 use edit_file::EditFile;
 
-/// Gives the disk of `file` back to the files that opened it. What is under the file's name then stands for the file's batches; if
-/// an append has failed, one more may be there.
+/// Closes the disk of `file`, which `files` opened. The bytes under the file's name then represent its batches; if an
+/// append has failed, one more may be there.
 ///
 /// # Errors
 ///

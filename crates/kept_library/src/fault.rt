@@ -1,4 +1,4 @@
-//! Why a file keeps no edits of a share.
+//! Errors of a file that keeps the edits of a share.
 
 ghost use Rattle.std.specs.Prelude.{◌≡◌, IfOk};
 ghost use Rattle.kept_library.specs.Faults.{file_line, file_status, file_fault, open_fault};
@@ -9,16 +9,16 @@ use fault_lines::push_number;
 use share_core::OpenError;
 use std::alloc::{AllocError, Global};
 
-/// Why a file keeps no edits of a share. Want of memory is none of these.
+/// Errors of a file that keeps the edits of a share. Out of memory is `Fault::Memory`.
 #[derive(Debug, Drop)]
 pub enum FileFault {
-    /// The file is no edit file, which shows at the offset `at`.
+    /// The file is not an edit file: its bytes break at the offset `at`.
     NotEditFile { at: u64 },
     /// A call on the file, or on what opens files, failed.
     Failed,
-    /// The batches have more edits than a share takes.
+    /// The batches have more edits than a share may have.
     TooManyEdits,
-    /// The batches leave more lists than a share has.
+    /// The batches leave more lists than a share may have.
     TooManyLists,
 }
 
@@ -46,7 +46,7 @@ impl Refusal for FileFault {
     }
 }
 
-// The line of a file that is no edit file.
+// Returns the line of a file that is not an edit file.
 fn not_edit_file(alloc: Global, at: u64) -> Result<Vec<u8>, AllocError>
     ensures { IfOk result (λ line. line.items ≡ file_line (FileFault.NotEditFile at)) }
 {
@@ -56,7 +56,7 @@ fn not_edit_file(alloc: Global, at: u64) -> Result<Vec<u8>, AllocError>
     Ok(line)
 }
 
-/// What a refusal of the file is.
+/// Returns the error of a file that could not be opened.
 pub(crate) fn file_fault(error: FileError) -> Fault<FileFault>
     ensures { result ≡ file_fault error }
 {
@@ -67,7 +67,7 @@ pub(crate) fn file_fault(error: FileError) -> Fault<FileFault>
     }
 }
 
-/// What a share that is not opened is.
+/// Returns the error of a share that could not be opened.
 pub(crate) fn open_fault(error: OpenError) -> Fault<FileFault>
     ensures { result ≡ open_fault error }
 {

@@ -1,4 +1,4 @@
-//! A share whose edits are kept in a file: how both are opened together, and how the file's disk is given back.
+//! Opens a share together with the file that keeps its edits, and closes that file's disk.
 #![tactic(auto)]
 
 mod closing;

@@ -1,4 +1,4 @@
-//! Opening a share together with the file that keeps its edits.
+//! Opens a share together with the file that keeps its edits.
 
 ghost use Rattle.std.specs.Prelude.{◌≡◌, ◌≢◌, ◌⊎◌, ◌≤◌, ◌++◌, ◌∷◌, [], All, ℕ, false, length, IfOk, IfErr, OnOk};
 ghost use Rattle.item_model.specs.Limits.{text_limit};
@@ -24,15 +24,14 @@ pub struct KeptLibrary<D: Disk + Drop> {
     pub file: EditFile<D>,
 }
 
-/// Opens the edit file with the name `path`, and a share with the file's batches and then the batch `first`, if that has
-/// edits. The file has that batch, too, when this returns. The share has the name `name`, and answers with changes for
-/// `keep` revisions back.
+/// Opens the edit file with the name `path`, and a share with the file's batches and then the batch `first`, if that
+/// has edits, which is appended to the file. The share has the name `name`, and a delta window of `keep` revisions.
 ///
 /// # Errors
 ///
-/// Returns `NotEditFile` if the file is no edit file, `TooManyEdits` or `TooManyLists` if a share doesn't take the batches,
-/// `Failed` if a call on the file or on `files` failed, and `Memory` if an allocation fails. The disk was given back to
-/// `files` then.
+/// Returns `NotEditFile` if the file is not an edit file, `TooManyEdits` or `TooManyLists` if the batches pass a limit
+/// of a share, `Failed` if a call on the file or on `files` failed, and `Memory` if an allocation fails. The disk is
+/// then closed.
 pub fn open_library<F: Files>(
     alloc: Global,
     files: &mut F,
@@ -72,7 +71,7 @@ pub fn open_library<F: Files>(
     }
 }
 
-// The share of the batches and of the first one, which the file keeps now, too.
+// Opens the share with `batches` and then `first`, and appends `first` to the file.
 fn begun<D: Disk + Drop>(
     alloc: Global,
     file: &mut EditFile<D>,
@@ -110,7 +109,7 @@ fn begun<D: Disk + Drop>(
     }
 }
 
-// The batches, and one more behind them.
+// Returns `batches` with `last` appended.
 fn joined(batches: Vec<Batch>, last: Batch) -> Result<Vec<Batch>, AllocError>
     ensures { IfOk result (λ all. all.items ≡ batches.items ++ last ∷ []) }
 {
@@ -119,7 +118,7 @@ fn joined(batches: Vec<Batch>, last: Batch) -> Result<Vec<Batch>, AllocError>
     Ok(batches)
 }
 
-// The share that begins with the batches.
+// Opens the share that begins with `batches`.
 fn share_with(
     alloc: Global,
     name: &str,

@@ -13,7 +13,7 @@ module _ {T : Type 0} where
   pub found_first : (v : Version T) (vs : List (Version T)) (base : ℕ) → v.revision ≤ base → found (v ∷ vs) base ≡ Some v
   found_first v vs base h = ap (λ b. cond b (Some v) (found vs base)) (le-leb v.revision base h)
 
-  -- the oldest is not found where the next is
+  -- the oldest version is not found at the revision of the next or later
   oldest_unseen : (v : Version T) (vs : List (Version T)) (base : ℕ) (d : Version T) (n : ℕ) → length vs ≡ suc n → (get_or (v ∷ vs) n d).revision ≤ base
       → found (v ∷ take n vs) base ≡ found (v ∷ vs) base
   oldest_unseen v [] base d n some h = absurd (omega (arith, some))
@@ -30,7 +30,7 @@ module _ {T : Type 0} where
       ap (λ n. found (v ∷ take n vs) base) (let next : length vs - 1 ≡ suc (length vs - 2) = omega (arith, more) in next)
       ∙ oldest_unseen v vs base d (suc (length vs - 2)) (let whole : length vs ≡ suc (suc (length vs - 2)) = omega (arith, more) in whole) h
 
-  -- a key that is taken out where nothing was to be seen of it
+  -- removing a key that had nothing to find changes no value
   pub gone_value : (b : Bool) (new mid : List (Version T)) (base : ℕ) (old : Option T) → new ≡ cond b [] mid → (b ≡ true → value_in mid base ≡ None)
       → value_in mid base ≡ old → value_in new base ≡ old
   gone_value true new mid base old is gone same = ap (λ vs. value_in vs base) is ∙ sym (gone refl) ∙ same

@@ -1,4 +1,4 @@
--- What stands under each key, as the newest versions and the older ones lie apart.
+-- The versions under each key, with the newest and the older ones in maps apart.
 use Rattle.std.proofs.Common.{◌≡◌, ℕ, Bool, true, false, cond, ◌||◌, List, [], ◌∷◌, filter, Option, Some, None, is_some, unwrap_or, refl, sym, ap, subst, ◌∙◌, true≢false, nat_cmp, is_eq, Less, Equal, Greater}
 use Rattle.std.specs.Prelude.{Result, Ok, Err, IfOk}
 use Rattle.std.specs.List.{list_any, AllByRecursion}

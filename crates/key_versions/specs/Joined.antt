@@ -1,4 +1,4 @@
--- The newest version of each key stands before its older ones, which lie apart.
+-- The newest version of each key, followed by its older ones, which are in a map apart.
 use Rattle.std.specs.Prelude.{ℕ, List, [], ◌∷◌, Option, None, Some, map}
 use Rattle.std.specs.Option.{option_map_or}
 use Rattle.std.specs.declared.collections.VecDeque.{VecDeque}

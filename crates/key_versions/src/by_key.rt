@@ -1,4 +1,4 @@
-//! One key of the two maps: that of the newest versions, and that of the older ones.
+//! One key of two maps: the newest versions, and the older ones.
 
 ghost use Rattle.std.specs.Prelude.{◌≡◌, ◌≤◌, ◌<◌, ◌-◌, [], ◌∷◌, ℕ, None, Some, min, nat_le, length, ◌==◌, ◌&&◌, true, false, is_some, option_copied, IfOk, OnOk, OnErr, OnSome, if◌then◌else◌};
 ghost use Rattle.key_versions.specs.Found.{found, value_in, newest_value};
@@ -13,7 +13,7 @@ use std::collections::{BTreeMap, VecDeque};
 
 pub(crate) type Newest<T> = BTreeMap<u32, Version<T>>;
 
-// The version that stands at a revision.
+// Returns the version of `key` at revision `base`.
 pub(crate) fn find<'a, T>(
     newest: &'a Newest<T>,
     older: &'a Older<T>,
@@ -93,8 +93,8 @@ fn put_first<T: Drop>(
     }
 }
 
-// Makes a version the newest of its key, in the place of one of its revision, and tells whether the key had a value.
-// Where it has no versions, one without a value is none.
+// Makes `version` the newest of `key`; it replaces one of the same revision. Returns whether the key had a
+// value. For a key without versions, storing `None` is a no-op.
 pub(crate) fn put_value<T: Drop>(
     alloc: Global,
     newest: &mut Newest<T>,
@@ -138,7 +138,7 @@ fn put_first_value<T: Drop>(
     }
 }
 
-// Takes out what came under a key with a revision or a later one.
+// Removes the versions of `key` from `revision` on.
 pub(crate) fn take_back<T: Drop>(
     newest: &mut Newest<T>,
     older: &mut Older<T>,
@@ -154,7 +154,7 @@ pub(crate) fn take_back<T: Drop>(
     remove(newest, key);
 }
 
-// Tells whether anything is left.
+// Returns whether any version is left.
 fn step_back_at<T: Drop>(
     newest: &mut Newest<T>,
     older: &mut Older<T>,
@@ -191,7 +191,7 @@ fn remove<T: Drop>(newest: &mut Newest<T>, key: u32)
     newest.remove(&key);
 }
 
-// Takes out the oldest version of a key, if no revision from a low one on finds it.
+// Removes the oldest version of `key`, if no revision from `low` on finds it, and returns it.
 pub(crate) fn pop_past<T: Drop>(
     newest: &Newest<T>,
     older: &mut Older<T>,
@@ -239,8 +239,7 @@ fn trim<T: Drop>(newest: &Newest<T>, older: &mut Older<T>, key: u32, low: u32)
     while let Some(_) = pop_past(newest, older, key, low) {}
 }
 
-// Takes out all versions of a key that no revision from a low one on finds, and the key too where it has no value from
-// then on.
+// Removes all versions of `key` that no revision from `low` on finds, and the key if it has no value from then on.
 pub(crate) fn prune<T: Drop>(newest: &mut Newest<T>, older: &mut Older<T>, key: u32, low: u32)
     ensures { (q base : ℕ) → low ≤ base → value_in (apart_at newest.new.entries older.new.entries q) base ≡ value_in (apart_at newest.old.entries older.old.entries q) base }
 {

@@ -1,5 +1,5 @@
-//! Values under keys, as they were at each revision that is kept. Contracts see under each key the versions of its value,
-//! the newest first, and a look-up at a revision finds the newest version that did not come after it.
+//! Values under keys, at each stored revision. Under each key a contract sees the versions of its value, newest
+//! first. A look-up at a revision finds the newest version that is not later.
 #![tactic(auto)]
 
 mod by_key;

@@ -12,7 +12,7 @@ use crate::version::Version;
 use std::alloc::{AllocError, Global};
 use std::collections::VecDeque;
 
-// Makes a version the newest of its key, unless the newest says the same since as long.
+// Makes `version` the newest of `key`, unless the key already has its value at its revision.
 pub(crate) fn put(
     alloc: Global,
     newest: &mut Newest<u32>,
@@ -32,7 +32,7 @@ pub(crate) fn put(
     }
 }
 
-// Whether the newest version of a key has the value of another, and did not come after it.
+// Returns whether the newest version of `key` has the value of `version` and is not later.
 fn is_said(newest: &Newest<u32>, key: u32, version: &Version<u32>) -> bool
     ensures { result ≡ true → (older : List (Version ℕ)) (base : ℕ) → version.now.revision ≤ base → value_in (versions_of (at key newest.now.entries) older) base ≡ version.now.value }
 {
@@ -61,7 +61,7 @@ fn is_number(value: Option<u32>, number: u32) -> bool
     }
 }
 
-// Whether some version of a key has the number.
+// Returns whether some version of `key` has the number.
 pub(crate) fn is_held(newest: &Newest<u32>, older: &Older<u32>, key: u32, number: u32) -> bool
     ensures { (base : ℕ) → value_in (apart_at newest.now.entries older.now.entries key) base ≡ Some number → result ≡ true }
 {

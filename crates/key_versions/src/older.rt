@@ -1,4 +1,4 @@
-//! The versions before the newest of each key, the newest of these first. Few keys have some.
+//! The versions before the newest of each key, newest first. Few keys have any.
 
 ghost use Rattle.std.specs.Prelude.{◌≡◌, ◌≤◌, ◌<◌, ◌-◌, ◌∷◌, [], ℕ, ◌==◌, true, false, length, take, min, IsSomeAnd, IsNone, OnOk, if◌then◌else◌};
 ghost use Rattle.std.specs.VecDeque.{deque_len, deque_capacity};
@@ -13,7 +13,7 @@ use std::collections::{BTreeMap, VecDeque};
 
 pub(crate) type Older<T> = BTreeMap<u32, VecDeque<Version<T>>>;
 
-// Makes room for one version more.
+// Reserves capacity for one more version of `key`.
 pub(crate) fn make_room<T: Drop>(
     alloc: Global,
     older: &mut Older<T>,
@@ -44,7 +44,7 @@ fn add_room<T: Drop>(alloc: Global, older: &mut Older<T>, key: u32) -> Result<()
     }
 }
 
-// Puts a version before the others of its key, where there is room.
+// Puts `version` before the others of `key`, in reserved capacity.
 pub(crate) fn push<T: Drop>(older: &mut Older<T>, key: u32, version: Version<T>)
     requires { IsSomeAnd (at key older.old.entries) (λ versions. deque_len versions < deque_capacity versions) }
     ensures here { older_at key older.new.entries ≡ version ∷ older_at key older.old.entries }
@@ -56,7 +56,7 @@ pub(crate) fn push<T: Drop>(older: &mut Older<T>, key: u32, version: Version<T>)
     }
 }
 
-// Takes out the versions of a key, if they are none.
+// Removes the entry of `key` if it has no versions.
 pub(crate) fn tidy<T: Drop>(older: &mut Older<T>, key: u32)
     ensures { (q : ℕ) → older_at q older.new.entries ≡ older_at q older.old.entries }
 {
@@ -74,7 +74,7 @@ fn is_empty<T>(older: &Older<T>, key: u32) -> bool
     }
 }
 
-// Takes out the versions of a key.
+// Removes the entry of `key`.
 pub(crate) fn clear<T: Drop>(older: &mut Older<T>, key: u32)
     ensures { (q : ℕ) → older_at q older.new.entries ≡ (if key == q then [] else older_at q older.old.entries) }
 {

@@ -1,4 +1,4 @@
-//! What is done to the newest version of a key and to those before it.
+//! Operations on the newest version of a key and those before it.
 
 ghost use Rattle.std.specs.Prelude.{◌≡◌, ◌≤◌, ◌<◌, ◌-◌, ◌∷◌, [], ℕ, ◌==◌, true, false, length, take, min, nat_le, Some, OnOk, OnErr, OnSome, if◌then◌else◌};
 ghost use Rattle.key_versions.specs.declared.version.Version.{Version};
@@ -11,7 +11,7 @@ use std::alloc::{AllocError, Global};
 use std::collections::VecDeque;
 use std::mem;
 
-// Makes a version the newest of its key, in the place of one of its revision.
+// Makes `version` the newest of `key`; it replaces one of the same revision.
 pub(crate) fn put_over<T: Drop>(
     alloc: Global,
     newest: &mut Version<T>,
@@ -37,7 +37,7 @@ pub(crate) fn put_over<T: Drop>(
     Ok(())
 }
 
-// Takes out what came with a revision or a later one, and tells whether anything is left.
+// Removes the versions from `revision` on, and returns whether any is left.
 pub(crate) fn step_back<T: Drop>(
     newest: &mut Version<T>,
     older: &mut VecDeque<Version<T>>,
@@ -54,7 +54,7 @@ pub(crate) fn step_back<T: Drop>(
     true
 }
 
-// Takes out the oldest version, if no revision from a low one on finds it.
+// Removes the oldest version, if no revision from `low` on finds it, and returns it.
 pub(crate) fn pop_oldest<T: Drop>(
     newest: u32,
     older: &mut VecDeque<Version<T>>,
@@ -69,7 +69,7 @@ pub(crate) fn pop_oldest<T: Drop>(
     None
 }
 
-// Whether the version behind the oldest is there at a low revision already.
+// Returns whether the version after the oldest has a revision of at most `low`.
 #[tactic(auto, using(crate::proofs::FoundFacts::past_one, crate::proofs::FoundFacts::past_more))]
 fn is_past<T>(newest: u32, older: &VecDeque<Version<T>>, low: u32) -> bool
     ensures some { result ≡ true → 0 < length older.now.items }

@@ -1,6 +1,4 @@
-//! A version of a value.
-
-/// A value, or none where there is none from a revision on, with that revision.
+/// A value, or `None`, from a revision on.
 #[derive(Debug, Drop)]
 pub struct Version<T> {
     pub revision: u32,

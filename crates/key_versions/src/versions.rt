@@ -12,8 +12,7 @@ use std::alloc::{AllocError, Global};
 use std::collections::BTreeMap;
 use std::marker::Model;
 
-/// Values under keys, each with what it was at earlier revisions. A key costs its newest version alone, where it has no
-/// other.
+/// Values under keys, each with its earlier values by revision. A key with one version costs only that version.
 #[derive(Debug, Drop)]
 pub struct Versions<T> {
     alloc: Global,
@@ -32,7 +31,7 @@ impl<T> Model for Versions<T> {
 }
 
 impl<T> Versions<T> {
-    /// No keys, without memory.
+    /// Returns a map without keys. Does not allocate.
     pub fn new(alloc: Global) -> Versions<T>
         ensures { result ≡ [] }
     {
@@ -43,21 +42,21 @@ impl<T> Versions<T> {
         }
     }
 
-    /// The newest value of a key.
+    /// Returns the newest value of `key`.
     pub fn newest(&self, key: u32) -> Option<&T>
         ensures { option_copied result ≡ newest_value (versions_at key self.now) }
     {
         by_key::newest(&self.newest, key)
     }
 
-    /// The value that stands under a key at a revision.
+    /// Returns the value of `key` at revision `base`.
     pub fn value_at(&self, key: u32, base: u32) -> Option<&T>
         ensures { option_copied result ≡ value_at self.now key base }
     {
         by_key::value_at(&self.newest, &self.older, key, base)
     }
 
-    /// The keys whose newest version has a value, ascending.
+    /// Returns the keys whose newest version has a value, ascending.
     pub fn keys(&self) -> Result<Vec<u32>, AllocError>
         ensures { IfOk result (λ keys. AreKeys self.now keys.items) }
     {
@@ -66,8 +65,9 @@ impl<T> Versions<T> {
 }
 
 impl<T: Drop> Versions<T> {
-    /// Gives a key a value, or none, from a revision on, and tells whether it had one. Where it has no versions, none is
-    /// no version either.
+    /// Sets the value of `key` from `revision` on, and returns whether the key had a value. For a key without
+    /// versions, storing `None` is a no-op.
+    /// Returns `AllocError` if allocation fails; all values are then unchanged.
     pub fn put_value(
         &mut self,
         key: u32,
@@ -87,14 +87,14 @@ impl<T: Drop> Versions<T> {
         )
     }
 
-    /// Takes out what came under a key with a revision or a later one, without memory.
+    /// Removes the versions of `key` from `revision` on. Does not allocate.
     pub fn take_back(&mut self, key: u32, revision: u32)
         ensures { 1 ≤ revision → (q base : ℕ) → value_at self.new q base ≡ value_at self.old q (if key == q then min base (revision - 1) else base) }
     {
         by_key::take_back(&mut self.newest, &mut self.older, key, revision);
     }
 
-    /// The same under some keys.
+    /// Does the same for each of `keys`.
     pub fn take_back_all(&mut self, keys: &[u32], revision: u32)
         ensures { 1 ≤ revision → (q base : ℕ) → value_at self.new q base ≡ value_at self.old q (if is_among q keys.now then min base (revision - 1) else base) }
     {
@@ -103,7 +103,7 @@ impl<T: Drop> Versions<T> {
         }
     }
 
-    /// Takes out the oldest version of a key, if no revision from a low one on finds it.
+    /// Removes the oldest version of `key`, if no revision from `low` on finds it, and returns it.
     pub fn pop_past(&mut self, key: u32, low: u32) -> Option<Version<T>>
         ensures values { (q base : ℕ) → low ≤ base → value_at self.new q base ≡ value_at self.old q base }
         ensures fewer { OnSome result (length (versions_at key self.new) < length (versions_at key self.old)) }
@@ -111,15 +111,15 @@ impl<T: Drop> Versions<T> {
         by_key::pop_past(&self.newest, &mut self.older, key, low)
     }
 
-    /// Takes out all versions of a key that no revision from a low one on finds, and the key too where it has no value
-    /// from then on.
+    /// Removes all versions of `key` that no revision from `low` on finds, and the key if it has no value from then
+    /// on.
     pub fn prune(&mut self, key: u32, low: u32)
         ensures { (q base : ℕ) → low ≤ base → value_at self.new q base ≡ value_at self.old q base }
     {
         by_key::prune(&mut self.newest, &mut self.older, key, low);
     }
 
-    /// The same under some keys.
+    /// Does the same for each of `keys`.
     pub fn prune_all(&mut self, keys: &[u32], low: u32)
         ensures { (q base : ℕ) → low ≤ base → value_at self.new q base ≡ value_at self.old q base }
     {
@@ -130,7 +130,8 @@ impl<T: Drop> Versions<T> {
 }
 
 impl Versions<u32> {
-    /// Gives a key a number, or none, from a revision on. Where it has had that for as long, this is no version of its own.
+    /// Sets the number of `key`, or `None`, from `revision` on. Adds no version if the newest one already says so.
+    /// Returns `AllocError` if allocation fails; all values are then unchanged.
     pub fn put_number(
         &mut self,
         key: u32,
@@ -152,7 +153,7 @@ impl Versions<u32> {
         )
     }
 
-    /// Whether some version of a key has the number.
+    /// Returns whether some version of `key` has `number`.
     pub fn has_number(&self, key: u32, number: u32) -> bool
         ensures { (base : ℕ) → value_at self.now key base ≡ Some number → result ≡ true }
     {

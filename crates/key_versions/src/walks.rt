@@ -11,7 +11,7 @@ use std::alloc::{AllocError, Global};
 use std::collections::BTreeMap;
 use std::ops::Bound;
 
-// The keys that have a value, ascending.
+// Returns the keys that have a value, ascending.
 pub(crate) fn keys<T>(alloc: Global, newest: &Newest<T>) -> Result<Vec<u32>, AllocError>
     ensures keys { IfOk result (λ keys. keys.items ≡ keys_of (filter (λ e. is_some e.1.value) newest.now.entries)) }
     ensures ascending { IfOk result (λ _. IsStrictlySortedBy nat_cmp (keys_of newest.now.entries)) }
@@ -25,7 +25,7 @@ pub(crate) fn keys<T>(alloc: Global, newest: &Newest<T>) -> Result<Vec<u32>, All
     Ok(keys)
 }
 
-/// The first key of a map, of all or behind one.
+/// Returns the first key of `map` after `last`, or of all if `last` is `None`.
 pub fn next_key<T>(map: &BTreeMap<u32, T>, last: Option<u32>) -> Option<u32>
     ensures behind { IfSome result (λ key. behind last ≤ key) }
     ensures between { IfSome result (λ key. (q : ℕ) → behind last ≤ q → q < key → at q map.now.entries ≡ None) }

@@ -8,7 +8,7 @@ use std::alloc::{AllocError, Global};
 use std::process::Abort;
 use std::test::Fail;
 
-// Without clauses, so that no other proof looks into what the command means.
+// Without clauses, so that other proofs do not unfold the specification of the command.
 fn edited<I: Source, W: Sink, N: Net>(
     alloc: Global,
     stop: bool,
@@ -34,7 +34,7 @@ fn edit_on(
     }
 }
 
-/// Records in reads of so many bytes, of which one fails (0: none does).
+/// Returns records in reads of `read` bytes, of which the one with the number `failed_read` fails (0: none).
 fn records(
     alloc: Global,
     bytes: &[u8],
@@ -44,7 +44,7 @@ fn records(
     MemSource::new(alloc, bytes, read.max(1), &[failed_read])
 }
 
-/// The records of these tests, or a stop, and these replies.
+/// Runs `edit` with the records of these tests, or a stop, against a share that replies with `input`.
 fn edit(alloc: Global, input: &[u8], stop: bool) -> Result<Ran, AllocError> {
     let net = net_of(alloc, input, 0, 0)?;
     let records = records(alloc, b"op,kind,id\n", 4, 0)?;
@@ -52,7 +52,7 @@ fn edit(alloc: Global, input: &[u8], stop: bool) -> Result<Ran, AllocError> {
     Ok(edit_on(alloc, net, stop, records, output))
 }
 
-/// A reply, whether it is one to a stop, the status, and what the output begins with.
+/// A reply, whether it is to a stop, the status, and a prefix of the output.
 type Edit = (&'static str, bool, u8, &'static [u8]);
 
 fn all_are_told(rt: &impl Abort, alloc: Global, edits: &[Edit]) -> Result<(), Fail> {
@@ -94,7 +94,7 @@ fn edits_and_stops_are_told(rt: HostRuntime) -> Result<(), Fail> {
     has_told(&rt, &ran, 7, b"peer: ended at 11\n")
 }
 
-/// A refusal with a text of so many bytes.
+/// Returns a refusal with a text of `len` bytes.
 fn refusal(alloc: Global, len: usize) -> Result<Vec<u8>, AllocError> {
     let mut text = Vec::new(alloc);
     text.resize(len, b'x')?;
@@ -103,7 +103,7 @@ fn refusal(alloc: Global, len: usize) -> Result<Vec<u8>, AllocError> {
     Ok(input)
 }
 
-/// Of a text of so many bytes so many are shown, after the line of the refusal.
+/// Checks that a refusal with a text of `len` bytes makes an output of `shown` bytes.
 fn is_shown(rt: &impl Abort, alloc: Global, len: usize, shown: usize) -> Result<(), Fail> {
     let input = refusal(alloc, len)?;
     let net = net_of(alloc, input.as_slice(), 0, 0)?;
@@ -121,7 +121,7 @@ fn long_texts_are_not_shown(rt: HostRuntime) -> Result<(), Fail> {
     is_shown(&rt, rt.alloc(), 4097, 18)
 }
 
-/// Records that cannot be read or are too long end it with this status and line, and nothing is sent.
+/// Checks the status and the line for records that cannot be read or are too long, and that nothing is sent.
 fn is_unsent(
     rt: &impl Abort,
     alloc: Global,
@@ -148,7 +148,7 @@ fn what_is_not_sent_is_told(rt: HostRuntime) -> Result<(), Fail> {
     is_unsent(&rt, alloc, unread, 4, b"read failed\n")
 }
 
-/// A stop over a net, to an output that can hold so many bytes, ends with this status and these bytes.
+/// Checks the status and the output of a stop over `net`, to an output with the capacity `room`.
 fn stops(
     rt: &impl Abort,
     alloc: Global,

@@ -1,4 +1,4 @@
-//! `follow` of `link_commands`: shares whose replies are known, those that end or fail among them.
+//! `follow` of `link_commands`: shares whose replies are known, also some that end or fail.
 
 use crate::known::{CODES, TWO_ROUNDS, TWO_ROUNDS_OF_A_QUERY, add_reply, replies};
 use crate::nets::{Ran, has_sent, has_told, net_of, no_net, output_of};
@@ -10,7 +10,7 @@ use std::alloc::{AllocError, Global};
 use std::process::Abort;
 use std::test::Fail;
 
-/// What `follow` is asked for.
+/// The arguments of `follow`.
 #[derive(Clone, Copy)]
 struct Asked<'a> {
     rounds: u32,
@@ -33,7 +33,7 @@ const ROUNDS: Asked<'static> = Asked {
 /// The replies to a client that follows for two rounds.
 const WHOLE: &str = "codes login item revision dropped done";
 
-/// What is told of them.
+/// The output of `follow` for these replies.
 const WHOLE_TOLD: &[u8] =
     b"revision 3 full put 1 drop 0 rows 1\nrevision 4 delta put 0 drop 1 rows 0\nmlcl list\n";
 
@@ -44,7 +44,7 @@ fn text_of(alloc: Global, text: Option<&str>) -> Result<Option<Text>, AllocError
     }
 }
 
-// Without clauses, so that no other proof looks into what the command means.
+// Without clauses, so that other proofs do not unfold the specification of the command.
 fn followed<W: Sink, N: Net>(
     alloc: Global,
     asked: Asked,
@@ -80,8 +80,8 @@ fn follow_on(
     })
 }
 
-/// Follows a share that replies with these bytes, of which a read or a write fails (0: none does), to an output that can
-/// hold so many bytes.
+/// Follows a share that replies with `input`, to an output with the capacity `room`. The read and the write with these
+/// numbers fail (0: none).
 fn follow_over(
     alloc: Global,
     asked: Asked,
@@ -94,7 +94,7 @@ fn follow_over(
     follow_on(alloc, net, asked, output_of(alloc, room, 4096)?)
 }
 
-/// Two rounds over such replies.
+/// Follows a share that replies with `input` for two rounds.
 fn follow(alloc: Global, input: &[u8]) -> Result<Ran, AllocError> {
     follow_over(alloc, ROUNDS, input, 0, 0, 4096)
 }
@@ -138,7 +138,7 @@ fn each_round_asks_with_the_query(rt: HostRuntime) -> Result<(), Fail> {
     Ok(())
 }
 
-/// A table of content codes in which each text is a number of 32 bits.
+/// Returns a table of content codes in which the kind of each text is a number of 32 bits.
 fn other_codes(alloc: Global, codes: &[u8]) -> Result<Vec<u8>, AllocError> {
     let mut bytes = Vec::new(alloc);
     for byte in codes {
@@ -147,7 +147,7 @@ fn other_codes(alloc: Global, codes: &[u8]) -> Result<Vec<u8>, AllocError> {
     Ok(bytes)
 }
 
-/// The replies of a share that has this table.
+/// Returns the replies of a share that has this table.
 fn other_replies(alloc: Global) -> Result<Vec<u8>, AllocError> {
     let mut input = Vec::new(alloc);
     let codes = other_codes(alloc, CODES)?;
@@ -169,7 +169,7 @@ fn rows_are_read_by_the_table_of_the_share(rt: HostRuntime) -> Result<(), Fail> 
     )
 }
 
-/// The texts of `--query` and `--meta` end it with this line, and no place is asked for.
+/// Checks that `follow` refuses the texts of `--query` and `--meta` with `line`, and does not connect.
 fn is_refused(
     rt: &impl Abort,
     alloc: Global,
@@ -209,7 +209,7 @@ fn texts_are_refused_before_the_net_is_asked(rt: HostRuntime) -> Result<(), Fail
     )
 }
 
-/// Replies to two rounds that end the second or the first, and what is told.
+/// Replies that end the first or the second of two rounds, and the output.
 type Answer = (&'static str, &'static [u8]);
 
 fn all_are_told(rt: &impl Abort, alloc: Global, answers: &[Answer]) -> Result<(), Fail> {
@@ -252,7 +252,7 @@ fn other_answers_are_told(rt: HostRuntime) -> Result<(), Fail> {
     has_told(&rt, &ran, 7, b"peer: bad reply at 19\n")
 }
 
-/// A share that ends after so many bytes of its replies is told so, after these lines.
+/// Checks the output if a share ends after `at` bytes of its replies: the lines `front`, and then that of the error.
 fn is_told_to_end(
     rt: &impl Abort,
     alloc: Global,
@@ -266,8 +266,8 @@ fn is_told_to_end(
     has_told(rt, &ran, 7, lines.as_bytes())
 }
 
-/// The lines of the rounds that are done when a share ends after so many bytes: the first round takes up to `first`, the
-/// second up to `second`.
+/// Returns the lines of the rounds before a share ends after `at` bytes. The replies of the first round end at `first`,
+/// those of the second at `second`.
 fn rounds_before(at: usize, first: usize, second: usize) -> &'static str {
     if at < first {
         ""
@@ -292,7 +292,7 @@ fn a_share_may_end_behind_any_byte(rt: HostRuntime) -> Result<(), Fail> {
     Ok(())
 }
 
-/// Each of the first seven reads fails.
+/// Checks the output if each of the first seven reads fails.
 fn failed_reads_are_told(rt: &impl Abort, alloc: Global, input: &[u8]) -> Result<(), Fail> {
     for call in 1..8 {
         let ran = follow_over(alloc, ROUNDS, input, call, 0, 4096)?;
@@ -323,7 +323,7 @@ fn a_place_that_is_not_reached_is_told(rt: HostRuntime) -> Result<(), Fail> {
     Ok(())
 }
 
-/// An output that can hold so many bytes, and what is written to it of two rounds.
+/// Checks what is written of two rounds to an output with the capacity `room`.
 fn is_cut(rt: &impl Abort, alloc: Global, room: usize, lines: &[u8]) -> Result<(), Fail> {
     let input = replies(alloc, WHOLE)?;
     let ran = follow_over(alloc, ROUNDS, input.as_slice(), 0, 0, room)?;

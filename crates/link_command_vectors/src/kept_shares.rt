@@ -1,4 +1,4 @@
-//! `serve_command`: shares whose edits a file keeps, which is opened again, and of whose calls each fails in turn.
+//! `serve_command`: shares whose edits a file keeps. The file is opened again, and each call on it fails in turn.
 
 ghost use Rattle.std.specs.Prelude.{IfOk};
 ghost use Rattle.serve_command.specs.Terms.{MayServe};
@@ -16,7 +16,7 @@ use std::test::Fail;
 use std::thread::Threads;
 use std::time::Clock;
 
-/// Files with a disk for each list of the numbers of calls that fail.
+/// Returns files with a disk for each element of `failing`, the numbers of its calls that fail.
 fn files_with(alloc: Global, failing: &[&[u64]]) -> Result<MemFiles, AllocError> {
     let mut disks = Vec::new(alloc);
     for numbers in failing {
@@ -25,7 +25,8 @@ fn files_with(alloc: Global, failing: &[&[u64]]) -> Result<MemFiles, AllocError>
     MemFiles::with_disks(alloc, disks, 9)
 }
 
-/// A net with a door of a player without connections, and one of an editor, with one where it edits.
+/// Returns a network with a listener for players without connections, and one for editors, with a connection if
+/// `edits`.
 fn net_of(alloc: Global, edits: bool) -> Result<MemNet, AllocError> {
     let mut net = MemNet::with_room(alloc, &[], 4, 8)?;
     net.add_door(MemDoor::new(alloc, &[], 4)?)?;
@@ -38,7 +39,7 @@ fn net_of(alloc: Global, edits: bool) -> Result<MemNet, AllocError> {
     Ok(net)
 }
 
-/// A share of the default name that a file keeps, with one worker at each place.
+/// Returns the settings of a share with the default name, a file, and one worker at each address.
 fn terms(alloc: Global) -> Result<Serving, AllocError>
     ensures { IfOk result MayServe }
 {
@@ -53,7 +54,7 @@ fn terms(alloc: Global) -> Result<Serving, AllocError>
     })
 }
 
-// Without clauses, so that no other proof looks into what the command means.
+// Without clauses, so that other proofs do not unfold the specification of the command.
 fn served<I: Source, W: Sink, F: Files, N: Net, R: Threads + Wait + Clock + Sync>(
     rt: &R,
     alloc: Global,
@@ -74,7 +75,7 @@ struct Ran {
     replied: Vec<u8>,
 }
 
-/// Serves a share without records, which a file keeps.
+/// Serves a share without records, and with a file.
 fn run<R: Threads + Wait + Clock + Sync>(
     rt: &R,
     alloc: Global,
@@ -105,7 +106,7 @@ const REPLIES: &[u8] =
 mupd\0\0\0\x18mstt\0\0\0\x04\0\0\0\xc8musr\0\0\0\x04\0\0\0\x03\
 HTTP/1.1 204 No Content\r\nConnection: close\r\n\r\n";
 
-/// The output of a share whose file has no edit, or has the one of these tests, and which nobody connects to.
+/// The outputs of a share without connections, whose file has no edit, or the one of these tests.
 const WITHOUT: &[u8] =
     b"serving daapshare at revision 2\nended at revision 2, links 0, requests 0\n";
 
@@ -133,8 +134,8 @@ const UNOPENED: &[u8] = b"file failed\n";
 const LOST: &[u8] =
     b"serving daapshare at revision 2\nended at revision 3, links 1, requests 0\nfile failed\n";
 
-/// The numbers of disk calls of which each fails, what is told, and what a share tells that opens the file then: the first
-/// calls make the file, so that no edit is in it; the others keep the edit, which may be in it or not.
+/// The range of numbers of disk calls that fail, the output, and the possible outputs of a share that then opens the
+/// file. The first calls make the file, which then has no edit; the others keep the edit, which it then has or not.
 type Fault = (u64, u64, &'static [u8], &'static [&'static [u8]]);
 
 const FAULTS: [Fault; 2] = [
@@ -142,7 +143,8 @@ const FAULTS: [Fault; 2] = [
     (9, 12, LOST, &[WITHOUT, WITH]),
 ];
 
-/// Whether a call that fails is told so, and nothing is replied; and whether the file opens then, with one of these outputs.
+/// Returns whether the output and the status are as expected if the call `number` fails, without a reply, and whether
+/// the file then opens, with one of the outputs `opened`.
 fn is_told<R: Threads + Wait + Clock + Sync>(
     rt: &R,
     alloc: Global,

@@ -14,11 +14,11 @@ const ITEM: &[u8] =
 
 const REVISION: &[u8] = b"mupd\0\0\0\x18mstt\0\0\0\x04\0\0\0\xc8musr\0\0\0\x04\0\0\0\x04";
 
-/// The listing of what changed since: the item is dropped at revision 4.
+/// The delta from there: the item is dropped at revision 4.
 const DROPPED: &[u8] =
     b"adbs\0\0\0Umstt\0\0\0\x04\0\0\0\xc8muty\0\0\0\x01\x01musr\0\0\0\x04\0\0\0\x04mtco\0\0\0\x04\0\0\0\0mrco\0\0\0\x04\0\0\0\0mlcl\0\0\0\0mudl\0\0\0\x0cmiid\0\0\0\x04\0\0\0\x07";
 
-/// A listing of the same, in which nothing changed.
+/// A delta from there in which nothing changed.
 const SAME: &[u8] =
     b"adbs\0\0\0Imstt\0\0\0\x04\0\0\0\xc8muty\0\0\0\x01\x01musr\0\0\0\x04\0\0\0\x04mtco\0\0\0\x04\0\0\0\0mrco\0\0\0\x04\0\0\0\0mlcl\0\0\0\0mudl\0\0\0\0";
 
@@ -51,15 +51,15 @@ const REPLIES: [Reply; 13] = [
     ("record", "400 Bad Request", RECORD),
 ];
 
-/// What a client sends that follows for two rounds.
+/// The requests of a client that follows for two rounds.
 pub(crate) const TWO_ROUNDS: &[u8] =
     b"GET /content-codes HTTP/1.1\r\nHost: here:3689\r\nClient-DAAP-Version: 3.0\r\n\r\nGET /login HTTP/1.1\r\nHost: here:3689\r\nClient-DAAP-Version: 3.0\r\n\r\nGET /databases/1/items?session-id=1 HTTP/1.1\r\nHost: here:3689\r\nClient-DAAP-Version: 3.0\r\n\r\nGET /update?session-id=1&revision-number=3 HTTP/1.1\r\nHost: here:3689\r\nClient-DAAP-Version: 3.0\r\n\r\nGET /databases/1/items?session-id=1&delta=3 HTTP/1.1\r\nHost: here:3689\r\nClient-DAAP-Version: 3.0\r\n\r\nGET /logout?session-id=1 HTTP/1.1\r\nHost: here:3689\r\nClient-DAAP-Version: 3.0\r\n\r\n";
 
-/// The same with a query and the name of a property.
+/// Those with a query and the name of a property.
 pub(crate) const TWO_ROUNDS_OF_A_QUERY: &[u8] =
     b"GET /content-codes HTTP/1.1\r\nHost: here:3689\r\nClient-DAAP-Version: 3.0\r\n\r\nGET /login HTTP/1.1\r\nHost: here:3689\r\nClient-DAAP-Version: 3.0\r\n\r\nGET /databases/1/items?session-id=1&meta=dmap.itemname&query=%27dmap.itemname%3Aa%27 HTTP/1.1\r\nHost: here:3689\r\nClient-DAAP-Version: 3.0\r\n\r\nGET /update?session-id=1&revision-number=3 HTTP/1.1\r\nHost: here:3689\r\nClient-DAAP-Version: 3.0\r\n\r\nGET /databases/1/items?session-id=1&delta=3&meta=dmap.itemname&query=%27dmap.itemname%3Aa%27 HTTP/1.1\r\nHost: here:3689\r\nClient-DAAP-Version: 3.0\r\n\r\nGET /logout?session-id=1 HTTP/1.1\r\nHost: here:3689\r\nClient-DAAP-Version: 3.0\r\n\r\n";
 
-/// What a client sends of an edit, and of a stop.
+/// The requests of an edit, and of a stop.
 pub(crate) const EDIT: &[u8] =
     b"POST /edit HTTP/1.1\r\nHost: here:3689\r\nClient-DAAP-Version: 3.0\r\nContent-Length: 11\r\n\r\nop,kind,id\n";
 
@@ -81,7 +81,7 @@ pub(crate) fn add_reply(
     bytes.extend_from_slice(body)
 }
 
-/// Adds the reply of that name.
+/// Appends the reply `name`.
 fn add_named(
     alloc: Global,
     bytes: &mut Vec<u8>,
@@ -96,7 +96,7 @@ fn add_named(
     Err(AllocError)
 }
 
-/// The replies of these names, with a space between two, one after the other.
+/// Returns the replies with these names, one after another. A space separates the names.
 pub(crate) fn replies(alloc: Global, names: &str) -> Result<Vec<u8>, AllocError> {
     let mut bytes = Vec::new(alloc);
     for name in names.split(' ') {

@@ -1,12 +1,12 @@
-//! Nets in memory, and what a command leaves there.
+//! Networks in memory, and what a command leaves there.
 
 use daap_outside::{MemLink, MemNet, MemSink, MemSource};
 use std::alloc::{AllocError, Global};
 use std::process::Abort;
 use std::test::Fail;
 
-/// A net with one link, which gives these bytes and takes some, in pieces of 50. The read and the write with these numbers
-/// fail (0: none does).
+/// Returns a network with one connection, whose input is `input`. Reads and writes have at most 50 bytes; those with
+/// these numbers fail (0: none).
 pub(crate) fn net_of(
     alloc: Global,
     input: &[u8],
@@ -20,12 +20,12 @@ pub(crate) fn net_of(
     Ok(net)
 }
 
-/// A net that reaches nothing.
+/// Returns a network without connections.
 pub(crate) fn no_net(alloc: Global) -> Result<MemNet, AllocError> {
     MemNet::with_room(alloc, &[], 1, 1)
 }
 
-/// An output that can hold so many bytes, and takes up to so many by one write.
+/// Returns an output with the capacity `room`, which takes at most `piece` bytes by one write.
 pub(crate) fn output_of(alloc: Global, room: usize, piece: usize) -> Result<MemSink, AllocError> {
     MemSink::new(alloc, room, piece.max(1), &[])
 }
@@ -38,14 +38,15 @@ pub(crate) struct Ran {
     pub(crate) net: MemNet,
 }
 
-/// The command ended with this status and these lines.
+/// Checks the status and the output of the command.
 pub(crate) fn has_told(rt: &impl Abort, ran: &Ran, status: u8, lines: &[u8]) -> Result<(), Fail> {
     assert_eq!(rt; ran.status, status);
     assert_eq!(rt; ran.output.as_slice(), lines);
     Ok(())
 }
 
-/// The one place asked for is the one of these tests, and one link was given back, which took these bytes.
+/// Returns whether `connect` was called once, for the address of these tests, and one connection was closed, which took
+/// `bytes`.
 pub(crate) fn has_sent(net: &MemNet, bytes: &[u8]) -> bool {
     let (Some([asked]), Some([returned])) = (net.asked(), net.written()) else {
         return false;

@@ -1,4 +1,4 @@
-//! `relay_command`: shares whose replies are known are relayed, and players ask the relay.
+//! `relay_command`: relays of shares whose replies are known, with a player that sends no request.
 
 ghost use Rattle.std.specs.Prelude.{IfOk};
 ghost use Rattle.relay_command.specs.Terms.{MayRelay};
@@ -16,7 +16,7 @@ use std::test::Fail;
 use std::thread::Threads;
 use std::time::Clock;
 
-/// A relay of the default name, with one worker.
+/// Returns the settings of a relay with the default name and one worker.
 fn terms(alloc: Global, rounds: u32) -> Result<Relaying, AllocError>
     ensures { IfOk result MayRelay }
 {
@@ -30,7 +30,7 @@ fn terms(alloc: Global, rounds: u32) -> Result<Relaying, AllocError>
     })
 }
 
-// Without clauses, so that no other proof looks into what the command means.
+// Without clauses, so that other proofs do not unfold the specification of the command.
 fn relayed<W: Sink, N: Net, R: Threads + Wait + Clock + Sync>(
     rt: &R,
     alloc: Global,
@@ -42,7 +42,8 @@ fn relayed<W: Sink, N: Net, R: Threads + Wait + Clock + Sync>(
     Ok(relay(rt, alloc, &terms, output, net))
 }
 
-/// A net with a link on which these replies come, a door of a player who asks nothing, and the relay's own.
+/// Returns a network with a connection with the replies `names`, a listener with a player that sends no request, and
+/// the relay's listener.
 fn net_of(alloc: Global, names: &str) -> Result<MemNet, AllocError> {
     let mut net = MemNet::with_room(alloc, &[], 4, 8)?;
     let input = MemSource::new(alloc, replies(alloc, names)?.as_slice(), 50, &[])?;
@@ -74,7 +75,7 @@ fn run<R: Threads + Wait + Clock + Sync>(
     })
 }
 
-/// Two rounds of such replies have this status and this output.
+/// Checks the status and the output of two rounds of the replies `names`.
 fn has_told<R: Threads + Wait + Clock + Sync + Abort>(
     rt: &R,
     alloc: Global,

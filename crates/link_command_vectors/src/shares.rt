@@ -1,4 +1,4 @@
-//! `serve_command`: shares that are served over nets in memory.
+//! `serve_command`: shares that are served over networks in memory.
 
 ghost use Rattle.std.specs.Prelude.{IfOk};
 ghost use Rattle.daap_outside.specs.MemDoor.{IsNew as is_new_door};
@@ -33,7 +33,7 @@ pub(crate) const EDITOR: &[u8] = b"POST /edit HTTP/1.1\r\nContent-Length: 38\r\n
 op,kind,id,dmap.itemname\nput,item,9,Z\n\
 POST /stop HTTP/1.1\r\n\r\n";
 
-/// A share of the default name, with so many workers at each place.
+/// Returns the settings of a share with the default name, and these numbers of workers.
 fn terms(alloc: Global, workers: u32, editors: u32) -> Result<Serving, AllocError>
     ensures { IfOk result MayServe }
 {
@@ -48,7 +48,7 @@ fn terms(alloc: Global, workers: u32, editors: u32) -> Result<Serving, AllocErro
     })
 }
 
-/// A connection that brings these bytes.
+/// Returns a connection whose input is `bytes`.
 fn link(alloc: Global, bytes: &[u8]) -> Result<MemLink, AllocError>
     ensures { IfOk result IsNew }
 {
@@ -56,7 +56,7 @@ fn link(alloc: Global, bytes: &[u8]) -> Result<MemLink, AllocError>
     Ok(MemLink::new(source, MemSink::new(alloc, 65536, 4096, &[])?))
 }
 
-/// A door with such a connection, of whose waits one fails (0: none does).
+/// Returns a listener with such a connection. Its call of `accept` with the number `failed_wait` fails (0: none).
 pub(crate) fn door(alloc: Global, bytes: &[u8], failed_wait: u64) -> Result<MemDoor, AllocError>
     ensures { IfOk result is_new_door }
 {
@@ -65,8 +65,8 @@ pub(crate) fn door(alloc: Global, bytes: &[u8], failed_wait: u64) -> Result<MemD
     Ok(door)
 }
 
-/// A net with a door of a player, of whose waits one fails, and one of an editor. Of the net's own calls one fails (0: none
-/// does).
+/// Returns a network with a listener with a player, of whose calls one fails, and one with an editor. Of the network's
+/// own calls the one with the number `failed_call` fails (0: none).
 fn net_of(alloc: Global, failed_call: u64, failed_wait: u64) -> Result<MemNet, AllocError> {
     let mut net = MemNet::with_room(alloc, &[failed_call], 4, 8)?;
     net.add_door(door(alloc, PLAYER, failed_wait)?)?;
@@ -74,7 +74,7 @@ fn net_of(alloc: Global, failed_call: u64, failed_wait: u64) -> Result<MemNet, A
     Ok(net)
 }
 
-/// A net with five doors without connections.
+/// Returns a network with five listeners without connections.
 fn quiet_net(alloc: Global) -> Result<MemNet, AllocError> {
     let mut net = MemNet::with_room(alloc, &[], 4, 8)?;
     for _ in 0..5 {
@@ -83,7 +83,7 @@ fn quiet_net(alloc: Global) -> Result<MemNet, AllocError> {
     Ok(net)
 }
 
-// Without clauses, so that no other proof looks into what the command means.
+// Without clauses, so that other proofs do not unfold the specification of the command.
 fn served<I: Source, W: Sink, N: Net, R: Threads + Wait + Clock + Sync>(
     rt: &R,
     alloc: Global,
@@ -106,8 +106,8 @@ fn requests_in(links: &LinkReports) -> usize {
     count
 }
 
-/// What a run left: its status, the output, the number of entries in the history of its share, that of the requests and
-/// that of the workers whose connections are reported.
+/// What a run left: its status, its output, and the numbers of entries in the history of its share, of requests, and of
+/// workers whose connections are reported.
 #[derive(Drop)]
 struct Ran {
     status: u8,
@@ -132,7 +132,7 @@ fn left(outcome: Outcome, output: MemSink) -> Ran {
     }
 }
 
-/// Serves the share of some records over a net, to an output that can hold so many bytes.
+/// Serves the share of `records` over `net`, to an output with the capacity `room`.
 fn run<R: Threads + Wait + Clock + Sync>(
     rt: &R,
     alloc: Global,
@@ -149,7 +149,7 @@ fn run<R: Threads + Wait + Clock + Sync>(
 
 const ONE_EACH: [u32; 2] = [1, 1];
 
-/// How many places were asked for, and how many connections were given back.
+/// Returns for how many addresses `listen` was called, and how many connections were closed.
 fn told(net: &MemNet) -> (usize, usize) {
     let asked = match net.asked() {
         Some(asked) => asked.len(),
@@ -162,7 +162,7 @@ fn told(net: &MemNet) -> (usize, usize) {
     (asked, written)
 }
 
-/// Whether one door was asked for at each of two places.
+/// Returns whether one listener was opened at each of two addresses.
 fn has_two_doors(net: &MemNet) -> bool {
     matches!(net.asked(), Some([players, editors]) if players.doors() == 1 && editors.doors() == 1)
 }
@@ -188,7 +188,7 @@ fn a_player_and_an_editor_are_served(rt: HostRuntime) -> Result<(), Fail> {
     Ok(())
 }
 
-/// The run left this status and this output, and no share.
+/// Checks the status and the output, and that the run left no share.
 fn is_unserved(rt: &impl Abort, ran: &Ran, status: u8, output: &[u8]) -> Result<(), Fail> {
     assert_eq!(rt; ran.status, status);
     assert_eq!(rt; ran.output.as_slice(), output);
@@ -233,7 +233,8 @@ fn refused_records_serve_nobody(rt: HostRuntime) -> Result<(), Fail> {
     Ok(())
 }
 
-/// An output that can hold so many bytes is full at the end, whether a share was opened, and how many connections it had.
+/// Checks that an output with the capacity `room` is full at the end, whether the share was served, and how many
+/// connections were closed.
 fn is_cut<R: Threads + Wait + Clock + Sync + Abort>(
     rt: &R,
     alloc: Global,

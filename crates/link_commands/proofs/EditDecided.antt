@@ -31,7 +31,7 @@ use Rattle.link_commands.proofs.LinkedFacts.{left_is, link_rose, owed_is}
 
 -- ---- what is sent
 
--- an input that is too long is sent by none
+-- an input that is too long is not sent
 body_or_long : (stop : Bool) (before after : InputSeen) (body : Option (List ℕ)) (input : List ℕ) → stop ≡ false → before.left ≡ Some input → HasBody stop before after body
     → records_limit < length input → ⊥
 body_or_long true before after body input reads known has long = absurd (cc)
@@ -45,9 +45,9 @@ long_or_sendable false before after within long =
     let more : records_limit < length within.0 = subst (λ (left : Option (List ℕ)). IfSome left (λ input. records_limit < length input)) within.1 long.long in
     omega (arith, more, within.2)
 
--- ---- what is answered
+-- ---- the reply
 
--- a due answer is no refusal
+-- an expected reply is not a refusal
 refusal_due : (stop : Bool) (body : Option (List ℕ)) (before after : InputSeen) (answer : Reply) (status : ℕ) (text : List ℕ) → HasBody stop before after body → IsDueAnswer stop answer
     → IsPushed body answer (pushed.Refused status text) → ⊥
 refusal_due true None before after answer status text has due is = is.1 (is.0.0 ∙ due)
@@ -73,7 +73,7 @@ push_due true (Some bytes) before after used answer e has due h = absurd has
 push_due false None before after used answer e has due h = absurd has
 push_due false (Some bytes) before after used answer e has due h = edit_due used answer e due h
 
--- what was done was answered duly
+-- a run that succeeded got the expected reply
 made_due : (stop : Bool) (body : Option (List ℕ)) (before after : InputSeen) (answer : Reply) (made : Pushed) (output : List ℕ) → HasBody stop before after body → IsPushed body answer made
     → told_of made ≡ Ok output → IsDueAnswer stop answer
 made_due true None before after answer (pushed.Revision n) output has is told = absurd is
@@ -87,7 +87,7 @@ made_due false (Some bytes) before after answer pushed.Unchanged output has is t
 made_due false (Some bytes) before after answer pushed.Stopped output has is told = absurd is
 made_due false (Some bytes) before after answer (pushed.Refused status text) output has is told = absurd (cc)
 
--- the first reply in the bytes is what was answered
+-- the reply of the exchange is the first one in the bytes
 answered_as : (stop : Bool) (link : LinkSeen) (request : List ℕ) (there : Point) (answer : Reply) (bytes : List ℕ) → (start_of link).owed ≡ Some bytes → (b : BeginsDue stop bytes)
     → Exchanged request (start_of link) there answer → b.answer ≡ answer
 answered_as stop link request there answer bytes owed b x =
@@ -122,7 +122,7 @@ link_undue (Codes error) other whole = refl
 link_undue LinkFault other whole = absurd (whole refl)
 link_undue Memory other whole = absurd (other refl)
 
--- the link had no fault
+-- no error was counted on the connection
 no_fault : (host : List ℕ) (told : Told) (link : LinkSeen) (e : FollowError) → HasLinked host told.before.around.net told.after.around.net link → CountsFault 0 link.faults e → IsFaultless told
     → e ≡ LinkFault → ⊥
 no_fault host told link e linked count faultless fault =
@@ -174,7 +174,7 @@ sent_undue host stop told status link wanted e linked stops faultless within = i
 
 -- ---- a run
 
--- a fault that ends a run over a link, or want of memory
+-- an error that ends a run over a connection, or out of memory
 by_fault : (host : List ℕ) (stop : Bool) (told : Told) (status n : ℕ) (fault : Fault EditFault) → status ≡ fault_status edit_status fault → StopsEdit host stop told.before told.after fault
     → IsFaultless told
     → ((link : LinkSeen) → HasLinked host told.before.around.net told.after.around.net link → StopsSending host stop told.before.input told.after.input link fault → IsOrMemory n status)

@@ -1,4 +1,4 @@
--- What a run of `edit` comes to where the bytes of its link are one success of a share.
+-- How a run of `edit` ends if the bytes of its connection are one success of a share.
 use Rattle.std.proofs.Common.{◌≡◌, ◌⊎◌, ℕ, Bool, true, false, List, [], refl, sym, ap, subst, inl, inr}
 use Rattle.dmap_tags.specs.Tree.{Tree}
 use Rattle.code_table.specs.Standard.{standard_rows}
@@ -19,7 +19,7 @@ use Rattle.link_commands.specs.Meanings.{LinkEnds}
 use Rattle.link_commands.specs.Served.{IsFaultless, ServesPush}
 use Rattle.link_commands.proofs.EditDecided.{edit_decided}
 
--- a share's success is due
+-- a share's success is an expected reply
 edit_reply_due : (told : Reply) → IsEditReply told → IsDueAnswer false told
 edit_reply_due told (inl none) = inl (ap (λ (a : Reply). a.0) none)
 edit_reply_due told (inr made) =

@@ -1,4 +1,4 @@
--- How a run ends as its command means, put together from what was written.
+-- A run ends as its command's specification says, by what was written.
 use Rattle.std.proofs.Common.{◌≡◌, ◌⊎◌, ◌++◌, ℕ, List, [], None, Result, Ok, Err, Vec, Global, IfOk, IfErr, MatchResult, refl, sym, subst, inl, inr}
 use Rattle.command_core.specs.declared.fault.Fault.{Fault}
 use Rattle.command_core.specs.declared.fault.Fault.TheVariants.{Memory}
@@ -11,14 +11,14 @@ use Rattle.command_core.proofs.Appending.{cut_more, none_written, written_more}
 use Rattle.link_commands.specs.Linked.{IsUntouched}
 use Rattle.link_commands.specs.Meanings.{IsLinkAnswered, LinkEnds, LinkMeaning}
 
--- what every ending of a command owes
+-- what every end of a command has to meet
 abbrev pub Promised : LinkMeaning → Type 0
 Promised m = (told : Told) (status : ℕ) → LinkEnds m told status → m.promises told status
 
 answered : (m : LinkMeaning) → Promised m → (told : Told) (outcome : Outcome) → outcome.history ≡ None → LinkEnds m told outcome.status → IsLinkAnswered m told outcome
 answered m owes told outcome unopened ends = record { unopened = unopened; ends = ends; promised = owes told outcome.status ends }
 
--- behind what was written before, the rest of the output was written, or it failed
+-- after what was written before, the rest of the output was written, or the output failed
 pub by_output : (m : LinkMeaning) → Promised m → (told : Told) (mid : OutputSeen) (outcome : Outcome) (front rest : List ℕ) → m.is_done told.before told.after (front ++ rest)
     → m.is_begun told.before told.after (front ++ rest) → IsWritten told.output_before mid front → TellsDone None rest mid told.output_after outcome → IsLinkAnswered m told outcome
 by_output m owes told mid outcome front rest done begun w t = at_end t.told
@@ -32,7 +32,7 @@ pub by_cut : (m : LinkMeaning) → Promised m → (told : Told) (outcome : Outco
     → outcome.history ≡ None → outcome.status ≡ 5 → IsCut told.output_before told.output_after output → IsLinkAnswered m told outcome
 by_cut m owes told outcome output begun unopened s w = answered m owes told outcome unopened (OutputCut output, s, (begun, w))
 
--- the line of a fault ends a run, behind what was written before
+-- the line of an error ends a run, after what was written before
 by_line : (m : LinkMeaning) → Promised m → (told : Told) (mid : OutputSeen) (outcome : Outcome) (front : List ℕ) (fault : Fault m.fault) → m.stops told.before told.after fault front
     → IsWritten told.output_before mid front → outcome.history ≡ None → Tells (fault_status m.status fault) (fault_line m.line fault) mid told.output_after outcome.status
     → IsLinkAnswered m told outcome
@@ -43,7 +43,7 @@ by_line m owes told mid outcome front fault stops w unopened (inr t) =
     answered m owes told outcome unopened
     (LineCut front fault, t.0, (stops, cut_more told.output_before mid told.output_after front (fault_line m.line fault) w t.1))
 
--- so does that of want of memory
+-- the line of out of memory ends a run
 pub by_memory : (m : LinkMeaning) → Promised m → (told : Told) (mid : OutputSeen) (outcome : Outcome) (front : List ℕ) → m.stops told.before told.after Memory front
     → IsWritten told.output_before mid front → TellsMemory None mid told.output_after outcome → IsLinkAnswered m told outcome
 by_memory m owes told mid outcome front stops w t = by_line m owes told mid outcome front Memory stops w t.history t.told
@@ -56,7 +56,7 @@ by_idle m owes told outcome stops t = by_memory m owes told told.output_before o
 pub untouched : (before after : Seen) → after ≡ before → IsUntouched before after
 untouched before after same = subst (λ (s : Seen). IsUntouched before s) (sym same) (record { unread = record { left = refl; faults = refl }; net = refl })
 
--- where a fault ends the command, memory may be wanted for its line
+-- an error ends the command, and an allocation for its line may fail
 pub by_fault : (m : LinkMeaning) → Promised m → (told : Told) (mid : OutputSeen) (outcome : Outcome) (front : List ℕ) (fault : Fault m.fault)
     → m.stops told.before told.after fault front → m.stops told.before told.after Memory front → IsWritten told.output_before mid front
     → TellsFault m.line m.status fault mid told.output_after outcome → IsLinkAnswered m told outcome
@@ -67,7 +67,7 @@ by_fault m owes told mid outcome front fault stops wants w t = at_line t.told
     at_line (inl line) = by_line m owes told mid outcome front fault stops w t.unopened line
     at_line (inr line) = by_line m owes told mid outcome front Memory wants w t.unopened line
 
--- one that writes once, at its end, and nothing before
+-- a command that writes once, at its end
 pub by_answer : (m : LinkMeaning) → Promised m → (told : Told) (outcome : Outcome) (answer : Result (Vec ℕ Global) (Fault m.fault))
     → IfOk answer (λ bytes. m.is_done told.before told.after bytes.items × m.is_begun told.before told.after bytes.items)
     → IfErr answer (λ fault. m.stops told.before told.after fault [] × m.stops told.before told.after Memory [])

@@ -46,7 +46,7 @@ follow_refused host rounds query meta target told status (refused_ending front f
     fault_refused host rounds query meta target told status fault front e stops refused
 follow_refused host rounds query meta target told status (LineCut front fault, e, (stops, w)) whole refused = absurd (whole w.rose)
 
--- ---- the bytes of the link
+-- ---- the bytes of the connection
 
 done_run : (host : List ℕ) (rounds : ℕ) (query meta : Option (List ℕ)) (target : Target) (told : Told) (output bytes : List ℕ)
     (done : IsFollowDone host rounds query meta target told.before told.after output) → told.before.around.net.next_input ≡ Some bytes → BeginsRun host done.m rounds bytes

@@ -33,7 +33,7 @@ use Rattle.link_commands.proofs.FollowPromised.{follow_goes_on, follow_shows}
 use Rattle.link_commands.proofs.LinkedFacts.{link_rose}
 use Rattle.link_commands.proofs.PushFacts.{link_fails, link_is}
 
--- ---- the net
+-- ---- the network
 
 follow_fails : (fault : Fault FollowFault) → fault_status follow_status fault ≡ 0 → ⊥
 follow_fails (Own (Query error)) h = absurd (cc)
@@ -113,7 +113,7 @@ follow_promised host rounds query meta target told status ends = record {
   decided = follow_decided host rounds query meta target told status ends;
 }
 
--- ---- before a link
+-- ---- before there is a connection
 
 -- the texts were refused
 pub look_stops : (host : List ℕ) (rounds : ℕ) (query meta : Option (List ℕ)) (target : Target) (before after : Seen) (fault : Fault FollowFault) → IsUntouched before after
@@ -125,7 +125,7 @@ look_stops host rounds query meta target before after (Own (Link e)) u h = absur
 look_stops host rounds query meta target before after Read u h = absurd h
 look_stops host rounds query meta target before after want u h = inl (u, refl)
 
--- ---- behind the rounds
+-- ---- after the rounds
 
 link_stops : (host : List ℕ) (rounds : ℕ) (query meta : Option (List ℕ)) (target : Target) (before after : Seen) (e : FollowError) (front : List ℕ)
     → StopsFollowing host rounds query meta target before after e front → StopsFollowBy host rounds query meta target before after (link_fault e) front
@@ -167,7 +167,7 @@ finished host rounds query meta target told mid outcome m now link (Err (link_st
     by_fault (follow_meaning host rounds query meta target) (follow_promised host rounds query meta target) told mid outcome stops.lines (link_fault e)
     (link_stops host rounds query meta target told.before told.after e stops.lines x) (inr (inr (inl (e, x)))) stops.written t
 
--- want of memory before anything was done
+-- out of memory before anything was done
 pub follow_idle : (host : List ℕ) (rounds : ℕ) (query meta : Option (List ℕ)) (target : Target) (told : Told) (outcome : Outcome) → told.after ≡ told.before
     → TellsMemory None told.output_before told.output_after outcome → IsLinkAnswered (follow_meaning host rounds query meta target) told outcome
 follow_idle host rounds query meta target told outcome same t =
@@ -182,7 +182,7 @@ look_ends host rounds query meta target told outcome fault same refused t =
     by_fault (follow_meaning host rounds query meta target) (follow_promised host rounds query meta target) told told.output_before outcome [] fault
     (look_stops host rounds query meta target told.before told.after fault u refused) (inl (u, refl)) (none_written told.output_before) t
 
--- no link was made
+-- no connection was made
 pub unlinked_ends : (host : List ℕ) (rounds : ℕ) (query meta : Option (List ℕ)) (target : Target) (told : Told) (outcome : Outcome) (m : Mirrored) → AsksMirror query meta target m
     → IsUnread told.before.input told.after.input → IsUnreached host told.before.around.net told.after.around.net
     → TellsFault follow_line follow_status (Own Unreached) told.output_before told.output_after outcome → IsLinkAnswered (follow_meaning host rounds query meta target) told outcome

@@ -1,4 +1,4 @@
--- What a run of `follow` comes to where the bytes of its link are a share's.
+-- How a run of `follow` ends if the bytes of its connection are a share's.
 use Rattle.std.proofs.Common.{◌≡◌, ◌≢◌, ◌⊎◌, ◌++◌, ℕ, List, Option, Some, None, sym, ap, ◌∙◌, subst, inl, inr}
 use Rattle.dmap_tags.specs.Tree.{Tree}
 use Rattle.item_model.specs.declared.changes.Entry.{Entry}

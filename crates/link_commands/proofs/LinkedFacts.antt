@@ -1,4 +1,4 @@
--- What a net keeps of one link, and how its count of faults tells of the link's.
+-- What a network keeps of one connection, and how its error counter follows that of the connection.
 use Rattle.std.proofs.Common.{◌≡◌, ℕ, Bool, List, [], ◌∷◌, ◌++◌, length, Option, Some, IfSome, sym, subst, ◌∙◌, ap, inl, inr, arith, append-nil}
 use Rattle.std.specs.Io.KnownBytes.{Appends, prepend_known}
 use Rattle.std.proofs.lemmas.List.{take_all}
@@ -14,7 +14,7 @@ use Rattle.http_client.specs.Replies.{Reply}
 use Rattle.mirror_client.specs.Stopping.{CountsFault, Stops}
 use Rattle.link_commands.specs.Linked.{HasLinked, LinkSeen, start_of}
 
--- the calls on the net, and the link between them
+-- the calls of the network, and the connection between them
 pub linked : (host : List ℕ) (asked asked' asked'' : Option (List (List ℕ × ℕ))) (written written' written'' : Option (List (List ℕ × Bool)))
     (doors doors' doors'' : Option (List (List (List ℕ)))) (next next'' : Option (List ℕ)) (faults faults' faults'' : ℕ) (link : LinkSeen)
     → Grows asked asked' ((host, 0) ∷ []) → asked'' ≡ asked' → BeginsEmpty written link.begun → IfSome next (λ input. link.left ≡ Some input)
@@ -30,12 +30,12 @@ linked host asked asked' asked'' written written' written'' doors doors' doors''
   count = subst (λ (n : ℕ). RisesWith n faults'' link.faults) steady rises;
 }
 
--- a fault of the link is one of the net
+-- an error of the connection is one of the network
 pub link_rose : (host : List ℕ) (before after : NetSeen) (link : LinkSeen) → HasLinked host before after link → CountsFault 0 link.faults LinkFault
     → Rose before.faults after.faults
 link_rose host before after link linked rose = let r = rose.1 in linked.count.faulty (omega (arith, r))
 
--- all of it is a front
+-- all of it is a prefix
 pub whole_front : (before now : Option (List ℕ)) (bytes : List ℕ) → Appends before now bytes → AppendsPrefix before now bytes
 whole_front before now bytes h = (length bytes, omega arith, subst (Appends before now) (sym (take_all (length bytes) bytes (omega arith))) h)
 
@@ -55,7 +55,7 @@ written_part request Undue p taken e (inr a) =
     (subst (Appends p.taken a.there.taken) (append-nil request)
     (subst (λ (r : List ℕ). Appends p.taken a.there.taken (r ++ [])) a.asked a.went.written)))
 
--- the link has the bytes that were to come
+-- the connection has the bytes that were to come
 pub left_is : (next left : Option (List ℕ)) (bytes : List ℕ) → next ≡ Some bytes → IfSome next (λ input. left ≡ Some input) → left ≡ Some bytes
 left_is next left bytes same h = subst (λ (n : Option (List ℕ)). IfSome n (λ input. left ≡ Some input)) same h
 

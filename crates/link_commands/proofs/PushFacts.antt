@@ -40,7 +40,7 @@ link_fails (Codes error) h = absurd (cc)
 link_fails LinkFault h = absurd (cc)
 link_fails Memory h = absurd (cc)
 
--- the network's status is told for the link's own fault alone
+-- only an error of the connection has the status of a network failure
 pub link_is : (e : FollowError) → link_status e ≡ 6 → e ≡ LinkFault
 link_is (refused status) h = absurd (cc)
 link_is (BadReply at) h = absurd (cc)
@@ -58,7 +58,7 @@ edit_fails (Own (Link e)) h = link_fails e h
 edit_fails Read h = absurd (cc)
 edit_fails want h = absurd (cc)
 
--- ---- the net's count
+-- ---- the network's error counter
 
 sending_rose : (host : List ℕ) (stop : Bool) (before after : Seen) (link : LinkSeen) (fault : Fault EditFault) → HasLinked host before.around.net after.around.net link
     → StopsSending host stop before.input after.input link fault → fault_status edit_status fault ≡ 6 → Rose before.around.net.faults after.around.net.faults
@@ -109,7 +109,7 @@ pub edit_promised : (host : List ℕ) (stop : Bool) → Promised (edit_meaning h
 edit_promised host stop told status ends =
     record { net = keeps_net host stop told status ends; goes_on = edit_goes_on host stop told status ends; decided = edit_decided host stop told status ends }
 
--- ---- want of memory in place of another fault
+-- ---- out of memory in place of another error
 
 pub wants_sending : (host : List ℕ) (stop : Bool) (before after : InputSeen) (link : LinkSeen) (fault : Fault EditFault) → StopsSending host stop before after link fault
     → StopsSending host stop before after link want
@@ -136,7 +136,7 @@ own_is : (status : ℕ) (text : List ℕ) (f : EditFault) → failed (Refused st
 unfolding err_or
 own_is status text f h = ap (λ (r : Result (List ℕ) EditFault). err_or r (Refused status text)) h
 
--- what was pushed was told, or refused
+-- the line of the result was made, or the share refused
 pub told_fault : (host : List ℕ) (stop : Bool) (before after : InputSeen) (body : Option (List ℕ)) (link : LinkSeen) (made : Pushed) (fault : Fault EditFault)
     → HasPushed host body link made → IsToldFault made fault → HasBody stop before after body → StopsSending host stop before after link fault
 told_fault host stop before after body link made (Own own) pushed told has = by_made made own pushed told
@@ -181,7 +181,7 @@ reading_fault host stop before after link reads.TooLong is unsent failed some lo
 reading_fault host stop before after link reads.Memory is unsent failed some long count =
     inl (past_limit (EditReadsOn stop) before after records_limit (λ bytes within. subst (λ (b : Bool). EditReadsOn b bytes) (sym is) within) some, unsent)
 
--- ---- over a net
+-- ---- over a network
 
 abbrev nothing : List ℕ
 nothing = []
@@ -202,7 +202,7 @@ edit_stops host stop before after link (Err fault) linked h = (
   (inr (inr (record { link = link; linked = linked; stops = wants_sending host stop before.input after.input link fault h })), refl),
 )
 
--- no link was made
+-- no connection was made
 pub edit_unlinked : (host : List ℕ) (stop : Bool) (told : Told) (outcome : Outcome) → IsUnread told.before.input told.after.input
     → IsUnreached host told.before.around.net told.after.around.net
     → TellsFault edit_line edit_status (Own Unreached) told.output_before told.output_after outcome → IsLinkAnswered (edit_meaning host stop) told outcome
@@ -211,7 +211,7 @@ edit_unlinked host stop told outcome unread unreached t =
     (inr (inl (record { unread = unread; unreached = unreached; is = inl refl })), refl)
     (inr (inl (record { unread = unread; unreached = unreached; is = inr refl })), refl) (none_written told.output_before) t
 
--- want of memory before anything was done
+-- out of memory before anything was done
 pub edit_idle : (host : List ℕ) (stop : Bool) (told : Told) (outcome : Outcome) → told.after ≡ told.before
     → TellsMemory None told.output_before told.output_after outcome → IsLinkAnswered (edit_meaning host stop) told outcome
 edit_idle host stop told outcome same t =

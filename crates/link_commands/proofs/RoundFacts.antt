@@ -1,4 +1,4 @@
--- Rounds, one after another, and the lines that tell them.
+-- Rounds, one after another, and their lines.
 use Rattle.std.proofs.Common.{◌≡◌, ◌==◌, ℕ, Bool, true, false, List, [], ◌∷◌, ◌++◌, length, Option, Some, Result, Ok, Err, IfErr, OnOk, MatchResult, refl, sym, ap, ◌∙◌, subst, append_assoc, append-nil, length-append, inl, inr, arith}
 use Rattle.dmap_tags.specs.Codes.{code}
 use Rattle.share_asks.specs.declared.ask.Want.TheVariants as want
@@ -68,7 +68,7 @@ abbrev stopped_here : (host : List ℕ) (m : Mirrored) (rounds : ℕ) (s : Stage
 stopped_here host m rounds s p taken e now request asked stops holds =
     record { stage = s; there = p; walks = record { exchanges = []; path = refl; went = went_nowhere p }; request = request; is_due = asked; stops = stops; holds = holds }
 
--- behind other stages
+-- after other stages
 abbrev stopped_on : (host : List ℕ) (m : Mirrored) (rounds : ℕ) (s t : Stage) (p q : Point) (taken : Option (List ℕ)) (e : FollowError) (now : Mirrored)
     → Walks host m rounds s p t q → StopsFrom host m rounds t q taken e now → StopsFrom host m rounds s p taken e now
 stopped_on host m rounds s t p q taken e now w k = record {
@@ -95,7 +95,7 @@ listing_tells host known m old now rounds ls p q before after done x is line =
     let y = listed_one host known m old now rounds ls p q (all_applied m.held ls) (all_applied m.held ls ++ done ∷ []) done x refl is refl in
     record { listing = y.0; done = done; holds = y.1; told = y.2; walks = y.3; line = line }
 
--- there was no memory for its line
+-- an allocation for its line failed
 lost : (host : List ℕ) (known : Known) (m old now : Mirrored) (rounds : ℕ) (ls : List Listing) (p q : Point) (before : OutputSeen) (done : Applied)
     → Listed host known old now p q done → old ≡ with_listings m ls → StopsRound host m now rounds ls (Asking known ls) p q.taken Memory before before
 lost host known m old now rounds ls p q before done x is =
@@ -128,7 +128,7 @@ listing_ends host known m old now rounds ls p taken before e is same stops = rec
   untold = refl;
 }
 
--- ---- behind other exchanges
+-- ---- after other exchanges
 
 abbrev Waited : List ℕ → Known → ℕ → ℕ → Point → Point → Type 0
 Waited host known revision n p mid =
@@ -166,7 +166,7 @@ ends_on host known m now rounds ls s t p mid taken before after Output w x = rec
 ends_on host known m now rounds ls s t p mid taken before after (Link e) w x =
     record { stops = stopped_on host m rounds s t p mid taken e now w x.stops; behind = x.behind; untold = x.untold }
 
--- behind another revision
+-- after another revision
 pub next_tells : (host other : List ℕ) (known same : Known) (m old now : Mirrored) (rounds revision n : ℕ) (ls : List Listing) (p mid q : Point) (before after : OutputSeen)
     → other ≡ host → same ≡ known → revision ≡ old.held.revision → (length ls == rounds) ≡ false → old ≡ with_listings m ls → Waited host known revision n p mid
     → TellsRound other same m now rounds ls (Asking same ls) mid q before after → TellsRound host known m now rounds ls (Holding known ls) p q before after
@@ -188,7 +188,7 @@ due_behind : (host : List ℕ) (m : Mirrored) (rounds : ℕ) (known : Known) (ls
     → due host m rounds (Holding known ls) ≡ Some (request_text (behind_round last known (with_listings m ls)) host)
 due_behind host m rounds known ls last is = ap (λ (b : Bool). Some (request_text (behind_round b known (with_listings m ls)) host)) is
 
--- no other revision was told
+-- no other revision came
 pub waiting_ends : (host : List ℕ) (known : Known) (m old now : Mirrored) (rounds revision : ℕ) (ls : List Listing) (p : Point) (taken : Option (List ℕ)) (before : OutputSeen)
     (e : FollowError) → revision ≡ old.held.revision → (length ls == rounds) ≡ false → old ≡ with_listings m ls → now ≡ old
     → Stops (request_text (want.Update known.session revision) host) (UndueNumber (code "musr") known.rows) p taken e

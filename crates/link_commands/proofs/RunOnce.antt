@@ -1,4 +1,5 @@
--- The bytes of a link lead a client one way only: where they have the replies of a whole run, it stops at none of them.
+-- The bytes of a connection lead a client in one way only: if they have the replies of a whole run, it stops at none of
+-- them.
 use Rattle.std.proofs.Common.{◌≡◌, ◌≤◌, ◌==◌, ◌++◌, ◌∷◌, ℕ, List, [], length, Bool, true, false, Option, Some, None, Result, Ok, Err, refl, sym, ap, ◌∙◌, subst, inl, inr, arith}
 use Rattle.dmap_tags.specs.Codes.{Four, code}
 use Rattle.dmap_tags.specs.Tree.{Tree}
@@ -27,7 +28,7 @@ use Rattle.followed_shares.proofs.FilterShown.{left_owed, owed_split, split_on}
 use Rattle.followed_shares.proofs.Successes.{Begins, answer_is}
 use Rattle.link_commands.specs.Decided.{BeginsRun}
 
--- ---- what an answer tells is one
+-- ---- a reply has one content
 
 some_or : Option ℕ → ℕ → ℕ
 some_or None n = n
@@ -61,7 +62,7 @@ leads_on_once : (last : Bool) (known : Known) (ls : List Listing) (answer : Repl
 leads_on_once true known ls answer u v a b = a.1 ∙ sym b.1
 leads_on_once false known ls answer u v a b = a.1 ∙ sym b.1
 
--- an answer leads to one stage
+-- a reply leads to one stage
 leads_once : (m : Mirrored) (rounds : ℕ) (s : Stage) (answer : Reply) (u v : Stage) → Leads m rounds s answer u → Leads m rounds s answer v → u ≡ v
 leads_once m rounds Begun answer u v a b = a.2 ∙ ap (λ (rows : List CodeRow). Learned rows) (table_once answer a.0 b.0 a.1 b.1) ∙ sym b.2
 leads_once m rounds (Learned rows) answer u v a b =
@@ -71,7 +72,7 @@ leads_once m rounds (Asking known ls) answer u v a b =
 leads_once m rounds (Holding known ls) answer u v a b = leads_on_once (length ls == rounds) known ls answer u v a b
 leads_once m rounds (Closed known ls) answer u v a b = absurd a
 
--- ---- an answer that leads on is not undue
+-- ---- a reply that leads on is not unexpected
 
 table_or_none : (rows : List CodeRow) (error : CodeError) (r : Result (List CodeRow) CodeError) → r ≡ Ok rows → r ≡ Err error → ⊥
 table_or_none rows error r some none = let bad : found rows ≡ Err error = sym some ∙ none in absurd (cc)
@@ -145,7 +146,7 @@ leads_due m rounds (Closed known ls) answer u used e a h = absurd a
 
 -- ---- one way
 
--- at the end nothing is asked any more
+-- at the end no further request is sent
 none_due : (host : List ℕ) (m : Mirrored) (rounds : ℕ) (s : Stage) (known : Known) (ls : List Listing) (request : List ℕ) → s ≡ Closed known ls → due host m rounds s ≡ Some request → ⊥
 none_due host m rounds s known ls request closed asked =
     let bad : None ≡ Some request = ap (λ (t : Stage). due host m rounds t) (sym closed) ∙ asked in absurd (cc)
@@ -170,7 +171,7 @@ stops_not host m rounds s t known ls (x ∷ xs) (y ∷ ys) bytes rest more reque
     stops_not host m rounds whole.1.0 t known ls xs ys (messages xs ++ rest) rest more request p taken e whole.1.2 answered.1 refl
     (subst (λ (stage : Stage). Path host m rounds stage ys t) same path.1.2) answers.1 (sym first.1) asked owed stops
 
--- a run that is whole stops at nothing that the peer sends
+-- a whole run is not stopped by what the peer sends
 pub whole_run_goes_on : (host : List ℕ) (m now : Mirrored) (rounds : ℕ) (p : Point) (taken : Option (List ℕ)) (e : FollowError) (bytes : List ℕ) → p.owed ≡ Some bytes
     → BeginsRun host m rounds bytes → StopsFrom host m rounds Begun p taken e now → IsOutside e
 whole_run_goes_on host m now rounds p taken e bytes owed run x =

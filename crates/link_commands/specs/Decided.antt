@@ -1,5 +1,5 @@
--- What decides the status of a run where what it reads is told and nothing outside fails: its words, its input and the bytes of
--- its link. In place of any status memory may be wanted.
+-- If what a run reads is known and nothing outside fails, its status is decided by its arguments, its input and the
+-- bytes of its connection. Instead of any status, an allocation failure gives 9.
 use Rattle.std.specs.Prelude.{◌≡◌, ◌≢◌, ◌<◌, ◌≤◌, ◌⊎◌, ◌++◌, ℕ, List, Bool, true, false, length, Option, Some, None}
 use Rattle.dmap_tags.specs.Codes.{code}
 use Rattle.code_table.specs.Standard.{standard_rows}
@@ -23,12 +23,12 @@ IsOrMemory wanted status = (status ≡ wanted) ⊎ (status ≡ 9)
 
 -- ---- edit
 
--- the answer that is due to a stop; to an edit, one that tells its revision, or that it had no records
+-- the expected reply to a stop; to an edit, one with its revision, or one that says that it had no records
 abbrev pub IsDueAnswer : (stop : Bool) → Reply → Type 0
 IsDueAnswer true answer = answer.0 ≡ 204
 IsDueAnswer false answer = (answer.0 ≡ 204) ⊎ ((n : ℕ) × TellsNumber (code "musr") standard_rows answer n)
 
--- the bytes begin with a reply that is due
+-- the bytes begin with an expected reply
 pub record BeginsDue (stop : Bool) (bytes : List ℕ) : Type 0 where
   pub message : Message
   pub answer : Reply
@@ -37,7 +37,7 @@ pub record BeginsDue (stop : Bool) (bytes : List ℕ) : Type 0 where
   pub split : bytes ≡ print_message message ++ rest
   pub due : IsDueAnswer stop answer
 
--- the input is within its limit; a stop needs none
+-- the input is within its limit; a stop reads none
 abbrev pub IsSendable : (stop : Bool) → Option (List ℕ) → Type 0
 IsSendable true left = Unit {0}
 IsSendable false left = (input : List ℕ) × (left ≡ Some input) × (length input ≤ 4194304)
@@ -45,9 +45,9 @@ IsSendable false left = (input : List ℕ) × (left ≡ Some input) × (length i
 pub record DecidesEdit (stop : Bool) (told : Told) (status : ℕ) : Type 0 where
   -- the input is too long
   pub long : stop ≡ false → (input : List ℕ) → told.before.input.left ≡ Some input → 4194304 < length input → IsOrMemory 8 status
-  -- it is sent, and the answer is due
+  -- it is sent, and the reply is expected
   pub due : IsSendable stop told.before.input.left → (bytes : List ℕ) → told.before.around.net.next_input ≡ Some bytes → BeginsDue stop bytes → IsOrMemory 0 status
-  -- or there is none that is
+  -- or the bytes do not begin with an expected reply
   pub undue : IsSendable stop told.before.input.left → (bytes : List ℕ) → told.before.around.net.next_input ≡ Some bytes → (BeginsDue stop bytes → ⊥)
       → IsOrMemory 7 status
 
@@ -70,13 +70,13 @@ pub record BeginsRun (host : List ℕ) (m : Mirrored) (rounds : ℕ) (bytes : Li
   pub split : bytes ≡ messages exchanges ++ rest
   pub one_each : length listings ≡ rounds
 
--- the texts ask for a mirror, and the bytes begin so for each that they ask for
+-- the texts select a mirror, and the bytes begin with a whole run for each that they select
 pub record HasRun (host : List ℕ) (rounds : ℕ) (query meta : Option (List ℕ)) (target : Target) (bytes : List ℕ) : Type 0 where
   pub m : Mirrored
   pub asks : AsksMirror query meta target m
   pub run : (k : Mirrored) → AsksMirror query meta target k → BeginsRun host k rounds bytes
 
--- or for none
+-- .. or for none
 pub record HasNoRun (host : List ℕ) (rounds : ℕ) (query meta : Option (List ℕ)) (target : Target) (bytes : List ℕ) : Type 0 where
   pub m : Mirrored
   pub asks : AsksMirror query meta target m

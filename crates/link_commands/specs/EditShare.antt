@@ -1,4 +1,5 @@
--- The command `edit`: what the input has, or a stop, is sent to the share at a place, and what the share made of it is told.
+-- The command `edit`: sends the bytes of the input, or a stop, to the share at an address, and writes what the share
+-- made of it.
 use Rattle.std.specs.Prelude.{◌≡◌, ◌≢◌, ◌<◌, ◌≤◌, ◌⊎◌, ◌++◌, ◌∷◌, [], ℕ, List, Bool, true, false, length, nat_le, Option, None, Some, Result, Ok, Err, codes, decimal, IfSome, if◌then◌else◌}
 use Rattle.std.specs.Io.KnownBytes.{Consumes, IsAtEnd}
 use Rattle.daap_outside.specs.Told.{AppendsPrefix}
@@ -22,11 +23,11 @@ use Rattle.link_commands.specs.Links.{link_line, link_status}
 use Rattle.link_commands.specs.Meanings.{LinkMeaning}
 use Rattle.link_commands.specs.Served.{EditPromises}
 
--- as many bytes of records are sent: 4 MiB
+-- the input may have at most 4 MiB
 abbrev pub records_limit : ℕ
 records_limit = 4194304
 
--- as long a text of the share is shown
+-- the text of a share's refusal is shown up to this length
 abbrev pub text_limit : ℕ
 text_limit = 4096
 
@@ -39,26 +40,26 @@ pub record HasReadAll (before after : InputSeen) (bytes : List ℕ) : Type 0 whe
   pub within : length bytes ≤ records_limit
   pub faultless : after.faults ≡ before.faults
 
--- with a stop nothing is read, and no body sent
+-- for a stop nothing is read, and no body is sent
 abbrev pub HasBody : (stop : Bool) → InputSeen → InputSeen → Option (List ℕ) → Type 0
 HasBody true before after None = IsUnread before after
 HasBody true before after (Some bytes) = ⊥
 HasBody false before after None = ⊥
 HasBody false before after (Some bytes) = HasReadAll before after bytes
 
--- bytes of the input behind which it reads on
+-- bytes of the input after which it reads further
 abbrev pub EditReadsOn : (stop : Bool) → List ℕ → Type 0
 EditReadsOn true bytes = ⊥
 EditReadsOn false bytes = length bytes ≤ records_limit
 
--- nothing was sent over the link
+-- nothing was sent over the connection
 pub record IsUnsent (link : LinkSeen) : Type 0 where
   pub unsent : link.taken ≡ link.begun
   pub faultless : link.faults ≡ 0
 
 -- ---- what came of it
 
--- it was sent, and answered as what the share made of it
+-- it was sent, and the reply says what the share made of it
 pub record HasPushed (host : List ℕ) (body : Option (List ℕ)) (link : LinkSeen) (made : Pushed) : Type 0 where
   pub answer : Reply
   pub there : Point
@@ -67,7 +68,7 @@ pub record HasPushed (host : List ℕ) (body : Option (List ℕ)) (link : LinkSe
   pub is : IsPushed body answer made
   pub faultless : link.faults ≡ 0
 
--- it was sent, perhaps in part, and stopped so
+-- it was sent, perhaps in part, and the exchange stopped with `e`
 pub record StopsPush (host : List ℕ) (body : Option (List ℕ)) (link : LinkSeen) (e : FollowError) : Type 0 where
   pub stops : Stops (push_text body host) (UnduePush body) (start_of link) link.taken e
   pub count : CountsFault 0 link.faults e
@@ -78,8 +79,8 @@ HasSent host stop before after link made = (body : Option (List ℕ)) × HasBody
 abbrev pub StopsPushing : List ℕ → (stop : Bool) → InputSeen → InputSeen → LinkSeen → FollowError → Type 0
 StopsPushing host stop before after link e = (body : Option (List ℕ)) × HasBody stop before after body × StopsPush host body link e
 
--- of an edit nothing was sent, and the input was perhaps not read to its end; or a prefix of this run's own request was: of the
--- stop, or of the edit with the bytes that were read
+-- nothing was sent, and the input was perhaps not read to its end; or a prefix of this run's own request was sent: of
+-- the stop, or of the edit with the bytes that were read
 abbrev pub IsSentInPart : List ℕ → (stop : Bool) → InputSeen → InputSeen → LinkSeen → Type 0
 IsSentInPart host stop before after link =
     (HasReadOn (EditReadsOn stop) before after × IsUnsent link)
@@ -88,14 +89,14 @@ IsSentInPart host stop before after link =
 abbrev pub number_line : List ℕ → ℕ → List ℕ
 number_line words n = words ++ (decimal n ++ 10 ∷ [])
 
--- what is told of it
+-- the line that is written of it
 abbrev pub told_of : Pushed → Result (List ℕ) EditFault
 told_of (pushed.Revision n) = Ok (number_line (codes "revision ") n)
 told_of pushed.Unchanged = Ok (codes "unchanged" ++ 10 ∷ [])
 told_of pushed.Stopped = Ok (codes "stopped" ++ 10 ∷ [])
 told_of (pushed.Refused status text) = Err (Refused status text)
 
--- ---- faults
+-- ---- errors
 
 -- a text that is too long is not shown
 abbrev pub shown_text : List ℕ → List ℕ
@@ -113,14 +114,14 @@ edit_status Unreached = 6
 edit_status (Refused status text) = 7
 edit_status (Link error) = link_status error
 
--- the input has more than is sent
+-- the input has more bytes than `edit` sends
 pub record IsTooLong (stop : Bool) (before after : InputSeen) : Type 0 where
   pub reads : stop ≡ false
   pub long : IfSome before.left (λ input. records_limit < length input)
   pub faultless : after.faults ≡ before.faults
   pub read_on : HasReadOn (EditReadsOn stop) before after
 
--- what stopped it once a link was made
+-- why it stopped once a connection was made
 abbrev pub StopsSending : List ℕ → (stop : Bool) → InputSeen → InputSeen → LinkSeen → Fault EditFault → Type 0
 StopsSending host stop before after link (Own TooLong) = IsTooLong stop before after × IsUnsent link
 StopsSending host stop before after link (Own Unreached) = ⊥
@@ -129,7 +130,7 @@ StopsSending host stop before after link (Own (Link error)) = (error ≢ Memory)
 StopsSending host stop before after link Read = (stop ≡ false) × IsReadFault (EditReadsOn stop) before after × IsUnsent link
 StopsSending host stop before after link want = IsSentInPart host stop before after link
 
--- none was made; where memory is wanted for the line of that, its own line is told
+-- no connection was made; if an allocation fails for the line of that, the line of out of memory is written
 pub record StopsUnlinked (host : List ℕ) (before after : Seen) (fault : Fault EditFault) : Type 0 where
   pub unread : IsUnread before.input after.input
   pub unreached : IsUnreached host before.around.net after.around.net
@@ -140,12 +141,12 @@ pub record StopsLinked (host : List ℕ) (stop : Bool) (before after : Seen) (fa
   pub linked : HasLinked host before.around.net after.around.net link
   pub stops : StopsSending host stop before.input after.input link fault
 
--- memory may be wanted before anything is done
+-- an allocation may fail before anything is done
 abbrev pub StopsEdit : List ℕ → (stop : Bool) → Seen → Seen → Fault EditFault → Type 0
 StopsEdit host stop before after fault =
     (IsUntouched before after × (fault ≡ want)) ⊎ StopsUnlinked host before after fault ⊎ StopsLinked host stop before after fault
 
--- it was sent and told
+-- it was sent, and the line of the result was written
 pub record IsEditDone (host : List ℕ) (stop : Bool) (before after : Seen) (output : List ℕ) : Type 0 where
   pub link : LinkSeen
   pub linked : HasLinked host before.around.net after.around.net link
@@ -164,7 +165,7 @@ edit_meaning host stop = record {
   promises = EditPromises host stop;
 }
 
--- ---- what refusals of the parts are
+-- ---- errors of `edit` for those of the functions below
 
 abbrev pub IsToldFault : Pushed → Fault EditFault → Type 0
 IsToldFault made (Own own) = told_of made ≡ Err own

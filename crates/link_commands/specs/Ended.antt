@@ -1,4 +1,4 @@
--- What is written behind the last round, or behind why there was none.
+-- What is written after the last round, or after the rounds ended early.
 use Rattle.std.specs.Prelude.{◌≡◌, ◌⊎◌, ℕ, List, None}
 use Rattle.dmap_tags.specs.Tree.{Tree}
 use Rattle.command_core.specs.declared.outcome.Outcome.{Outcome}
@@ -9,11 +9,11 @@ use Rattle.link_commands.specs.declared.rounds.Stop.TheVariants.{Output, Link}
 use Rattle.link_commands.specs.FollowShare.{follow_line, follow_status, link_fault}
 use Rattle.link_commands.specs.RoundLines.{shown_rows}
 
--- the rows, or that memory is wanted for them
+-- the rows, or the line of out of memory
 abbrev pub TellsRows : List (ℕ × Tree) → OutputSeen → OutputSeen → Outcome → Type 0
 TellsRows rows before after outcome = TellsDone None (shown_rows rows) before after outcome ⊎ TellsMemory None before after outcome
 
--- a failed output gets no line
+-- nothing is written to an output that failed
 pub record TellsNothing (before after : OutputSeen) (outcome : Outcome) : Type 0 where
   pub unopened : outcome.history ≡ None
   pub status : outcome.status ≡ 5

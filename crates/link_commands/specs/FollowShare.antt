@@ -1,5 +1,5 @@
--- The command `follow`: a mirror follows one listing of the share at a place for a number of rounds. Each round is told once
--- it is done, and behind the last one the rows that are held then.
+-- The command `follow`: a mirror follows one listing of the share at an address for some rounds. A line is written
+-- after each round, and the rows that the mirror holds after the last one.
 use Rattle.std.specs.Prelude.{◌≡◌, ◌≢◌, ◌≤◌, ◌⊎◌, ◌++◌, ◌∷◌, [], ℕ, List, length, Option, None, codes}
 use Rattle.item_model.specs.declared.query.Query.{Query as query_type}
 use Rattle.item_model.specs.declared.refusal.QueryError.TheVariants as query_error
@@ -33,7 +33,7 @@ lines_of m listings = round_lines (all_applied m.held listings)
 
 -- ---- how far it came
 
--- the rounds were walked, and the link was given back at their end
+-- some rounds were made, and the connection was closed after them
 pub record HasRounds (host : List ℕ) (m : Mirrored) (rounds : ℕ) (link : LinkSeen) (output : List ℕ) : Type 0 where
   pub known : Known
   pub listings : List Listing
@@ -43,7 +43,7 @@ pub record HasRounds (host : List ℕ) (m : Mirrored) (rounds : ℕ) (link : Lin
   pub some : 1 ≤ length listings
   pub lines : output ≡ lines_of m listings
 
--- the lines are those of these listings; where memory is wanted, the last of them may not be told
+-- the lines are those of these listings; only if an allocation failed may the last of them be missing
 pub record AreLinesOf (e : FollowError) (m : Mirrored) (listings : List Listing) (front : List ℕ) : Type 0 where
   pub told : List Listing
   pub others : List Listing
@@ -51,7 +51,7 @@ pub record AreLinesOf (e : FollowError) (m : Mirrored) (listings : List Listing)
   pub only : e ≢ Memory → others ≡ []
   pub lines : front ≡ lines_of m told
 
--- it stopped so, behind these lines
+-- it stopped with `e`, after these lines
 pub record StopsBehind (host : List ℕ) (m : Mirrored) (rounds : ℕ) (link : LinkSeen) (e : FollowError) (front : List ℕ) : Type 0 where
   pub now : Mirrored
   pub stops : StopsFrom host m rounds Begun (start_of link) link.taken e now
@@ -64,9 +64,9 @@ pub record HasFollowed (host : List ℕ) (m : Mirrored) (rounds : ℕ) (link : L
   pub some : 1 ≤ rounds
   pub faultless : link.faults ≡ 0
 
--- ---- over a net
+-- ---- over a network
 
--- the mirror was asked for, nothing was read, and a link was made
+-- the texts select the mirror, nothing was read, and a connection was made
 pub record IsLinkedFor (host : List ℕ) (query meta : Option (List ℕ)) (target : Target) (before after : Seen) (m : Mirrored) (link : LinkSeen) : Type 0 where
   pub asks : AsksMirror query meta target m
   pub unread : IsUnread before.input after.input
@@ -87,7 +87,7 @@ IsFollowBegun host rounds query meta target before after output =
     IsFollowDone host rounds query meta target before after output
     ⊎ ((m : Mirrored) × (link : LinkSeen) × IsLinkedFor host query meta target before after m link × HasRounds host m rounds link output × (link.faults ≡ 0))
 
--- ---- faults
+-- ---- errors
 
 abbrev pub follow_line : FollowFault → List ℕ
 follow_line (Query error) = query_line error
@@ -101,7 +101,7 @@ follow_status Meta = 3
 follow_status Unreached = 6
 follow_status (Link error) = link_status error
 
--- the texts ask for a mirror, and the place was not reached
+-- the texts select a mirror, and the address was not reached
 pub record IsUnlinked (host : List ℕ) (query meta : Option (List ℕ)) (target : Target) (before after : Seen) : Type 0 where
   pub m : Mirrored
   pub asks : AsksMirror query meta target m
@@ -114,7 +114,7 @@ pub record StopsFollowing (host : List ℕ) (rounds : ℕ) (query meta : Option 
   pub for : IsLinkedFor host query meta target before after m link
   pub stops : StopsBehind host m rounds link e front
 
--- memory may be wanted before the place is asked for, for the line of any fault, and behind the last round
+-- an allocation may fail before `connect` is called, for the line of any error, and after the last round
 abbrev pub MayWant : List ℕ → ℕ → (query meta : Option (List ℕ)) → Target → Seen → Seen → List ℕ → Type 0
 MayWant host rounds query meta target before after front =
     (IsUntouched before after × (front ≡ [])) ⊎ (IsUnlinked host query meta target before after × (front ≡ []))
@@ -144,7 +144,7 @@ follow_meaning host rounds query meta target = record {
   promises = FollowPromises host rounds query meta target;
 }
 
--- what the early end of an exchange is
+-- the error of `follow` for an exchange that ended early
 abbrev pub link_fault : FollowError → Fault FollowFault
 link_fault (Refused status) = Own (Link (Refused status))
 link_fault (BadReply at) = Own (Link (BadReply at))

@@ -1,4 +1,4 @@
--- What a command leaves of a net that it asked for one link.
+-- What a command leaves of a network on which it made one connection.
 use Rattle.std.specs.Prelude.{◌≡◌, ℕ, Bool, List, [], ◌∷◌, Option, Some, IfSome}
 use Rattle.daap_outside.specs.Counts.{Rose, RisesWith}
 use Rattle.daap_outside.specs.Places.{returned}
@@ -6,8 +6,8 @@ use Rattle.daap_outside.specs.Told.{BeginsEmpty, Grows, GrowsByTold}
 use Rattle.command_core.specs.Seen.{IsUnread, NetSeen, Seen}
 use Rattle.mirror_client.specs.Points.{Point, nothing_read, place}
 
--- a link: what it had taken and had left to read when it was made, and what it had taken and how many faults were counted on it
--- when it was given back
+-- a connection: what it had taken and had left to read when it was made; what it had taken, and its error counter, when
+-- it was closed
 pub record LinkSeen : Type 0 where
   pub begun : Option (List ℕ)
   pub left : Option (List ℕ)
@@ -17,11 +17,11 @@ pub record LinkSeen : Type 0 where
 abbrev pub link_seen : (begun left taken : Option (List ℕ)) → ℕ → LinkSeen
 link_seen begun left taken faults = record { begun = begun; left = left; taken = taken; faults = faults }
 
--- where a client stands that was just linked
+-- a client that has just connected
 abbrev pub start_of : LinkSeen → Point
 start_of link = place link.begun link.left nothing_read
 
--- the place was asked for once, and the link was given back
+-- `connect` was called once, and the connection was closed
 pub record HasLinked (host : List ℕ) (before after : NetSeen) (link : LinkSeen) : Type 0 where
   pub asked : Grows before.asked after.asked ((host, 0) ∷ [])
   pub begun : BeginsEmpty before.written link.begun
@@ -30,12 +30,12 @@ pub record HasLinked (host : List ℕ) (before after : NetSeen) (link : LinkSeen
   pub doors : after.door_links ≡ before.door_links
   pub count : RisesWith before.faults after.faults link.faults
 
--- nothing was read, and the net was left alone
+-- nothing was read, and the network is unchanged
 pub record IsUntouched (before after : Seen) : Type 0 where
   pub unread : IsUnread before.input after.input
   pub net : after.around.net ≡ before.around.net
 
--- it was asked for once, and no link was made
+-- `connect` was called once, and no connection was made
 pub record IsUnreached (host : List ℕ) (before after : NetSeen) : Type 0 where
   pub asked : Grows before.asked after.asked ((host, 0) ∷ [])
   pub written : after.written ≡ before.written

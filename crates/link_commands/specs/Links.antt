@@ -1,4 +1,4 @@
--- The line and the status of what ends an exchange with a share.
+-- The line and the status of an error that ends an exchange with a share.
 use Rattle.std.specs.Prelude.{ℕ, List, [], ◌∷◌, ◌++◌, codes, decimal}
 use Rattle.mirror_client.specs.declared.refusal.FollowError.{FollowError}
 use Rattle.mirror_client.specs.declared.refusal.FollowError.TheVariants.{Refused, BadReply, Ended, Listing, Codes, LinkFault, Memory}
@@ -12,7 +12,7 @@ link_line (Codes error) = codes "peer: codes" ++ 10 ∷ []
 link_line LinkFault = codes "network failed" ++ 10 ∷ []
 link_line Memory = codes "memory" ++ 10 ∷ []
 
--- the peer answered otherwise than it should, or the link failed
+-- the peer did not answer as it should, or the connection failed
 abbrev pub link_status : FollowError → ℕ
 link_status (Refused status) = 7
 link_status (BadReply at) = 7

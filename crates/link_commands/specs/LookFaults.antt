@@ -1,4 +1,4 @@
--- The faults of the texts that say what is followed.
+-- The errors of the texts that say what is mirrored.
 use Rattle.std.specs.Prelude.{◌≡◌, ◌≢◌, ℕ, List, Option, None}
 use Rattle.item_model.specs.declared.names.MetaError.{MetaError}
 use Rattle.item_model.specs.declared.names.MetaError.TheVariants as meta
@@ -11,7 +11,7 @@ use Rattle.link_commands.specs.declared.follow.FollowFault.{FollowFault}
 use Rattle.link_commands.specs.declared.follow.FollowFault.TheVariants.{Query, Meta, Unreached, Link}
 use Rattle.link_commands.specs.Looks.{AsksQuery, HasRefusal, meta_asked}
 
--- the query's text is refused, or that of the names where the query is read
+-- the query's text is refused; or the query is read, and there are too many names
 abbrev pub IsLookFault : (query meta : Option (List ℕ)) → Fault FollowFault → Type 0
 IsLookFault query_text meta_text (Own (Query error)) = (error ≢ query.Memory) × HasRefusal query_text error
 IsLookFault query_text meta_text (Own Meta) = ((asked : Option query_type) × AsksQuery query_text asked) × (meta_asked meta_text ≡ None)
@@ -20,7 +20,7 @@ IsLookFault query_text meta_text (Own (Link error)) = ⊥
 IsLookFault query_text meta_text Read = ⊥
 IsLookFault query_text meta_text Memory = Unit {0}
 
--- the faults that refusals of the texts are
+-- the errors of `follow` if the texts are refused
 abbrev pub query_fault : QueryError → Fault FollowFault
 query_fault query.TooLong = Own (Query query.TooLong)
 query_fault (query.TooDeep place) = Own (Query (query.TooDeep place))

@@ -1,4 +1,4 @@
--- What the texts of `--query` and `--meta` ask for.
+-- What the texts of `--query` and `--meta` select.
 use Rattle.std.specs.Prelude.{◌≡◌, ℕ, List, [], Option, Some, None, Ok, Err}
 use Rattle.item_model.specs.Names.{meta_of}
 use Rattle.item_model.specs.declared.query.Query.{Query}
@@ -20,7 +20,7 @@ abbrev pub HasRefusal : Option (List ℕ) → QueryError → Type 0
 HasRefusal None error = ⊥
 HasRefusal (Some text) error = Answers text (Err error)
 
--- the properties of a text; without a text, those that are shown by default
+-- the properties that a text names; without a text, the default ones
 abbrev pub meta_asked : Option (List ℕ) → Option Meta
 meta_asked None = Some Default
 meta_asked (Some text) = meta_of text
@@ -29,7 +29,7 @@ meta_asked (Some text) = meta_of text
 abbrev pub mirror_of : Target → Option Query → Meta → Mirrored
 mirror_of target query meta = record { target = target; query = query; meta = meta; held = record { revision = 0; rows = [] } }
 
--- the texts ask for this mirror
+-- the texts select this mirror
 pub record AsksMirror (query meta : Option (List ℕ)) (target : Target) (m : Mirrored) : Type 0 where
   pub asked : Option Query
   pub shown : Meta

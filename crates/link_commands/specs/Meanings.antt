@@ -1,4 +1,4 @@
--- What a command means that reaches a share over a link, whole, and how a run of it ends.
+-- The specification of a command that reaches a share over a connection, and how a run of it ends.
 use Rattle.std.specs.Prelude.{◌≡◌, ◌⊎◌, ◌++◌, ◌∷◌, [], ℕ, List, None}
 use Rattle.daap_outside.specs.Counts.{Rose}
 use Rattle.daap_outside.specs.Told.{Grows}
@@ -8,25 +8,25 @@ use Rattle.command_core.specs.Endings.{Ending, Done, OutputCut, Refused, LineCut
 use Rattle.command_core.specs.Faults.{fault_line, fault_status}
 use Rattle.command_core.specs.Seen.{Seen, Told}
 
--- what every run keeps with the net: the place is asked for once at most, and the count of faults rises where the network is
--- told to have failed, and not where all is done
+-- of every run: it connects at most once; the network's error counter rose if the status reports a network failure, and
+-- did not if the run succeeded
 pub record KeepsNet (host : List ℕ) (told : Told) (status : ℕ) : Type 0 where
   pub asked : (told.after.around.net ≡ told.before.around.net) ⊎ Grows told.before.around.net.asked told.after.around.net.asked ((host, 0) ∷ [])
   pub rose : status ≡ 6 → Rose told.before.around.net.faults told.after.around.net.faults
   pub faultless : status ≡ 0 → told.after.around.net.faults ≡ told.before.around.net.faults
 
 pub record LinkMeaning : Type 1 where
-  -- its own faults, each with its line and its status
+  -- its own errors, each with its line and its status
   pub fault : Type 0
   pub line : fault → List ℕ
   pub status : fault → ℕ
-  -- it is done, with this output
+  -- it succeeds, with this output
   pub is_done : Seen → Seen → List ℕ → Type 0
-  -- what it had to write when the output failed
+  -- what it had to write if the output failed
   pub is_begun : Seen → Seen → List ℕ → Type 0
-  -- a fault ends it, by its cause, behind this front of the output
+  -- an error ends it, by its cause, after this prefix of the output
   pub stops : Seen → Seen → Fault fault → List ℕ → Type 0
-  -- what follows for a run and its status where the outside tells enough
+  -- what follows for a run and its status if enough is known of the outside
   pub promises : Told → ℕ → Type 0
 
 abbrev pub ending_status : (m : LinkMeaning) → Ending m.fault → ℕ
@@ -35,7 +35,7 @@ ending_status m (OutputCut output) = 5
 ending_status m (Refused front fault) = fault_status m.status fault
 ending_status m (LineCut front fault) = 5
 
--- a run may end so
+-- the ways in which a run may end
 abbrev pub Happens : (m : LinkMeaning) → Told → Ending m.fault → Type 0
 Happens m told (Done output) = m.is_done told.before told.after output × IsWritten told.output_before told.output_after output
 Happens m told (OutputCut output) = m.is_begun told.before told.after output × IsCut told.output_before told.output_after output
@@ -44,11 +44,11 @@ Happens m told (Refused front fault) =
 Happens m told (LineCut front fault) =
     m.stops told.before told.after fault front × IsCut told.output_before told.output_after (front ++ fault_line m.line fault)
 
--- the run ended in one of these ways, with its status
+-- the run ended in one of them, with its status
 abbrev pub LinkEnds : (m : LinkMeaning) → Told → ℕ → Type 0
 LinkEnds m told status = (ending : Ending m.fault) × (status ≡ ending_status m ending) × Happens m told ending
 
--- the outcome of a run is one that the command means; it opens no share
+-- the outcome of a run is as the specification says; the command opens no share
 pub record IsLinkAnswered (m : LinkMeaning) (told : Told) (outcome : Outcome) : Type 0 where
   pub unopened : outcome.history ≡ None
   pub ends : LinkEnds m told outcome.status

@@ -1,4 +1,4 @@
--- The line of each round of a mirror, and the rows that it holds.
+-- The line of each round of a mirror, and the rows that the mirror holds.
 use Rattle.std.specs.Prelude.{ℕ, Bool, true, false, List, [], ◌∷◌, ◌++◌, flat_map, map, codes, decimal}
 use Rattle.dmap_tags.specs.Codes.{code}
 use Rattle.dmap_tags.specs.Tree.{Tree, list, none, more, trees_of}
@@ -9,7 +9,7 @@ abbrev pub form_word : Bool → List ℕ
 form_word true = codes " delta"
 form_word false = codes " full"
 
--- the revision, whether the listing was a delta, and how many rows were put, dropped and are held then
+-- the revision, whether the listing was a delta, and how many rows were put, were dropped and are then held
 abbrev pub round_line : Applied → List ℕ
 round_line a =
     codes "revision " ++ (decimal a.revision ++ (form_word a.delta ++ (codes " put " ++ (decimal a.put ++ (codes " drop " ++ (decimal a.dropped

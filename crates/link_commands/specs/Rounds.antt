@@ -1,4 +1,4 @@
--- Rounds of a client that follows, each told on the output: how they end early.
+-- Rounds of a client that follows, with a line on the output after each: how they end early.
 use Rattle.std.specs.Prelude.{◌≡◌, ◌≢◌, ◌++◌, ◌∷◌, [], ℕ, List, Option}
 use Rattle.share_history.specs.Listings.{Listing}
 use Rattle.mirror_core.specs.declared.mirror.Applied.{Applied}
@@ -17,7 +17,7 @@ use Rattle.link_commands.specs.FollowShare.{HasRounds, StopsBehind}
 use Rattle.link_commands.specs.Linked.{LinkSeen}
 use Rattle.link_commands.specs.RoundLines.{round_line}
 
--- one round more was walked from a stage on, and its line was written
+-- one more round was made from stage `s`, and its line was written
 pub record TellsRound (host : List ℕ) (known : Known) (m now : Mirrored) (rounds : ℕ) (ls : List Listing) (s : Stage) (p q : Point) (before after : OutputSeen) : Type 0 where
   pub listing : Listing
   pub done : Applied
@@ -36,13 +36,13 @@ pub record CutsRound (host : List ℕ) (known : Known) (m : Mirrored) (rounds : 
   pub written : there.taken ≡ taken
   pub line : IsCut before after (round_line done)
 
--- these listings are there, and where memory is wanted perhaps one more
+-- these listings, and perhaps one more if an allocation failed
 pub record AreAtMost (e : FollowError) (listings ls : List Listing) : Type 0 where
   pub others : List Listing
   pub split : listings ≡ ls ++ others
   pub only : e ≢ Memory → others ≡ []
 
--- the link ended it, and nothing was written
+-- the exchange ended early, and nothing was written
 pub record StopsRound (host : List ℕ) (m now : Mirrored) (rounds : ℕ) (ls : List Listing) (s : Stage) (p : Point) (taken : Option (List ℕ)) (e : FollowError) (before after : OutputSeen) : Type 0 where
   pub stops : StopsFrom host m rounds s p taken e now
   pub behind : AreAtMost e (listings_in stops.stage) ls
@@ -53,7 +53,7 @@ abbrev pub EndsRound : (host : List ℕ) (known : Known) (m now : Mirrored) (rou
 EndsRound host known m now rounds ls s p taken before after Output = CutsRound host known m rounds ls s p taken before after
 EndsRound host known m now rounds ls s p taken before after (Link e) = StopsRound host m now rounds ls s p taken e before after
 
--- the link's count of faults
+-- the connection's error counter
 abbrev pub CountsStop : ℕ → ℕ → Stop → Type 0
 CountsStop before now Output = now ≡ before
 CountsStop before now (Link e) = CountsFault before now e
@@ -64,14 +64,14 @@ abbrev pub EndsLine : Applied → (before after : OutputSeen) → Stop → Type 
 EndsLine done before after Output = IsCut before after (round_line done)
 EndsLine done before after (Link e) = (e ≡ Memory) × (after ≡ before)
 
--- the output failed in the line of a round, behind those before it
+-- the output failed in the line of a round, after the lines before it
 pub record CutsRounds (host : List ℕ) (m : Mirrored) (rounds : ℕ) (link : LinkSeen) (before after : OutputSeen) : Type 0 where
   pub lines : List ℕ
   pub has : HasRounds host m rounds link lines
   pub faultless : link.faults ≡ 0
   pub cut : IsCut before after lines
 
--- the link ended it behind these lines
+-- the exchange ended early, after these lines
 pub record StopsRounds (host : List ℕ) (m : Mirrored) (rounds : ℕ) (link : LinkSeen) (e : FollowError) (before after : OutputSeen) : Type 0 where
   pub lines : List ℕ
   pub stops : StopsBehind host m rounds link e lines

@@ -1,4 +1,4 @@
--- What is promised where the bytes of the link that a net connects next are a share's, at points of its history.
+-- What is promised if the bytes of the next connection are the responses of a share, at lengths of its history.
 use Rattle.std.specs.Prelude.{◌≡◌, ◌⊎◌, ◌≤◌, ℕ, List, ◌∷◌, ◌++◌, Bool, true, false, length, Option, Some, Ok}
 use Rattle.daap_outside.specs.Counts.{Rose}
 use Rattle.item_model.specs.declared.changes.Edit.{Edit}
@@ -21,7 +21,7 @@ use Rattle.link_commands.specs.Looks.{AsksMirror}
 use Rattle.link_commands.specs.Meanings.{KeepsNet}
 use Rattle.link_commands.specs.RoundLines.{round_lines, shown_rows}
 
--- no fault was counted outside: on the input, the output and the net
+-- no error was counted on the input, the output and the network
 pub record IsFaultless (told : Told) : Type 0 where
   pub input : Rose told.before.input.faults told.after.input.faults → ⊥
   pub output : Rose told.output_before.faults told.output_after.faults → ⊥
@@ -29,7 +29,7 @@ pub record IsFaultless (told : Told) : Type 0 where
 
 -- ---- follow
 
--- the texts ask for a mirror, and the bytes to come are a share's to it, for as many rounds
+-- the texts select a mirror, and the bytes to come are a share's responses to it, for `rounds` rounds
 pub record ServesMirror (s : Settings) (h : List Entry) (rounds : ℕ) (query meta : Option (List ℕ)) (target : Target) (told : Told) : Type 0 where
   pub whole : IsWhole h
   pub bytes : List ℕ
@@ -50,13 +50,13 @@ pub record FollowPromises (host : List ℕ) (rounds : ℕ) (query meta : Option 
   pub net : KeepsNet host told status
   pub shows : (s : Settings) (h : List Entry) → ServesMirror s h rounds query meta target told → status ≡ 0 → ShowsTheShare h query meta target told
   pub goes_on : (s : Settings) (h : List Entry) → ServesMirror s h rounds query meta target told → IsFaultless told → (status ≡ 0) ⊎ (status ≡ 9)
-  -- refused texts decide it where the output did not fail
+  -- refused texts decide the status if the output did not fail
   pub refused : (Rose told.output_before.faults told.output_after.faults → ⊥) → IsTextRefused query meta → IsOrMemory 3 status
   pub decided : IsFaultless told → DecidesFollow host rounds query meta target told status
 
 -- ---- edit
 
--- an edit with records that are taken, an edit without any, and the stop
+-- the stop, or an edit with a batch, which may be empty
 abbrev pub IsPushWant : (stop : Bool) → Want → Type 0
 IsPushWant true w = w ≡ want.Stop
 IsPushWant false w = (batch : List Edit) × (w ≡ want.Edit (Ok batch))

@@ -1,4 +1,4 @@
-//! The lines that both commands tell.
+//! Lines that both commands write.
 
 ghost use Rattle.std.specs.Prelude.{◌≡◌, ◌++◌, ◌∷◌, [], decimal, IfOk};
 ghost use Rattle.link_commands.specs.Links.{link_line, link_status};
@@ -7,7 +7,7 @@ use fault_lines::push_number;
 use mirror_client::FollowError;
 use std::alloc::{AllocError, Global};
 
-/// Words, a number in decimal, and the line's end.
+/// Returns `words`, then `number` in decimal, then a line feed.
 pub(crate) fn number_line(alloc: Global, words: &[u8], number: u64) -> Result<Vec<u8>, AllocError>
     ensures { IfOk result (λ line. line.items ≡ words.now ++ (decimal number ++ 10 ∷ [])) }
 {
@@ -17,7 +17,7 @@ pub(crate) fn number_line(alloc: Global, words: &[u8], number: u64) -> Result<Ve
     Ok(line)
 }
 
-/// The line of what ended an exchange with a share.
+/// Returns the line of the error that ended an exchange with a share.
 pub(crate) fn link_line(alloc: Global, error: &FollowError) -> Result<Vec<u8>, AllocError>
     ensures { IfOk result (λ line. line.items ≡ link_line error.now) }
 {
@@ -34,7 +34,7 @@ pub(crate) fn link_line(alloc: Global, error: &FollowError) -> Result<Vec<u8>, A
     }
 }
 
-/// The status that the program ends with then.
+/// Returns the status that the program then ends with.
 pub(crate) fn link_status(error: &FollowError) -> u8
     ensures { result ≡ link_status error.now }
 {

@@ -1,4 +1,4 @@
-//! The command `edit`: records or a stop for a share.
+//! The command `edit`: sends records or a stop to a share.
 
 ghost use Rattle.std.specs.Prelude.{◌≡◌, ◌++◌, Bool, Ok, IfOk, IfErr, MatchResult, option_copied};
 ghost use Rattle.command_core.specs.Seen.{FilesSeen, InputSeen, input_seen, net_seen, output_seen, told_over};
@@ -8,26 +8,26 @@ ghost use Rattle.link_commands.specs.Linked.{link_seen};
 ghost use Rattle.link_commands.specs.Meanings.{IsLinkAnswered};
 
 use crate::answer::{link_line, link_status, number_line};
-use command_core::{Fault, Outcome, Refusal, read_fault, refused, written};
+use command_core::{Fault, Outcome, Refusal, read_fault, write_error, write_result};
 use daap_outside::{Failed, Link, Net, Sink, Source, read_within};
 use dmap_tags::Bytes;
 use mirror_client::{FollowError, Pushed, push_link};
 use std::alloc::{AllocError, Global};
 
-/// The most bytes of records that are sent.
+/// The input may have at most this many bytes.
 const RECORDS_LIMIT: u64 = 4_194_304;
 
-/// The longest text of a share's refusal that is shown.
+/// The text of a share's refusal is shown up to this length, in bytes.
 const TEXT_LIMIT: usize = 4_096;
 
-/// Why nothing was edited or stopped.
+/// Errors of `edit`. Out of memory is `Fault::Memory`.
 #[derive(Debug, Drop)]
 pub enum EditFault {
-    /// The input has more bytes than are sent.
+    /// The input has more than `RECORDS_LIMIT` bytes.
     TooLong,
-    /// No link to the place was made.
+    /// No connection to the address was made.
     Unreached,
-    /// The share refused. `text` is what it says of that.
+    /// The share refused; `text` is the body of its response.
     Refused { status: u16, text: Bytes },
     /// The exchange with the share ended early.
     Link(FollowError),
@@ -61,7 +61,7 @@ impl Refusal for EditFault {
     }
 }
 
-/// What is shown of a share's text.
+/// Returns the part of `text` that is shown: all of it, or nothing if it is too long.
 fn shown_text(text: &Bytes) -> &[u8]
     ensures { result.now ≡ shown_text text.now }
 {
@@ -72,7 +72,8 @@ fn shown_text(text: &Bytes) -> &[u8]
     }
 }
 
-/// Does `edit`: sends the records of the input, or a stop, to the share at a place, and tells what it made of them.
+/// Runs `edit`: sends the records of the input, or if `stop` a stop, to the share at the address `place`, and writes
+/// what the share made of them.
 pub fn edit_share<I: Source, W: Sink, N: Net>(
     alloc: Global,
     place: &str,
@@ -96,13 +97,13 @@ pub fn edit_share<I: Source, W: Sink, N: Net>(
         Ok(mut link) => {
             let answer = sent(alloc, place, stop, input, &mut link);
             net.hang_up(link);
-            written(alloc, output, answer)
+            write_result(alloc, output, answer)
         }
-        Err(Failed) => refused(alloc, output, &Fault::Own(EditFault::Unreached)),
+        Err(Failed) => write_error(alloc, output, &Fault::Own(EditFault::Unreached)),
     }
 }
 
-/// Sends what is to be sent over the link, and tells what came of it.
+/// Sends the records or the stop over `link`. Returns the line of the result.
 fn sent<I: Source, K: Link>(
     alloc: Global,
     place: &str,
@@ -125,7 +126,7 @@ fn sent<I: Source, K: Link>(
     }
 }
 
-/// Pushes a body, or a stop, and tells what the share made of it.
+/// Sends `body`, or a stop if it is `None`. Returns the line of what the share made of it.
 fn pushed<K: Link>(
     alloc: Global,
     place: &str,
@@ -144,7 +145,7 @@ fn pushed<K: Link>(
     }
 }
 
-/// What is told of what a share made of an edit or a stop.
+/// Returns the line of what the share made of an edit or a stop, or its refusal.
 fn told(alloc: Global, made: Pushed) -> Result<Vec<u8>, Fault<EditFault>>
     ensures { MatchResult result (λ bytes. told_of made ≡ Ok bytes.items) (λ fault. IsToldFault made fault) }
 {
@@ -156,7 +157,7 @@ fn told(alloc: Global, made: Pushed) -> Result<Vec<u8>, Fault<EditFault>>
     }
 }
 
-/// What the early end of a push is.
+/// Returns the error of `edit` for an exchange that ended early.
 fn push_fault(error: FollowError) -> Fault<EditFault>
     ensures { result ≡ push_fault error }
 {

@@ -1,4 +1,4 @@
-//! The command `follow`: a mirror of one listing of a share.
+//! The command `follow`: mirrors one listing of a share.
 
 ghost use Rattle.std.specs.Prelude.{◌≡◌, ◌≤◌, option_copied, MatchResult};
 ghost use Rattle.command_core.specs.Seen.{FilesSeen, InputSeen, net_seen, output_seen, told_over};
@@ -10,7 +10,7 @@ use crate::answer::{link_line, link_status};
 use crate::look::mirror_for;
 use crate::rounds::{Stop, follow_rounds};
 use crate::shown::shown_rows;
-use command_core::{Fault, Outcome, Refusal, done, out_of_memory, refused};
+use command_core::{Fault, Outcome, Refusal, out_of_memory, write_error, write_output};
 use daap_outside::{Failed, Net, Sink};
 use dmap_tags::Text;
 use fault_lines::query_line;
@@ -19,14 +19,14 @@ use mirror_client::FollowError;
 use mirror_core::Mirror;
 use std::alloc::{AllocError, Global};
 
-/// Why a share is not followed, or not further.
+/// Errors of `follow`. Out of memory is `Fault::Memory`.
 #[derive(Debug, Drop)]
 pub enum FollowFault {
-    /// The text of `--query` is refused.
+    /// The query of `--query` is refused.
     Query(QueryError),
-    /// The text of `--meta` has too many names.
+    /// The list of `--meta` has too many names.
     Meta,
-    /// No link to the place was made.
+    /// No connection to the address was made.
     Unreached,
     /// The exchange with the share ended early.
     Link(FollowError),
@@ -55,8 +55,9 @@ impl Refusal for FollowFault {
     }
 }
 
-/// Does `follow`: holds the listing of a target, which the texts narrow, of the share at a place for 1 to 16,384 rounds. It
-/// tells each round once it is done, and shows behind the last what is held. It reads no input.
+/// Runs `follow`: mirrors the listing of `target` of the share at the address `place` for `rounds` rounds, 1 to 16,384.
+/// `query` selects the rows, and `meta` the properties that they show. Writes a line after each round, and after the
+/// last one the rows that the mirror holds. Reads no input.
 pub fn follow_share<W: Sink, N: Net>(
     alloc: Global,
     place: &str,
@@ -80,7 +81,7 @@ pub fn follow_share<W: Sink, N: Net>(
 {
     let mut mirror = match mirror_for(alloc, query, meta, target) {
         Ok(mirror) => mirror,
-        Err(fault) => return refused(alloc, output, &fault),
+        Err(fault) => return write_error(alloc, output, &fault),
     };
     match net.connect(place) {
         Ok(mut link) => {
@@ -88,11 +89,11 @@ pub fn follow_share<W: Sink, N: Net>(
             net.hang_up(link);
             ended(alloc, &mirror, end, output)
         }
-        Err(Failed) => refused(alloc, output, &Fault::Own(FollowFault::Unreached)),
+        Err(Failed) => write_error(alloc, output, &Fault::Own(FollowFault::Unreached)),
     }
 }
 
-/// Shows what is held behind the last round, or tells why there was none.
+/// Writes the rows that the mirror holds after the last round, or the line of the error that ended the rounds.
 fn ended<W: Sink>(alloc: Global, mirror: &Mirror, end: Result<(), Stop>, output: &mut W) -> Outcome
     ensures { MatchResult end
         (λ _. TellsRows mirror.now.held.rows (output_seen (W.taken output.old) (W.faults output.old)) (output_seen (W.taken output.new) (W.faults output.new)) result)
@@ -100,18 +101,18 @@ fn ended<W: Sink>(alloc: Global, mirror: &Mirror, end: Result<(), Stop>, output:
 {
     match end {
         Ok(()) => match shown_rows(alloc, mirror) {
-            Ok(rows) => done(output, rows.as_str().as_bytes(), None),
+            Ok(rows) => write_output(output, rows.as_str().as_bytes(), None),
             Err(AllocError) => out_of_memory(output, None),
         },
         Err(Stop::Output) => Outcome {
             status: 5,
             history: None,
         },
-        Err(Stop::Link(error)) => refused(alloc, output, &link_fault(error)),
+        Err(Stop::Link(error)) => write_error(alloc, output, &link_fault(error)),
     }
 }
 
-/// What the early end of an exchange is to `follow`.
+/// Returns the error of `follow` for an exchange that ended early.
 fn link_fault(error: FollowError) -> Fault<FollowFault>
     ensures { result ≡ link_fault error }
 {

@@ -1,5 +1,6 @@
-//! The commands that reach a share over a link: `edit` sends it records or a stop, `follow` holds one of its listings for a
-//! number of rounds. Each has its meaning in a file of `specs/`, and its function ends as that says, over any net.
+//! The commands that reach a share over a connection: `edit` sends it records or a stop, `follow` mirrors one of its
+//! listings for some rounds. Each has its specification in a file of `specs/`, and its function ends as that says,
+//! over any network.
 #![tactic(auto)]
 
 mod answer;

@@ -1,4 +1,4 @@
-//! What `follow` is asked to hold.
+//! Reads the arguments of `follow` that say what it mirrors.
 
 ghost use Rattle.std.specs.Prelude.{◌≡◌, Some, option_copied, IfOk, IfErr};
 ghost use Rattle.share_asks.specs.Valid.{MayAsk};
@@ -13,7 +13,7 @@ use mirror_core::Mirror;
 use song_query::read;
 use std::alloc::Global;
 
-/// A mirror of a target that holds nothing yet, by the texts of `--query` and `--meta`, where they are given.
+/// Returns an empty mirror of `target`, for the texts of `--query` and `--meta`, if there are any.
 pub(crate) fn mirror_for(
     alloc: Global,
     query: Option<&Text>,

@@ -1,4 +1,4 @@
-//! The rounds of `follow`, each told on the output once it is done.
+//! The rounds of `follow`. The line of each is written after it.
 
 ghost use Rattle.std.specs.Prelude.{◌≡◌, ◌≤◌, ◌<◌, ◌+◌, ℕ, List, ◌==◌, false, length, IfErr, OnOk, MatchResult};
 ghost use Rattle.share_asks.specs.Valid.{MayAsk};
@@ -26,11 +26,11 @@ use std::alloc::Global;
 pub(crate) enum Stop {
     /// The line of a round could not be written whole.
     Output,
-    /// The exchange with the share ended early, or memory was wanted.
+    /// The exchange with the share ended early, or an allocation failed.
     Link(FollowError),
 }
 
-/// Follows the mirror's listing for 1 to 16,384 rounds, tells each once it is done, and logs out.
+/// Follows the mirror's listing for `rounds` rounds, 1 to 16,384, writes the line of each after it, and logs out.
 pub(crate) fn follow_rounds<K: Link, W: Sink>(
     alloc: Global,
     host: &str,
@@ -69,7 +69,7 @@ pub(crate) fn follow_rounds<K: Link, W: Sink>(
     }
 }
 
-// One listing more, and its line.
+// Requests one more listing, and writes its line.
 fn tell_round<K: Link, W: Sink>(
     alloc: Global,
     follower: &mut Follower,
@@ -96,7 +96,7 @@ fn tell_round<K: Link, W: Sink>(
     }
 }
 
-// The line of a round.
+// Writes the line of a round.
 fn tell<W: Sink>(alloc: Global, done: Applied, output: &mut W) -> Result<(), Stop>
     ensures { MatchResult result
         (λ _. IsWritten (output_seen (W.taken output.old) (W.faults output.old)) (output_seen (W.taken output.new) (W.faults output.new)) (round_line done))
@@ -111,7 +111,7 @@ fn tell<W: Sink>(alloc: Global, done: Applied, output: &mut W) -> Result<(), Sto
     }
 }
 
-// Another revision, and then one listing more with its line.
+// Waits for another revision, then requests one more listing and writes its line.
 fn tell_next<K: Link, W: Sink>(
     alloc: Global,
     follower: &mut Follower,

@@ -1,4 +1,4 @@
-//! What `follow` shows: a line for each round, and the rows that are held at the end.
+//! What `follow` writes: a line for each round, and the rows that the mirror holds at the end.
 
 ghost use Rattle.std.specs.Prelude.{◌≡◌, ◌<◌, ◌++◌, ◌∷◌, [], ℕ, length, map, slice_get, Some, IfOk, OnOk};
 ghost use Rattle.dmap_tags.specs.Codes.{code};
@@ -11,7 +11,7 @@ use fault_lines::push_number;
 use mirror_core::{Applied, Mirror};
 use std::alloc::{AllocError, Global};
 
-/// The line of a round.
+/// Returns the line of a round.
 pub(crate) fn round_line(alloc: Global, done: Applied) -> Result<Vec<u8>, AllocError>
     ensures { IfOk result (λ line. line.items ≡ round_line done) }
 {
@@ -31,7 +31,7 @@ fn form_word(delta: bool) -> &'static [u8]
     if delta { b" delta" } else { b" full" }
 }
 
-/// The rows that a mirror holds, shown as one listing.
+/// Returns the rows that `mirror` holds, shown as one listing.
 pub(crate) fn shown_rows(alloc: Global, mirror: &Mirror) -> Result<Text, AllocError>
     ensures { IfOk result (λ text. text ≡ shown_rows mirror.now.held.rows) }
 {
@@ -52,7 +52,7 @@ fn rows_tag(alloc: Global, mirror: &Mirror) -> Result<Tag, AllocError>
     })
 }
 
-// Adds the tag of a row.
+// Appends the tag of row `n`.
 fn push_row(rows: &mut Tags, mirror: &Mirror, n: u64) -> Result<(), AllocError>
     requires { n < length mirror.now.held.rows }
     ensures { OnOk result ((row : ℕ × Tree) × (slice_get mirror.now.held.rows n ≡ Some row) × (rows.new ≡ rows.old ++ row.1 ∷ [])) }

@@ -1,4 +1,4 @@
-//! `share_server`: connections in memory, each of its own share.
+//! `share_server`: connections in memory, each of a new share.
 
 ghost use Rattle.std.specs.Prelude.{◌<◌, IfOk};
 ghost use Rattle.share_lock.specs.Passes.{lock_id, IsReady};
@@ -15,7 +15,7 @@ use std::sync::Wait;
 use std::test::Fail;
 use std::time::Clock;
 
-/// A connection: what comes over it, in pieces of `piece` bytes; for how many bytes its output has space; and which of its
+/// A connection: what comes over it, in chunks of `piece` bytes; the capacity `room` of its output; and which of its
 /// writes fail.
 #[derive(Drop)]
 struct Trial<'a> {
@@ -40,7 +40,7 @@ fn edits<'a>(input: &'a str) -> Trial<'a>
     }
 }
 
-/// A share without items, for one pass.
+/// Opens a share without items, for one lock handle.
 fn opened(alloc: Global) -> Result<(ShareLock<Share>, Pass<Share>), AllocError>
     ensures { IfOk result (λ r. IsReady (lock_id r.0) r.1) }
 {
@@ -61,7 +61,7 @@ fn coming(alloc: Global, trial: &Trial<'_>) -> Result<MemLink, AllocError>
     Ok(MemLink::new(input, output))
 }
 
-/// Serves the connection, and returns its report and what it took.
+/// Serves the connection. Returns its report and what it took.
 fn tried<R: Wait + Clock>(
     rt: &R,
     alloc: Global,
@@ -174,7 +174,7 @@ fn a_stop_ends_the_connection(rt: HostRuntime) -> Result<(), Fail> {
     Ok(())
 }
 
-/// What came before a connection ended, how it ended, and how many requests were served on it.
+/// What came before a connection ended, how it ended, and how many of its requests were served.
 type Ending = (&'static str, LinkEnd, usize);
 
 const ENDINGS: [Ending; 9] = [
@@ -202,7 +202,7 @@ const ENDINGS: [Ending; 9] = [
         LinkEnd::Closed,
         1,
     ),
-    // The last request closes: what comes after it is not read.
+    // The last request asks to close: what comes after it is not read.
     (
         "GET /login HTTP/1.1\r\nConnection: close\r\n\r\nGET",
         LinkEnd::Closed,
@@ -210,7 +210,7 @@ const ENDINGS: [Ending; 9] = [
     ),
 ];
 
-/// Serves the connection in pieces of each size from 1 to 49. From 45 on one piece is the whole input.
+/// Serves the connection in chunks of each size from 1 to 49. From 45 on one chunk is the whole input.
 fn ends_in_pieces<R: Wait + Clock + Abort>(
     rt: &R,
     alloc: Global,
@@ -292,7 +292,7 @@ fn a_budget_is_spent(rt: HostRuntime) -> Result<(), Fail> {
     Ok(())
 }
 
-/// `count` requests for a path that no share has.
+/// Returns `count` requests for a path that no share has.
 fn requests_for_nothing(alloc: Global, count: usize) -> Result<Vec<u8>, AllocError> {
     let mut input = Vec::new(alloc);
     for _ in 0..count {
@@ -360,7 +360,7 @@ fn leave_prefix<R: Wait + Clock + Abort>(
 
 #[test]
 fn a_write_that_fails_leaves_a_prefix_of_the_replies(rt: HostRuntime) -> Result<(), Fail> {
-    // A reply is written in three pieces: two of its head, of 50 bytes and of 30, and one of its body.
+    // A reply is written in three chunks: two of its head, of 50 bytes and of 30, and one of its body.
     leave_prefix(&rt, rt.alloc(), &[(1, 0), (2, 50), (3, 80)])?;
     Ok(())
 }

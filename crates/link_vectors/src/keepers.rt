@@ -1,4 +1,4 @@
-//! `share_server`: a connection with a keeper of its edits, and one beside it at the same share.
+//! `share_server`: a connection with a keeper of its edits, and another of the same share.
 
 ghost use Rattle.std.specs.Prelude.{◌≡◌, IfOk, false};
 ghost use Rattle.share_lock.specs.Passes.{lock_id, IsReady};
@@ -16,8 +16,8 @@ use std::sync::Wait;
 use std::test::Fail;
 use std::time::Clock;
 
-/// A keeper in memory, which counts the batches and their edits. It loses the one behind `most`, and has no memory for
-/// batches of more than `room` edits.
+/// A keeper in memory, which counts the batches and their edits. It keeps `most` batches and loses the next one. Its
+/// allocation fails for a batch of more than `room` edits.
 #[derive(Drop)]
 struct Counting {
     most: usize,
@@ -76,7 +76,7 @@ fn keeper_for(most: usize) -> Counting
     }
 }
 
-/// A share without items, for two passes.
+/// Opens a share without items, for two lock handles.
 fn opened(alloc: Global) -> Result<(ShareLock<Share>, Pass<Share>), AllocError>
     ensures { IfOk result (λ r. IsReady (lock_id r.0) r.1) }
 {
@@ -101,11 +101,11 @@ const LOGIN: &str = "GET /login HTTP/1.1\r\n\r\n";
 const EDITS: &str =
     "POST /edit HTTP/1.1\r\nContent-Length: 38\r\n\r\nop,kind,id,dmap.itemname\nput,item,7,A\nPOST /edit HTTP/1.1\r\nContent-Length: 51\r\n\r\nop,kind,id,dmap.itemname\nput,item,7,B\nput,item,8,C\nPOST /edit HTTP/1.1\r\nContent-Length: 64\r\n\r\nop,kind,id,dmap.itemname\nput,item,7,B\nput,item,8,C\nput,item,9,D\nPOST /edit HTTP/1.1\r\nContent-Length: 0\r\n\r\n";
 
-/// How many bytes the reply to an edit takes that was kept.
+/// The reply to an edit that was kept has this many bytes.
 const REPLY: usize = 112;
 
-/// How many batches the keeper keeps; of the editor's connection its end, the status of each request, and how many batches
-/// and edits were kept; of the player's, which comes behind it, its end and the status of its login.
+/// How many batches the keeper keeps; of the editor's connection its end, the status of each request, and how many
+/// batches and edits were kept; of the player's connection, which comes after it, its end and the status of its login.
 type Row = (
     usize,
     LinkEnd,
@@ -116,7 +116,7 @@ type Row = (
 );
 
 const ROWS: [Row; 3] = [
-    // A batch for which the keeper has no memory is answered 500, and adds nothing.
+    // A batch for which the keeper's allocation fails gets 500, and adds no entry.
     (
         2,
         LinkEnd::Closed,
@@ -125,7 +125,7 @@ const ROWS: [Row; 3] = [
         LinkEnd::Closed,
         &[200],
     ),
-    // A batch that is lost is answered to nobody, and the share is stopped behind it.
+    // A batch that is lost gets no reply, and the share is stopped after it.
     (
         1,
         LinkEnd::FileFault,
@@ -137,7 +137,8 @@ const ROWS: [Row; 3] = [
     (0, LinkEnd::FileFault, &[], (0, 0), LinkEnd::Stopped, &[503]),
 ];
 
-/// The reports of the editor's connection and of the player's, and how many bytes the editor's took.
+/// Serves both connections. Returns the reports of the editor's and of the player's, and how many bytes the editor's
+/// took.
 fn reported<R: Wait + Clock>(
     rt: &R,
     alloc: Global,

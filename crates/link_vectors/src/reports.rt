@@ -17,7 +17,7 @@ fn laws_can_be_cited() {
     laws::players_change_nothing();
 }
 
-/// Requests of session 1, of which the first added an entry.
+/// Returns three requests of session 1, of which the first added an entry.
 fn three_served(alloc: Global) -> Result<Vec<Served>, AllocError> {
     let mut items = Vec::new(alloc);
     for point in 1..4 {

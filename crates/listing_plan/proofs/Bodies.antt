@@ -61,6 +61,9 @@ held_trees : (ps : List Property) (rows : List PlanRow) → map (λ row. row.1) 
 held_trees ps [] = refl
 held_trees ps (r ∷ rows) = ap (λ ts. row_tree ps r ∷ ts) (held_trees ps rows)
 
+pub held_length : (ps : List Property) (rows : List PlanRow) → length (spellings (trees_of (map (λ row. row.1) (rows_held ps rows)))) ≡ rows_length ps rows
+held_length ps rows = ap (λ ts. length (spellings (trees_of ts))) (held_trees ps rows)
+
 -- behind the head of the rows stand their tags and the deleted keys
 pub rest_is : (target : Target) (revision : ℕ) (scope : Scope) (rows : List PlanRow) (ps : List Property) → rest_of (record { target = target; listing = listing_held revision scope rows ps }) ≡ spellings (trees_of (row_trees ps rows)) ++ spellings (trees_of (gone_tags target (is_delta_of scope) (gone_of scope)))
 rest_is target revision scope rows ps =

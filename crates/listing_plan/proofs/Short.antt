@@ -22,7 +22,6 @@ use Rattle.item_model.proofs.Places.{value_fits}
 use Rattle.item_model.proofs.Distinct.{first_again}
 use Rattle.item_model.proofs.Few.{total, first_weighed, default_once, all_once}
 use Rattle.listing_plan.specs.Lengths.{most_payload, tag_most, tags_most}
-use Rattle.listing_plan.specs.Limits.{page_limit}
 use Rattle.listing_plan.specs.Laws.{RowsAreShort}
 use Rattle.listing_plan.proofs.Spelled.{spellings_append, framed_length, more_length, short_spellable}
 
@@ -60,6 +59,25 @@ value_short : (kind : Kind) (v : PropValue) → is_of_kind kind v ≡ true → l
 value_short kind (Number n) h = number_short kind n h
 value_short kind (Words bytes) h = text_short kind bytes h
 
+most_few : (kind : Kind) → most_payload kind ≤ 255
+most_few U8 = omega arith
+most_few I8 = omega arith
+most_few U16 = omega arith
+most_few I16 = omega arith
+most_few U32 = omega arith
+most_few I32 = omega arith
+most_few U64 = omega arith
+most_few I64 = omega arith
+most_few Text = omega arith
+most_few Date = omega arith
+most_few Version = omega arith
+most_few Members = omega arith
+most_few Opaque = omega arith
+
+-- no value of a property has more bytes than a text may have
+pub value_few : (p : Property) (v : PropValue) → is_value_of p v ≡ true → length (leaf_payload (value_leaf (property_kind p) v)) ≤ 255
+value_few p v h = omega (arith, value_short (property_kind p) v h, most_few (property_kind p))
+
 -- the tag of a property has at most a head and what its kind has
 pub property_short : (p : Property) (v : PropValue) → is_value_of p v ≡ true → length (spelling (property_tag p v)) ≤ tag_most p
 property_short p v h =
@@ -88,10 +106,10 @@ shown_length_at item ps i d h =
     ∙ length-append (spellings (trees_of (shown item (get_or ps i d ∷ [])))) (spellings (trees_of (shown item (drop (i + 1) ps))))
 
 -- there is room for the next property where there was room for all
-pub put_room : (item : List (Property × PropValue)) (ps : List Property) (i : ℕ) (d : Property) (page start : List ℕ) → i < length ps
-    → page ++ spellings (trees_of (shown item (drop i ps))) ≡ start ++ spellings (trees_of (shown item ps)) → length start + length (spellings (trees_of (shown item ps))) ≤ page_limit
-    → length page + length (spellings (trees_of (shown item (get_or ps i d ∷ [])))) ≤ page_limit
-put_room item ps i d page start h inv room =
+pub put_room : (item : List (Property × PropValue)) (ps : List Property) (i : ℕ) (d : Property) (page start : List ℕ) (most : ℕ) → i < length ps
+    → page ++ spellings (trees_of (shown item (drop i ps))) ≡ start ++ spellings (trees_of (shown item ps)) → length start + length (spellings (trees_of (shown item ps))) ≤ most
+    → length page + length (spellings (trees_of (shown item (get_or ps i d ∷ [])))) ≤ most
+put_room item ps i d page start most h inv room =
     omega (arith, shown_length_at item ps i d h, ap length inv, length-append page (spellings (trees_of (shown item (drop i ps)))), length-append start (spellings (trees_of (shown item ps))), room)
 
 -- the most of the properties that are left
@@ -118,10 +136,11 @@ shown_one : (p : Property) (o : Option PropValue) → IfSome o (λ v. is_value_o
 shown_one p None h = omega arith
 shown_one p (Some v) h = omega (arith, more_length (property_tag p v) none, property_short p v h)
 
-shown_short : (item : List (Property × PropValue)) (ps : List Property) → is_item item ≡ true → length (spellings (trees_of (shown item ps))) ≤ tags_most ps
+-- what an item with fit values shows of some properties is no more than the most of them
+pub shown_short : (item : List (Property × PropValue)) (ps : List Property) → ((p : Property) → IfSome (value_of p item) (λ v. is_value_of p v ≡ true)) → length (spellings (trees_of (shown item ps))) ≤ tags_most ps
 shown_short item [] h = omega arith
 shown_short item (p ∷ ps) h =
-    omega (arith, ap length (shown_cons item p ps), length-append (spellings (trees_of (shown item (p ∷ [])))) (spellings (trees_of (shown item ps))), shown_one p (value_of p item) (value_fits p 0 item h), shown_short item ps h)
+    omega (arith, ap length (shown_cons item p ps), length-append (spellings (trees_of (shown item (p ∷ [])))) (spellings (trees_of (shown item ps))), shown_one p (value_of p item) (h p), shown_short item ps h)
 
 -- what is asked for has each property once
 asked_once : (meta : Meta) → first_mentions (asked meta) ≡ asked meta
@@ -141,7 +160,7 @@ row_length row member ps =
 
 pub row_short : (row : Row) (member : Option ℕ) (meta : Meta) → is_item row.item ≡ true → length (spelling (projection row member meta)) ≤ 2581
 row_short row member meta h =
-    omega (arith, row_length row member (asked meta), keys_short member row.id, shown_short row.item (asked meta) h, once_short (asked meta) (asked_once meta))
+    omega (arith, row_length row member (asked meta), keys_short member row.id, shown_short row.item (asked meta) (λ p. value_fits p 0 row.item h), once_short (asked meta) (asked_once meta))
 
 pub rows_are_short : RowsAreShort
 rows_are_short row member meta h =

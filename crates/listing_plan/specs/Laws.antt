@@ -1,4 +1,4 @@
--- The tag of a row is short, whatever is asked for: each property is shown at most once. So are all listings.
+-- The tag of a row is short, whatever `meta` asks for, because each property is shown at most once. So are all listings.
 use Rattle.std.specs.Prelude.{◌≡◌, ◌≤◌, ℕ, Bool, List, true, length, Option, All}
 use Rattle.dmap_tags.specs.Tree.{Tree}
 use Rattle.dmap_tags.specs.Spelling.{payload, spelling, is_spellable}
@@ -11,7 +11,7 @@ use Rattle.share_history.specs.Listings.{shown_rows}
 use Rattle.share_history.specs.Bodies.{body_tree}
 use Rattle.listing_plan.specs.Limits.{rows_limit, row_limit, listing_limit}
 
--- a tag can be spelled, and has no more bytes than a row may have
+-- a tag can be encoded, and has no more bytes than a row may have
 pub record IsShort (tag : Tree) : Type 0 where
   pub within : length (spelling tag) ≤ row_limit
   pub spellable : is_spellable tag ≡ true
@@ -19,7 +19,7 @@ pub record IsShort (tag : Tree) : Type 0 where
 abbrev pub RowsAreShort : Type 0
 RowsAreShort = (row : Row) (member : Option ℕ) (meta : Meta) → is_item row.item ≡ true → IsShort (projection row member meta)
 
--- a listing with at most so many rows and deleted keys is one that a mirror reads
+-- a mirror can read a listing with at most `rows_limit` rows and as many deleted keys
 abbrev pub ListingsAreShort : Type 0
 ListingsAreShort =
     (target : Target) (is_delta : Bool) (revision total : ℕ) (rows : List (ℕ × Row)) (meta : Meta) (gone : List ℕ)

@@ -1,5 +1,5 @@
--- How long the tags of properties can be: a number has the bytes of its kind, a text as many as it may have, and each
--- tag a head of eight before them.
+-- How long the tags of properties can be: a number has the bytes of its kind, a text at most `text_limit`, and each tag a
+-- head of eight bytes before them.
 use Rattle.std.specs.Prelude.{ℕ, ◌+◌, List, [], ◌∷◌}
 use Rattle.dmap_tags.specs.declared.kinds.Kind.{Kind}
 use Rattle.dmap_tags.specs.declared.kinds.Kind.TheVariants.{U8, I8, U16, I16, U32, I32, U64, I64, Text, Date, Version, List as Members, Opaque}
@@ -7,7 +7,7 @@ use Rattle.item_model.specs.Limits.{text_limit}
 use Rattle.item_model.specs.Properties.{property_kind}
 use Rattle.item_model.specs.declared.property.Property.{Property}
 
--- no property is of a kind that has nothing here
+-- no property has a kind with 0 here
 abbrev pub most_payload : Kind → ℕ
 most_payload U8 = 1
 most_payload U16 = 2

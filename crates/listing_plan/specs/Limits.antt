@@ -1,4 +1,4 @@
--- How much a listing has.
+-- The most that a listing has.
 use Rattle.std.specs.Prelude.{ℕ}
 
 -- the rows, and the deleted keys
@@ -9,10 +9,18 @@ rows_limit = 262144
 abbrev pub row_limit : ℕ
 row_limit = 2581
 
+-- only the tags of its properties
+abbrev pub shown_limit : ℕ
+shown_limit = 2549
+
 -- the payload of a listing, in bytes: as much as a mirror reads of one tag
 abbrev pub listing_limit : ℕ
 listing_limit = 1073741824
 
--- what is handed to a sink at a time, in bytes
+-- what a long body writes to a sink at a time, in bytes
 abbrev pub page_limit : ℕ
-page_limit = 8192
+page_limit = 65536
+
+-- the same for a body that has no more than this
+abbrev pub short_page_limit : ℕ
+short_page_limit = 8192

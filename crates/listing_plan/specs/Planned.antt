@@ -1,4 +1,4 @@
--- What contracts see of a plan of rows: whose listing it is, and what the listing says.
+-- What contracts see of a plan of rows: its target and its listing.
 use Rattle.item_model.specs.declared.request.Target.{Target}
 use Rattle.share_history.specs.Listings.{Listing}
 

@@ -23,7 +23,7 @@ keys_of_rows rows = map key_of rows
 abbrev pub keyed : List PlanRow → List (ℕ × Row)
 keyed rows = map (λ row. (key_of row, row.row)) rows
 
--- rows of a listing of the target: a member is given in a container and nowhere else, the keys ascend, and there are not too many
+-- rows of a listing of the target: they have member keys if it is a container, the keys ascend, and there are not too many
 pub record AreRowsOf (target : Target) (rows : List PlanRow) : Type 0 where
   pub members : All (λ row. row.member ≡ member_of target (key_of row)) rows
   pub ascending : AreAscending (keys_of_rows rows)
@@ -33,10 +33,14 @@ pub record AreGone (keys : List ℕ) : Type 0 where
   pub ascending : AreAscending keys
   pub few : length keys ≤ rows_limit
 
--- the full listing with these rows, of so many before the range, and the delta with these rows and deleted keys
+-- the full listing with these rows under their keys, if there are `total` before the range
+abbrev pub full_keyed : Target → (revision total : ℕ) → List (ℕ × Row) → Meta → Listing
+full_keyed target revision total rows meta =
+    record { is_delta = false; revision = revision; total = total; rows = shown_rows target meta rows; gone = [] }
+
+-- the same with the rows of a plan, and the delta with these rows and deleted keys
 abbrev pub full_plan : Target → (revision total : ℕ) → List PlanRow → Meta → Listing
-full_plan target revision total rows meta =
-    record { is_delta = false; revision = revision; total = total; rows = shown_rows target meta (keyed rows); gone = [] }
+full_plan target revision total rows meta = full_keyed target revision total (keyed rows) meta
 
 abbrev pub delta_plan : Target → (revision : ℕ) → List PlanRow → List ℕ → Meta → Listing
 delta_plan target revision rows gone meta =
@@ -49,7 +53,7 @@ plan_bytes (Plain bytes) = bytes
 plan_bytes (Tagged tag) = spelling tag
 plan_bytes (Rows planned) = spelling (body_tree planned.target planned.listing)
 
--- whether a plan can be written: a tag is not too long to spell
+-- whether a plan can be written: a tag is not too long to encode
 abbrev pub is_writable : Plan → Bool
 is_writable Empty = true
 is_writable (Plain bytes) = true

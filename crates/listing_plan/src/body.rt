@@ -1,4 +1,4 @@
-//! The parts of a listing's body, one behind the other.
+//! The parts of a listing's body, in their order.
 
 ghost use Rattle.std.specs.Prelude.{◌≡◌, ◌≤◌, ◌+◌, ◌*◌, ◌++◌, ℕ, [], true, length, map};
 ghost use Rattle.std.specs.Int.{w32, to_be_bytes};
@@ -8,7 +8,7 @@ ghost use Rattle.dmap_tags.specs.Tree.{leaf, trees_of, U8, U32};
 ghost use Rattle.item_model.specs.declared.request.Target.{Target};
 ghost use Rattle.share_history.specs.Bodies.{start_tags, key_code, gone_tags};
 ghost use Rattle.listing_plan.specs.Held.{is_delta_of, total_of, gone_of};
-ghost use Rattle.listing_plan.specs.Limits.{rows_limit, row_limit, page_limit};
+ghost use Rattle.listing_plan.specs.Limits.{rows_limit, row_limit};
 ghost use Rattle.listing_plan.specs.Pages.{Pushes};
 
 use crate::lengths::{HEAD_LEN, NUMBER_LEN};
@@ -20,10 +20,10 @@ use dmap_tags::Code;
 use item_model::Target;
 use share_history::key_code;
 
-/// How many bytes a body has before its rows, without its own head.
+/// How many bytes a body has before its rows, not counting its own head.
 const START_LEN: u64 = 65;
 
-// The body's payload, where the tags of its rows have so many bytes.
+// The length of the body's payload if the tags of its rows have `rows_len` bytes.
 pub(crate) fn payload_len(rows_len: u64, scope: &Scope) -> u64
     requires rows { rows_len ≤ row_limit * rows_limit }
     requires gone { length (gone_of scope.now) ≤ rows_limit }
@@ -45,9 +45,14 @@ fn gone_len(scope: &Scope) -> u64
     }
 }
 
-// What every listing begins with.
-pub(crate) fn put_start(page: &mut Page, scope: &Scope, revision: u32, listed: u32)
-    requires { length page.old + 57 ≤ page_limit }
+// Puts the tags with which every listing begins.
+pub(crate) fn put_start<const N: usize>(
+    page: &mut Page<N>,
+    scope: &Scope,
+    revision: u32,
+    listed: u32,
+)
+    requires { length page.old + 57 ≤ N }
     ensures put { page.new ≡ page.old ++ spellings (trees_of (start_tags (is_delta_of scope.now) revision (total_of scope.now listed) listed)) }
     ensures longer { length page.new ≡ length page.old + 57 }
 {
@@ -58,9 +63,9 @@ pub(crate) fn put_start(page: &mut Page, scope: &Scope, revision: u32, listed: u
     page.put_number(Code(*b"mrco"), listed);
 }
 
-// Whether it is a delta.
-fn put_mark(page: &mut Page, mark: u8)
-    requires { length page.old + 9 ≤ page_limit }
+// Puts the tag that says whether the listing is a delta.
+fn put_mark<const N: usize>(page: &mut Page<N>, mark: u8)
+    requires { length page.old + 9 ≤ N }
     ensures put { page.new ≡ page.old ++ spelling (leaf (code "muty") (U8 mark)) }
     ensures longer { length page.new ≡ length page.old + 9 }
 {
@@ -68,14 +73,15 @@ fn put_mark(page: &mut Page, mark: u8)
     page.put(&mark.to_be_bytes());
 }
 
-// Behind the rows of a delta stand the keys that it deletes.
-pub(crate) fn push_gone<W: Sink>(
-    page: &mut Page,
+// Pushes the keys that a delta deletes, which come after its rows.
+pub(crate) fn push_gone<W: Sink, const N: usize>(
+    page: &mut Page<N>,
     sink: &mut W,
     target: Target,
     scope: &Scope,
 ) -> Result<(), Failed>
-    requires { length (gone_of scope.now) ≤ rows_limit }
+    requires wide { row_limit ≤ N }
+    requires few { length (gone_of scope.now) ≤ rows_limit }
     ensures pushes { Pushes (spellings (trees_of (gone_tags target (is_delta_of scope.now) (gone_of scope.now)))) result (W.taken sink.old) (W.taken sink.new) page.old page.new (W.faults sink.old) (W.faults sink.new) }
     ensures beside { W.beside_taken sink.new ≡ W.beside_taken sink.old }
 {
@@ -85,13 +91,14 @@ pub(crate) fn push_gone<W: Sink>(
     }
 }
 
-fn push_deleted<W: Sink>(
-    page: &mut Page,
+fn push_deleted<W: Sink, const N: usize>(
+    page: &mut Page<N>,
     sink: &mut W,
     target: Target,
     keys: &[u32],
 ) -> Result<(), Failed>
-    requires { length keys.now ≤ rows_limit }
+    requires wide { row_limit ≤ N }
+    requires few { length keys.now ≤ rows_limit }
     ensures pushes { Pushes (spellings (trees_of (gone_tags target true keys.now))) result (W.taken sink.old) (W.taken sink.new) page.old page.new (W.faults sink.old) (W.faults sink.new) }
     ensures beside { W.beside_taken sink.new ≡ W.beside_taken sink.old }
 {
@@ -100,7 +107,13 @@ fn push_deleted<W: Sink>(
     push_keys(page, sink, key_code(target), keys)
 }
 
-fn push_keys<W: Sink>(page: &mut Page, sink: &mut W, of: Code, keys: &[u32]) -> Result<(), Failed>
+fn push_keys<W: Sink, const N: usize>(
+    page: &mut Page<N>,
+    sink: &mut W,
+    of: Code,
+    keys: &[u32],
+) -> Result<(), Failed>
+    requires { row_limit ≤ N }
     ensures pushes { Pushes (spellings (trees_of (map (λ key. leaf of (U32 key)) keys.now))) result (W.taken sink.old) (W.taken sink.new) page.old page.new (W.faults sink.old) (W.faults sink.new) }
     ensures beside { W.beside_taken sink.new ≡ W.beside_taken sink.old }
 {
@@ -110,7 +123,13 @@ fn push_keys<W: Sink>(page: &mut Page, sink: &mut W, of: Code, keys: &[u32]) -> 
     Ok(())
 }
 
-fn push_key<W: Sink>(page: &mut Page, sink: &mut W, of: Code, key: u32) -> Result<(), Failed>
+fn push_key<W: Sink, const N: usize>(
+    page: &mut Page<N>,
+    sink: &mut W,
+    of: Code,
+    key: u32,
+) -> Result<(), Failed>
+    requires { row_limit ≤ N }
     ensures pushes { Pushes (spelling (leaf of (U32 key))) result (W.taken sink.old) (W.taken sink.new) page.old page.new (W.faults sink.old) (W.faults sink.new) }
     ensures beside { W.beside_taken sink.new ≡ W.beside_taken sink.old }
 {

@@ -1,4 +1,4 @@
-//! How many bytes the tags of rows have, told without making them.
+//! The lengths of the tags of rows, found without encoding them.
 
 ghost use Rattle.std.specs.Prelude.{◌≡◌, ◌≤◌, ◌+◌, ◌*◌, ℕ, [], ◌∷◌, true, length};
 ghost use Rattle.dmap_tags.specs.Spelling.{leaf_payload, spelling, spellings};
@@ -13,13 +13,13 @@ use crate::row::PlanRow;
 use dmap_tags::Kind;
 use item_model::{Item, PropValue, Property, ShownProperties};
 
-/// How many bytes a tag has before its payload.
+/// The length of a tag's head.
 pub(crate) const HEAD_LEN: u64 = 8;
 
-/// How many bytes a tag has whose value is a number of 32 bits.
+/// The length of a tag whose value is a number of 32 bits.
 pub(crate) const NUMBER_LEN: u64 = 12;
 
-// All the tags of some rows.
+// The length of the tags of all rows.
 pub(crate) fn rows_len(rows: &[PlanRow], properties: &ShownProperties) -> u64
     requires { length rows.now ≤ rows_limit }
     ensures counted { result ≡ rows_length properties.now rows.now }
@@ -52,7 +52,7 @@ fn keys_len(member: Option<u32>) -> u64
     }
 }
 
-// Those of the properties that the item has.
+// The length of the tags of those properties that the item has.
 fn shown_len(item: &Item, properties: &[Property]) -> u64
     requires once { first_mentions properties.now ≡ properties.now }
     ensures counted { result ≡ length (spellings (trees_of (shown item.now properties.now))) }

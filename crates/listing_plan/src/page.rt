@@ -5,40 +5,41 @@ ghost use Rattle.std.specs.Int.{w32, to_be_bytes};
 ghost use Rattle.dmap_tags.specs.Codes.{code_bytes};
 ghost use Rattle.dmap_tags.specs.Spelling.{spelling};
 ghost use Rattle.dmap_tags.specs.Tree.{leaf, U32};
-ghost use Rattle.listing_plan.specs.Limits.{page_limit};
 ghost use Rattle.listing_plan.specs.Pages.{Pushes};
 
 use daap_outside::{Failed, Sink, put_all};
 use dmap_tags::Code;
 use std::marker::Model;
 
-/// How many bytes a page has room for.
-pub(crate) const PAGE_BYTES: usize = 8192;
+/// The size of the page of a long body, in bytes. Each page is one write to a connection.
+pub(crate) const PAGE_BYTES: usize = 65_536;
 
-/// Bytes that were pushed and that no sink has yet.
+/// The size of the page of a short body, in bytes. It is smaller because a page is cleared before it is filled.
+pub(crate) const SHORT_PAGE_BYTES: usize = 8_192;
+
+/// Bytes that were pushed and that the sink does not have yet: at most `N`.
 #[derive(Drop)]
-pub(crate) struct Page {
-    room: [u8; PAGE_BYTES],
+pub(crate) struct Page<const N: usize> {
+    room: [u8; N],
     len: usize,
 }
 
-impl Model for Page {
+impl<const N: usize> Model for Page<N> {
     ghost use Rattle.std.specs.Prelude.{ℕ, List, take, ◌≤◌};
-    ghost use Rattle.listing_plan.specs.Limits.{page_limit};
 
     ghost Value = { List ℕ };
 
     ghost view = { λ a. take a.len a.room };
 
-    ghost invariant = { λ a. a.len ≤ page_limit };
+    ghost invariant = { λ a. a.len ≤ N };
 }
 
-impl Page {
-    pub(crate) fn new() -> Page
+impl<const N: usize> Page<N> {
+    pub(crate) fn new() -> Page<N>
         ensures { result ≡ [] }
     {
         Page {
-            room: [0; PAGE_BYTES],
+            room: [0; N],
             len: 0,
         }
     }
@@ -50,27 +51,28 @@ impl Page {
         bytes
     }
 
-    // For how many bytes more there is room.
+    // How many more bytes fit on the page.
     fn left(&self) -> usize
-        ensures { result + length self.now ≡ page_limit }
+        ensures { result + length self.now ≡ N }
     {
-        PAGE_BYTES - self.len
+        N - self.len
     }
 
-    // Puts bytes that there is room for.
+    // Puts bytes that fit on the page.
     #[tactic(auto, using(crate::proofs::Moves::filled))]
     pub(crate) fn put(&mut self, bytes: &[u8])
-        requires { length self.old + length bytes.now ≤ page_limit }
+        requires { length self.old + length bytes.now ≤ N }
         ensures put { self.new ≡ self.old ++ bytes.now }
     {
         let end = self.len + bytes.len();
-        self.room[self.len..end].copy_from_slice(bytes);
+        let room = &mut self.room[..];
+        room[self.len..end].copy_from_slice(bytes);
         self.len = end;
     }
 
-    // Puts a code, and the length of the payload that comes behind it.
+    // Puts a code and the length of the payload that follows.
     pub(crate) fn put_head(&mut self, of: Code, len: u32)
-        requires { length self.old + 8 ≤ page_limit }
+        requires { length self.old + 8 ≤ N }
         ensures put { self.new ≡ self.old ++ (code_bytes of ++ to_be_bytes w32 len) }
         ensures longer { length self.new ≡ length self.old + 8 }
     {
@@ -79,7 +81,7 @@ impl Page {
 
     // Puts a tag with a number.
     pub(crate) fn put_number(&mut self, of: Code, n: u32)
-        requires { length self.old + 12 ≤ page_limit }
+        requires { length self.old + 12 ≤ N }
         ensures put { self.new ≡ self.old ++ spelling (leaf of (U32 n)) }
         ensures longer { length self.new ≡ length self.old + 12 }
     {
@@ -87,7 +89,7 @@ impl Page {
         self.put(&n.to_be_bytes());
     }
 
-    // Hands the page to the sink.
+    // Writes the page to the sink and empties it.
     pub(crate) fn flush<W: Sink>(&mut self, sink: &mut W) -> Result<(), Failed>
         ensures pushes { Pushes [] result (W.taken sink.old) (W.taken sink.new) self.old self.new (W.faults sink.old) (W.faults sink.new) }
         ensures empty { OnOk result (self.new ≡ []) }
@@ -98,11 +100,11 @@ impl Page {
         Ok(())
     }
 
-    // Hands the page on where it has no room for so many bytes more.
+    // Writes the page to the sink if `len` more bytes do not fit on it.
     pub(crate) fn make_room<W: Sink>(&mut self, sink: &mut W, len: usize) -> Result<(), Failed>
-        requires { len ≤ page_limit }
+        requires { len ≤ N }
         ensures pushes { Pushes [] result (W.taken sink.old) (W.taken sink.new) self.old self.new (W.faults sink.old) (W.faults sink.new) }
-        ensures room { OnOk result (length self.new + len ≤ page_limit) }
+        ensures room { OnOk result (length self.new + len ≤ N) }
         ensures beside { W.beside_taken sink.new ≡ W.beside_taken sink.old }
     {
         if len <= self.left() {
@@ -112,7 +114,7 @@ impl Page {
     }
 }
 
-// A code with a length behind it.
+// A code, and then a length.
 fn head(of: Code, len: u32) -> [u8; 8]
     ensures { result ≡ code_bytes of ++ to_be_bytes w32 len }
 {

@@ -2,7 +2,7 @@
 
 use item_model::SharedRow;
 
-/// A row of a listing, with its key where it is a member of a container.
+/// A row of a listing, with its key if it is a member of a container.
 #[derive(Debug, Drop)]
 pub struct PlanRow {
     pub member: Option<u32>,

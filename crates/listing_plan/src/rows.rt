@@ -1,12 +1,13 @@
-//! The tags of rows, put straight out of their items.
+//! Puts the tags of rows on a page, straight from their items.
 
 ghost use Rattle.std.specs.Prelude.{◌≡◌, ◌≤◌, ◌<◌, ◌+◌, ◌++◌, ◌∷◌, [], true, length, OnOk};
 ghost use Rattle.dmap_tags.specs.Spelling.{framed, spelling, spellings};
 ghost use Rattle.dmap_tags.specs.Tree.{leaf, trees_of};
 ghost use Rattle.item_model.specs.Items.{is_value_of, numbers_of};
+ghost use Rattle.item_model.specs.Limits.{text_limit};
 ghost use Rattle.item_model.specs.Projection.{number_leaf, property_tag, shown, keys, first_mentions};
 ghost use Rattle.listing_plan.specs.Held.{row_tree, row_trees};
-ghost use Rattle.listing_plan.specs.Limits.{page_limit, row_limit};
+ghost use Rattle.listing_plan.specs.Limits.{row_limit};
 ghost use Rattle.listing_plan.specs.Pages.{Pushes};
 
 use crate::lengths::{HEAD_LEN, row_len};
@@ -16,12 +17,13 @@ use daap_outside::{Failed, Sink};
 use dmap_tags::{Code, Kind};
 use item_model::{Item, PropValue, Property};
 
-pub(crate) fn push_rows<W: Sink>(
-    page: &mut Page,
+pub(crate) fn push_rows<W: Sink, const N: usize>(
+    page: &mut Page<N>,
     sink: &mut W,
     rows: &[PlanRow],
     properties: &[Property],
 ) -> Result<(), Failed>
+    requires wide { row_limit ≤ N }
     requires once { first_mentions properties.now ≡ properties.now }
     ensures pushes { Pushes (spellings (trees_of (row_trees properties.now rows.now))) result (W.taken sink.old) (W.taken sink.new) page.old page.new (W.faults sink.old) (W.faults sink.new) }
     ensures beside { W.beside_taken sink.new ≡ W.beside_taken sink.old }
@@ -32,12 +34,13 @@ pub(crate) fn push_rows<W: Sink>(
     Ok(())
 }
 
-fn push_row<W: Sink>(
-    page: &mut Page,
+fn push_row<W: Sink, const N: usize>(
+    page: &mut Page<N>,
     sink: &mut W,
     row: &PlanRow,
     properties: &[Property],
 ) -> Result<(), Failed>
+    requires wide { row_limit ≤ N }
     requires once { first_mentions properties.now ≡ properties.now }
     ensures pushes { Pushes (spelling (row_tree properties.now row.now)) result (W.taken sink.old) (W.taken sink.new) page.old page.new (W.faults sink.old) (W.faults sink.new) }
     ensures beside { W.beside_taken sink.new ≡ W.beside_taken sink.old }
@@ -48,11 +51,11 @@ fn push_row<W: Sink>(
     Ok(())
 }
 
-// A row's tag, which has so many bytes.
-fn put_row(page: &mut Page, row: &PlanRow, properties: &[Property], len: u64)
+// Puts the tag of `row`, which has `len` bytes.
+fn put_row<const N: usize>(page: &mut Page<N>, row: &PlanRow, properties: &[Property], len: u64)
     requires counted { len ≡ length (spelling (row_tree properties.now row.now)) }
     requires short { len ≤ row_limit }
-    requires room { length page.old + len ≤ page_limit }
+    requires room { length page.old + len ≤ N }
     ensures { page.new ≡ page.old ++ spelling (row_tree properties.now row.now) }
 {
     let shared = row.row.row();
@@ -61,8 +64,8 @@ fn put_row(page: &mut Page, row: &PlanRow, properties: &[Property], len: u64)
     put_shown(page, &shared.item, properties);
 }
 
-fn put_keys(page: &mut Page, member: Option<u32>, id: u32)
-    requires { length page.old + length (spellings (trees_of (keys member id))) ≤ page_limit }
+pub(crate) fn put_keys<const N: usize>(page: &mut Page<N>, member: Option<u32>, id: u32)
+    requires { length page.old + length (spellings (trees_of (keys member id))) ≤ N }
     ensures { page.new ≡ page.old ++ spellings (trees_of (keys member id)) }
 {
     match member {
@@ -74,9 +77,9 @@ fn put_keys(page: &mut Page, member: Option<u32>, id: u32)
     }
 }
 
-// Those of the properties that the item has.
-fn put_shown(page: &mut Page, item: &Item, properties: &[Property])
-    requires { length page.old + length (spellings (trees_of (shown item.now properties.now))) ≤ page_limit }
+// Puts the tags of those properties that the item has.
+fn put_shown<const N: usize>(page: &mut Page<N>, item: &Item, properties: &[Property])
+    requires { length page.old + length (spellings (trees_of (shown item.now properties.now))) ≤ N }
     ensures { page.new ≡ page.old ++ spellings (trees_of (shown item.now properties.now)) }
 {
     for property in properties {
@@ -84,8 +87,8 @@ fn put_shown(page: &mut Page, item: &Item, properties: &[Property])
     }
 }
 
-fn put_property(page: &mut Page, item: &Item, property: Property)
-    requires { length page.old + length (spellings (trees_of (shown item.now (property ∷ [])))) ≤ page_limit }
+fn put_property<const N: usize>(page: &mut Page<N>, item: &Item, property: Property)
+    requires { length page.old + length (spellings (trees_of (shown item.now (property ∷ [])))) ≤ N }
     ensures { page.new ≡ page.old ++ spellings (trees_of (shown item.now (property ∷ []))) }
 {
     match item.get(property) {
@@ -94,9 +97,9 @@ fn put_property(page: &mut Page, item: &Item, property: Property)
     }
 }
 
-fn put_value(page: &mut Page, property: Property, value: &PropValue)
+fn put_value<const N: usize>(page: &mut Page<N>, property: Property, value: &PropValue)
     requires fits { is_value_of property value.now ≡ true }
-    requires room { length page.old + length (spelling (property_tag property value.now)) ≤ page_limit }
+    requires room { length page.old + length (spelling (property_tag property value.now)) ≤ N }
     ensures { page.new ≡ page.old ++ spelling (property_tag property value.now) }
 {
     match value {
@@ -105,10 +108,10 @@ fn put_value(page: &mut Page, property: Property, value: &PropValue)
     }
 }
 
-// The tag of a number of a kind.
-fn put_typed(page: &mut Page, of: Code, kind: Kind, n: u64)
+// Puts the tag of a number of kind `kind`.
+fn put_typed<const N: usize>(page: &mut Page<N>, of: Code, kind: Kind, n: u64)
     requires fits { n < numbers_of kind }
-    requires room { length page.old + length (spelling (leaf of (number_leaf kind n))) ≤ page_limit }
+    requires room { length page.old + length (spelling (leaf of (number_leaf kind n))) ≤ N }
     ensures { page.new ≡ page.old ++ spelling (leaf of (number_leaf kind n)) }
 {
     match kind {
@@ -119,9 +122,10 @@ fn put_typed(page: &mut Page, of: Code, kind: Kind, n: u64)
     }
 }
 
-// A head, and the payload.
-fn put_leaf(page: &mut Page, of: Code, payload: &[u8])
-    requires { length page.old + length payload.now + 8 ≤ page_limit }
+// Puts a head and the payload.
+fn put_leaf<const N: usize>(page: &mut Page<N>, of: Code, payload: &[u8])
+    requires short { length payload.now ≤ text_limit }
+    requires room { length page.old + length payload.now + 8 ≤ N }
     ensures { page.new ≡ page.old ++ framed of payload.now }
 {
     page.put_head(of, payload.len() as u32);

@@ -1,17 +1,18 @@
-//! A tag, pushed by depth.
+//! Pushes a tag: its head, and then its payload, tag by tag if it is a list.
 
 ghost use Rattle.std.specs.Prelude.{◌≡◌, ◌≤◌, ◌++◌, [], true, length, OnOk};
 ghost use Rattle.std.specs.Int.{w32, to_be_bytes};
 ghost use Rattle.dmap_tags.specs.Codes.{code_bytes};
 ghost use Rattle.dmap_tags.specs.Spelling.{payload, spelling, spellings, longest, is_spellable, are_spellable};
 ghost use Rattle.dmap_tags.specs.Tree.{trees_of};
+ghost use Rattle.listing_plan.specs.Limits.{row_limit};
 ghost use Rattle.listing_plan.specs.Pages.{Pushes};
 
-use crate::page::{PAGE_BYTES, Page};
+use crate::page::Page;
 use daap_outside::{Failed, Sink, put_all};
 use dmap_tags::{Code, Tag, Value, encoded_len};
 
-/// How many bytes a tag has that isn't too long to spell.
+/// Returns the encoded length of a tag that can be encoded.
 pub(crate) fn tag_len(tag: &Tag) -> u64
     requires { is_spellable tag.now ≡ true }
     ensures { result ≡ length (spelling tag.now) }
@@ -22,27 +23,55 @@ pub(crate) fn tag_len(tag: &Tag) -> u64
     }
 }
 
-fn payload_len(tag: &Tag) -> u32
+/// Returns the length of the value of such a tag.
+pub(crate) fn value_len(tag: &Tag) -> u32
     requires { is_spellable tag.now ≡ true }
     ensures { result ≡ length (payload tag.now) }
 {
     (tag_len(tag) - 8) as u32
 }
 
-/// Pushes a tag. Each list in it is measured anew, so this costs by the bytes and by the depth.
+// Pushes a tag. It measures each list in the tag again, so its cost grows with the bytes and with the depth.
 #[cycle(push_tag)]
-pub(crate) fn push_tag<W: Sink>(page: &mut Page, sink: &mut W, tag: &Tag) -> Result<(), Failed>
-    requires { is_spellable tag.now ≡ true }
+fn push_tag<W: Sink, const N: usize>(
+    page: &mut Page<N>,
+    sink: &mut W,
+    tag: &Tag,
+) -> Result<(), Failed>
+    requires wide { row_limit ≤ N }
+    requires spellable { is_spellable tag.now ≡ true }
     ensures pushes { Pushes (spelling tag.now) result (W.taken sink.old) (W.taken sink.new) page.old page.new (W.faults sink.old) (W.faults sink.new) }
     ensures beside { W.beside_taken sink.new ≡ W.beside_taken sink.old }
 {
-    push_head(page, sink, tag.code, payload_len(tag))?;
+    push_measured(page, sink, tag, value_len(tag))
+}
+
+/// Pushes a tag whose value has `len` bytes.
+#[cycle(push_tag)]
+pub(crate) fn push_measured<W: Sink, const N: usize>(
+    page: &mut Page<N>,
+    sink: &mut W,
+    tag: &Tag,
+    len: u32,
+) -> Result<(), Failed>
+    requires wide { row_limit ≤ N }
+    requires spellable { is_spellable tag.now ≡ true }
+    requires counted { len ≡ length (payload tag.now) }
+    ensures pushes { Pushes (spelling tag.now) result (W.taken sink.old) (W.taken sink.new) page.old page.new (W.faults sink.old) (W.faults sink.new) }
+    ensures beside { W.beside_taken sink.new ≡ W.beside_taken sink.old }
+{
+    push_head(page, sink, tag.code, len)?;
     push_payload(page, sink, tag)
 }
 
 #[cycle(push_tag)]
-fn push_payload<W: Sink>(page: &mut Page, sink: &mut W, tag: &Tag) -> Result<(), Failed>
-    requires { is_spellable tag.now ≡ true }
+fn push_payload<W: Sink, const N: usize>(
+    page: &mut Page<N>,
+    sink: &mut W,
+    tag: &Tag,
+) -> Result<(), Failed>
+    requires wide { row_limit ≤ N }
+    requires spellable { is_spellable tag.now ≡ true }
     ensures pushes { Pushes (payload tag.now) result (W.taken sink.old) (W.taken sink.new) page.old page.new (W.faults sink.old) (W.faults sink.new) }
     ensures beside { W.beside_taken sink.new ≡ W.beside_taken sink.old }
 {
@@ -66,8 +95,13 @@ fn push_payload<W: Sink>(page: &mut Page, sink: &mut W, tag: &Tag) -> Result<(),
 /// Pushes the members of a list.
 #[cycle(push_tag)]
 #[tactic(auto, using(dmap_tags::proofs::Sizes::member_falls, dmap_tags::proofs::Lengths::spellable_at))]
-fn push_tags<W: Sink>(page: &mut Page, sink: &mut W, tags: &[Tag]) -> Result<(), Failed>
-    requires { are_spellable (trees_of tags.now) ≡ true }
+fn push_tags<W: Sink, const N: usize>(
+    page: &mut Page<N>,
+    sink: &mut W,
+    tags: &[Tag],
+) -> Result<(), Failed>
+    requires wide { row_limit ≤ N }
+    requires spellable { are_spellable (trees_of tags.now) ≡ true }
     ensures pushes { Pushes (spellings (trees_of tags.now)) result (W.taken sink.old) (W.taken sink.new) page.old page.new (W.faults sink.old) (W.faults sink.new) }
     ensures beside { W.beside_taken sink.new ≡ W.beside_taken sink.old }
 {
@@ -77,13 +111,14 @@ fn push_tags<W: Sink>(page: &mut Page, sink: &mut W, tags: &[Tag]) -> Result<(),
     Ok(())
 }
 
-/// Pushes a code, and the length of the payload that comes behind it.
-pub(crate) fn push_head<W: Sink>(
-    page: &mut Page,
+/// Pushes a code and the length of the payload that follows.
+pub(crate) fn push_head<W: Sink, const N: usize>(
+    page: &mut Page<N>,
     sink: &mut W,
     of: Code,
     len: u32,
 ) -> Result<(), Failed>
+    requires { row_limit ≤ N }
     ensures pushes { Pushes (code_bytes of ++ to_be_bytes w32 len) result (W.taken sink.old) (W.taken sink.new) page.old page.new (W.faults sink.old) (W.faults sink.new) }
     ensures beside { W.beside_taken sink.new ≡ W.beside_taken sink.old }
 {
@@ -92,12 +127,16 @@ pub(crate) fn push_head<W: Sink>(
     Ok(())
 }
 
-/// Pushes bytes: onto the page, or past it where no page has room for them.
-fn push_bytes<W: Sink>(page: &mut Page, sink: &mut W, bytes: &[u8]) -> Result<(), Failed>
+/// Pushes bytes: onto the page, or straight to the sink if they are more than a page holds.
+fn push_bytes<W: Sink, const N: usize>(
+    page: &mut Page<N>,
+    sink: &mut W,
+    bytes: &[u8],
+) -> Result<(), Failed>
     ensures pushes { Pushes bytes.now result (W.taken sink.old) (W.taken sink.new) page.old page.new (W.faults sink.old) (W.faults sink.new) }
     ensures beside { W.beside_taken sink.new ≡ W.beside_taken sink.old }
 {
-    if PAGE_BYTES < bytes.len() {
+    if N < bytes.len() {
         page.flush(sink)?;
         return put_all(sink, bytes);
     }

@@ -1,4 +1,4 @@
-//! Tests of the listings of a share, and of what a mirror takes in. Nothing here is for other crates.
+//! Tests of the listings of a share, and of the mirrors that apply them. Nothing here is for other crates.
 #![tactic(auto)]
 
 #[cfg(test)]

@@ -1,4 +1,4 @@
-//! `share_listings`: answers of stores, of items and of containers, byte for byte.
+//! `share_listings`: listings of stores, of items and of containers, byte for byte.
 
 ghost use Rattle.std.specs.Prelude.{◌≡◌, ◌<◌, ◌≤◌, IfOk};
 ghost use Rattle.listing_plan.specs.Plans.{IsWritable};
@@ -17,21 +17,21 @@ use std::process::Abort;
 use std::sync::ledger::{Blank, Ledger};
 use std::test::Fail;
 
-/// Which function answers.
+/// The function that returns a listing.
 #[derive(Clone, Copy)]
 enum By {
-    /// `items_listing`, out of the store of items.
+    /// `items_listing`, from the store of items.
     Items,
     /// `full_items`.
     AllItems,
-    /// `listing`, where a whole listing of all items starts from their ids.
+    /// `listing`, whose full listing of all items starts from their ids.
     Stores,
     /// `full_target`.
     AllStores,
 }
 
-/// Which function answers, what is asked for, and the bytes of the answer: a target, a query and names of properties, each
-/// left out if it is empty, a base and a range.
+/// The function, the request and the bytes of the listing. A request has a target, a query and names of properties,
+/// each left out if it is empty, a base and a range.
 type Case = (
     By,
     Target,
@@ -170,7 +170,7 @@ fn is_answered(alloc: Global, stores: &Stores, case: &Case) -> Result<bool, Allo
     Ok(bytes.as_slice() == case.6)
 }
 
-/// Compares what stores answer.
+/// Compares the listings of stores.
 fn answer(rt: &impl Abort, alloc: Global, stores: &Stores, cases: &[Case]) -> Result<(), Fail>
     requires { HaveFew stores.now.items stores.now.lists }
 {
@@ -180,7 +180,7 @@ fn answer(rt: &impl Abort, alloc: Global, stores: &Stores, cases: &[Case]) -> Re
     Ok(())
 }
 
-/// Compares what stores answer after batches.
+/// Compares the listings of stores after batches.
 fn answer_after(
     rt: &impl Abort,
     alloc: Global,
@@ -218,7 +218,7 @@ const RULE_OF_1: &str =
 const RULE_OF_4: &str =
     "op,kind,id,dmap.itemname,query\nput,rule,3,Talks,'com.apple.itunes.mediakind:4'\n";
 
-/// The third song comes to be of the kind 1, and the first of the kind 4.
+/// The third song changes to kind 1, and the first to kind 4.
 const TURNED: &str =
     "op,kind,id,dmap.itemname,daap.songartist,daap.songalbum,com.apple.itunes.mediakind\nput,item,3,Talk,Cy,Pod,1\nput,item,1,Hey,Ann,One,4\n";
 
@@ -228,7 +228,7 @@ const MEDIA_KINDS: &str =
 
 const NAMES: &str = "dmap.itemname";
 
-/// The change of items at revision 2 that there is none.
+/// The empty delta of items at revision 2.
 const NO_SONGS_CHANGED: &[u8] =
     b"adbs\0\0\0\x49mstt\0\0\0\x04\0\0\0\xc8muty\0\0\0\x01\x01musr\0\0\0\x04\0\0\0\x02mtco\0\0\0\x04\0\0\0\0mrco\0\0\0\x04\0\0\0\0mlcl\0\0\0\0mudl\0\0\0\0";
 
@@ -240,11 +240,11 @@ const NO_SONGS_LISTED: &[u8] =
 const ONE_GONE: &[u8] =
     b"adbs\0\0\0\x55mstt\0\0\0\x04\0\0\0\xc8muty\0\0\0\x01\x01musr\0\0\0\x04\0\0\0\x04mtco\0\0\0\x04\0\0\0\0mrco\0\0\0\x04\0\0\0\0mlcl\0\0\0\0mudl\0\0\0\x0cmiid\0\0\0\x04\0\0\0\x01";
 
-/// The delta at revision 4 that there is none.
+/// The empty delta at revision 4.
 const NONE_GONE: &[u8] =
     b"adbs\0\0\0\x49mstt\0\0\0\x04\0\0\0\xc8muty\0\0\0\x01\x01musr\0\0\0\x04\0\0\0\x04mtco\0\0\0\x04\0\0\0\0mrco\0\0\0\x04\0\0\0\0mlcl\0\0\0\0mudl\0\0\0\0";
 
-/// The delta at revision 5 in which no item changed.
+/// The empty delta at revision 5.
 const NO_CHANGE: &[u8] =
     b"adbs\0\0\0Imstt\0\0\0\x04\0\0\0\xc8muty\0\0\0\x01\x01musr\0\0\0\x04\0\0\0\x05mtco\0\0\0\x04\0\0\0\0mrco\0\0\0\x04\0\0\0\0mlcl\0\0\0\0mudl\0\0\0\0";
 
@@ -260,7 +260,7 @@ const TWO_SONGS: &[u8] =
 const MIX: &[u8] =
     b"apso\0\0\0\xc3mstt\0\0\0\x04\0\0\0\xc8muty\0\0\0\x01\0musr\0\0\0\x04\0\0\0\x04mtco\0\0\0\x04\0\0\0\x03mrco\0\0\0\x04\0\0\0\x03mlcl\0\0\0\x82mlit\0\0\0#mcti\0\0\0\x04\0\0\0\x0amiid\0\0\0\x04\0\0\0\x01minm\0\0\0\x03Heymlit\0\0\0$mcti\0\0\0\x04\0\0\0\x0bmiid\0\0\0\x04\0\0\0\x06minm\0\0\0\x04Latemlit\0\0\0#mcti\0\0\0\x04\0\0\0\x0cmiid\0\0\0\x04\0\0\0\x01minm\0\0\0\x03Hey";
 
-/// The second of them.
+/// The second member of the list.
 const SECOND_OF_MIX: &[u8] =
     b"apso\0\0\0mmstt\0\0\0\x04\0\0\0\xc8muty\0\0\0\x01\0musr\0\0\0\x04\0\0\0\x04mtco\0\0\0\x04\0\0\0\x03mrco\0\0\0\x04\0\0\0\x01mlcl\0\0\0,mlit\0\0\0$mcti\0\0\0\x04\0\0\0\x0bmiid\0\0\0\x04\0\0\0\x06minm\0\0\0\x04Late";
 
@@ -268,19 +268,19 @@ const SECOND_OF_MIX: &[u8] =
 const HEY_GONE: &[u8] =
     b"apso\0\0\0amstt\0\0\0\x04\0\0\0\xc8muty\0\0\0\x01\x01musr\0\0\0\x04\0\0\0\x05mtco\0\0\0\x04\0\0\0\0mrco\0\0\0\x04\0\0\0\0mlcl\0\0\0\0mudl\0\0\0\x18mcti\0\0\0\x04\0\0\0\x0amcti\0\0\0\x04\0\0\0\x0c";
 
-/// The song of which the second rule holds, at revision 5.
+/// The song that matches the second rule, at revision 5.
 const TALK: &[u8] =
     b"apso\0\0\0mmstt\0\0\0\x04\0\0\0\xc8muty\0\0\0\x01\0musr\0\0\0\x04\0\0\0\x05mtco\0\0\0\x04\0\0\0\x01mrco\0\0\0\x04\0\0\0\x01mlcl\0\0\0,mlit\0\0\0$mcti\0\0\0\x04\0\0\0\x03miid\0\0\0\x04\0\0\0\x03minm\0\0\0\x04Talk";
 
-/// The songs of which the first rule holds, at revision 4.
+/// The songs that match the first rule, at revision 4.
 const SONGS: &[u8] =
     b"apso\0\0\0\xc9mstt\0\0\0\x04\0\0\0\xc8muty\0\0\0\x01\0musr\0\0\0\x04\0\0\0\x04mtco\0\0\0\x04\0\0\0\x03mrco\0\0\0\x04\0\0\0\x03mlcl\0\0\0\x88mlit\0\0\0#mcti\0\0\0\x04\0\0\0\x01miid\0\0\0\x04\0\0\0\x01minm\0\0\0\x03Heymlit\0\0\0)mcti\0\0\0\x04\0\0\0\x02miid\0\0\0\x04\0\0\0\x02minm\0\0\0\x09it's latemlit\0\0\0$mcti\0\0\0\x04\0\0\0\x06miid\0\0\0\x04\0\0\0\x06minm\0\0\0\x04Late";
 
-/// The delta at revision 5 of the rule list that has a song more and one less.
+/// The delta at revision 5 of the smart playlist that has a song more and one less.
 const ONE_FOR_ONE: &[u8] =
     b"apso\0\0\0\x81mstt\0\0\0\x04\0\0\0\xc8muty\0\0\0\x01\x01musr\0\0\0\x04\0\0\0\x05mtco\0\0\0\x04\0\0\0\x01mrco\0\0\0\x04\0\0\0\x01mlcl\0\0\0,mlit\0\0\0$mcti\0\0\0\x04\0\0\0\x03miid\0\0\0\x04\0\0\0\x03minm\0\0\0\x04Talkmudl\0\0\0\x0cmcti\0\0\0\x04\0\0\0\x01";
 
-/// A container that is not there, at revision 4.
+/// A container that does not exist, at revision 4.
 const NOTHING: &[u8] =
     b"apso\0\0\0Amstt\0\0\0\x04\0\0\0\xc8muty\0\0\0\x01\0musr\0\0\0\x04\0\0\0\x04mtco\0\0\0\x04\0\0\0\0mrco\0\0\0\x04\0\0\0\0mlcl\0\0\0\0";
 
@@ -376,7 +376,7 @@ fn an_item_that_was_put_and_dropped_since_the_base_is_not_told(
     answer_after(&rt, rt.alloc(), &[SIX, PUT_9], DROP_9, &AFTER_NINE)
 }
 
-/// Takes in records, without the lists.
+/// Applies records to the store of items only.
 fn change_items(alloc: Global, stores: &mut Stores, records: &str) -> Result<(), AllocError> {
     let batch = batch_of(alloc, records)?;
     match stores.items.revision().checked_add(1) {
@@ -387,7 +387,7 @@ fn change_items(alloc: Global, stores: &mut Stores, records: &str) -> Result<(),
 
 const ALL: Case = (By::Items, Target::Items, "", "", 0, Range::All, b"");
 
-/// Whether a plan writes these bytes before and after all items are dropped.
+/// Returns whether a plan writes these bytes before and after all items are dropped.
 fn writes_the_same(
     alloc: Global,
     stores: &mut Stores,
@@ -448,7 +448,7 @@ fn a_listing_may_start_from_ids(rt: HostRuntime) -> Result<(), Fail> {
     answer_after(&rt, rt.alloc(), &[], SIX, &SECOND_AND_THIRD)
 }
 
-/// The fourth is of a base before the list was put.
+/// The fourth has a base before the list was put.
 const OF_MIX: [Case; 5] = [
     (By::Stores, LIST, "", NAMES, 0, Range::All, MIX),
     (By::AllStores, LIST, "", NAMES, 4, Range::All, MIX),

@@ -1,6 +1,6 @@
-//! `mirror_core`: listings that are taken in one after the other, and some that are refused.
+//! `mirror_core`: listings that a mirror applies one after another, and some that it refuses.
 //!
-//! Answers are compared as they are shown, by one helper: a proof of a test need not follow what a mirror holds.
+//! Results are compared as they are shown, by one helper: a proof of a test need not follow what a mirror stores.
 
 use dmap_tags::{Code, Tag, Tags, Text, Value};
 use item_model::{Meta, Target};
@@ -13,7 +13,7 @@ fn push(tags: &mut Tags, code: Code, value: Value) -> Result<(), AllocError> {
     tags.push(Tag { code, value })
 }
 
-/// Pushes the members that a listing begins with.
+/// Appends the members with which a listing begins.
 fn push_start(tags: &mut Tags, kind: u8, revision: u32, listed: u32) -> Result<(), AllocError> {
     push(tags, Code(*b"mstt"), Value::U32(200))?;
     push(tags, Code(*b"muty"), Value::U8(kind))?;
@@ -29,7 +29,7 @@ fn list(code: Code, tags: Tags) -> Tag {
     }
 }
 
-/// The item with id 7 and name `A`, in a list.
+/// Returns the item with id 7 and name `A`, in a list.
 fn rows(alloc: Global) -> Result<Value, AllocError> {
     let mut row = Tags::new(alloc);
     push(&mut row, Code(*b"miid"), Value::U32(7))?;
@@ -39,7 +39,7 @@ fn rows(alloc: Global) -> Result<Value, AllocError> {
     Ok(Value::List(rows))
 }
 
-/// The listing of that item as a body of a code.
+/// Returns the listing of that item as a body with this code.
 fn full(alloc: Global, code: Code, revision: u32) -> Result<Tag, AllocError> {
     let mut body = Tags::new(alloc);
     push_start(&mut body, 0, revision, 1)?;
@@ -48,14 +48,14 @@ fn full(alloc: Global, code: Code, revision: u32) -> Result<Tag, AllocError> {
     Ok(list(code, body))
 }
 
-/// A listing that ends where its rows are due.
+/// Returns a listing that ends before its rows.
 fn rowless(alloc: Global, revision: u32) -> Result<Tag, AllocError> {
     let mut body = Tags::new(alloc);
     push_start(&mut body, 0, revision, 0)?;
     Ok(list(Code(*b"adbs"), body))
 }
 
-/// The delta that deletes that item.
+/// Returns the delta that deletes that item.
 fn delta(alloc: Global, revision: u32) -> Result<Tag, AllocError> {
     let mut gone = Tags::new(alloc);
     push(&mut gone, Code(*b"miid"), Value::U32(7))?;
@@ -66,7 +66,7 @@ fn delta(alloc: Global, revision: u32) -> Result<Tag, AllocError> {
     Ok(list(Code(*b"adbs"), body))
 }
 
-/// The body that is taken in as the nth.
+/// Returns the body with number `n`.
 fn body(alloc: Global, n: u32) -> Result<Tag, AllocError> {
     match n {
         0 => delta(alloc, 4),
@@ -78,7 +78,7 @@ fn body(alloc: Global, n: u32) -> Result<Tag, AllocError> {
     }
 }
 
-/// The answer to it, and the revision from which the mirror then asks.
+/// Returns the result of applying it, and the mirror's base after that.
 fn answer(n: u32) -> (&'static str, u32) {
     match n {
         0 => ("Err(NotListing { index: Some(1) })", 0),
@@ -96,7 +96,7 @@ fn answer(n: u32) -> (&'static str, u32) {
     }
 }
 
-/// Takes a body in, and shows the answer.
+/// Applies a body, and returns the result as it is shown.
 fn applied(alloc: Global, mirror: &mut Mirror, body: &Tag) -> Result<String, AllocError> {
     let answer = mirror.apply(body);
     format!(in alloc; "{answer:?}")
@@ -118,7 +118,7 @@ fn key_of(mirror: &Mirror, n: u64) -> Option<u32> {
     }
 }
 
-/// A mirror of the items has these rows: so many, and at most the first with this key.
+/// Checks that a mirror of the items has `count` rows, of which the first has this key.
 fn has_rows(rt: &impl Abort, mirror: &Mirror, count: u64, key: Option<u32>) {
     assert_eq!(rt; mirror.len(), count);
     assert_eq!(rt; key_of(mirror, 0), key);
@@ -126,7 +126,7 @@ fn has_rows(rt: &impl Abort, mirror: &Mirror, count: u64, key: Option<u32>) {
     assert_eq!(rt; mirror.target(), Target::Items);
 }
 
-/// What the mirror asks with next, as it is shown.
+/// Returns the next request of the mirror, as it is shown.
 fn look(alloc: Global, mirror: &Mirror) -> Result<String, AllocError> {
     let look = mirror.look()?;
     format!(in alloc; "{look:?}")

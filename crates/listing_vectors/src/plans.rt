@@ -19,10 +19,10 @@ const ONE_ITEM: [u8; 102] =
 const ONE_GONE: [u8; 93] =
     *b"adbs\0\0\0\x55mstt\0\0\0\x04\0\0\0\xc8muty\0\0\0\x01\x01musr\0\0\0\x04\0\0\0\x04mtco\0\0\0\x04\0\0\0\0mrco\0\0\0\x04\0\0\0\0mlcl\0\0\0\0mudl\0\0\0\x0cmiid\0\0\0\x04\0\0\0\x01";
 
-/// What a tag of the code `mlid` and the number 5 is.
+/// The tag of the code `mlid` and the number 5.
 const TAG: [u8; 12] = *b"mlid\0\0\0\x04\0\0\0\x05";
 
-// Without clauses, so that a test's proof looks into no call of `put`.
+// Without clauses, so that a test's proof unfolds no call of `put`.
 fn named_item(alloc: Global, name: &str) -> Result<Item, ItemError> {
     let mut item = Item::new(alloc);
     item.put(Property::Minm, PropValue::Text(Text::of(alloc, name)?))?;
@@ -108,7 +108,7 @@ fn other_plans_are_written_as_they_are(rt: HostRuntime) -> Result<(), Fail> {
     Ok(())
 }
 
-/// Whether a sink that fails at its second call has the first 40 bytes.
+/// Returns whether a sink that fails at its second call has the first 40 bytes.
 fn is_cut(alloc: Global, plan: &Plan, bytes: &[u8]) -> Result<bool, AllocError>
     requires { IsWritable plan.now }
 {

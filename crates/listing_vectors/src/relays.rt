@@ -1,4 +1,4 @@
-//! `relayed_rows`: rows that are read back, and listings that a relay takes, each with the edits that it comes to.
+//! `relayed_rows`: rows that are read back, and listings that a relay applies, each with its edits.
 
 use dmap_tags::{Code, Tag, Tags, Text, Value};
 use item_model::{Edit, PropValue, Property, Row, Target};
@@ -17,7 +17,7 @@ fn named(alloc: Global, name: &str) -> Result<Tag, AllocError> {
     Ok(tag(Code(*b"minm"), Value::Text(Text::of(alloc, name)?)))
 }
 
-/// The row of an item with a name.
+/// Returns the row of an item with a name.
 fn row(alloc: Global, id: u32, name: &str) -> Result<Tag, AllocError> {
     let mut members = Tags::new(alloc);
     members.push(tag(Code(*b"miid"), Value::U32(id)))?;
@@ -25,7 +25,7 @@ fn row(alloc: Global, id: u32, name: &str) -> Result<Tag, AllocError> {
     Ok(tag(Code(*b"mlit"), Value::List(members)))
 }
 
-/// A row with a second name, which does not count, a kind of item, and a year of another width than a year has.
+/// Returns a row with a second name, which does not count, a kind of item, and a year whose width is not a year's.
 fn row_with_more(alloc: Global) -> Result<Tag, AllocError> {
     let mut members = Tags::new(alloc);
     members.push(tag(Code(*b"miid"), Value::U32(7)))?;
@@ -55,7 +55,7 @@ fn rows_read_back(rt: HostRuntime) -> Result<(), Fail> {
     Ok(())
 }
 
-/// A listing that a relay takes: whether it is a delta, its rows, the id that it deletes, 0 for none, and what it comes to.
+/// A listing that a relay applies: whether it is a delta, its rows, the id that it deletes, 0 for none, and its edits.
 struct Case {
     is_delta: bool,
     rows: [(u32, &'static str); 2],

@@ -31,7 +31,7 @@ fn opened(alloc: Global, keep: u32) -> Stores
     }
 }
 
-/// Stores without edits.
+/// Returns stores without edits.
 #[tactic(auto, using(share_listings::proofs::Samples::still_few_in_both))]
 pub(crate) fn no_edits(alloc: Global) -> Stores
     ensures { HaveFew result.items result.lists }
@@ -39,7 +39,7 @@ pub(crate) fn no_edits(alloc: Global) -> Stores
     opened(alloc, 1)
 }
 
-/// Both take in a batch of at most six edits, as the next revision.
+/// Applies a batch of at most six edits to both stores, as the next revision.
 fn next_by<L: Ledger>(
     blank: Blank,
     mut stores: Stores,
@@ -77,7 +77,7 @@ fn next(alloc: Global, stores: Stores, most: usize, records: &str) -> Result<Sto
     next_by::<Brand>(Blank::new(1), stores, most, edits)
 }
 
-/// The stores after records, a batch each, and a last batch. They keep 16 revisions.
+/// Returns the stores after records, a batch each, and a last batch. They keep 16 revisions.
 #[tactic(auto, using(share_listings::proofs::Samples::still_few_in_both))]
 pub(crate) fn after(alloc: Global, first: &[&'static str], last: &str) -> Result<Stores, AllocError>
     ensures { IfOk result (λ stores. HaveFew stores.items stores.lists) }

@@ -63,7 +63,7 @@ unanswered request p mid taken e written owed used same h = record {
 pub unwritten : (request : List ℕ) (Undue : ℕ → Reply → FollowError → Type 0) (p : Point) → Stops request Undue p p.taken Memory
 unwritten request Undue p = inl (record { written = (0, omega arith, Appends-nil p.taken); cause = tt })
 
--- an answer that is undue
+-- an unexpected answer
 pub undue_stops : (request : List ℕ) (Undue : ℕ → Reply → FollowError → Type 0) (p q : Point) (answer : Reply) (e : FollowError) → Exchanged request p q answer
     → Undue q.used answer e → Stops request Undue p q.taken e
 undue_stops request Undue p q answer e x undue = inr (record {
@@ -105,7 +105,7 @@ went_on p q r xs ys h k = record {
   counted = omega (arith, h.counted, k.counted, ap length (messages_both xs ys), length-append (messages xs) (messages ys));
 }
 
--- ---- what calls answer
+-- ---- the results of calls
 
 pub exchange_err : (request : List ℕ) (taken0 taken1 taken2 left0 left1 : Option (List ℕ)) (unused0 : List ℕ) (used0 : ℕ) (result : Result Reply FollowError)
     → Appends taken0 taken1 request → left1 ≡ left0 → taken2 ≡ taken1 → IfErr result (λ e. NoReply (point taken1 left1 unused0 used0) e)

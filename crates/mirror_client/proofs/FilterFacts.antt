@@ -1,4 +1,4 @@
--- A mirror that took in the answers of a share, one after another, holds what the share has.
+-- A mirror that applied the answers of a share, one after another, holds what the share has.
 use Rattle.std.proofs.Common.{◌≡◌, ℕ, List, [], ◌∷◌, ◌++◌, Option, sym, ap, ◌∙◌}
 use Rattle.item_model.specs.declared.changes.Entry.{Entry}
 use Rattle.item_model.specs.declared.query.Query.{Query}
@@ -12,7 +12,7 @@ use Rattle.share_history.proofs.MirrorFacts.{full_listings_suffice, mirrors_catc
 use Rattle.mirror_client.specs.Laws.{AreAnswers, FollowersHoldTheFilter, NeverFall, last_point}
 use Rattle.mirror_client.specs.Steps.{held_after}
 
--- one answer more
+-- one more answer
 pub caught_up : (keep : ℕ) (target : Target) (query : Option Query) (meta : Meta) (h later k : List Entry) (held : Held) (l : Listing) → k ≡ h ++ later
     → held ≡ mirrored (batches h) target query meta → l ≡ listing keep (batches k) target (mirror_look query meta (revision (batches h)))
     → mirror_after held l ≡ mirrored (batches k) target query meta

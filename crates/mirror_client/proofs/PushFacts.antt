@@ -1,23 +1,10 @@
--- What is written piece by piece is the text of the pieces.
-use Rattle.std.proofs.Common.{◌≡◌, ℕ, List, ◌++◌, Option, inl, subst, ap, ◌∙◌, append_assoc}
-use Rattle.std.specs.Prelude.{Result, Ok, Err, OnOk}
+-- A push is one exchange on a connection of which nothing was read.
+use Rattle.std.proofs.Common.{◌≡◌, ℕ, List, Option, inl, subst}
 use Rattle.http_client.specs.Replies.{Reply}
 use Rattle.mirror_client.specs.declared.refusal.FollowError.{FollowError}
 use Rattle.mirror_client.specs.Exchanges.{Exchanged}
 use Rattle.mirror_client.specs.Points.{Point, ReadAhead, nothing_read, place}
 use Rattle.mirror_client.specs.Stopping.{Stops, StopsShort}
-
-pub on_ok : {T E : Type 0} {P Q : Type 0} (r : Result T E) → (P → Q) → OnOk r P → OnOk r Q
-on_ok (Ok v) f h = f h
-on_ok (Err e) f h = tt
-
-three_joined : (old a b c : List ℕ) → ((old ++ a) ++ b) ++ c ≡ old ++ (a ++ (b ++ c))
-three_joined old a b c = simp append_assoc
-
-pub three_pushed : (old a b c x y z : List ℕ) → x ≡ old ++ a → y ≡ x ++ b → z ≡ y ++ c → z ≡ old ++ (a ++ (b ++ c))
-three_pushed old a b c x y z p q r = r ∙ ap (λ l. l ++ c) (q ∙ ap (λ l. l ++ b) p) ∙ three_joined old a b c
-
--- ---- one exchange, from the beginning
 
 pub asked_as : (request text : List ℕ) (taken left : Option (List ℕ)) (ahead : ReadAhead) (q : Point) (answer : Reply) → request ≡ text → ahead ≡ nothing_read
     → Exchanged request (place taken left ahead) q answer → Exchanged text (place taken left nothing_read) q answer

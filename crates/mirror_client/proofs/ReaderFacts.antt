@@ -1,4 +1,4 @@
--- A reader of one reply: what it keeps, and what it hands out or refuses.
+-- A reader of one response: what it keeps, and what it returns or refuses.
 use Rattle.std.proofs.Common.{◌≡◌, ◌≢◌, ℕ, ◌+◌, ◌<◌, ◌≤◌, List, [], ◌∷◌, ◌++◌, length, take, drop, Option, None, Some, option_to_list, refl, sym, ap, ◌∙◌, inl, inr, subst, append_assoc, append-nil, length-append, arith}
 use Rattle.std.proofs.lemmas.Bool.{cases_lt}
 use Rattle.std.proofs.lemmas.List.{length-take-le, take_all, drop_all}
@@ -114,7 +114,7 @@ no_taken taken owed used Memory h = h
 refusal_read : (fed : List ℕ) (r : Reader) (e : ReplyError) → r.error ≡ Some e → HasRead fed [] r → ReadAs fed [] r (Some e)
 refusal_read fed r e is h = subst (λ (o : Option ReplyError). ReadAs fed [] r o) is h
 
--- a refused reply, by what was kept and read ahead, whatever is left on the link
+-- a refused response, by what was kept and read ahead, whatever is left on the connection
 pub refusal : (kept unused : List ℕ) (used : ℕ) (r : Reader) (e : ReplyError) (taken left : Option (List ℕ)) → r.error ≡ Some e → HasRead (kept ++ unused) [] r
     → NoReply (point taken left (kept ++ unused) used) (refused_by used e)
 refusal kept unused used r e taken None is h = unknown_at taken used e
@@ -131,7 +131,7 @@ bad_within fed r e at is bad h =
     let read = refusal_read fed r (reply.Bad at) (is ∙ ap (λ (x : ReplyError). Some x) bad) h in
     at_within fed read.0 at read.3
 
--- ---- with a link
+-- ---- with a connection
 
 no_owed : (taken : Option (List ℕ)) (used : ℕ) (q : Point) (e : FollowError) → NoReply q e → NoReply (record { taken = taken; owed = None; used = used }) e
 no_owed taken used q (Refused status) h = h

@@ -1,4 +1,4 @@
--- A mirror that followed a share took in the share's listings, and so holds what the share has.
+-- A mirror that followed a share applied the share's listings, and so holds what the share has.
 use Rattle.std.proofs.Common.{◌≡◌, ℕ, ◌==◌, List, [], ◌∷◌, ◌++◌, length, Bool, true, false, cond, refl, sym, ap, ◌∙◌, subst, append_assoc, append-nil}
 use Rattle.code_table.specs.declared.row.CodeRow.{CodeRow}
 use Rattle.item_model.specs.declared.changes.Edit.{Edit}
@@ -32,7 +32,7 @@ by_kept false bs target look base = refl
 listing_revision : (keep : ℕ) (bs : List (List Edit)) (target : Target) (look : Look) → (listing keep bs target look).revision ≡ revision bs
 listing_revision keep bs target look = by_kept (is_kept keep bs target look.base) bs target look look.base
 
--- the listing that was taken in is the one with which the share answered
+-- the listing that was applied is the one that the share answered with
 pub told_listing : (keep : ℕ) (rows : List CodeRow) (m : Mirrored) (answer : Reply) (l : Listing) (h : List Entry) → TellsListing rows m answer l
     → Tells rows answer (listing_body keep h m.target (mirror_look m.query m.meta m.held.revision))
     → l ≡ listing keep (batches h) m.target (mirror_look m.query m.meta m.held.revision)
@@ -47,14 +47,14 @@ known_of : Known → Stage → Known
 known_of other (Closed known listings) = known
 known_of other stage = other
 
--- at the end nothing is asked
+-- at the end there is no request
 ended : (host : List ℕ) (m : Mirrored) (rounds : ℕ) (k last : Known) (ls ms : List Listing) (xs : List Exchange) → Path host m rounds (Closed k ls) xs (Closed last ms)
     → (xs ≡ []) × (last ≡ k) × (ms ≡ ls)
 unfolding known_of
 ended host m rounds k last ls ms [] path = (refl, ap (known_of k) path, ap listings_in path)
 ended host m rounds k last ls ms (x ∷ xs) path = absurd (cc)
 
--- what follows the answer behind a round, by what follows a further round
+-- what follows the answer after a round, by what follows a further round
 behind : (host : List ℕ) (m : Mirrored) (rounds : ℕ) (k last : Known) (ls ms : List Listing) (answer : Reply) (v : Stage) (xs : List Exchange) (G : Type 0) (b : Bool)
     → LeadsOn b k ls answer v → Path host m rounds v xs (Closed last ms) → ((xs ≡ []) × (last ≡ k) × (ms ≡ ls) → G)
     → (Path host m rounds (Asking k ls) xs (Closed last ms) → G) → G
@@ -75,7 +75,7 @@ known_stays host m rounds k last ls ms (x ∷ y ∷ xs) path =
     behind host m rounds k last (ls ++ path.1.1.0 ∷ []) ms y.answer rest.1.0 xs (last ≡ k) (length (ls ++ path.1.1.0 ∷ []) == rounds) rest.1.1 rest.1.2
     (λ end. end.1) (λ more. known_stays host m rounds k last (ls ++ path.1.1.0 ∷ []) ms xs more)
 
--- the listings that are taken in from here on are the share's answers
+-- the listings that are applied from here are the share's answers
 abbrev Serves : ℕ → Mirrored → List Listing → List (List Entry) → List Listing → Type 0
 Serves keep m ls hs ms = (ns : List Listing) × (ms ≡ ls ++ ns) × AreAnswers keep m.target m.query m.meta (held_after m.held ls).revision hs ns
 

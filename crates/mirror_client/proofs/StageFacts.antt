@@ -100,7 +100,7 @@ opened_stops host m rounds p taken e (inr b) =
     (walk_one host m rounds Begun (Learned b.rows) p b.middle (request_text want.Codes host) b.table refl b.learned (b.rows, b.told, refl))
     (stops_here host m rounds (Learned b.rows) b.middle taken e m (request_text want.Login host) refl b.stops refl)
 
--- a listing was taken in
+-- a listing was applied
 pub listed_walks : (host : List ℕ) (m old : Mirrored) (rounds : ℕ) (known : Known) (ls : List Listing) (l : Listing) (p q : Point) (answer : Reply)
     → old ≡ with_listings m ls → Exchanged (request_text (rows_want known.session old) host) p q answer → TellsListing known.rows old answer l
     → Walks host m rounds (Asking known ls) p (Holding known (ls ++ l ∷ [])) q
@@ -117,20 +117,20 @@ listed_stops host m old now rounds known ls p taken e is same stops =
     (subst (λ (n : Mirrored). Stops (request_text (rows_want known.session n) host) (UndueListing known.rows n) p taken e) is stops)
     (same ∙ is)
 
--- want of memory behind a listing, before anything else is asked
+-- an allocation failed after a listing, before the next request
 pub unwritten_stops : (host : List ℕ) (m now : Mirrored) (rounds : ℕ) (known : Known) (ls : List Listing) (p : Point) → now ≡ with_listings m ls
     → StopsFrom host m rounds (Holding known ls) p p.taken Memory now
 unwritten_stops host m now rounds known ls p holds =
     stops_here host m rounds (Holding known ls) p p.taken Memory now (request_text (behind_round (length ls == rounds) known (with_listings m ls)) host) refl
     (unwritten (request_text (behind_round (length ls == rounds) known (with_listings m ls)) host) (UndueIn m rounds (Holding known ls)) p) holds
 
--- ---- behind a round
+-- ---- after a round
 
 due_behind : (host : List ℕ) (m : Mirrored) (rounds : ℕ) (known : Known) (ls : List Listing) (last : Bool) → (length ls == rounds) ≡ last
     → due host m rounds (Holding known ls) ≡ Some (request_text (behind_round last known (with_listings m ls)) host)
 due_behind host m rounds known ls last is = ap (λ (b : Bool). Some (request_text (behind_round b known (with_listings m ls)) host)) is
 
--- another revision was told
+-- another revision came
 pub waited_walks : (host : List ℕ) (m old : Mirrored) (rounds n : ℕ) (known : Known) (ls : List Listing) (p q : Point) (answer : Reply)
     → (length ls == rounds) ≡ false → old ≡ with_listings m ls → Exchanged (request_text (want.Update known.session old.held.revision) host) p q answer
     → TellsNumber (code "musr") known.rows answer n → Walks host m rounds (Holding known ls) p (Asking known ls) q

@@ -1,4 +1,4 @@
--- What bodies tell: at most one tag, and so at most one number.
+-- What bodies contain: at most one tag, and so at most one number.
 use Rattle.std.proofs.Common.{◌≡◌, ◌≢◌, ◌≤◌, ℕ, List, [], ◌++◌, length, take, true, Option, None, Some, sym, ap, ◌∙◌, subst, append-nil, arith}
 use Rattle.std.proofs.lemmas.List.{take_all}
 use Rattle.dmap_tags.specs.Codes.{Four}
@@ -21,7 +21,7 @@ tag_is rows body tag n all spelled accepted proper = record {
   proper = proper;
 }
 
--- the bytes of a tag that is alone are those of the tag and nothing behind it
+-- the bytes of a whole tag are those of the tag and nothing after it
 pub spelled_alone : (rows : List CodeRow) (body : List ℕ) (tag : Tree) → IsTag rows body tag → body ≡ spelling tag ++ []
 spelled_alone rows body tag is = is.spelled ∙ sym (append-nil (spelling tag))
 
@@ -33,7 +33,7 @@ tags_once rows body t u a b =
 pub no_number : (c : Four) (rows : List CodeRow) (body : List ℕ) (tag : Tree) → IsTag rows body tag → number_told c tag ≡ None → HasNoNumber c rows body
 no_number c rows body tag is none = λ u too. ap (number_told c) (tags_once rows body u tag too is) ∙ none
 
--- the tag that was read off the front of a body, where it takes all of it
+-- the tag that was read from a prefix of a body, if that is all of it
 pub whole : (rows : List CodeRow) (body bytes : List ℕ) (tag : Tree) (n total : ℕ) (o : Option Tree) → bytes ≡ body → total ≡ length bytes
     → (n ≤ length bytes) × (take n bytes ≡ spelling tag) × (is_accepted rows body_limit tag ≡ true) × IsProperTag tag
     → ((t : Tree) (rest : List ℕ) → is_accepted rows body_limit t ≡ true → IsProperTag t → bytes ≡ spelling t ++ rest → (tag ≡ t) × (n ≡ length (spelling t)))
@@ -44,7 +44,7 @@ whole rows body bytes tag n total (Some t) same all found only h =
     subst (λ (u : Tree). IsTag rows body u) (sym h.0)
     (subst (λ (b : List ℕ). IsTag rows b tag) same (tag_is rows bytes tag n (h.1 ∙ all) found.1 found.2 found.3))
 
--- bytes that are refused for another cause than memory are no tag
+-- bytes that are refused for another cause than memory are not a tag
 pub none_read : (rows : List CodeRow) (body bytes : List ℕ) (e : StreamError) → bytes ≡ body → e ≢ stream.Memory
     → ((t : Tree) (rest : List ℕ) → is_accepted rows body_limit t ≡ true → IsProperTag t → bytes ≡ spelling t ++ rest → e ≡ stream.Memory) → HasNoTag rows body
 none_read rows body bytes e same other only = λ t is. other (only t [] is.accepted is.proper (same ∙ spelled_alone rows body t is))

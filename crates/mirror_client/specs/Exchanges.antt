@@ -1,11 +1,11 @@
--- Exchanges of a client with its peer: a request is written, and its reply is read.
+-- Exchanges of a client with its peer: the client writes a request and reads the response.
 use Rattle.std.specs.Prelude.{◌≡◌, ⊤, ℕ, ◌+◌, List, [], ◌∷◌, ◌++◌, length}
 use Rattle.std.specs.Io.KnownBytes.{Appends, Consumes}
 use Rattle.http_heads.specs.Messages.{Message, print_message}
 use Rattle.http_client.specs.Replies.{IsReply, Reply}
 use Rattle.mirror_client.specs.Points.{Point}
 
--- a request, and the message that answered it with a status and a body
+-- A request, the message that answered it, and the message's status and body.
 pub record Exchange : Type 0 where
   pub request : List ℕ
   pub message : Message
@@ -23,19 +23,19 @@ abbrev pub AreAnswered : List Exchange → Type 0
 AreAnswered [] = ⊤
 AreAnswered (x ∷ xs) = IsReply x.message x.answer × AreAnswered xs
 
--- these exchanges, one after another, lead from one point to another
+-- These exchanges, one after another, lead from `p` to `q`.
 pub record Went (p q : Point) (xs : List Exchange) : Type 0 where
   pub written : Appends p.taken q.taken (requests xs)
   pub answered : AreAnswered xs
   pub read : Consumes p.owed q.owed (messages xs)
   pub counted : q.used ≡ p.used + length (messages xs)
 
--- one exchange, with this request and this answer
+-- One exchange, with this request and this answer.
 pub record Exchanged (request : List ℕ) (p q : Point) (answer : Reply) : Type 0 where
   pub message : Message
   pub went : Went p q (record { request = request; message = message; answer = answer } ∷ [])
 
--- one reply was read
+-- One response was read.
 pub record Replied (p q : Point) (answer : Reply) : Type 0 where
   pub message : Message
   pub is : IsReply message answer

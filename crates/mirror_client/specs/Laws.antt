@@ -1,4 +1,4 @@
--- What a follower holds whose listings a share answered, at points of one history that never fall.
+-- What a mirror holds whose listings are a share's answers, at lengths of one history that never decrease.
 use Rattle.std.specs.Prelude.{◌≡◌, ⊤, ℕ, List, [], ◌∷◌, ◌++◌, Option}
 use Rattle.item_model.specs.declared.changes.Entry.{Entry}
 use Rattle.item_model.specs.declared.query.Query.{Query}
@@ -17,7 +17,7 @@ use Rattle.mirror_client.specs.Runs.{Followed}
 use Rattle.mirror_client.specs.Steps.{held_after}
 use Rattle.mirror_client.specs.Tellings.{Tells}
 
--- each point of the history begins the next, behind this one
+-- Each of these histories is a prefix of the next, and `h` of the first.
 abbrev pub NeverFall : List Entry → List (List Entry) → Type 0
 NeverFall h [] = ⊤
 NeverFall h (k ∷ hs) = ((later : List Entry) × (k ≡ h ++ later)) × NeverFall k hs
@@ -26,8 +26,8 @@ abbrev pub last_point : List Entry → List (List Entry) → List Entry
 last_point h [] = h
 last_point h (k ∷ hs) = last_point k hs
 
--- the listings with which a share that keeps so many revisions answers a mirror that asks, at each point, with the revision of
--- the one before, and first with this base
+-- The listings are those of a share with a window of `keep` revisions. At each history the mirror asks with the
+-- revision of the one before, and first with `base`.
 abbrev pub AreAnswers : ℕ → Target → Option Query → Meta → ℕ → List (List Entry) → List Listing → Type 0
 AreAnswers keep target query meta base [] [] = ⊤
 AreAnswers keep target query meta base [] (l ∷ ls) = ⊥
@@ -35,14 +35,14 @@ AreAnswers keep target query meta base (h ∷ hs) [] = ⊥
 AreAnswers keep target query meta base (h ∷ hs) (l ∷ ls) =
     (l ≡ listing keep (batches h) target (mirror_look query meta base)) × AreAnswers keep target query meta (revision (batches h)) hs ls
 
--- a mirror that held nothing then holds what the share has at the last point
+-- Whatever the mirror held before, it then holds what the share has at the last history.
 abbrev pub FollowersHoldTheFilter : Type 0
 FollowersHoldTheFilter =
     (keep : ℕ) (target : Target) (query : Option Query) (meta : Meta) (nothing : Held) (h : List Entry) (hs : List (List Entry)) (ls : List Listing)
     → NeverFall h hs → AreAnswers keep target query meta 0 (h ∷ hs) ls
     → held_after nothing ls ≡ mirrored (batches (last_point h hs)) target query meta
 
--- behind the table and the login each second exchange is a listing's
+-- After the table and the login, every second exchange is a listing's.
 abbrev pub each_second : List Exchange → List Exchange
 each_second [] = []
 each_second (x ∷ []) = x ∷ []
@@ -52,7 +52,7 @@ abbrev pub rounds_in : List Exchange → List Exchange
 rounds_in (table ∷ login ∷ xs) = each_second xs
 rounds_in xs = []
 
--- the answers of these rounds are a share's, at these points of its history, to a mirror that first asks with this base
+-- The answers in these rounds are a share's, at these histories, to a mirror that first asks with `base`.
 abbrev pub AreTold : ℕ → List CodeRow → Target → Option Query → Meta → ℕ → List (List Entry) → List Exchange → Type 0
 AreTold keep rows target query meta base [] [] = ⊤
 AreTold keep rows target query meta base [] (x ∷ xs) = ⊥
@@ -60,8 +60,8 @@ AreTold keep rows target query meta base (h ∷ hs) [] = ⊥
 AreTold keep rows target query meta base (h ∷ hs) (x ∷ xs) =
     Tells rows x.answer (listing_body keep h target (mirror_look query meta base)) × AreTold keep rows target query meta (revision (batches h)) hs xs
 
--- a mirror that held nothing and followed a share for all its rounds, at points that never fall, holds what the share has
--- at the last
+-- A mirror at revision 0 that followed a share for all its rounds, at histories that never shrink, holds what the
+-- share has at the last.
 abbrev pub FollowersHoldWhatTheShareHas : Type 0
 FollowersHoldWhatTheShareHas =
     (host : List ℕ) (m : Mirrored) (rounds : ℕ) (p : Point) (taken : Option (List ℕ)) (applied : List Applied) (now : Mirrored) (keep : ℕ) (h : List Entry)

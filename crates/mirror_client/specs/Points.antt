@@ -1,14 +1,14 @@
--- Where a client stands with its peer.
+-- The state of a client towards its peer.
 use Rattle.std.specs.Prelude.{ℕ, List, [], Option}
 use Rattle.std.specs.Io.KnownBytes.{prepend_known}
 
--- bytes that were read and that no reply has used, and how many bytes replies have used
+-- The bytes that were read and not used by a response, and how many bytes responses have used.
 pub record ReadAhead : Type 0 where
   pub unused : List ℕ
   pub used : ℕ
 
--- the bytes written, the bytes that are owed by the peer, and how many of its bytes replies have used; bytes that the link does
--- not tell are unknown
+-- The bytes written, the bytes that the peer still owes, and how many of its bytes responses have used. `None` if the
+-- connection's bytes are not known.
 pub record Point : Type 0 where
   pub taken : Option (List ℕ)
   pub owed : Option (List ℕ)
@@ -17,10 +17,10 @@ pub record Point : Type 0 where
 abbrev pub point : Option (List ℕ) → Option (List ℕ) → List ℕ → ℕ → Point
 point taken left unused used = record { taken = taken; owed = prepend_known unused left; used = used }
 
--- the same by what was read ahead
+-- The same, with what was read ahead.
 abbrev pub place : Option (List ℕ) → Option (List ℕ) → ReadAhead → Point
 place taken left ahead = point taken left ahead.unused ahead.used
 
--- before anything was read
+-- Nothing was read yet.
 abbrev pub nothing_read : ReadAhead
 nothing_read = record { unused = []; used = 0 }

@@ -1,4 +1,4 @@
--- A reader in the midst of a reply.
+-- A reader inside a response.
 use Rattle.std.specs.Prelude.{◌≡◌, ◌≤◌, ℕ, ◌+◌, [], ◌++◌, length, take, drop, Option, Some, None}
 use Rattle.http_heads.specs.Messages.{Message, print_message}
 use Rattle.http_client.specs.declared.refusal.ReplyError.{ReplyError}
@@ -8,13 +8,13 @@ use Rattle.mirror_client.specs.declared.refusal.FollowError.{FollowError}
 use Rattle.mirror_client.specs.declared.refusal.FollowError.TheVariants.{BadReply, Memory}
 use Rattle.mirror_client.specs.Points.{ReadAhead}
 
--- it was fed what it keeps, and that is no whole reply
+-- It was fed the bytes that it keeps, which are not a complete response.
 pub record IsBegun (r : Reader) : Type 0 where
   pub ready : r.ready ≡ None
   pub fine : r.error ≡ None
   pub read : HasRead r.kept [] r
 
--- it went on with all that was read ahead, or has a reply with the first of it
+-- It consumed all bytes that were read ahead, or has a response from the first of them.
 pub record GoesOn (old new : Reader) (before now : ReadAhead) : Type 0 where
   pub begun : IsBegun new
   pub kept : new.kept ≡ old.kept ++ before.unused
@@ -33,7 +33,7 @@ abbrev pub Advances : Reader → Reader → ReadAhead → ReadAhead → Option R
 Advances old new before now None = GoesOn old new before now
 Advances old new before now (Some answer) = ComesWhole old before now answer
 
--- the error that a refused reply is, behind so many bytes
+-- The error for a malformed response after `used` bytes.
 abbrev pub refused_by : ℕ → ReplyError → FollowError
 refused_by used (reply.Bad at) = BadReply (used + at)
 refused_by used reply.Memory = Memory

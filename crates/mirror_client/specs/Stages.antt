@@ -1,6 +1,6 @@
--- The stages of a client that follows a listing for a number of rounds: what it asks in each, and which answer leads on to
--- which. It learns the table and logs in; then in each round it asks for the listing, and between two rounds for the next
--- revision; behind the last it logs out.
+-- The stages of a client that follows a listing: what it requests in each, and which answer leads to which next. It
+-- learns the table and logs in. In each round it requests the listing, and between two rounds the next revision.
+-- After the last round it logs out.
 use Rattle.std.specs.Prelude.{◌≡◌, ℕ, List, [], ◌∷◌, ◌++◌, ◌==◌, length, Bool, true, false, Option, Some, None, option_map}
 use Rattle.dmap_tags.specs.Codes.{code}
 use Rattle.code_table.specs.declared.row.CodeRow.{CodeRow}
@@ -18,18 +18,18 @@ use Rattle.mirror_client.specs.Stopping.{Stops}
 use Rattle.mirror_client.specs.Tellings.{TellsNumber, UndueNumber}
 
 pub data Stage : Type 0 where
-  -- the table is asked for
+  -- requests the table
   Begun : Stage
-  -- the login
+  -- requests the login
   Learned : (rows : List CodeRow) → Stage
-  -- the listing, behind those that were applied
+  -- requests the listing after those that were applied
   Asking : (known : Known) → (listings : List Listing) → Stage
-  -- the next revision, or the logout behind the last round
+  -- requests the next revision, or the logout after the last round
   Holding : (known : Known) → (listings : List Listing) → Stage
-  -- nothing any more
+  -- requests nothing
   Closed : (known : Known) → (listings : List Listing) → Stage
 
--- the listings that were applied so far
+-- The listings applied so far.
 abbrev pub listings_in : Stage → List Listing
 listings_in Begun = []
 listings_in (Learned rows) = []
@@ -37,12 +37,12 @@ listings_in (Asking known listings) = listings
 listings_in (Holding known listings) = listings
 listings_in (Closed known listings) = listings
 
--- what is asked behind a round, which may be the last
+-- The request after a round, which may be the last.
 abbrev pub behind_round : Bool → Known → Mirrored → Want
 behind_round true known m = want.Logout known.session
 behind_round false known m = want.Update known.session m.held.revision
 
--- what is asked in a stage, by a mirror that began so
+-- The request in a stage, if `m` is the mirror at the start.
 abbrev pub asked_in : Mirrored → ℕ → Stage → Option Want
 asked_in m rounds Begun = Some want.Codes
 asked_in m rounds (Learned rows) = Some want.Login
@@ -53,7 +53,7 @@ asked_in m rounds (Closed known listings) = None
 abbrev pub due : List ℕ → Mirrored → ℕ → Stage → Option (List ℕ)
 due host m rounds stage = option_map (λ w. request_text w host) (asked_in m rounds stage)
 
--- the answer that is needed behind a round, and where it leads
+-- The answer that is needed after a round, and the stage that it leads to.
 abbrev pub LeadsOn : Bool → Known → List Listing → Reply → Stage → Type 0
 LeadsOn true known listings answer next = (answer.0 ≡ 204) × (next ≡ Closed known listings)
 LeadsOn false known listings answer next = ((n : ℕ) × TellsNumber (code "musr") known.rows answer n) × (next ≡ Asking known listings)
@@ -67,13 +67,13 @@ Leads m rounds (Asking known listings) answer next =
 Leads m rounds (Holding known listings) answer next = LeadsOn (length listings == rounds) known listings answer next
 Leads m rounds (Closed known listings) answer next = ⊥
 
--- exchanges that lead from one stage to another
+-- Exchanges that lead from one stage to another.
 abbrev pub Path : List ℕ → Mirrored → ℕ → Stage → List Exchange → Stage → Type 0
 Path host m rounds s [] t = t ≡ s
 Path host m rounds s (x ∷ xs) t =
     (due host m rounds s ≡ Some x.request) × ((u : Stage) × Leads m rounds s x.answer u × Path host m rounds u xs t)
 
--- which answers are undue in a stage
+-- Which answers are unexpected in a stage.
 abbrev pub UndueBehind : Bool → Known → ℕ → Reply → FollowError → Type 0
 UndueBehind true known used answer e = UndueEnd used answer e
 UndueBehind false known used answer e = UndueNumber (code "musr") known.rows used answer e
@@ -85,13 +85,13 @@ UndueIn m rounds (Asking known listings) used answer e = UndueListing known.rows
 UndueIn m rounds (Holding known listings) used answer e = UndueBehind (length listings == rounds) known used answer e
 UndueIn m rounds (Closed known listings) used answer e = ⊥
 
--- exchanges led from one stage to another
+-- Exchanges led from one stage to another.
 pub record Walks (host : List ℕ) (m : Mirrored) (rounds : ℕ) (s : Stage) (p : Point) (t : Stage) (q : Point) : Type 0 where
   pub exchanges : List Exchange
   pub path : Path host m rounds s exchanges t
   pub went : Went p q exchanges
 
--- exchanges led from a stage to another, and what is asked there stopped; the mirror holds what was applied until then
+-- Exchanges led from `s` to a stage whose request failed. The mirror holds what was applied before.
 pub record StopsFrom (host : List ℕ) (m : Mirrored) (rounds : ℕ) (s : Stage) (p : Point) (taken : Option (List ℕ)) (e : FollowError) (now : Mirrored) : Type 0 where
   pub stage : Stage
   pub there : Point

@@ -1,4 +1,5 @@
--- The steps of a client that follows a share, one exchange each: what they ask, which answers they take, and which are undue.
+-- The steps of a client that follows a share, one exchange each: their requests, the answers that they accept, and
+-- the unexpected ones.
 use Rattle.std.specs.Prelude.{◌≡◌, ◌≢◌, ◌≤◌, ◌<◌, ◌⊎◌, ⊤, ℕ, List, [], ◌∷◌, length, fold, Option, Ok, Err}
 use Rattle.dmap_tags.specs.Codes.{code}
 use Rattle.dmap_tags.specs.Tree.{Tree}
@@ -24,22 +25,22 @@ use Rattle.mirror_client.specs.Points.{Point, ReadAhead}
 use Rattle.mirror_client.specs.Stopping.{Stops}
 use Rattle.mirror_client.specs.Tellings.{HasNoTag, IsBadBody, IsOther, Tells, TellsNumber, UndueNumber}
 
--- what a client knows once it is in: its session, and the table by which it reads bodies
+-- What a client knows after the login: its session, and the table by which it reads bodies.
 pub record Known : Type 0 where
   pub session : ℕ
   pub rows : List CodeRow
 
--- a client in: the host that it names, what it knows, what it has read ahead, and how many listings and updates it has
--- asked for
+-- A client after the login: the host that it names, what it knows, what it has read ahead, and how many listings and
+-- updates it has requested.
 pub record Following : Type 0 where
   pub host : List ℕ
   pub known : Known
   pub ahead : ReadAhead
   pub calls : ℕ
 
--- ---- the table
+-- ---- The table.
 
--- the answer to /content-codes is read by the standard table
+-- The answer to /content-codes is read by the standard table.
 abbrev pub TellsTable : Reply → List CodeRow → Type 0
 TellsTable answer rows = (tag : Tree) × Tells standard_rows answer tag × (table_of tag ≡ Ok rows)
 
@@ -52,7 +53,7 @@ UndueTable used answer (Codes error) = (tag : Tree) × Tells standard_rows answe
 UndueTable used answer LinkFault = ⊥
 UndueTable used answer Memory = ⊤
 
--- why a tag tells no table
+-- Why a tag is not a table.
 abbrev pub IsUntold : Tree → FollowError → Type 0
 IsUntold tag (Refused status) = ⊥
 IsUntold tag (BadReply at) = ⊥
@@ -62,20 +63,20 @@ IsUntold tag (Codes error) = (error ≢ codes.Memory) × (table_of tag ≡ Err e
 IsUntold tag LinkFault = ⊥
 IsUntold tag Memory = ⊤
 
--- ---- a listing
+-- ---- A listing.
 
--- what a mirror asks with next
+-- The next request of a mirror.
 abbrev pub rows_want : ℕ → Mirrored → Want
 rows_want session m = want.Rows session m.target (mirror_look m.query m.meta m.held.revision)
 
--- the answer is a listing that the mirror takes
+-- The answer is a listing that the mirror applies.
 pub record TellsListing (rows : List CodeRow) (m : Mirrored) (answer : Reply) (listing : Listing) : Type 0 where
   pub tag : Tree
   pub told : Tells rows answer tag
   pub is : IsListing m.target m.held.revision listing tag
   pub later : m.held.revision ≤ listing.revision
 
--- why a mirror doesn't take a tag
+-- Why a mirror rejects a tag.
 abbrev pub IsRefusedBy : Mirrored → Tree → MirrorError → Type 0
 IsRefusedBy m tag (mirror.NotListing index) = IsNoListing m.target m.held.revision tag index
 IsRefusedBy m tag (mirror.Backwards held told) =
@@ -100,14 +101,14 @@ UndueListing rows m used answer (Codes error) = ⊥
 UndueListing rows m used answer LinkFault = ⊥
 UndueListing rows m used answer Memory = ⊤
 
--- what a mirror holds after listings, one after another
+-- What a mirror holds after listings, one after another.
 abbrev pub held_after : Held → List Listing → Held
 held_after held listings = fold mirror_after held listings
 
 abbrev pub with_listings : Mirrored → List Listing → Mirrored
 with_listings m listings = record { target = m.target; query = m.query; meta = m.meta; held = held_after m.held listings }
 
--- what applying a listing tells
+-- What applying a listing reports.
 abbrev pub applied_by : Held → Listing → Applied
 applied_by held l =
     record { revision = l.revision; delta = l.is_delta; put = length l.rows; dropped = length l.gone; rows = length (mirror_after held l).rows }
@@ -116,7 +117,7 @@ abbrev pub all_applied : Held → List Listing → List Applied
 all_applied held [] = []
 all_applied held (l ∷ ls) = applied_by held l ∷ all_applied (mirror_after held l) ls
 
--- ---- the end
+-- ---- The end.
 
 abbrev pub UndueEnd : ℕ → Reply → FollowError → Type 0
 UndueEnd used answer (Refused status) = IsOther 204 answer status
@@ -127,7 +128,7 @@ UndueEnd used answer (Codes error) = ⊥
 UndueEnd used answer LinkFault = ⊥
 UndueEnd used answer Memory = ⊥
 
--- ---- a client that comes in: it asks for the table, and logs in
+-- ---- A client that opens: it requests the table, and logs in.
 
 pub record Opened (host : List ℕ) (p q : Point) (known : Known) : Type 0 where
   pub middle : Point
@@ -138,7 +139,7 @@ pub record Opened (host : List ℕ) (p q : Point) (known : Known) : Type 0 where
   pub entered : Exchanged (request_text want.Login host) middle q login
   pub session : TellsNumber (code "mlid") known.rows login known.session
 
--- it stops at the first of the two exchanges, or at the second
+-- It fails in the first of the two exchanges, or in the second.
 pub record StopsBehind (host : List ℕ) (p : Point) (taken : Option (List ℕ)) (e : FollowError) : Type 0 where
   pub middle : Point
   pub table : Reply

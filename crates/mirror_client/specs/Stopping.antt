@@ -1,4 +1,4 @@
--- Why an exchange came to no end, or to an answer that is not the one that is needed.
+-- Why an exchange failed, or got an unexpected answer.
 use Rattle.std.specs.Prelude.{◌≡◌, ◌⊎◌, ⊤, ℕ, ◌+◌, List, [], ◌∷◌, ◌++◌, length, Option, IfSome}
 use Rattle.daap_outside.specs.Counts.{Rose}
 use Rattle.daap_outside.specs.Told.{AppendsPrefix}
@@ -11,7 +11,7 @@ use Rattle.mirror_client.specs.declared.refusal.FollowError.TheVariants.{Refused
 use Rattle.mirror_client.specs.Exchanges.{Exchange, Went}
 use Rattle.mirror_client.specs.Points.{Point}
 
--- the bytes begin with what is no reply; the place counts all bytes up to the one that shows it
+-- The bytes begin with a malformed response. The offset counts all bytes up to the one that shows it.
 pub record BeginsBad (bytes : List ℕ) (used at : ℕ) : Type 0 where
   pub front : List ℕ
   pub more : List ℕ
@@ -20,13 +20,13 @@ pub record BeginsBad (bytes : List ℕ) (used at : ℕ) : Type 0 where
   pub refused : IsRefused kind.Reply front cause
   pub counted : at ≡ used + length front
 
--- the bytes end before they are a whole reply
+-- The bytes end before a response is complete.
 pub record EndsEarly (bytes : List ℕ) (used at : ℕ) : Type 0 where
   pub partial : HasNoMessage kind.Reply bytes
   pub goes : (e : HeadError) → Refuses kind.Reply bytes e → ⊥
   pub counted : at ≡ used + length bytes
 
--- why no reply was read, by the bytes that the peer owed
+-- Why no response was read, by the bytes that the peer owed.
 abbrev pub NoReply : Point → FollowError → Type 0
 NoReply p (Refused status) = ⊥
 NoReply p (BadReply at) = IfSome p.owed (λ bytes. BeginsBad bytes p.used at)
@@ -36,12 +36,12 @@ NoReply p (Codes error) = ⊥
 NoReply p LinkFault = ⊤
 NoReply p Memory = ⊤
 
--- the request was written, perhaps in part, and no reply was read
+-- The request was written, perhaps in part, and no response was read.
 pub record StopsShort (request : List ℕ) (p : Point) (taken : Option (List ℕ)) (e : FollowError) : Type 0 where
   pub written : AppendsPrefix p.taken taken request
   pub cause : NoReply p e
 
--- the request was answered, and the answer is undue; `Undue` says so of the number of bytes read, the answer and the error
+-- The request got an unexpected answer. `Undue` relates the number of bytes read, the answer and the error.
 pub record AnswersUndue (request : List ℕ) (Undue : ℕ → Reply → FollowError → Type 0) (p : Point) (taken : Option (List ℕ)) (e : FollowError) : Type 0 where
   pub exchange : Exchange
   pub there : Point
@@ -53,7 +53,7 @@ pub record AnswersUndue (request : List ℕ) (Undue : ℕ → Reply → FollowEr
 abbrev pub Stops : List ℕ → (ℕ → Reply → FollowError → Type 0) → Point → Option (List ℕ) → FollowError → Type 0
 Stops request Undue p taken e = StopsShort request p taken e ⊎ AnswersUndue request Undue p taken e
 
--- the link's count rose where its fault is told, and else stayed
+-- The connection's error counter increased if the error is `LinkFault`, and is unchanged otherwise.
 abbrev pub CountsFault : ℕ → ℕ → FollowError → Type 0
 CountsFault before now LinkFault = Rose before now
 CountsFault before now (Refused status) = now ≡ before

@@ -1,4 +1,4 @@
--- What answers tell: tags by a table of content codes, and numbers in them; and which answers tell none.
+-- What answers contain: tags by a table of content codes, and numbers in them; and which answers contain none.
 use Rattle.std.specs.Prelude.{◌≡◌, ◌≢◌, ⊤, ℕ, List, true, Option, Some, None}
 use Rattle.dmap_tags.specs.Codes.{Four}
 use Rattle.dmap_tags.specs.Tree.{Tree, leaf, list}
@@ -11,11 +11,11 @@ use Rattle.http_client.specs.Replies.{Reply}
 use Rattle.mirror_client.specs.declared.refusal.FollowError.{FollowError}
 use Rattle.mirror_client.specs.declared.refusal.FollowError.TheVariants.{Refused, BadReply, Ended, Listing, Codes, LinkFault, Memory}
 
--- how many bytes of payload the tag of a body has at most
+-- Most payload bytes of the tag of a body.
 abbrev pub body_limit : ℕ
 body_limit = 1073741824
 
--- the body is this tag, whole and alone
+-- The body is exactly this tag.
 pub record IsTag (rows : List CodeRow) (body : List ℕ) (tag : Tree) : Type 0 where
   pub spelled : body ≡ spelling tag
   pub accepted : is_accepted rows body_limit tag ≡ true
@@ -24,11 +24,11 @@ pub record IsTag (rows : List CodeRow) (body : List ℕ) (tag : Tree) : Type 0 w
 abbrev pub HasNoTag : List CodeRow → List ℕ → Type 0
 HasNoTag rows body = (tag : Tree) → IsTag rows body tag → ⊥
 
--- a success that tells a tag
+-- A success with this tag.
 abbrev pub Tells : List CodeRow → Reply → Tree → Type 0
 Tells rows answer tag = (answer.0 ≡ 200) × IsTag rows answer.1 tag
 
--- the number in the first member with the code
+-- The number in the first member with the code.
 abbrev pub number_told : Four → Tree → Option ℕ
 number_told c (leaf d value) = None
 number_told c (list d members) = number_in (first_in c members)
@@ -39,15 +39,15 @@ TellsNumber c rows answer n = (tag : Tree) × Tells rows answer tag × (number_t
 abbrev pub HasNoNumber : Four → List CodeRow → List ℕ → Type 0
 HasNoNumber c rows body = (tag : Tree) → IsTag rows body tag → number_told c tag ≡ None
 
--- another status than the one that is due
+-- Another status than the expected one.
 abbrev pub IsOther : ℕ → Reply → ℕ → Type 0
 IsOther due answer status = (status ≡ answer.0) × (answer.0 ≢ due)
 
--- a success whose body is bad; the place is where the reply ends
+-- A success with a bad body; the offset is the end of the response.
 abbrev pub IsBadBody : ℕ → Reply → ℕ → Type 0
 IsBadBody used answer at = (answer.0 ≡ 200) × (at ≡ used)
 
--- an answer that tells no tag
+-- An answer without a tag.
 abbrev pub UndueTag : List CodeRow → ℕ → Reply → FollowError → Type 0
 UndueTag rows used answer (Refused status) = IsOther 200 answer status
 UndueTag rows used answer (BadReply at) = IsBadBody used answer at × HasNoTag rows answer.1
@@ -57,7 +57,7 @@ UndueTag rows used answer (Codes error) = ⊥
 UndueTag rows used answer LinkFault = ⊥
 UndueTag rows used answer Memory = ⊤
 
--- one that tells no such number
+-- An answer without such a number.
 abbrev pub UndueNumber : Four → List CodeRow → ℕ → Reply → FollowError → Type 0
 UndueNumber c rows used answer (Refused status) = IsOther 200 answer status
 UndueNumber c rows used answer (BadReply at) = IsBadBody used answer at × HasNoNumber c rows answer.1

@@ -1,4 +1,4 @@
-//! The requests of a client that follows.
+//! Requests of a client that follows.
 
 ghost use Rattle.std.specs.Prelude.{◌≡◌, IfOk};
 ghost use Rattle.share_asks.specs.Valid.{MayAsk};
@@ -11,7 +11,7 @@ use mirror_core::Mirror;
 use share_asks::{Ask, Role, Want};
 use std::alloc::{AllocError, Global};
 
-/// The text of a request.
+/// Returns the text of a request.
 pub(crate) fn request_for(alloc: Global, want: Want, host: &str) -> Result<Bytes, AllocError>
     requires { CanSend want }
     ensures { IfOk result (λ bytes. bytes ≡ request_text want host.now) }
@@ -24,7 +24,7 @@ pub(crate) fn request_for(alloc: Global, want: Want, host: &str) -> Result<Bytes
     request(alloc, &ask, host)
 }
 
-/// The text of the request for the listing that a mirror asks for next.
+/// Returns the text of the request for the mirror's next listing.
 pub(crate) fn rows_request(
     alloc: Global,
     session: u32,

@@ -1,4 +1,4 @@
-//! One exchange: a request is written, and its reply is read.
+//! One exchange: writes a request, and reads the response.
 
 ghost use Rattle.std.specs.Prelude.{◌≡◌, ◌≤◌, ◌<◌, ◌+◌, ◌^◌, IfOk, IfErr, MatchResult};
 ghost use Rattle.mirror_client.specs.Exchanges.{Exchanged};
@@ -12,7 +12,7 @@ use daap_outside::{Link, put_all};
 use dmap_tags::Bytes;
 use std::alloc::Global;
 
-/// Writes a request, and reads its reply.
+/// Writes a request, and reads the response.
 pub(crate) fn exchange<K: Link>(
     alloc: Global,
     link: &mut K,

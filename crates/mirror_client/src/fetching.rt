@@ -1,4 +1,4 @@
-//! Exchanges that are answered with a tag.
+//! Exchanges whose answer is a tag.
 
 ghost use Rattle.std.specs.Prelude.{◌≡◌, ◌≢◌, ◌≤◌, ◌<◌, ◌+◌, ◌^◌, Option, option_copied, IfOk, IfErr, MatchBool, MatchOption, MatchResult};
 ghost use Rattle.dmap_tags.specs.Tree.{trees_of};
@@ -18,10 +18,10 @@ use dmap_stream::{Limits, StreamError, read_tag};
 use dmap_tags::{Bytes, Code, Tag, Value};
 use std::alloc::{AllocError, Global};
 
-// How many bytes of payload the tag of a body has at most.
+// Most payload bytes of the tag of a body.
 const BODY_LIMIT: u32 = 1_073_741_824;
 
-/// Asks, and reads the tag with which the request succeeds.
+/// Sends a request, and returns the tag of its success.
 pub(crate) fn fetch<K: Link>(
     alloc: Global,
     link: &mut K,
@@ -37,12 +37,12 @@ pub(crate) fn fetch<K: Link>(
     ensures count { MatchResult result (λ _. K.faults link.new ≡ K.faults link.old) (λ e. CountsFault (K.faults link.old) (K.faults link.new) e) }
 {
     match exchange(alloc, link, incoming, request) {
-        Ok((status, body)) => told_tag(alloc, table, incoming.used(), status, &body),
+        Ok((status, body)) => reply_tag(alloc, table, incoming.used(), status, &body),
         Err(error) => Err(error),
     }
 }
 
-/// Asks, and reads the number in the first member with the code of the tag with which the request succeeds.
+/// Sends a request, and returns the number in the first member with `code` of its success.
 pub(crate) fn fetch_number<K: Link>(
     alloc: Global,
     link: &mut K,
@@ -59,13 +59,13 @@ pub(crate) fn fetch_number<K: Link>(
     ensures count { MatchResult result (λ _. K.faults link.new ≡ K.faults link.old) (λ e. CountsFault (K.faults link.old) (K.faults link.new) e) }
 {
     match exchange(alloc, link, incoming, request) {
-        Ok((status, body)) => told_number(alloc, table, code, incoming.used(), status, &body),
+        Ok((status, body)) => reply_number(alloc, table, code, incoming.used(), status, &body),
         Err(error) => Err(error),
     }
 }
 
-/// The tag that an answer tells, which ends at the byte `used`.
-fn told_tag(
+/// Returns the tag of an answer that ends at byte `used`.
+fn reply_tag(
     alloc: Global,
     table: &CodeTable,
     used: u64,
@@ -84,8 +84,8 @@ fn told_tag(
     }
 }
 
-/// The number that an answer tells, which ends at the byte `used`.
-pub(crate) fn told_number(
+/// Returns the number in an answer that ends at byte `used`.
+pub(crate) fn reply_number(
     alloc: Global,
     table: &CodeTable,
     code: Code,
@@ -95,7 +95,7 @@ pub(crate) fn told_number(
 ) -> Result<u32, FollowError>
     ensures { MatchResult result (λ n. TellsNumber code table.now (status, body.now) n) (λ e. UndueNumber code table.now used (status, body.now) e) }
 {
-    match told_tag(alloc, table, used, status, body) {
+    match reply_tag(alloc, table, used, status, body) {
         Ok(tag) => match number_in(code, &tag) {
             Some(n) => Ok(n),
             None => Err(FollowError::BadReply { at: used }),
@@ -104,7 +104,7 @@ pub(crate) fn told_number(
     }
 }
 
-// The tag that a body is.
+// Returns the tag that the body is, if it is exactly one.
 fn whole_tag(alloc: Global, table: &CodeTable, body: &Bytes) -> Result<Option<Tag>, AllocError>
     ensures { IfOk result (λ found. MatchOption found (HasNoTag table.now body.now) (λ tag. IsTag table.now body.now tag)) }
 {
@@ -121,7 +121,7 @@ fn whole_tag(alloc: Global, table: &CodeTable, body: &Bytes) -> Result<Option<Ta
     }
 }
 
-// A tag, where it takes all of the bytes.
+// Returns the tag if it takes all of the bytes.
 fn alone(tag: Tag, len: usize, total: usize) -> Option<Tag>
     ensures { MatchOption result (len ≢ total) (λ t. (t ≡ tag) × (len ≡ total)) }
 {
@@ -134,7 +134,7 @@ fn is_memory(error: &StreamError) -> bool
     matches!(error, StreamError::Memory)
 }
 
-// The number in the first member with the code.
+// Returns the number in the first member with the code.
 fn number_in(code: Code, tag: &Tag) -> Option<u32>
     ensures { result ≡ number_told code tag.now }
 {

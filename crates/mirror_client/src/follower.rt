@@ -1,4 +1,4 @@
-//! A client that is in: the steps of following a share.
+//! A client after the login: the steps of following a share.
 
 ghost use Rattle.std.specs.Prelude.{◌≡◌, ◌≤◌, ◌<◌, ◌+◌, ◌*◌, ◌^◌, ℕ, [], ◌∷◌, Ok, IfOk, IfErr, OnErr, MatchResult};
 ghost use Rattle.dmap_tags.specs.Codes.{code};
@@ -29,8 +29,8 @@ use share_asks::Want;
 use std::alloc::Global;
 use std::marker::Model;
 
-/// A client that has learned a share's table and is logged in. It keeps what it read of a link and did not use, so every
-/// call on it is made with the link that it was opened with.
+/// A client that has learned a share's table and is logged in. It keeps bytes that it read ahead, so every call needs
+/// the connection that it was opened with.
 #[derive(Debug, Drop)]
 pub struct Follower {
     alloc: Global,
@@ -53,7 +53,7 @@ impl Model for Follower {
 }
 
 impl Follower {
-    /// Asks for the table of content codes, and logs in.
+    /// Requests the table of content codes, and logs in.
     pub fn open<K: Link>(alloc: Global, link: &mut K, host: &str) -> Result<Follower, FollowError>
         ensures opened { IfOk result (λ f. Opened host.now (place (K.taken link.old) (K.left link.old) nothing_read) (place (K.taken link.new) (K.left link.new) f.ahead) f.known
             × (f.host ≡ host.now) × (f.calls ≡ 0)) }
@@ -80,7 +80,8 @@ impl Follower {
         })
     }
 
-    /// Asks for the mirror's listing with the revision that it holds, and applies it. After an `Err` the mirror is as before.
+    /// Requests the mirror's listing with the revision that it holds, and applies it. After an `Err` the mirror is
+    /// unchanged.
     #[tactic(auto, using(crate::proofs::ExchangeFacts::unwritten))]
     pub fn listing<K: Link>(
         &mut self,
@@ -111,11 +112,13 @@ impl Follower {
         )
     }
 
-    /// Asks for the listing of `target` that `look` asks for, and answers the tag of its body, which is not read as a listing.
+    /// Requests the listing of `target` that `look` selects, and returns the tag of its body without reading it as a
+    /// listing.
     ///
     /// # Errors
     ///
-    /// Returns `Refused`, `BadReply` or `Ended` if the peer answers no tag, `LinkFault` if the link fails, and `Memory`.
+    /// Returns `Refused`, `BadReply` or `Ended` if the peer's answer is not a tag, `LinkFault` if the connection fails,
+    /// and `Memory`.
     #[tactic(auto, using(crate::proofs::ExchangeFacts::unwritten))]
     pub fn body<K: Link>(
         &mut self,
@@ -150,7 +153,7 @@ impl Follower {
         )
     }
 
-    /// Asks for a revision after this one, and answers it once the share tells it.
+    /// Requests a revision other than `revision`, and returns it once the share responds.
     #[tactic(auto, using(crate::proofs::ExchangeFacts::unwritten))]
     pub fn wait<K: Link>(&mut self, link: &mut K, revision: u32) -> Result<u32, FollowError>
         requires few { self.old.calls < 65536 }
@@ -201,7 +204,7 @@ impl Follower {
     }
 }
 
-// Asks for the table, and learns it.
+// Requests the table, and learns it.
 #[tactic(auto, using(crate::proofs::ExchangeFacts::unwritten))]
 fn learn_table<K: Link>(
     alloc: Global,
@@ -225,7 +228,7 @@ fn learn_table<K: Link>(
     }
 }
 
-// The table that a tag tells.
+// Returns the table that a tag encodes.
 fn told_table(alloc: Global, tag: &Tag) -> Result<CodeTable, FollowError>
     ensures { MatchResult result (λ table. table_of tag.now ≡ Ok table) (λ e. IsUntold tag.now e) }
 {
@@ -240,7 +243,7 @@ fn told_table(alloc: Global, tag: &Tag) -> Result<CodeTable, FollowError>
     }
 }
 
-// Logs in, and tells the session.
+// Logs in, and returns the session.
 #[tactic(auto, using(crate::proofs::ExchangeFacts::unwritten))]
 fn log_in<K: Link>(
     alloc: Global,
@@ -268,7 +271,7 @@ fn log_in<K: Link>(
     )
 }
 
-// Asks for a listing, and lets the mirror take it in.
+// Requests a listing, and applies it to the mirror.
 fn fetch_listing<K: Link>(
     alloc: Global,
     link: &mut K,
@@ -292,7 +295,7 @@ fn fetch_listing<K: Link>(
     }
 }
 
-// The mirror takes a listing in.
+// Applies a listing to the mirror.
 fn apply(mirror: &mut Mirror, tag: &Tag) -> Result<Applied, FollowError>
     ensures taken { IfOk result (λ applied. (l : Listing) × IsListing mirror.old.target mirror.old.held.revision l tag.now × (mirror.old.held.revision ≤ l.revision)
         × (mirror.new ≡ with_listings mirror.old (l ∷ [])) × (applied ≡ applied_by mirror.old.held l)) }
@@ -311,7 +314,7 @@ fn apply(mirror: &mut Mirror, tag: &Tag) -> Result<Applied, FollowError>
     }
 }
 
-// Asks for the end of a session.
+// Ends the session.
 fn log_out<K: Link>(
     alloc: Global,
     link: &mut K,

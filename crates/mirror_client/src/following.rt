@@ -1,4 +1,4 @@
-//! Following a listing for a number of rounds.
+//! Follows a listing for a number of rounds.
 
 ghost use Rattle.std.specs.Prelude.{◌≡◌, ◌≤◌, ◌<◌, ◌+◌, ℕ, List, [], ◌∷◌, ◌++◌, length, false, ◌==◌, IfErr, OnOk, IfOk, MatchResult};
 ghost use Rattle.share_asks.specs.Valid.{MayAsk};
@@ -16,11 +16,11 @@ use daap_outside::Link;
 use mirror_core::{Applied, Mirror};
 use std::alloc::Global;
 
-/// Follows the mirror's listing for 1 to 16,384 rounds, and answers what each of them did.
+/// Follows the mirror's listing for 1 to 16,384 rounds, and returns what each of them did.
 ///
-/// It learns the share's table, logs in, asks for the listing once in each round with the revision that the mirror holds,
-/// waits for another revision between two rounds, and logs out. After an `Err` the mirror is as after the last listing that
-/// it took in.
+/// Learns the share's table, logs in, requests the listing once in each round with the revision that the mirror
+/// holds, waits for another revision between two rounds, and logs out. After an `Err` the mirror is as after the last
+/// listing that it applied.
 pub fn follow_link<K: Link>(
     alloc: Global,
     link: &mut K,
@@ -56,7 +56,7 @@ pub fn follow_link<K: Link>(
     }
 }
 
-// One listing more. `m` is the mirror as it began.
+// Fetches one more listing. `m` is the mirror at the start.
 fn listed<K: Link>(
     follower: &mut Follower,
     link: &mut K,
@@ -85,7 +85,7 @@ fn listed<K: Link>(
     }
 }
 
-// Another revision, and then one listing more.
+// Waits for another revision, and fetches one more listing.
 fn next_round<K: Link>(
     follower: &mut Follower,
     link: &mut K,

@@ -1,4 +1,4 @@
-//! Bytes that are read ahead of the replies that use them.
+//! Bytes that were read ahead of the responses that use them.
 
 ghost use Rattle.std.specs.Prelude.{◌≡◌, ◌≢◌, ◌≤◌, ◌<◌, ◌+◌, ◌^◌, ℕ, List, [], length, drop, Option, IfOk, IfErr, MatchBool, MatchResult};
 ghost use Rattle.std.specs.Io.KnownBytes.{Consumes, IsAtEnd, prepend_known};
@@ -10,10 +10,10 @@ use daap_outside::{Failed, Source};
 use std::alloc::Global;
 use std::marker::Model;
 
-// How many bytes one read asks for.
+// The most bytes of one read.
 const PIECE: usize = 8_192;
 
-/// Bytes that were read and that no reply has used yet, and how many bytes replies have used.
+/// The bytes that were read and not used by a response, and how many bytes responses have used.
 #[derive(Debug, Drop)]
 pub(crate) struct Incoming {
     bytes: Vec<u8>,
@@ -57,7 +57,7 @@ impl Incoming {
         self.used
     }
 
-    /// A reply used the first `n` of the unused bytes.
+    /// Drops the first `n` unused bytes, which a response used.
     pub(crate) fn skip(&mut self, n: usize)
         requires { n ≤ length self.old.unused }
         ensures { self.new ≡ record self.old { unused = drop n self.old.unused } }
@@ -65,7 +65,7 @@ impl Incoming {
         self.at += n;
     }
 
-    /// A reply of `n` bytes was whole.
+    /// Counts a complete response of `n` bytes.
     pub(crate) fn count(&mut self, n: u64)
         requires { self.old.used + n < 2 ^ 64 }
         ensures { self.new ≡ record self.old { used = self.old.used + n } }
@@ -73,7 +73,7 @@ impl Incoming {
         self.used += n;
     }
 
-    /// Reads further bytes where none is unused, and tells whether there are any then.
+    /// Reads more bytes if none is unused. Returns whether there are any then.
     pub(crate) fn refill<I: Source>(&mut self, source: &mut I) -> Result<bool, FollowError>
         ensures read { IfOk result (λ _. (owed : Option (List ℕ)) (kept : List ℕ) → Consumes owed (prepend_known self.old.unused (I.left source.old)) kept
             → Consumes owed (prepend_known self.new.unused (I.left source.new)) kept) }

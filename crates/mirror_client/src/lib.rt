@@ -1,5 +1,5 @@
-//! A client that follows one listing of a share over a link, and one that sends it edits: what they write are the requests
-//! of `http_client`, and what the mirror holds are the listings that were read, applied one after another.
+//! A client that follows one listing of a share over a connection, and one that sends edits. They write the requests
+//! of `http_client`. The mirror holds the listings that were read, applied one after another.
 #![tactic(auto)]
 
 mod asking;

@@ -1,36 +1,36 @@
-//! Pushing an edit or a stop to a share.
+//! Pushes an edit or a stop to a share.
 
-ghost use Rattle.std.specs.Prelude.{◌≡◌, ◌++◌, Some, None, option_copied, IfOk, IfErr, OnOk, MatchResult};
+ghost use Rattle.std.specs.Prelude.{◌≡◌, Some, None, option_copied, IfOk, IfErr, MatchResult};
 ghost use Rattle.code_table.specs.Standard.{standard_rows};
 ghost use Rattle.http_client.specs.Replies.{Reply};
 ghost use Rattle.mirror_client.specs.Exchanges.{Exchanged};
 ghost use Rattle.mirror_client.specs.Points.{Point, nothing_read, place};
-ghost use Rattle.mirror_client.specs.Pushes.{IsEdited, IsPushed, IsStopped, UndueEdit, UnduePush, line, push_fields, push_rest, push_text};
+ghost use Rattle.mirror_client.specs.Pushes.{IsEdited, IsPushed, IsStopped, UndueEdit, UnduePush, push_text};
 ghost use Rattle.mirror_client.specs.Stopping.{CountsFault, Stops};
 
 use crate::exchanging::exchange;
-use crate::fetching::told_number;
+use crate::fetching::reply_number;
 use crate::incoming::Incoming;
 use crate::refusal::FollowError;
 use code_table::CodeTable;
 use daap_outside::Link;
 use dmap_tags::{Bytes, Code};
-use itoa::Buffer;
-use std::alloc::{AllocError, Global};
+use http_client::post;
+use std::alloc::Global;
 
-/// What a share made of an edit or a stop.
+/// The outcome of an edit or a stop.
 #[derive(Debug, Drop)]
 pub enum Pushed {
-    /// The edit was taken in, and made this revision.
+    /// The edit was applied, and made this revision.
     Revision(u32),
     /// The edit had no records.
     Unchanged,
     Stopped,
-    /// Nothing was changed. `text` is what the share says of it: for records that it doesn't take, which one.
+    /// Nothing was changed. `text` is the share's reason: for records that it refuses, which one.
     Refused { status: u16, text: Bytes },
 }
 
-/// Sends records as an edit, or a stop where there is no body. The records are sent as they are.
+/// Sends records as an edit, unchanged; a stop if there is no body.
 pub fn push_link<K: Link>(
     alloc: Global,
     link: &mut K,
@@ -50,7 +50,7 @@ pub fn push_link<K: Link>(
     }
 }
 
-#[tactic(auto, using(crate::proofs::ExchangeFacts::unwritten))]
+#[tactic(auto, using(crate::proofs::ExchangeFacts::unwritten), unfolding(crate::specs::Pushes::push_text))]
 fn push_edit<K: Link>(
     alloc: Global,
     link: &mut K,
@@ -64,7 +64,7 @@ fn push_edit<K: Link>(
         (place (K.taken link.old) (K.left link.old) nothing_read) (K.taken link.new) e) }
     ensures count { MatchResult result (λ _. K.faults link.new ≡ K.faults link.old) (λ e. CountsFault (K.faults link.old) (K.faults link.new) e) }
 {
-    let request = edit_text(alloc, host, records)?;
+    let request = post(alloc, "/edit", host, records)?;
     let table = CodeTable::standard(alloc)?;
     let mut incoming = Incoming::new(alloc);
     match exchange(alloc, link, &mut incoming, request.as_slice()) {
@@ -76,7 +76,7 @@ fn push_edit<K: Link>(
     }
 }
 
-#[tactic(auto, using(crate::proofs::ExchangeFacts::unwritten))]
+#[tactic(auto, using(crate::proofs::ExchangeFacts::unwritten), unfolding(crate::specs::Pushes::push_text))]
 fn push_stop<K: Link>(alloc: Global, link: &mut K, host: &str) -> Result<Pushed, FollowError>
     ensures pushed { IfOk result (λ pushed. (answer : Reply) × (there : Point)
         × Exchanged (push_text None host.now) (place (K.taken link.old) (K.left link.old) nothing_read) there answer
@@ -85,7 +85,7 @@ fn push_stop<K: Link>(alloc: Global, link: &mut K, host: &str) -> Result<Pushed,
         (place (K.taken link.old) (K.left link.old) nothing_read) (K.taken link.new) e) }
     ensures count { MatchResult result (λ _. K.faults link.new ≡ K.faults link.old) (λ e. CountsFault (K.faults link.old) (K.faults link.new) e) }
 {
-    let request = stop_text(alloc, host)?;
+    let request = post(alloc, "/stop", host, b"")?;
     let mut incoming = Incoming::new(alloc);
     match exchange(alloc, link, &mut incoming, request.as_slice()) {
         Ok((status, text)) => Ok(stopped(status, text)),
@@ -93,7 +93,7 @@ fn push_stop<K: Link>(alloc: Global, link: &mut K, host: &str) -> Result<Pushed,
     }
 }
 
-// What the answer to an edit is, which ends at the byte `used`.
+// Returns the outcome of an edit by its answer, which ends at byte `used`.
 fn edited(
     alloc: Global,
     table: &CodeTable,
@@ -105,24 +105,29 @@ fn edited(
     ensures { MatchResult result (λ pushed. IsEdited (status, text) pushed) (λ e. UndueEdit used (status, text) e) }
 {
     match status {
-        200 => revised(alloc, table, used, &text),
+        200 => pushed_revision(alloc, table, used, &text),
         204 => Ok(Pushed::Unchanged),
         _ => Ok(Pushed::Refused { status, text }),
     }
 }
 
-// The revision that a success tells.
-fn revised(alloc: Global, table: &CodeTable, used: u64, text: &Bytes) -> Result<Pushed, FollowError>
+// Returns the revision in a success.
+fn pushed_revision(
+    alloc: Global,
+    table: &CodeTable,
+    used: u64,
+    text: &Bytes,
+) -> Result<Pushed, FollowError>
     requires { table.now ≡ standard_rows }
     ensures { MatchResult result (λ pushed. IsEdited (200, text.now) pushed) (λ e. UndueEdit used (200, text.now) e) }
 {
-    match told_number(alloc, table, Code(*b"musr"), used, 200, text) {
+    match reply_number(alloc, table, Code(*b"musr"), used, 200, text) {
         Ok(n) => Ok(Pushed::Revision(n)),
         Err(error) => Err(error),
     }
 }
 
-// What the answer to a stop is.
+// Returns the outcome of a stop by its answer.
 fn stopped(status: u16, text: Bytes) -> Pushed
     ensures { IsStopped (status, text) result }
 {
@@ -130,53 +135,4 @@ fn stopped(status: u16, text: Bytes) -> Pushed
         204 => Pushed::Stopped,
         _ => Pushed::Refused { status, text },
     }
-}
-
-#[tactic(auto, unfolding(crate::specs::Pushes::push_text))]
-fn edit_text(alloc: Global, host: &str, records: &[u8]) -> Result<Vec<u8>, AllocError>
-    ensures { IfOk result (λ text. text.items ≡ push_text (Some records.now) host.now) }
-{
-    let mut text = Vec::new(alloc);
-    push_line(&mut text, b"POST ", b"/edit HTTP/1.1")?;
-    push_rest(&mut text, host, records)?;
-    Ok(text)
-}
-
-#[tactic(auto, unfolding(crate::specs::Pushes::push_text))]
-fn stop_text(alloc: Global, host: &str) -> Result<Vec<u8>, AllocError>
-    ensures { IfOk result (λ text. text.items ≡ push_text None host.now) }
-{
-    let mut text = Vec::new(alloc);
-    push_line(&mut text, b"POST ", b"/stop HTTP/1.1")?;
-    push_rest(&mut text, host, b"")?;
-    Ok(text)
-}
-
-// The fields, an empty line, and the body.
-fn push_rest(text: &mut Vec<u8>, host: &str, body: &[u8]) -> Result<(), AllocError>
-    ensures { OnOk result (text.new.items ≡ text.old.items ++ push_rest host.now body.now) }
-{
-    push_fields(text, host, body.len())?;
-    text.extend_from_slice(b"\r\n")?;
-    text.extend_from_slice(body)
-}
-
-fn push_fields(text: &mut Vec<u8>, host: &str, len: usize) -> Result<(), AllocError>
-    ensures { OnOk result (text.new.items ≡ text.old.items ++ push_fields host.now len) }
-{
-    push_line(text, b"Host: ", host.as_bytes())?;
-    push_line(text, b"Client-DAAP-Version: ", b"3.0")?;
-    push_line(
-        text,
-        b"Content-Length: ",
-        Buffer::new().format(len).as_bytes(),
-    )
-}
-
-fn push_line(text: &mut Vec<u8>, name: &[u8], value: &[u8]) -> Result<(), AllocError>
-    ensures { OnOk result (text.new.items ≡ text.old.items ++ line (name.now ++ value.now)) }
-{
-    text.extend_from_slice(name)?;
-    text.extend_from_slice(value)?;
-    text.extend_from_slice(b"\r\n")
 }

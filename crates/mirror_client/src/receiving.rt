@@ -1,4 +1,4 @@
-//! Reading one reply off a link.
+//! Reads one response off a connection.
 
 ghost use Rattle.std.specs.Prelude.{◌≡◌, ◌≢◌, ◌≤◌, ◌<◌, ◌+◌, ◌^◌, ◌++◌, ℕ, List, [], Option, IfOk, IfErr, OnErr, MatchResult};
 ghost use Rattle.mirror_client.specs.Exchanges.{Replied};
@@ -13,7 +13,7 @@ use dmap_tags::Bytes;
 use http_client::{ReplyError, ReplyReader};
 use std::alloc::Global;
 
-/// The next reply of the peer, its status and its body.
+/// Returns the status and body of the peer's next response.
 pub(crate) fn next_reply<K: Link>(
     alloc: Global,
     link: &mut K,
@@ -47,7 +47,7 @@ pub(crate) fn next_reply<K: Link>(
     }
 }
 
-// Feeds what was read ahead: a reply, where it is whole then.
+// Feeds the reader what was read ahead. Returns a response, if it is then complete.
 fn advance(
     reader: &mut ReplyReader,
     incoming: &mut Incoming,
@@ -76,7 +76,7 @@ fn advance(
     }
 }
 
-// The error that a refused reply is, behind so many bytes.
+// Returns the error for a malformed response after `used` bytes.
 fn refused(used: u64, error: ReplyError) -> FollowError
     requires { (at : ℕ) → error ≡ ReplyError.Bad at → used + at < 2 ^ 64 }
     ensures { result ≡ refused_by used error }

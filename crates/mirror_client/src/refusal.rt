@@ -1,30 +1,30 @@
-//! Why an exchange with a peer ended early.
+//! Errors of an exchange with a peer.
 
 use code_table::CodeError;
 use mirror_core::MirrorError;
 use std::alloc::{AllocError, AllocFailed};
 use thiserror::Error;
 
-/// Why a peer is not followed further, or was not pushed to. `at` counts the bytes of its replies, from the first on.
+/// Why following or pushing ended early. `at` counts the bytes of the peer's responses, from the first.
 #[derive(Debug, Drop, PartialEq, Eq, Error)]
 pub enum FollowError {
-    /// A reply has another status than the one that is expected.
+    /// A response has another status than the expected one.
     #[error("the peer refused with status {status}")]
     Refused { status: u16 },
-    /// The bytes up to `at` show that no reply begins so; or the reply that ends there has a body that is not one whole
+    /// The bytes up to `at` begin no response. Or the response that ends at `at` has a body that is not exactly one
     /// tag, or lacks a number that is needed.
     #[error("the peer's reply is bad at {at}")]
     BadReply { at: u64 },
-    /// The input ended inside a reply.
+    /// The input ended inside a response.
     #[error("the peer ended at {at}")]
     Ended { at: u64 },
-    /// The mirror doesn't take the listing.
+    /// The mirror rejects the listing.
     #[error("the peer's listing is not taken")]
     Listing(MirrorError),
-    /// The reply tells no table of content codes.
+    /// The response has no table of content codes.
     #[error("the peer tells no table of content codes")]
     Codes(CodeError),
-    /// A read or a write failed; the link's count of faults rose.
+    /// A read or a write failed; the connection's error counter increased.
     #[error("the link failed")]
     LinkFault,
     #[error("out of memory")]

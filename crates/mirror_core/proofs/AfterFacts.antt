@@ -1,4 +1,4 @@
--- What a mirror holds after a body that is a listing, and after the body of an answer.
+-- What a mirror holds after a body that is a listing, and after the body of a response.
 use Rattle.std.proofs.Common.{◌≡◌, ℕ, ◌+◌, ◌<◌, ◌≤◌, List, [], ◌∷◌, ◌++◌, Bool, true, false, cond, not, ◌&&◌, nat_le, length, map, filter, get_or, Option, Some, Result, Ok, Err, refl, sym, ap, subst, ◌∙◌, arith, true≢false, leb-true}
 use Rattle.std.specs.List.{All}
 use Rattle.std.specs.Option.{option_map_or}
@@ -111,7 +111,7 @@ delta_is_listing bs t query meta base above =
     (shown_rows_own t meta (rows (edits bs) t query) (own_rows (edits bs) t query)))
     (λ h. above) (λ h. absurd (true≢false h))
 
--- the body of the answer to a mirror is that answer's listing
+-- the body of the response to a mirror is that response's listing
 pub answer_is_listing : (keep : ℕ) (bs : List (List Edit)) (t : Target) (query : Option Query) (meta : Meta) (base : ℕ)
     → IsListing t base (listing keep bs t (mirror_look query meta base)) (body_tree t (listing keep bs t (mirror_look query meta base)))
 answer_is_listing keep bs t query meta base = by_kept (is_kept keep bs t base) refl

@@ -1,4 +1,4 @@
--- The laws of listings: a tag is one listing at most, or stuck at one place.
+-- The laws of listings: a tag is one listing at most, or stuck at one index.
 use Rattle.std.proofs.Common.{◌≡◌, ℕ, ◌+◌, ◌<◌, ◌≤◌, Bool, true, false, cond, List, [], ◌∷◌, ◌++◌, map, take, drop, length, refl, sym, ap, ◌∙◌, subst, inl, inr, ◌⊎◌, ⊎_elim, Option, Some, None, unwrap_or, append_assoc, append-nil, take-append-drop, arith}
 use Rattle.std.specs.List.{All}
 use Rattle.std.proofs.lemmas.Bool.{cases_order}
@@ -28,7 +28,7 @@ same_members c tag xs ys h k = sym (listed_again xs) ∙ ap members_in_tag (sym 
 
 -- ---- one listing
 
--- what is told of a listing gives it back
+-- the contents of a listing give it back
 rows_told : (target : Target) (rows : List (ℕ × Tree)) → All (IsRow target) rows → map (row_of target) (map (λ row. row.1) rows) ≡ rows
 rows_told target [] all = refl
 rows_told target (row ∷ rows) all =
@@ -62,9 +62,9 @@ listings_are_one target base a b tag h k =
     members_are_one target base a b h.members h.read
     (subst (AreMembersOf target base b) (same_members (body_code target) tag k.members h.members k.is h.is) k.read)
 
--- ---- one place
+-- ---- one index
 
--- members with which a listing goes on do so up to each place
+-- if members begin a listing, then so does each prefix of them
 begins_front : (target : Target) (base : ℕ) (ms rest : List Tree) → Begins target base (ms ++ rest) → Begins target base ms
 begins_front target base ms rest (later, listing, a) = (rest ++ later, listing, subst (AreMembersOf target base listing) (append_assoc ms rest later) a)
 
@@ -83,7 +83,7 @@ listings_are_not_stuck target base listing tag None h k = k h.members h.is
 listings_are_not_stuck target base listing tag (Some place) h k =
     members_not_stuck target base listing k.0 place (subst (AreMembersOf target base listing) (same_members (body_code target) tag h.members k.0 h.is k.1) h.read) k.2
 
--- behind a place at which they are stuck nothing begins
+-- after an index at which they are stuck no members begin a listing
 not_behind : (target : Target) (base : ℕ) (ms : List Tree) (a b : ℕ) → a < b → IsStuck target base ms a → IsStuck target base ms b → ⊥
 not_behind target base ms a b lt s t =
     ⊎_elim

@@ -1,4 +1,4 @@
--- Held rows and changes, both ascending by key, merged: the same as when the changes are made one by one.
+-- Held rows and changes, both ascending by key, merged: the same as making the changes one by one.
 use Rattle.std.proofs.Common.{◌≡◌, ℕ, ◌<◌, Bool, true, false, cond, List, [], ◌∷◌, fold, length, refl, sym, ap, ◌∙◌, Option, Some, None, unwrap_or, Less, Equal, Greater, nat_cmp, is_eq, arith}
 use Rattle.std.specs.Ordering.{match_ordering, ordering_reverse}
 use Rattle.std.specs.Cmp.{nat_cmp_total}
@@ -69,7 +69,7 @@ at-made q rows (c ∷ cs) s t =
     ∙ ap (unwrap_or (at q cs)) (at-make q c rows s)
     ∙ one_made (is_eq (nat_cmp q c.0)) c.1 (at q cs) (at q rows) (past_head q c cs t)
 
--- the head stays where all changes are of higher keys
+-- the first row stays if all changes have higher keys
 make_behind : (row : ℕ × Tree) (c : Change) (rows : List (ℕ × Tree)) → nat_cmp c.0 row.0 ≡ Greater → make (row ∷ rows) c ≡ row ∷ make rows c
 make_behind row (key, None) rows p = ap (λ r. cond (is_eq r) rows (row ∷ taken_out rows key)) p
 make_behind row (key, Some tag) rows p = ap (λ r. match_ordering r ((key, tag) ∷ row ∷ rows) ((row.0, tag) ∷ rows) (row ∷ put_in rows (key, tag))) p

@@ -1,4 +1,4 @@
--- What reading a body finds: the listing that it is, or the place at which it is none.
+-- Reading a body returns the listing that it is, or the index at which it is stuck.
 use Rattle.std.proofs.Common.{◌≡◌, ℕ, suc, ◌+◌, ◌<◌, ◌==◌, Bool, true, false, cond, not, ◌&&◌, ◌||◌, nat_lt, List, [], ◌∷◌, ◌++◌, map, filter, take, drop, length, refl, sym, ap, ◌∙◌, subst, true≢false, inl, inr, Option, Some, None, is_some, unwrap_or, option_map, option_and_then, Result, Ok, Err, append-nil, append_assoc, add-one, length-append, eqb-true, lt-ltb, ltb-true, arith}
 use Rattle.std.specs.Option.{option_map_or}
 use Rattle.std.specs.List.{All}
@@ -184,7 +184,7 @@ made is_delta revision total rows gone = record { is_delta = is_delta; revision 
 abbrev gone_list : Bool → List Tree → List Tree
 gone_list is_delta gone = cond is_delta (list (code "mudl") (trees_of gone) ∷ []) []
 
--- the listing's own members, and how many of them stand before the one that is due
+-- the listing's members, and how many of them precede the expected one
 abbrev whole : Told → ℕ → List Tree
 whole told listed = start_tags told.is_delta told.revision told.total listed ++ list (code "mlcl") (trees_of told.rows) ∷ gone_list told.is_delta told.gone
 
@@ -410,7 +410,7 @@ module _ (target : Target) (base : ℕ) where
     full = λ e. ap (map (key_of target)) (full e);
   }
 
-  -- what was read goes on to a listing
+  -- what was read can continue to a listing
   begun : (due : Due) (told : Told) (ms : List Tree) → Reads target base due told (filter is_listings ms) → Begins target base ms
   begun due told ms r =
       let later : List Tree = drop (count due) (whole told r.listed) in (
@@ -462,7 +462,7 @@ module _ (target : Target) (base : ℕ) where
       let r = reads_run target base Status untold [] (filter is_listings ms) (Nothing, last) (reads_none target base) (read_ok Status untold last 0 ms h) in
       are_members last r.listed ms (r.front ∙ all_taken last.is_delta last.revision last.total r.listed last.rows last.gone) r.rows r.gone r.on_held r.full
 
-  -- a member with which no listing goes on
+  -- a member that cannot continue a listing
   module _ (before : List Tree) (due : Due) (told : Told) (so_far : run target base Status untold (filter is_listings before) ≡ Some (due, told)) where
     begun_so_far : Begins target base before
     begun_so_far =
@@ -488,7 +488,7 @@ module _ (target : Target) (base : ℕ) where
     no_end : (due ≡ Nothing → ⊥) → ¬ ((listing : Listing) × AreMembersOf target base listing before)
     no_end open_end (listing, a) = open_end (ap (λ (found : Option (Due × Told)). let s : Due × Told = unwrap_or found (due, told) in s.0) (sym so_far ∙ run_members target base listing before a))
 
-    -- where reading ends too early, or at such a member
+    -- if reading ends too early, or at such a member
     stuck_at_end : (n : ℕ) (p : ℕ) → ended due told n ≡ Err p → n ≡ length before → IsStuck target base before p
     stuck_at_end n p h at =
         let why = not_ended due told n p h in

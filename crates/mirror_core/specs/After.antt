@@ -1,4 +1,4 @@
--- What a mirror holds after a body: what is left by the listing that the body is, and what it held where the body is none.
+-- What a mirror holds after a body: the result of the listing that the body is; or, if it is not one, what it held.
 use Rattle.std.specs.Prelude.{ℕ, Option, Some, None, Result, Ok, Err}
 use Rattle.std.specs.Option.{option_map_or}
 use Rattle.dmap_tags.specs.Tree.{Tree}
@@ -11,7 +11,7 @@ abbrev pub listing_told : Target → Result Told (Option ℕ) → Option Listing
 listing_told target (Ok told) = Some (listing_of target told)
 listing_told target (Err index) = None
 
--- the listing of the target that a tag is, for a mirror that holds a revision
+-- the listing of the target that a tag is, for a mirror at revision `base`
 abbrev pub listing_in : Target → ℕ → Tree → Option Listing
 listing_in target base tag = listing_told target (read_tag target base tag)
 

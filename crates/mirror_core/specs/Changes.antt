@@ -1,5 +1,5 @@
--- What a listing changes, by key: a deleted key is left without a tag, and a listed one gets its tag. The held rows and
--- the changes, both ascending by key, make the rows that are held then.
+-- What a listing changes, by key: `None` for a deleted key, the tag for a listed one. Merging held rows and changes,
+-- both ascending by key, gives the resulting rows.
 use Rattle.std.specs.Prelude.{ℕ, List, [], ◌∷◌, Option, Some, None, fold}
 use Rattle.std.specs.declared.cmp.Ordering.{Ordering}
 use Rattle.std.specs.declared.cmp.Ordering.TheVariants.{Greater}
@@ -28,7 +28,7 @@ abbrev pub changed : List Change → List (ℕ × Tree)
 changed [] = []
 changed (c ∷ cs) = put_change c (changed cs)
 
--- the changes up to the key of a row, the row unless one is of its key, and then the rest
+-- the changes up to the key of a row, the row unless a change has its key, then the rest
 abbrev pub past_row : ℕ × Tree → (List Change → List (ℕ × Tree)) → List Change → List (ℕ × Tree)
 past_row row rest [] = row ∷ rest []
 past_row row rest (c ∷ cs) =
@@ -38,12 +38,12 @@ abbrev pub merged : List (ℕ × Tree) → List Change → List (ℕ × Tree)
 merged [] cs = changed cs
 merged (row ∷ rows) cs = past_row row (merged rows) cs
 
--- the order of the next change to a key, where none is left behind all keys
+-- how the key of the next change compares to a key; `Greater` without a change
 abbrev pub next_order : ℕ → List Change → Ordering
 next_order key [] = Greater
 next_order key (c ∷ cs) = nat_cmp c.0 key
 
--- the next change before what becomes of those behind it
+-- the next change, then the rest
 abbrev pub with_next : (List Change → List (ℕ × Tree)) → List Change → List (ℕ × Tree)
 with_next rest [] = rest []
 with_next rest (c ∷ cs) = put_change c (rest cs)

@@ -1,4 +1,4 @@
--- What a tag is for a mirror, it is alone: one listing, or stuck at one place. And what a mirror holds after the body of an answer.
+-- A tag is one listing or stuck at one index. A mirror that applies responses holds the share's rows.
 use Rattle.std.specs.Prelude.{◌≡◌, ◌++◌, ℕ, List, Option, Some}
 use Rattle.dmap_tags.specs.Tree.{Tree}
 use Rattle.item_model.specs.declared.changes.Entry.{Entry}
@@ -22,19 +22,19 @@ abbrev pub ListingsAreNotStuck : Type 0
 ListingsAreNotStuck =
     (target : Target) (base : ℕ) (listing : Listing) (tag : Tree) (index : Option ℕ) → IsListing target base listing tag → ¬ (IsNoListing target base tag index)
 
--- a tag is stuck at one place at most
+-- a tag is stuck at one index at most
 abbrev pub TagsAreStuckOnce : Type 0
 TagsAreStuckOnce =
     (target : Target) (base : ℕ) (tag : Tree) (a b : Option ℕ) → IsNoListing target base tag a → IsNoListing target base tag b → a ≡ b
 
--- the listing that is found in a tag is the one that the tag is
+-- the listing read from a tag is the one that the tag is
 abbrev pub ListingsAreFound : Type 0
 ListingsAreFound =
     (target : Target) (base : ℕ) (listing : Listing) (tag : Tree)
     → (IsListing target base listing tag → listing_in target base tag ≡ Some listing) × (listing_in target base tag ≡ Some listing → IsListing target base listing tag)
 
--- a mirror that held all rows of a front of the history, and asks with its revision, holds all rows of the whole history
--- after the body of the answer, whether that is a delta or a full listing
+-- a mirror that held all rows of a prefix of the history, and requests with its revision, holds all rows of the whole
+-- history after the body of the response, a delta or a full listing
 abbrev pub MirrorsFollowAnswers : Type 0
 MirrorsFollowAnswers =
     (keep : ℕ) (front later : List Entry) (target : Target) (query : Option Query) (meta : Meta)
@@ -42,7 +42,7 @@ MirrorsFollowAnswers =
     (listing_body keep (front ++ later) target (mirror_look query meta (revision (batches front))))
     ≡ mirrored (batches (front ++ later)) target query meta
 
--- and so does every mirror after a full body, also one that held nothing
+-- so does every mirror after a full body, whatever it held
 abbrev pub FullBodiesSuffice : Type 0
 FullBodiesSuffice =
     (held : Held) (h : List Entry) (target : Target) (query : Option Query) (meta : Meta) (base : ℕ)

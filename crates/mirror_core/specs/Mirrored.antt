@@ -1,4 +1,4 @@
--- What contracts see of a mirror: what it asks for, and what it holds.
+-- A mirror as contracts see it: its request, and what it holds.
 use Rattle.std.specs.Prelude.{Option}
 use Rattle.item_model.specs.declared.query.Query.{Query}
 use Rattle.item_model.specs.declared.request.Meta.{Meta}

@@ -1,4 +1,4 @@
--- How a body is read: one member after the other, and what is due next.
+-- Reading a body: one member after another, each compared to the next expected one.
 use Rattle.std.specs.Prelude.{ℕ, suc, List, [], ◌∷◌, Bool, true, false, ◌==◌, ◌&&◌, ◌||◌, not, nat_lt, map, Option, Some, None, unwrap_or, is_some, option_map, option_and_then, Result, Ok, Err, if◌then◌else◌}
 use Rattle.std.specs.Option.{option_map_or}
 use Rattle.dmap_tags.specs.Codes.{Four, code, is_code}
@@ -11,7 +11,7 @@ use Rattle.mirror_core.specs.declared.told.Due.{Due}
 use Rattle.mirror_core.specs.declared.told.Due.TheVariants.{Status, Kind, Revision, Total, Listed, Rows, Gone, Nothing}
 use Rattle.mirror_core.specs.Bodies.{is_listings}
 
--- what was read of a listing, its rows and deleted keys as tags
+-- the contents of a listing, its rows and deleted keys as tags
 pub record Told : Type 0 where
   pub is_delta : Bool
   pub revision : ℕ
@@ -22,7 +22,7 @@ pub record Told : Type 0 where
 abbrev pub untold : Told
 untold = record { is_delta = false; revision = 0; total = 0; rows = []; gone = [] }
 
--- the number, the mark and the members of a tag that has a code
+-- the number, the kind and the members of a tag with a given code
 abbrev pub number_in : Four → Tree → Option ℕ
 number_in c (leaf d (U32 n)) = only_if (is_code d c) n
 number_in c _ = None
@@ -38,7 +38,7 @@ abbrev pub members_in : Four → Tree → Option (List Tree)
 members_in c (leaf d l) = None
 members_in c (list d ts) = only_if (is_code d c) (tree_list ts)
 
--- the key that a row begins with
+-- the key at the start of a row
 abbrev pub row_key : Target → Tree → Option ℕ
 row_key target (leaf d l) = None
 row_key target (list d none) = None
@@ -52,7 +52,7 @@ abbrev pub are_keys : Target → List Tree → Bool
 are_keys target [] = true
 are_keys target (t ∷ ts) = is_some (number_in (key_code target) t) && are_keys target ts
 
--- a tag under the key that it has as a row, and the key that it tells
+-- a tag under its key as a row, and the key that a tag states
 abbrev pub row_of : Target → Tree → ℕ × Tree
 row_of target t = (unwrap_or (row_key target t) 0, t)
 
@@ -66,7 +66,7 @@ listing_of target told =
 abbrev pub after_rows : Bool → Due
 after_rows is_delta = if is_delta then Gone else Nothing
 
--- one of a listing's own members, where it is the one that is due
+-- the state after one of a listing's members, if it is the expected one
 abbrev pub step : Target → ℕ → Due → Told → Tree → Option (Due × Told)
 step target base Status told t = option_and_then (λ n. only_if (n == 200) (Kind, told)) (number_in (code "mstt") t)
 step target base Kind told t = option_and_then (λ d. only_if (not d || nat_lt 0 base) (Revision, record told { is_delta = d })) (mark_in t)
@@ -77,7 +77,7 @@ step target base Rows told t = option_and_then (λ ts. only_if (are_rows target 
 step target base Gone told t = option_and_then (λ ts. only_if (are_keys target ts) (Nothing, record told { gone = ts })) (members_in (code "mudl") t)
 step target base Nothing told t = None
 
--- any member: others than a listing's own are passed
+-- the state after any member: others are skipped
 abbrev pub passed : Target → ℕ → Due → Told → Tree → Option (Due × Told)
 passed target base due told t = if is_listings t then step target base due told t else Some (due, told)
 
@@ -85,12 +85,12 @@ abbrev pub ended : Due → Told → ℕ → Result Told ℕ
 ended Nothing told place = Ok told
 ended _ told place = Err place
 
--- the members from a place on: what all of them tell, or the place at which that is no listing
+-- the members from index `place` on: what all of them state, or the index that cannot continue a listing
 abbrev pub read_from : Target → ℕ → Due → Told → ℕ → List Tree → Result Told ℕ
 read_from target base due told place [] = ended due told place
 read_from target base due told place (t ∷ ts) = option_map_or (λ s. read_from target base s.0 s.1 (suc place) ts) (passed target base due told t) (Err place)
 
--- a whole tag, where it has no place if it is another tag altogether
+-- a whole tag; another tag has no index
 abbrev pub placed : Result Told ℕ → Result Told (Option ℕ)
 placed (Ok told) = Ok told
 placed (Err place) = Err (Some place)

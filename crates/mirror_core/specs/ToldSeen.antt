@@ -1,4 +1,4 @@
--- What the program read of a listing, as the definitions have it.
+-- What the program read of a listing, in the terms of the definitions.
 use Rattle.mirror_core.specs.Reading.{Told}
 use Rattle.mirror_core.specs.declared.told.Due.{Due}
 use Rattle.mirror_core.specs.declared.told.ToldRef.{ToldRef}

@@ -10,7 +10,7 @@ use item_model::Target;
 use std::alloc::{AllocError, Global};
 use std::collections::BTreeMap;
 
-// By key, nothing for a deleted one and its tag for a listed one.
+// By key: `None` for a deleted one, the tag for a listed one.
 pub(crate) type Changes = BTreeMap<u32, Option<Tag>>;
 
 pub(crate) fn changes(

@@ -1,4 +1,4 @@
-//! What holds of all tags, and of all mirrors. Each function does nothing; its contract is a fact that follows from the
+//! Laws of all tags and of all mirrors. Each function has an empty body; its contract is a theorem about the
 //! definitions.
 
 ghost use Rattle.mirror_core.specs.Laws.{FullBodiesSuffice, ListingsAreFound, ListingsAreOne, ListingsAreNotStuck, MirrorsFollowAnswers, TagsAreStuckOnce};
@@ -8,28 +8,28 @@ pub fn a_tag_is_one_listing()
     ensures { ListingsAreOne }
 {}
 
-/// A tag is not both a listing and refused as none.
+/// No tag is both a listing and refused as none.
 pub fn a_listing_is_not_stuck()
     ensures { ListingsAreNotStuck }
 {}
 
-/// A tag that is no listing is refused at one place.
+/// A tag that is not a listing is refused at exactly one index.
 #[tactic(auto, using(crate::proofs::LawFacts::tags_are_stuck_once))]
 pub fn a_tag_is_stuck_once()
     ensures { TagsAreStuckOnce }
 {}
 
-/// The listing that is found in a tag is the one that the tag is.
+/// The listing read from a tag is the one that the tag is.
 pub fn a_listing_is_found()
     ensures { ListingsAreFound }
 {}
 
-/// A mirror that held what the share had holds, after the body of its answer, what the share has.
+/// A mirror that held the share's rows holds the share's present rows after the body of the response.
 pub fn a_mirror_follows_answers()
     ensures { MirrorsFollowAnswers }
 {}
 
-/// A full body is all that a mirror needs.
+/// After a full body every mirror holds the share's present rows.
 pub fn a_full_body_suffices()
     ensures { FullBodiesSuffice }
 {}

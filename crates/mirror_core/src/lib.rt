@@ -1,4 +1,4 @@
-//! A mirror of one listing of a share: it reads the bodies that the share answers with, and holds what the listing has.
+//! A mirror of one listing of a share: it reads the bodies of responses and holds the listing's rows.
 //! `specs/Bodies.antt` says which tags are listings, and `share_history` what a mirror holds after one.
 #![tactic(auto)]
 

@@ -1,4 +1,4 @@
-//! The held rows after a change.
+//! Merging a listing into the held rows.
 
 ghost use Rattle.std.specs.Prelude.{◌≡◌, ◌≤◌, ◌<◌, ◌+◌, ◌++◌, [], ℕ, List, length, vec_len, vec_capacity, fold, map, OnOk, OnErr, if◌then◌else◌};
 ghost use Rattle.dmap_tags.specs.Tree.{Tree};
@@ -15,7 +15,7 @@ use std::cmp::Ordering;
 use std::collections::VecDeque;
 use std::mem;
 
-// Takes a listing into held rows. All memory is taken first, so that after an `Err` the rows are as before.
+// Applies a listing to the rows. All memory is allocated first, so that after an `Err` the rows are as before.
 pub(crate) fn take_in(
     alloc: Global,
     target: Target,
@@ -45,7 +45,7 @@ fn kept_len(is_delta: bool, held: &[(u32, Tag)]) -> usize
     if is_delta { held.len() } else { 0 }
 }
 
-// A full listing keeps no held rows.
+// A full listing keeps no rows.
 fn kept(alloc: Global, is_delta: bool, held: Vec<(u32, Tag)>) -> VecDeque<(u32, Tag)>
     ensures { result.items ≡ (if is_delta then held.items else []) }
 {
@@ -56,7 +56,7 @@ fn kept(alloc: Global, is_delta: bool, held: Vec<(u32, Tag)>) -> VecDeque<(u32, 
     }
 }
 
-// The held rows with the changes, behind what stands in a vector that has room for all of them.
+// Appends the held rows with the changes to `out`, which has capacity for all of them.
 pub(crate) fn merge(
     mut out: Vec<(u32, Tag)>,
     mut held: VecDeque<(u32, Tag)>,
@@ -81,7 +81,7 @@ fn push_rest(mut out: Vec<(u32, Tag)>, mut changes: Changes) -> Vec<(u32, Tag)>
     out
 }
 
-// The changes up to the key of a row, and the row where none is of its key.
+// Pushes the changes up to the key of `row`, and `row` itself unless a change has its key.
 fn push_row(out: &mut Vec<(u32, Tag)>, changes: &mut Changes, row: (u32, Tag))
     requires { vec_len out.old + (length changes.old.entries + 1) ≤ vec_capacity out.old }
     ensures rows { (rest : List Change → List (ℕ × Tree)) → out.new.items ++ rest changes.new.entries ≡ out.old.items ++ past_row row rest changes.old.entries }
@@ -99,7 +99,7 @@ fn push_row(out: &mut Vec<(u32, Tag)>, changes: &mut Changes, row: (u32, Tag))
     out.push_reserved(row);
 }
 
-// How the key of the next change compares to a key.
+// Compares the key of the next change to `key`; without a change returns `Greater`.
 fn order_of_next(changes: &Changes, key: u32) -> Ordering
     ensures { result ≡ next_order key changes.now.entries }
 {
@@ -109,7 +109,7 @@ fn order_of_next(changes: &Changes, key: u32) -> Ordering
     }
 }
 
-// The row of the next change, if it has one.
+// Pushes the row of the next change, if it has one.
 fn push_next(out: &mut Vec<(u32, Tag)>, changes: &mut Changes)
     requires { vec_len out.old + length changes.old.entries ≤ vec_capacity out.old }
     ensures rows { (rest : List Change → List (ℕ × Tree)) → out.new.items ++ rest changes.new.entries ≡ out.old.items ++ with_next rest changes.old.entries }

@@ -14,7 +14,7 @@ use std::alloc::{AllocError, Global};
 use std::marker::Model;
 use thiserror::Error;
 
-/// What a mirror holds of one listing.
+/// The contents of a mirror of one listing.
 #[derive(Debug, Drop)]
 pub struct Mirror {
     alloc: Global,
@@ -46,25 +46,25 @@ impl Model for Mirror {
 /// What applying a listing did.
 #[derive(Clone, Copy, Debug, PartialEq, Eq)]
 pub struct Applied {
-    /// The revision that the listing told.
+    /// The revision of the listing.
     pub revision: u32,
     pub delta: bool,
-    /// How many rows were listed.
+    /// How many rows the listing has.
     pub put: u64,
-    /// How many keys were deleted by name.
+    /// How many keys the listing deletes.
     pub dropped: u64,
-    /// How many rows are held then.
+    /// How many rows the mirror then holds.
     pub rows: u64,
 }
 
-/// Why a listing was not taken in.
+/// Errors of `apply`.
 #[derive(Debug, Drop, PartialEq, Eq, Error)]
 pub enum MirrorError {
-    /// The tag is no listing of the mirror's target: from the member on whose index this is, counted from 0, or
-    /// altogether.
+    /// The tag is not a listing of the mirror's target. `index` is that of the first member that cannot continue one,
+    /// counted from 0, or `None` for another tag.
     #[error("the tag is no listing that the mirror takes")]
     NotListing { index: Option<u64> },
-    /// The listing is older than what is held.
+    /// The listing is older than the mirror.
     #[error("revision {told} is behind revision {held}")]
     Backwards { held: u32, told: u32 },
     #[error("out of memory")]
@@ -72,7 +72,7 @@ pub enum MirrorError {
 }
 
 impl Mirror {
-    /// A mirror that holds nothing, without memory.
+    /// Returns a mirror that holds nothing. Does not allocate.
     pub fn new(alloc: Global, target: Target, query: Option<Query>, meta: Meta) -> Mirror
         ensures { result ≡ record { target = target; query = query; meta = meta; held = record { revision = 0; rows = [] } } }
     {
@@ -86,7 +86,7 @@ impl Mirror {
         }
     }
 
-    /// The held revision, 0 before the first listing.
+    /// Returns the mirror's revision, 0 before the first listing.
     pub fn base(&self) -> u32
         ensures { result ≡ self.now.held.revision }
     {
@@ -99,7 +99,8 @@ impl Mirror {
         self.target
     }
 
-    /// What the mirror asks with next.
+    /// Returns the look of the next request.
+    /// Returns `AllocError` if allocation fails.
     pub fn look(&self) -> Result<Look, AllocError>
         ensures { IfOk result (λ look. look ≡ mirror_look self.now.query self.now.meta self.now.held.revision) }
     {
@@ -121,7 +122,7 @@ impl Mirror {
         self.rows.len() as u64
     }
 
-    /// The row of a number, counted from 0, ascending by key.
+    /// Returns row `n` by ascending key, counted from 0, or `None` past the last.
     pub fn row(&self, n: u64) -> Option<(u32, &Tag)>
         ensures { option_map (λ row. (row.0, row.1.now)) result ≡ slice_get self.now.held.rows n }
     {
@@ -131,7 +132,12 @@ impl Mirror {
         }
     }
 
-    /// Takes a listing in. After an `Err` the mirror is as before.
+    /// Applies the listing `body`. After an `Err` the mirror is unchanged.
+    ///
+    /// # Errors
+    ///
+    /// Returns `NotListing` if `body` is not a listing of the target, `Backwards` if it is older than the mirror, and
+    /// `Memory` if allocation fails.
     pub fn apply(&mut self, body: &Tag) -> Result<Applied, MirrorError>
         ensures applied { IfOk result (λ applied. (listing : Listing) × IsListing self.old.target self.old.held.revision listing body.now
             × (self.old.held.revision ≤ listing.revision)

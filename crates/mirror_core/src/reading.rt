@@ -15,12 +15,12 @@ use dmap_tags::Tag;
 use item_model::Target;
 use share_history::body_code;
 
-/// Reads a body as a listing of `target`, for a mirror that holds the revision `base`, 0 where it holds nothing. Takes no
-/// memory.
+/// Reads a body as a listing of `target`, for a mirror at revision `base`, or 0 if it holds nothing. Does not
+/// allocate.
 ///
 /// # Errors
 ///
-/// Returns `NotListing` if the body is no listing of the target, and `Backwards` if it is an older one than `base`.
+/// Returns `NotListing` if the body is not a listing of the target, and `Backwards` if it is older than `base`.
 pub fn told_by(target: Target, base: u32, body: &Tag) -> Result<ToldRef<'_>, MirrorError>
     ensures told { IfOk result (λ told. IsListing target base (listing_of target (told_of told)) body.now × (base ≤ told.revision)) }
     ensures no_listing { (index : Option ℕ) → (result ≡ Err (MirrorError.NotListing index)) → IsNoListing target base body.now index }
@@ -40,7 +40,7 @@ pub fn told_by(target: Target, base: u32, body: &Tag) -> Result<ToldRef<'_>, Mir
     Ok(told)
 }
 
-// What a body tells, or the place of the member at which it is no listing; `None` for another tag altogether.
+// Reads a body, or returns the index of the first member that cannot continue a listing, `None` for another tag.
 fn read(target: Target, base: u32, body: &Tag) -> Result<ToldRef<'_>, Option<u64>>
     ensures { MatchResult result (λ told. read_tag target base body.now ≡ Ok (told_of told)) (λ index. read_tag target base body.now ≡ Err index) }
 {

@@ -1,4 +1,4 @@
-//! One member after the other.
+//! Reading one member of a listing.
 
 ghost use Rattle.std.specs.Prelude.{◌≡◌, ℕ, option_map};
 ghost use Rattle.mirror_core.specs.Reading.{step, passed, after_rows};
@@ -9,7 +9,7 @@ use crate::told::{Due, ToldRef};
 use dmap_tags::{Code, Tag};
 use item_model::Target;
 
-// What is due behind a member, `None` where no listing goes on with it.
+// Returns the state after a member, or `None` if no listing continues with it.
 pub(crate) fn passed<'a>(
     target: Target,
     base: u32,
@@ -56,7 +56,7 @@ fn status<'a>(told: ToldRef<'a>, member: &Tag) -> Option<(Due, ToldRef<'a>)>
     }
 }
 
-// A delta needs something that is held.
+// A delta needs held rows to change.
 fn kind<'a>(base: u32, told: ToldRef<'a>, member: &Tag) -> Option<(Due, ToldRef<'a>)>
     ensures { (target : Target) → option_map reached_of result ≡ step target base Due.Kind (told_of told.entry) member.now }
 {
@@ -89,7 +89,7 @@ fn total<'a>(told: ToldRef<'a>, member: &Tag) -> Option<(Due, ToldRef<'a>)>
     }
 }
 
-// How many rows it says that it lists is not looked at.
+// The stated number of listed rows is not checked.
 fn listed<'a>(told: ToldRef<'a>, member: &Tag) -> Option<(Due, ToldRef<'a>)>
     ensures { (target : Target) (base : ℕ) → option_map reached_of result ≡ step target base Due.Listed (told_of told.entry) member.now }
 {

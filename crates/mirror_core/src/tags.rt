@@ -10,7 +10,7 @@ use dmap_tags::{Code, Tag, Value};
 use item_model::Target;
 use share_history::key_code;
 
-// Whether a listing's own members have the tag's code.
+// Returns whether the tag has one of the codes of a listing's members.
 pub(crate) fn is_listings(tag: &Tag) -> bool
     ensures { result ≡ is_listings tag.now }
 {
@@ -46,7 +46,7 @@ pub(crate) fn number_in(of: Code, tag: &Tag) -> Option<u32>
     }
 }
 
-// Whether the tag marks a delta or a full listing.
+// Returns whether the tag announces a delta; `None` if it is not such a tag.
 pub(crate) fn mark_in(tag: &Tag) -> Option<bool>
     ensures { result ≡ mark_in tag.now }
 {
@@ -81,7 +81,7 @@ pub(crate) fn members_in(of: Code, tag: &Tag) -> Option<&[Tag]>
     }
 }
 
-// The key that a row begins with.
+// Returns the key at the start of a row.
 pub(crate) fn row_key(target: Target, tag: &Tag) -> Option<u32>
     ensures { result ≡ row_key target tag.now }
 {
@@ -121,14 +121,14 @@ pub(crate) fn are_keys(target: Target, tags: &[Tag]) -> bool
     true
 }
 
-// The key of a tag that is a row.
+// Returns the key of a tag that is a row.
 pub(crate) fn key_of_row(target: Target, tag: &Tag) -> u32
     ensures { (result, tag.now) ≡ row_of target tag.now }
 {
     row_key(target, tag).unwrap_or(0)
 }
 
-/// The key that a tag of a deleted row tells, 0 where it tells none.
+/// Returns the key that the tag of a deleted row states, or 0 if it states none.
 pub fn key_of(target: Target, tag: &Tag) -> u32
     ensures { result ≡ key_of target tag.now }
 {

@@ -2,7 +2,7 @@
 
 use dmap_tags::Tag;
 
-// Which of a listing's own members is due next.
+// The next expected member of a listing.
 #[derive(Clone, Copy, Debug, PartialEq, Eq)]
 pub(crate) enum Due {
     Status,
@@ -15,12 +15,12 @@ pub(crate) enum Due {
     Nothing,
 }
 
-/// What a listing tells.
+/// The contents of a listing, as read.
 #[derive(Clone, Copy, Debug)]
 pub struct ToldRef<'a> {
     pub is_delta: bool,
     pub revision: u32,
-    /// How many rows there are before the range.
+    /// The number of rows before the range.
     pub total: u32,
     /// The tags of the listed rows.
     pub rows: &'a [Tag],

@@ -9,7 +9,7 @@ use Rattle.outside_disks.specs.declared.memory.stand.Change.{Change}
 use Rattle.outside_disks.specs.Disks.{overlaid, Torn, CutShort}
 use Rattle.outside_disks.specs.MemDisk.{May, Reaches}
 
--- how long bytes are with a piece at a place
+-- the length of bytes with a piece at an offset
 length-overlaid : (bytes piece : List ℕ) (at : ℕ)
     → length (overlaid bytes at piece) ≡ min at (length bytes) + (length piece + length (drop (at + length piece) bytes))
 length-overlaid bytes piece at =
@@ -17,7 +17,7 @@ length-overlaid bytes piece at =
     ∙ (ap (λ n. n + length (piece ++ drop (at + length piece) bytes)) (length-take at bytes)
     ∙ ap (λ n. min at (length bytes) + n) (length-append piece (drop (at + length piece) bytes)))
 
--- what stands past the piece is as it was
+-- what is past the piece is unchanged
 behind_overlaid : (bytes piece : List ℕ) (at : ℕ) → at ≤ length bytes
     → drop (at + length piece) (take (length bytes) (overlaid bytes at piece)) ≡ drop (at + length piece) bytes
 behind_overlaid bytes piece at inside = elim (cases_lt (length bytes) (at + length piece)) [
@@ -49,7 +49,7 @@ torn_same bytes at count = record {
   behind = ap (drop (at + count)) (take-length bytes);
 }
 
--- a cut that is done
+-- a truncation that is done
 pub cut_taken : (bytes : List ℕ) (len : ℕ) → CutShort len bytes (take len bytes)
 cut_taken bytes len = record {
   no_shorter = omega (arith, length-take len bytes);

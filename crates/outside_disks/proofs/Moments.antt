@@ -7,7 +7,7 @@ use Rattle.outside_disks.specs.Disks.{Elapses}
 use Rattle.outside_disks.specs.MemDisk.{IsImage}
 use Rattle.outside_disks.specs.Calls.{StoodAmong, StoodSince, AddsCall}
 
--- before a call or the one behind it
+-- before a call or the one after it
 split : (calls : List DiskCall) (call : DiskCall) (image : List ℕ) → StoodAmong (calls ++ call ∷ []) image
     → StoodAmong calls image ⊎ IsImage call.before.value image
 split [] call image (inl stood) = inr stood
@@ -26,7 +26,7 @@ join_last : (calls : List DiskCall) (call : DiskCall) (image : List ℕ) → IsI
 join_last [] call image stood = inl stood
 join_last (first ∷ calls) call image stood = inr (join_last calls call image stood)
 
--- the calls since a time, with one more behind them
+-- the calls since a time, with one more after them
 since_more : (found : Stand) (before after : List DiskCall) (adds : AddsCall found before after) (time : ℕ) → time ≤ length before
     → drop time after ≡ drop time before ++ adds.0 ∷ []
 since_more found before after adds time within = ap (drop time) adds.2 ∙ drop-append-le time before (adds.0 ∷ []) within

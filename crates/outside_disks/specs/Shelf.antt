@@ -1,4 +1,4 @@
--- What files in memory tell: the names asked for, and the bytes of each name.
+-- What files in memory know: the requested names, and the bytes of each name.
 use Rattle.std.specs.Prelude.{ℕ, List, if◌then◌else◌, Some, None, Option, option_and_then, option_map}
 use Rattle.outside_disks.specs.declared.memory.disk.MemDisk.{MemDisk}
 use Rattle.outside_disks.specs.declared.memory.shelf.Shelf.{Shelf}
@@ -12,7 +12,7 @@ contents_in shelf = contents_of shelf.closed
 abbrev pub asked_in : Shelf → Option (List (List ℕ))
 asked_in shelf = if shelf.is_asked_told then Some shelf.asked.items else None
 
--- the disks that are still to be opened, in order
+-- The disks that are still to be opened, in order.
 abbrev pub spare_in : Shelf → List MemDisk
 spare_in shelf = shelf.spare.items
 

@@ -1,7 +1,7 @@
--- What calls do to a list that an object tells. What it does not tell has no rule.
+-- How calls change a known list. No clause restricts an unknown one.
 use Rattle.std.specs.Prelude.{◌≡◌, List, ◌++◌, ⊤, Some, None, Option}
 
--- a told list grows by these at its end, or is told no more; one that was not told stays so
+-- `more` was appended to a known list, or it became unknown. An unknown list stays unknown.
 abbrev pub Grows : {A : Type 0} → Option (List A) → Option (List A) → List A → Type 0
 Grows None None more = ⊤
 Grows None (Some now) more = ⊥

@@ -6,31 +6,31 @@ ghost use Rattle.outside_disks.specs.Disks.{overlaid, ReadsFrom, Torn, CutShort,
 
 use crate::faulted::{Failed, Faulted};
 
-/// Bytes with places from 0 on, fewer than 2^63, which can be overwritten, extended and cut.
+/// Bytes at offsets from 0, fewer than 2^63, which can be overwritten, extended and truncated.
 ///
-/// A crash leaves an image of them. What was written before the last `sync` is in each image;
-/// what was written since may be there whole, in part or not at all.
+/// A crash leaves an image of them. Each image has what was written before the last `sync`. What was written since
+/// may be in it whole, in part or not at all.
 pub trait Disk: Faulted {
-    // The bytes that reads give, where they are told.
+    // The bytes that reads return, if known.
     ghost bytes: { Self → Option (List ℕ) };
 
-    // The name by which it was opened, where it is told.
+    // The name by which it was opened, if known.
     ghost opened_as: { Self → Option (List ℕ) };
 
-    // What a crash now may leave. A disk that tells no bytes has no image.
+    // What a crash now may leave. A disk whose bytes are unknown has no image.
     ghost images: { Self → List ℕ → Type 0 };
 
-    // The time, as a number that doesn't fall.
+    // The time, as a number that never decreases.
     ghost clock: { Self → ℕ };
 
-    // What a crash at some time from that one on might have left, in a call or between two.
+    // What a crash at some moment since this time might have left, within a call or between two.
     ghost since: { Self → ℕ → List ℕ → Type 0 };
 
-    /// The number of bytes, below 2^63.
+    /// Returns the number of bytes, below 2^63.
     ///
     /// # Errors
     ///
-    /// Returns `Failed` if the length could not be had; the disk counts a fault.
+    /// Returns `Failed` and counts an error if the length is not available.
     fn len(&mut self) -> Result<u64, Failed>
         ensures length { IfOk result (λ n. IfSome (bytes self.old) (λ b. n ≡ length b)) }
         ensures short { IfOk result (λ n. n < 2 ^ 63) }
@@ -41,12 +41,12 @@ pub trait Disk: Faulted {
         ensures time { Elapses (clock self.old) (clock self.new) (since self.old) (since self.new) (images self.new) }
         ensures count { CountsFaults (Self.faults self.old) (Self.faults self.new) result };
 
-    /// Reads bytes from the place `at` on into the front of `room`, and returns how many: none
-    /// exactly where `at` is at or past the end.
+    /// Reads bytes at offset `at` into the start of `room`, and returns how many: 0 exactly if `at` is at or past the
+    /// end.
     ///
     /// # Errors
     ///
-    /// Returns `Failed` if the bytes could not be read; the disk counts a fault.
+    /// Returns `Failed` and counts an error if the bytes could not be read.
     fn read_at(&mut self, at: u64, room: &mut [u8]) -> Result<usize, Failed>
         requires some { 0 < length room.old }
         ensures within { ReadsAtMost result room.new }
@@ -58,12 +58,12 @@ pub trait Disk: Faulted {
         ensures time { Elapses (clock self.old) (clock self.new) (since self.old) (since self.new) (images self.new) }
         ensures count { CountsFaults (Self.faults self.old) (Self.faults self.new) result };
 
-    /// Writes the whole piece from the place `at` on, over what stands there and past the end.
+    /// Writes the whole of `piece` at offset `at`, over the old bytes there and past the end.
     ///
     /// # Errors
     ///
-    /// Returns `Failed` if some of it may not be written, and if it would end past 2^63 - 1, where
-    /// nothing is done; the disk counts a fault.
+    /// Returns `Failed` and counts an error if some of it may not be written, or if it would end past 2^63 - 1. In
+    /// the latter case nothing is done.
     fn write_at(&mut self, at: u64, piece: &[u8]) -> Result<(), Failed>
         requires some { 0 < length piece.now }
         requires inside { IfSome (bytes self.old) (λ b. at ≤ length b) }
@@ -77,11 +77,11 @@ pub trait Disk: Faulted {
         ensures time { Elapses (clock self.old) (clock self.new) (since self.old) (since self.new) (images self.new) }
         ensures count { CountsFaults (Self.faults self.old) (Self.faults self.new) result };
 
-    /// Cuts the bytes off behind the first `len`.
+    /// Truncates the bytes to the first `len`.
     ///
     /// # Errors
     ///
-    /// Returns `Failed` if they may not be cut off; the disk counts a fault.
+    /// Returns `Failed` and counts an error if the bytes may not be truncated.
     fn cut(&mut self, len: u64) -> Result<(), Failed>
         requires inside { IfSome (bytes self.old) (λ b. len ≤ length b) }
         ensures shorter { OnOk result (bytes self.new ≡ option_map (take len) (bytes self.old)) }
@@ -91,11 +91,11 @@ pub trait Disk: Faulted {
         ensures time { Elapses (clock self.old) (clock self.new) (since self.old) (since self.new) (images self.new) }
         ensures count { CountsFaults (Self.faults self.old) (Self.faults self.new) result };
 
-    /// Returns once all that was written and cut is safe from a crash.
+    /// Returns once all changes are safe from a crash.
     ///
     /// # Errors
     ///
-    /// Returns `Failed` if some of it may not be safe; the disk counts a fault.
+    /// Returns `Failed` and counts an error if some of them may not be safe.
     fn sync(&mut self) -> Result<(), Failed>
         ensures safe { OnOk result (Only (bytes self.new) (images self.new)) }
         ensures bytes_stay { OnOk result (bytes self.new ≡ bytes self.old) }
@@ -110,7 +110,7 @@ pub trait Disk: Faulted {
 
     ghost images_are_short: { (disk : Self) (image : List ℕ) → images disk image → length image < 2 ^ 63 };
 
-    // What a crash now may leave is among what one since an earlier time might have left.
+    // What a crash now may leave is among what a crash since an earlier time might have left.
     ghost now_counts: { (disk : Self) (time : ℕ) (image : List ℕ) → time ≤ clock disk → images disk image
         → since disk time image };
 

@@ -1,4 +1,4 @@
-//! A disk that is a file of the system: the edge that is trusted to tell the truth.
+//! A disk that is a file of the system: the edge, whose std contracts are trusted.
 ghost use Rattle.std.specs.Prelude.{◌≡◌, ◌⊎◌, IfOk, None};
 
 use crate::disk::Disk;
@@ -12,10 +12,10 @@ use std::{fs, io};
 // The first length that no file has.
 const LEN_LIMIT: u64 = 1 << 63;
 
-/// A file of the system, which tells contracts nothing of its bytes. Each of the system's errors
-/// is one fault, but for calls that a signal interrupts: they begin again.
+/// A file of the system, whose bytes are unknown to contracts. Each of the system's errors is counted, except calls
+/// that a signal interrupts: they begin again.
 ///
-/// What a power cut leaves is the word of the system and of the device below it.
+/// What a power cut leaves depends on the system and on the device below it.
 #[derive(Drop)]
 pub struct FileDisk {
     file: File,
@@ -23,8 +23,8 @@ pub struct FileDisk {
 }
 
 impl FileDisk {
-    /// Opens the file at a path for reading and writing. Where it is missing, it is made, and its
-    /// name is made safe in its folder.
+    /// Opens the file at a path for reading and writing. Creates a missing file, and makes its name safe in its
+    /// folder.
     ///
     /// # Errors
     ///
@@ -48,7 +48,7 @@ fn sync_folder<R: fs::Files<File = File>>(rt: &R, path: &str) -> io::Result<()> 
     }
 }
 
-// The length, where the system tells one that a file can have.
+// Returns the length, if the system reports one that a file can have.
 fn len_of(file: &File) -> io::Result<u64> {
     Ok(file.metadata()?.len())
 }
@@ -122,7 +122,7 @@ impl Disk for FileDisk {
     ghost now_alone = { λ disk image is. is };
 }
 
-/// The files of the system, by their paths. It tells contracts nothing of them.
+/// The files of the system, by their paths. Their bytes are unknown to contracts.
 #[derive(Drop)]
 pub struct SystemFiles<R> {
     rt: R,
@@ -130,7 +130,7 @@ pub struct SystemFiles<R> {
 }
 
 impl<R> SystemFiles<R> {
-    /// The files of the system, with no fault counted.
+    /// Returns the files of the system. The error counter is 0.
     pub fn new(rt: R) -> SystemFiles<R>
         ensures faults { ⟦<SystemFiles<R> as Faulted>⟧.faults result ≡ 0 }
     {

@@ -11,13 +11,13 @@ use crate::faulted::{Failed, Faulted};
 pub trait Files: Faulted {
     type D: Disk + Drop;
 
-    // The names asked for so far, where they are told.
+    // The names requested so far, if known.
     ghost asked: { Self → Option (List (List ℕ)) };
 
-    // The bytes of each name, where they are told.
+    // The bytes of each name, if known.
     ghost contents: { Self → Option Contents };
 
-    /// Opens the disk of a name. One that is not there yet is empty.
+    /// Opens the disk of a name. A new one is empty.
     fn open(&mut self, name: &str) -> Result<Self::D, Failed>
         ensures fresh { IfOk result (λ disk. Self.D.faults disk ≡ 0) }
         ensures opened { IfOk result (λ disk. OpensFile (contents self.old) name.now
@@ -26,7 +26,7 @@ pub trait Files: Faulted {
         ensures contents_stay { contents self.new ≡ contents self.old }
         ensures count { CountsFaults (Self.faults self.old) (Self.faults self.new) result };
 
-    /// Ends a disk that was opened here. It needs no memory.
+    /// Closes a disk that was opened here. Does not allocate.
     fn close(&mut self, disk: Self::D)
         ensures asked_stays { asked self.new ≡ asked self.old }
         ensures closed { ClosesFile (contents self.old) (contents self.new)

@@ -1,5 +1,5 @@
-//! Disks that keep bytes over a crash, and the count of faults that each object of the outside has.
-//! A disk may tell its bytes to contracts, and what a crash at any moment may leave of them.
+//! Disks that keep bytes over a crash, and the error counter of each object of the outside. Contracts may know a
+//! disk's bytes, and what a crash at any moment may leave of them.
 #![tactic(auto)]
 
 mod disk;

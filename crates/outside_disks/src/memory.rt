@@ -1,4 +1,4 @@
-//! Disks in memory, for tests and for commands that keep no file.
+//! Disks in memory, for tests and for commands without a file.
 
 mod closed;
 pub mod disk;

@@ -1,4 +1,4 @@
-//! Callers that know the traits alone, and what they prove of any form.
+//! Callers that know only the traits, and what they prove of any form.
 
 ghost use Rattle.std.specs.Prelude.{◌≡◌, ◌<◌, ◌++◌, ◌∷◌, [], IfOk, IfSome, OnOk, OnErr, length, drop, false, true, Some};
 ghost use Rattle.std.specs.Io.KnownBytes.{Appends};
@@ -8,7 +8,7 @@ ghost use Rattle.daap_outside.specs.Told.{Grows};
 use daap_outside::{Door, Failed, Link, Net, ReadError, Sink, Source, put_all, read_within};
 use std::alloc::Global;
 
-/// Copies an input of at most five bytes, and answers how it went as a program does.
+/// Copies an input of at most five bytes, and returns the status that a program would.
 pub(crate) fn copied_whole<I: Source, W: Sink>(alloc: Global, input: &mut I, output: &mut W) -> u8
     ensures copied { result ≡ 0 → IfSome (I.left input.old) (Appends (W.taken output.old) (W.taken output.new)) }
     ensures read { result ≡ 4 → Rose (I.faults input.old) (I.faults input.new) }
@@ -27,7 +27,7 @@ pub(crate) fn copied_whole<I: Source, W: Sink>(alloc: Global, input: &mut I, out
     }
 }
 
-/// Reads from a link, which leaves what it has taken.
+/// Reads from a connection, which leaves what was written to it.
 pub(crate) fn heard<L: Link>(link: &mut L, room: &mut [u8]) -> Result<usize, Failed>
     requires { 0 < length room.old }
     ensures { L.taken link.new ≡ L.taken link.old }
@@ -35,7 +35,7 @@ pub(crate) fn heard<L: Link>(link: &mut L, room: &mut [u8]) -> Result<usize, Fai
     link.read(room)
 }
 
-/// Sends bytes to a place, and gives the link back.
+/// Sends bytes to an address, and returns the connection to the network.
 pub(crate) fn sent<N: Net>(net: &mut N, place: &str, bytes: &[u8]) -> Result<(), Failed>
     ensures asks { Grows (N.asked net.old) (N.asked net.new) ((place.now, 0) ∷ []) }
     ensures count { OnErr result (Rose (N.faults net.old) (N.faults net.new)) }
@@ -55,7 +55,7 @@ pub(crate) fn sent<N: Net>(net: &mut N, place: &str, bytes: &[u8]) -> Result<(),
     }
 }
 
-/// Sends bytes on the next link that comes, if one does, and gives the link back.
+/// Sends bytes on the next connection that comes, if one does, and returns it to the listener.
 pub(crate) fn greeted<D: Door>(door: &mut D, bytes: &[u8]) -> Result<bool, Failed>
     ensures count { OnErr result (Rose (D.faults door.old) (D.faults door.new)) }
     ensures none { IfOk result (λ some. IfSome (D.coming door.old) (λ coming. some ≡ false → coming ≡ [])) }

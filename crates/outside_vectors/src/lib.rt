@@ -1,4 +1,5 @@
-//! Tests of the outside: streams, links, doors and nets, in memory and over sockets. Nothing here is for other crates.
+//! Tests of the outside: streams, connections, listeners and networks, in memory and over sockets. Other crates do
+//! not use this one.
 #![tactic(auto)]
 
 #[cfg(test)]

@@ -1,4 +1,4 @@
-//! What links, doors and nets in memory do when they run.
+//! Runs connections, listeners and networks in memory.
 
 ghost use Rattle.std.specs.Prelude.{IfOk};
 ghost use Rattle.daap_outside.specs.MemLink.{IsNew};
@@ -12,7 +12,7 @@ use daap_outside::{
 use std::alloc::{AllocError, Global};
 use std::test::Fail;
 
-/// Reads and writes once, and answers whether each failed.
+/// Reads and writes once, and returns whether each failed.
 fn exchanged<L: Link>(link: &mut L) -> (bool, bool) {
     let mut room = [0; 4];
     (heard(link, &mut room).is_err(), link.write(b"xyz").is_err())
@@ -22,7 +22,7 @@ fn is_back(link: &Returned, bytes: &[u8], faulted: bool) -> bool {
     link.bytes.as_slice() == bytes && link.faulted == faulted
 }
 
-/// Whether a door tells of a link that is given back there so many bytes, and if it was at fault.
+/// Whether a listener records `bytes` and `faulted` of a connection that is returned to it.
 fn comes_back(
     alloc: Global,
     link: MemLink,
@@ -34,7 +34,7 @@ fn comes_back(
     Ok(matches!(door.written(), Some([back]) if is_back(back, bytes, faulted)))
 }
 
-/// A link of five bytes whose read and write of that number fail.
+/// A connection of five bytes whose read and write with this number fail.
 fn failing_link(alloc: Global, failing: u64) -> Result<MemLink, AllocError> {
     let input = MemSource::new(alloc, b"abcde", 2, &[failing])?;
     let output = MemSink::new(alloc, 9, 2, &[failing])?;
@@ -54,14 +54,14 @@ fn a_link_fails_at_each_read_and_each_write_in_turn(rt: HostRuntime) -> Result<(
     Ok(())
 }
 
-/// A link of three bytes whose second probe fails.
+/// A connection of three bytes whose second probe fails.
 fn probed_link(alloc: Global) -> Result<MemLink, AllocError> {
     let input = MemSource::new(alloc, b"abc", 2, &[])?;
     let output = MemSink::new(alloc, 9, 2, &[])?;
     MemLink::with_failing_probes(alloc, input, output, &[2])
 }
 
-/// Whether a link answers probes, between the first two of which it is read and written.
+/// The results of three probes, and of a read and a write between the first two.
 fn answers<L: Link>(link: &mut L) -> (bool, (bool, bool), bool, bool) {
     (
         link.probe().is_ok(),
@@ -79,7 +79,7 @@ fn a_link_fails_at_the_probes_that_are_set_to(rt: HostRuntime) -> Result<(), Fai
     Ok(())
 }
 
-/// A link with an input, and room for 9 bytes.
+/// A connection with an input, and capacity for 9 bytes.
 fn linked(alloc: Global, input: &[u8]) -> Result<MemLink, AllocError>
     ensures { IfOk result IsNew }
 {
@@ -87,7 +87,7 @@ fn linked(alloc: Global, input: &[u8]) -> Result<MemLink, AllocError>
     Ok(MemLink::new(source, MemSink::new(alloc, 9, 4, &[])?))
 }
 
-/// A door at which two links come, whose second wait fails, with room for so many that come back.
+/// A listener with two connections, whose second wait fails, with capacity for `room` returned ones.
 fn opened(alloc: Global, room: usize) -> Result<MemDoor, AllocError>
     ensures { IfOk result is_new_door }
 {
@@ -97,12 +97,12 @@ fn opened(alloc: Global, room: usize) -> Result<MemDoor, AllocError>
     Ok(door)
 }
 
-/// The same door, of which nothing is known.
+/// The same listener, of which nothing is known.
 fn some_door(alloc: Global, room: usize) -> Result<MemDoor, AllocError> {
     opened(alloc, room)
 }
 
-/// What is sent at a door, and how that goes: whether a link was there, or none where it failed.
+/// What is sent at a listener, and the outcome: whether a connection came, or `None` if the wait failed.
 const GREETINGS: [(&[u8], Option<bool>); 4] = [
     (b"first", Some(true)),
     (b"not sent", None),
@@ -134,7 +134,8 @@ fn is_asked(asked: &Asked, place: &[u8], doors: u32) -> bool {
     asked.place() == place && asked.doors() == doors
 }
 
-/// A net with two doors, at the first of which two links come, and a link, whose second call fails.
+/// A network with two listeners, two connections at the first of them, and one connection to make, whose second call
+/// fails.
 fn filled(alloc: Global) -> Result<MemNet, AllocError> {
     let mut net = MemNet::with_room(alloc, &[2], 4, 4)?;
     net.add_door(opened(alloc, 2)?)?;
@@ -143,13 +144,13 @@ fn filled(alloc: Global) -> Result<MemNet, AllocError> {
     Ok(net)
 }
 
-/// Whether a net of two doors opens no three of them, and fails next.
+/// Whether a network of two listeners does not open three of them, and fails next.
 fn refuses<N: Net>(net: &mut N) -> bool {
     matches!(net.listen("here", 3), Err(NetError::Failed))
         && matches!(net.connect("set to fail"), Err(Failed))
 }
 
-/// Whether a net opens a door at which a link comes, and takes it back.
+/// Whether a network opens a listener to which a connection comes, and closes it.
 fn greets_once<N: Net>(net: &mut N) -> Result<bool, NetError> {
     let mut doors = net.listen("here", 1)?;
     let Some(mut door) = doors.pop() else {
@@ -160,14 +161,14 @@ fn greets_once<N: Net>(net: &mut N) -> Result<bool, NetError> {
     Ok(is_greeted)
 }
 
-/// Whether it told what it was asked for.
+/// Whether its requested addresses are known.
 fn is_told_asked(net: &MemNet) -> bool {
     matches!(net.asked(), Some([too_many, fails, here, there])
         if is_asked(too_many, b"here", 3) && is_asked(fails, b"set to fail", 0)
             && is_asked(here, b"here", 1) && is_asked(there, b"there", 0))
 }
 
-/// Whether it told what was written.
+/// Whether what was written is known.
 fn is_told_written(net: &MemNet) -> bool {
     matches!(net.written(), Some([hello, bye])
         if is_back(hello, b"hello", false) && is_back(bye, b"bye", false))

@@ -1,4 +1,4 @@
-//! What links and doors over sockets do when they run, on this machine's loopback.
+//! Runs connections and listeners over sockets, on this machine's loopback.
 
 use daap_outside::{Door, Failed, Link, Net, Sink, Source, TcpNet, put_all};
 use std::alloc::Global;
@@ -9,7 +9,7 @@ use std::test::Fail;
 use std::thread::Threads;
 use std::{io, net, thread};
 
-/// A place of this machine at which nobody listens.
+/// An address of this machine without a listener.
 fn free_place<R: net::Net<Listener = TcpListener, Stream = TcpStream>>(
     rt: &R,
     alloc: Global,
@@ -19,7 +19,7 @@ fn free_place<R: net::Net<Listener = TcpListener, Stream = TcpStream>>(
     Ok(format!(in alloc; "127.0.0.1:{port}")?)
 }
 
-/// The next link that comes to the door.
+/// The next connection that comes to the listener.
 fn next_link<D: Door>(door: &mut D) -> Result<D::L, Failed> {
     match door.accept()? {
         Some(link) => Ok(link),
@@ -27,7 +27,7 @@ fn next_link<D: Door>(door: &mut D) -> Result<D::L, Failed> {
     }
 }
 
-/// Answers a link's first bytes with a refusal, and gives it back.
+/// Answers a connection's first bytes with a refusal, and returns it.
 fn refuse<D: Door>(door: &mut D) -> Result<(), Failed> {
     let mut link = next_link(door)?;
     let mut room = [0; 64];
@@ -37,7 +37,8 @@ fn refuse<D: Door>(door: &mut D) -> Result<(), Failed> {
     Ok(())
 }
 
-/// Whether a link that sends 5 MB while a door refuses its first bytes has sent all, and then reads the refusal.
+/// Whether a client that sends 5 MB while a listener refuses its first bytes has sent all, and then reads the
+/// refusal.
 fn reads_refusal<R: Threads + Wait + Sync, D: Door + Send, L: Link + Send>(
     rt: &R,
     alloc: Global,
@@ -65,7 +66,7 @@ fn a_client_that_is_still_sending_reads_its_refusal(rt: HostRuntime) -> Result<(
     Ok(())
 }
 
-/// Whether a nudge of the second of two doors brings the first one a link on which nothing comes.
+/// Whether a nudge of the second of two listeners brings the first one a connection without bytes.
 fn wakes<N: Net>(net: &mut N, place: &str) -> Result<bool, Fail> {
     let mut doors = net.listen(place, 2)?;
     doors[1].nudge();

@@ -1,4 +1,4 @@
-//! What sources and sinks in memory and over std do when they run.
+//! Runs sources and sinks in memory and over std.
 
 ghost use Rattle.std.specs.Prelude.{◌≡◌, IfOk};
 
@@ -9,11 +9,11 @@ use std::io;
 use std::io::{ErrorKind, Read, Write};
 use std::test::Fail;
 
-/// Whether a read has a room of four bytes or of one, how many bytes it gives if it does not fail, and what the room of
-/// four then begins with.
+/// Whether a read has the buffer of four bytes (otherwise one byte of it), the number of bytes that it reads if it
+/// succeeds, and a prefix of the buffer afterwards.
 type Reads = (bool, Option<usize>, &'static [u8]);
 
-/// Whether reads, one after the other, end so.
+/// Whether reads, one after the other, have these results.
 fn gives<S: Source>(source: &mut S, rows: &[Reads]) -> bool {
     let mut room = [0; 4];
     for (is_wide, moved, begins) in rows {
@@ -29,7 +29,7 @@ fn gives<S: Source>(source: &mut S, rows: &[Reads]) -> bool {
     true
 }
 
-/// Whether writes of these pieces, one after the other, take so many bytes, or fail.
+/// Whether writes of these chunks, one after the other, write this many bytes each, or fail.
 fn takes<W: Sink>(sink: &mut W, rows: &[(&'static [u8], Option<usize>)]) -> bool {
     for (piece, moved) in rows {
         if piece.is_empty() || sink.write(piece).ok() != *moved {
@@ -69,7 +69,8 @@ fn a_sink_takes_what_fits_and_then_fails(rt: HostRuntime) -> Result<(), Fail> {
     Ok(())
 }
 
-/// Whether all bytes are put into a sink that takes three at a time and fails at one call, and what it has then.
+/// Whether `put_all` has this outcome on a sink that takes three bytes per call and fails at one call, and what it
+/// then has.
 fn puts(alloc: Global, failing: u64, is_well: bool, taken: &[u8]) -> Result<bool, AllocError> {
     let mut sink = MemSink::new(alloc, 100, 3, &[failing])?;
     let is_put = put_all(&mut sink, b"abcdefgh").is_ok();
@@ -83,7 +84,7 @@ fn put_all_stops_at_a_failed_call(rt: HostRuntime) -> Result<(), Fail> {
     Ok(())
 }
 
-/// An input, the number of the read that fails, how a copy of it ends, and what is copied.
+/// An input, the number of the read that fails, the status of copying it, and what is copied.
 const COPIES: [(&[u8], u64, u8, &[u8]); 5] = [
     (b"", 0, 0, b""),
     (b"abcde", 0, 0, b"abcde"),
@@ -92,7 +93,7 @@ const COPIES: [(&[u8], u64, u8, &[u8]); 5] = [
     (b"abc", 3, 4, b""),
 ];
 
-/// Whether a copy of an input ends so.
+/// Whether copying an input has this outcome.
 fn copies(
     alloc: Global,
     bytes: &[u8],
@@ -114,7 +115,7 @@ fn an_input_is_read_up_to_its_limit(rt: HostRuntime) -> Result<(), Fail> {
     Ok(())
 }
 
-/// Fails at each read, and takes nothing at each write.
+/// Fails at each read, and writes nothing at each write.
 #[derive(Drop)]
 struct Broken;
 
@@ -165,7 +166,7 @@ fn the_standard_streams_fit(rt: HostRuntime) -> Result<(), Fail> {
     Ok(())
 }
 
-/// The bytes, by way of a sink that has room for all of them.
+/// Returns the bytes, through a sink with capacity for all of them.
 fn spelled(alloc: Global, bytes: &[u8]) -> Result<Vec<u8>, AllocError>
     ensures { IfOk result (λ all. all.items ≡ bytes.now) }
 {

@@ -52,7 +52,7 @@ shown_then es t q meta row found is =
     ap (λ o. option_map_or (λ old. is_same_tag old (shown_at t meta row.0 row.1)) o false) (at-shown_rows es t q meta row.0 ∙ ap (option_map (shown_at t meta row.0)) (sym is))
     ∙ map_then (shown_at t meta row.0) (λ old. is_same_tag old (shown_at t meta row.0 row.1)) found
 
--- the keys of rows of then that have no row now are gone
+-- the keys of earlier rows that have no present row are gone
 gone_found : (bs : List (List Edit)) (t : Target) (look : Look) (base : ℕ)
     → filter (λ key. is_none (row_at (edits bs) t look.query key)) (keys_of (rows (edits (up_to bs base)) t look.query)) ≡ (delta_listing bs t look base).gone
 gone_found bs t look base =

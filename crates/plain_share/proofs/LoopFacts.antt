@@ -34,7 +34,7 @@ folded_entries_left put keys h i e set lt is =
     ∙ ap (fold put set) (flat_map-append keys (edits_in e) (all_edits (drop (i + 1) h)))
     ∙ fold-append put set (flat_map keys (edits_in e)) (flat_map keys (all_edits (drop (i + 1) h))))
 
--- whether one of the edits that are left passes a test
+-- whether one of the remaining edits passes a test
 pub any_left : {A : Type 0} (p : A → Bool) (xs : List A) (i : ℕ) (x : A) → i < length xs → x ≡ get_or xs i x → list_any p (drop i xs) ≡ (p x || list_any p (drop (i + 1) xs))
 any_left p xs i x lt is = ap (list_any p) (drop_more xs i x lt is)
 
@@ -43,7 +43,7 @@ pub any_entries_left : (p : Edit → Bool) (h : List Entry) (i : ℕ) (e : Entry
 any_entries_left p h i e lt is =
     ap (λ xs. list_any p (all_edits xs)) (drop_more h i e lt is) ∙ ap (list_any p) (all_edits-cons e (drop (i + 1) h)) ∙ list_any-append p (edits_in e) (all_edits (drop (i + 1) h))
 
--- batches behind one entry, of at least one that is passed
+-- the batches after one entry, which is skipped if it is a batch
 passed_one : (n : ℕ) (e : Entry) (h : List Entry) → 0 < n → drop n (batches (e ∷ h)) ≡ drop (n - length (batches (e ∷ []))) (batches h)
 passed_one zero e h lt = absurd (omega arith)
 passed_one (suc n) (Edits by batch) h lt = ap (λ m. drop m (batches h)) (let same : n ≡ suc n - 1 = omega arith in same)
@@ -59,7 +59,7 @@ kept_or_not : {A : Type 0} (b : Bool) (done : List A) (x : A) (rest : List A) �
 kept_or_not true done x rest = append_assoc done (x ∷ []) rest
 kept_or_not false done x rest = ap (λ ys. ys ++ rest) (append-nil done)
 
--- one more value that passes a test or not, before those of the items that are left
+-- one more value, kept if it passes a test, before those of the remaining items
 pub filtered_by_next : {A B : Type 0} (f : A → B) (p : B → Bool) (done : List B) (xs : List A) (i : ℕ) (x : A) → i < length xs → x ≡ get_or xs i x
     → (done ++ cond (p (f x)) (f x ∷ []) []) ++ filter p (map f (drop (i + 1) xs)) ≡ done ++ filter p (map f (drop i xs))
 filtered_by_next f p done xs i x lt is =
@@ -95,11 +95,11 @@ until_nothing : (n : ℕ) → until_edits n [] ≡ []
 until_nothing zero = refl
 until_nothing (suc n) = refl
 
--- where nothing is left, all was passed
+-- at the end, everything is skipped
 pub until_end : (n : ℕ) (h : List Entry) (i : ℕ) → length h ≤ i → take i h ++ until_edits n (drop i h) ≡ h
 until_end n h i over =
     ap (λ rest. take i h ++ until_edits n rest) (drop_all i h over) ∙ ap (λ rest. take i h ++ rest) (until_nothing n) ∙ append-nil (take i h) ∙ take_all i h over
 
--- the keys of some edits more come behind those of the others
+-- the keys of more edits are inserted after those of the others
 pub keys_on : (keys : Edit → List ℕ) (es ds : List Edit) → fold (insert_key nat_cmp) (ascending (flat_map keys es)) (flat_map keys ds) ≡ ascending (flat_map keys (es ++ ds))
 keys_on keys es ds = sym (ap ascending (flat_map-append keys es ds) ∙ fold-append (insert_key nat_cmp) [] (flat_map keys es) (flat_map keys ds))

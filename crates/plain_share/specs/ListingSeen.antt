@@ -1,4 +1,4 @@
--- A listing that the program made.
+-- A listing of the program, in the terms of the definitions.
 use Rattle.plain_share.specs.declared.listings.Listing.{Listing}
 use Rattle.share_history.specs.Listings as plain
 

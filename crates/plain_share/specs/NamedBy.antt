@@ -1,4 +1,4 @@
--- Which edits name what a question of the program is about.
+-- The edits that name what a `Named` is.
 use Rattle.std.specs.Prelude.{Bool}
 use Rattle.item_model.specs.declared.changes.Edit.{Edit}
 use Rattle.share_history.specs.Named.{names_item, names_list, names_member}

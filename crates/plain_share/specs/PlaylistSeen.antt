@@ -1,4 +1,4 @@
--- The list that a look-up of the program found, and with its id.
+-- The list behind a `PlaylistRef`, and with its id.
 use Rattle.std.specs.Prelude.{ℕ}
 use Rattle.share_history.specs.LastSaid as last
 use Rattle.plain_share.specs.declared.lists.PlaylistRef.{PlaylistRef}

@@ -1,4 +1,4 @@
--- The row that a look-up of the program found, under its key.
+-- The row behind a reference that a look-up returns, with its key.
 use Rattle.std.specs.Prelude.{ℕ}
 use denote.Ref.{Bor}
 use Rattle.item_model.specs.declared.item.Row.{Row}

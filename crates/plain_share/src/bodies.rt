@@ -30,7 +30,7 @@ pub(crate) fn list_tag(of: Code, members: Tags) -> Tag
     }
 }
 
-// What every listing begins with.
+// Returns the tags at the start of every listing.
 pub(crate) fn start_tags(
     alloc: Global,
     is_delta: bool,
@@ -74,7 +74,7 @@ fn row_tags(alloc: Global, rows: Vec<(u32, Tag)>) -> Result<Tags, AllocError>
     Ok(tags)
 }
 
-// Behind the rows of a delta stand the keys that it deletes.
+// Pushes the deleted keys if the listing is a delta.
 fn push_gone(
     tags: &mut Tags,
     alloc: Global,
@@ -90,7 +90,7 @@ fn push_gone(
     Ok(())
 }
 
-/// The body of a listing.
+/// Returns the body of a listing.
 pub fn body(alloc: Global, target: Target, listing: Listing) -> Result<Tag, AllocError>
     requires { length listing.rows.items < 2 ^ 32 }
     ensures { IfOk result (λ tag. tag ≡ body_tree target (listing_of listing)) }
@@ -108,7 +108,7 @@ pub fn body(alloc: Global, target: Target, listing: Listing) -> Result<Tag, Allo
     Ok(list_tag(body_code(target), tags))
 }
 
-/// The body of the full listing.
+/// Returns the body of the full listing.
 pub fn full_body(
     alloc: Global,
     history: &[Entry],
@@ -124,7 +124,7 @@ pub fn full_body(
     Ok(tag)
 }
 
-/// The body of the change since a base.
+/// Returns the body of the delta since `base`.
 pub fn delta_body(
     alloc: Global,
     history: &[Entry],
@@ -141,7 +141,7 @@ pub fn delta_body(
     Ok(tag)
 }
 
-/// The body that answers a request: of the change since its base where that is kept, else of the whole.
+/// Returns the body of the response to a look: a delta if its base is in the window, else a full listing.
 pub fn listing_body(
     alloc: Global,
     keep: u32,

@@ -54,7 +54,7 @@ fn is_filled(text: &str) -> bool
     !text.is_empty()
 }
 
-// Puts a text that is not empty into its place, unless it is there.
+// Inserts the text unless it is empty.
 fn put_text<'a>(texts: &mut BTreeSet<&'a str>, text: &'a str) -> Result<(), AllocError>
     ensures { OnOk result (map text_at texts.new.keys ≡ fold (insert_key (slice_cmp nat_cmp)) (map text_at texts.old.keys) (filter is_filled (text.now ∷ []))) }
 {
@@ -64,7 +64,7 @@ fn put_text<'a>(texts: &mut BTreeSet<&'a str>, text: &'a str) -> Result<(), Allo
     Ok(())
 }
 
-/// The values of a property, each once, in the order of their bytes.
+/// Returns the values of a property, each once, in the order of their bytes.
 #[tactic(auto, using(crate::proofs::TextFacts::texts_left))]
 pub fn browse_values<'a>(
     alloc: Global,
@@ -101,7 +101,7 @@ fn value_tags(alloc: Global, texts: &BTreeSet<&str>) -> Result<Tags, AllocError>
     Ok(tags)
 }
 
-/// The body of a browse listing.
+/// Returns the body of a browse listing.
 pub fn browse_body(
     alloc: Global,
     history: &[Entry],

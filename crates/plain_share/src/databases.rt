@@ -20,7 +20,7 @@ use item_model::{Edit, Entry, Target};
 use share_history::BASE_LIST;
 use std::alloc::{AllocError, Global};
 
-/// A listing of all its entries.
+/// Returns the body of a full listing of `entries`.
 pub(crate) fn whole_body(
     alloc: Global,
     of: Code,
@@ -68,7 +68,7 @@ fn push_list<'a>(
     Ok(())
 }
 
-/// The lists that are there beside container 1, ascending by id.
+/// Returns the existing lists besides container 1, ascending by id.
 #[tactic(auto, using(share_history::proofs::FoldFacts::found_next))]
 pub fn playlists(
     alloc: Global,
@@ -83,7 +83,7 @@ pub fn playlists(
     Ok(found)
 }
 
-// The lists that are there after some edits more.
+// Returns the lists that exist after the history and `edits`.
 #[tactic(auto, using(share_history::proofs::FoldFacts::found_next))]
 pub(crate) fn playlists_with<'a>(
     alloc: Global,
@@ -99,7 +99,7 @@ pub(crate) fn playlists_with<'a>(
     Ok(found)
 }
 
-// The only database, with its numbers of items and of containers.
+// Returns the only database, with the numbers of its items and containers.
 fn database_tag(alloc: Global, name: &Text, items: u32, containers: u32) -> Result<Tag, AllocError>
     ensures { IfOk result (λ tag. tag ≡ entry_tag (leaf (code "miid") (U32 1) ∷ leaf (code "minm") (tree.Text name.now) ∷ leaf (code "mimc") (U32 items) ∷ leaf (code "mctc") (U32 containers) ∷ [])) }
 {
@@ -120,7 +120,7 @@ fn push_mark(tags: &mut Tags, mark: Option<Tag>) -> Result<(), AllocError>
     Ok(())
 }
 
-// A container with the mark of its kind, if it has one, and the number of its rows.
+// Returns a container with the tag for its kind, if it has one, and the number of its rows.
 fn container_tag(
     alloc: Global,
     id: u32,
@@ -176,7 +176,7 @@ fn list_count(alloc: Global, history: &[Entry]) -> Result<u32, AllocError>
     Ok(found.len() as u32)
 }
 
-/// The body of the listing of databases. The name is the share's.
+/// Returns the body of the listing of databases. `name` is the share's.
 pub fn databases_body(alloc: Global, name: &Text, history: &[Entry]) -> Result<Tag, AllocError>
     requires revision { revision (batches history.now) < 2 ^ 32 }
     requires edits { length (all_edits history.now) + 1 < 2 ^ 32 }
@@ -206,7 +206,7 @@ fn container_tags(alloc: Global, name: &Text, history: &[Entry]) -> Result<Tags,
     Ok(tags)
 }
 
-/// The body of the listing of containers, of which container 1 has the share's name.
+/// Returns the body of the listing of containers. Container 1 has the share's name.
 pub fn containers_body(alloc: Global, name: &Text, history: &[Entry]) -> Result<Tag, AllocError>
     requires revision { revision (batches history.now) < 2 ^ 32 }
     requires edits { length (all_edits history.now) + 1 < 2 ^ 32 }

@@ -7,7 +7,7 @@ ghost use Rattle.share_history.specs.LastSaid.{last_said, says_item, item_at};
 use crate::revisions::edits_of;
 use item_model::{Edit, Entry, Row};
 
-// What was found before the edit, or what the edit says in its place.
+// Returns what the edit says of item `id`, or `found` if it says nothing.
 fn item_after<'a>(found: Option<&'a Row>, edit: &'a Edit, id: u32) -> Option<&'a Row>
     ensures { option_copied result ≡ unwrap_or (says_item id edit.now) (option_copied found.entry) }
 {
@@ -28,7 +28,7 @@ fn item_after<'a>(found: Option<&'a Row>, edit: &'a Edit, id: u32) -> Option<&'a
     }
 }
 
-// What was found before the edits, or what the last of them that speaks says.
+// Returns what the last of `edits` that names item `id` says, or `found`.
 fn item_in<'a>(mut found: Option<&'a Row>, edits: &'a [Edit], id: u32) -> Option<&'a Row>
     ensures { option_copied result ≡ unwrap_or (last_said (says_item id) edits.now) (option_copied found.entry) }
 {
@@ -38,7 +38,7 @@ fn item_in<'a>(mut found: Option<&'a Row>, edits: &'a [Edit], id: u32) -> Option
     found
 }
 
-/// The item of an id.
+/// Returns the item `id`.
 #[tactic(auto, using(crate::proofs::SaidFacts::said_entries_left))]
 pub fn item(history: &[Entry], id: u32) -> Option<&Row>
     ensures { option_copied result ≡ item_at (all_edits history.now) id }

@@ -1,4 +1,4 @@
-//! Kept bases and touched keys.
+//! The delta window and touched keys.
 
 ghost use Rattle.std.specs.Prelude.{◌≡◌, ◌<◌, ◌^◌, ◌∷◌, [], ◌++◌, IfOk, OnOk, if◌then◌else◌, option_map};
 ghost use Rattle.share_history.specs.Histories.{batches, revision, all_edits};
@@ -13,7 +13,7 @@ use item_model::{Entry, Target};
 use share_history::{BASE_LIST, FIRST_REVISION};
 use std::alloc::{AllocError, Global};
 
-// Whether the entries neither put nor drop the target as a list.
+// Returns whether the entries neither put nor drop the target as a list.
 fn is_left(target: Target, entries: &[Entry]) -> bool
     ensures { result ≡ is_left target (all_edits entries.now) }
 {
@@ -23,7 +23,7 @@ fn is_left(target: Target, entries: &[Entry]) -> bool
     }
 }
 
-/// Whether a listing may be told as the change since a base.
+/// Returns whether `base` is in the delta window of a listing.
 pub fn is_kept(keep: u32, history: &[Entry], target: Target, base: u32) -> bool
     requires { revision (batches history.now) < 2 ^ 32 }
     ensures { result ≡ is_kept keep (batches history.now) target base }
@@ -68,7 +68,7 @@ fn is_touched_in(
     }
 }
 
-/// Whether the later entries, which are the last of the history, touch a key of the target.
+/// Returns whether the `later` entries, the last of the history, touch a key of the target.
 pub fn is_touched(history: &[Entry], target: Target, later: &[Entry], key: u32) -> bool
     ensures { result ≡ touches (all_edits history.now) target (all_edits later.now) key }
 {
@@ -80,7 +80,7 @@ pub fn is_touched(history: &[Entry], target: Target, later: &[Entry], key: u32) 
     }
 }
 
-// Adds the key where it is asked for.
+// Pushes the key if `is_asked`.
 pub(crate) fn push_if(keys: &mut Vec<u32>, key: u32, is_asked: bool) -> Result<(), AllocError>
     ensures { OnOk result (keys.new.items ≡ keys.old.items ++ (if is_asked then key ∷ [] else [])) }
 {
@@ -90,7 +90,7 @@ pub(crate) fn push_if(keys: &mut Vec<u32>, key: u32, is_asked: bool) -> Result<(
     Ok(())
 }
 
-/// The keys that were touched after a base, ascending.
+/// Returns the keys touched after `base`, ascending.
 pub fn touched(
     alloc: Global,
     history: &[Entry],

@@ -63,7 +63,7 @@ fn put_lists(keys: &mut BTreeSet<u32>, edits: &[Edit]) -> Result<(), AllocError>
     Ok(())
 }
 
-/// The ids of items and of members that the edits name.
+/// Returns the ids of items and of members that the edits name.
 #[tactic(auto, using(crate::proofs::LoopFacts::folded_entries_left))]
 pub(crate) fn keys(alloc: Global, history: &[Entry]) -> Result<BTreeSet<u32>, AllocError>
     ensures { IfOk result (λ keys. keys.keys ≡ ascending (named_keys (all_edits history.now))) }
@@ -75,7 +75,7 @@ pub(crate) fn keys(alloc: Global, history: &[Entry]) -> Result<BTreeSet<u32>, Al
     Ok(keys)
 }
 
-/// The ids of lists that the edits put or drop.
+/// Returns the ids of lists that the edits put or drop.
 #[tactic(auto, using(crate::proofs::LoopFacts::folded_entries_left))]
 pub(crate) fn lists(alloc: Global, history: &[Entry]) -> Result<BTreeSet<u32>, AllocError>
     ensures { IfOk result (λ keys. keys.keys ≡ ascending (named_lists (all_edits history.now))) }
@@ -87,7 +87,7 @@ pub(crate) fn lists(alloc: Global, history: &[Entry]) -> Result<BTreeSet<u32>, A
     Ok(keys)
 }
 
-/// The ids of lists that the history's edits and some more put or drop.
+/// Returns the ids of lists that the history or `edits` put or drop.
 #[tactic(auto, using(crate::proofs::LoopFacts::keys_on))]
 pub(crate) fn lists_with(
     alloc: Global,

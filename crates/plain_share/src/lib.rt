@@ -1,6 +1,6 @@
-//! A share the slow way: each function looks through the whole history for each question, and is proved to be the
-//! definition of its name in `share_history`. No program runs it; its tests compare the definitions with bytes of the
-//! standard.
+//! A slow, plain implementation of a share: each function searches the whole history for each question, and is proved
+//! to compute the definition of its name in `share_history`. No program runs it; tests compare the definitions with
+//! known bytes through it.
 #![tactic(auto)]
 
 mod bodies;

@@ -1,4 +1,4 @@
-//! How much a share takes.
+//! The limits of a share.
 
 ghost use Rattle.std.specs.Prelude.{◌≡◌, ◌<◌, ◌+◌, ◌^◌, IfOk, count_by, length, if◌then◌else◌};
 ghost use Rattle.share_history.specs.Histories.{all_edits};
@@ -27,7 +27,7 @@ fn count_with(count: usize, entry: &Entry) -> usize
     }
 }
 
-/// Whether one more login, or one more batch, has a place.
+/// Returns whether one more login or batch is within the limit on entries.
 #[tactic(auto, using(crate::proofs::LoginFacts::count_more))]
 pub fn has_place(history: &[Entry]) -> bool
     ensures { result ≡ has_place history.now }
@@ -39,7 +39,7 @@ pub fn has_place(history: &[Entry]) -> bool
     count < MAX_ENTRIES
 }
 
-/// Whether so many edits more are not too many.
+/// Returns whether `count` more edits are within the limit on edits.
 #[tactic(auto, using(crate::proofs::LoopFacts::edits_left))]
 pub fn has_room_for(history: &[Entry], count: usize) -> bool
     ensures { result ≡ has_room_for history.now count }
@@ -58,7 +58,7 @@ pub fn has_room_for(history: &[Entry], count: usize) -> bool
     true
 }
 
-// Whether after some edits more there are not too many lists.
+// Returns whether the lists after `edits` are within their limit.
 #[tactic(auto, using(crate::proofs::CountFacts::counted_lists))]
 fn has_few_lists(alloc: Global, history: &[Entry], edits: &[Edit]) -> Result<bool, AllocError>
     ensures { IfOk result (λ has. has ≡ has_few_lists history.now edits.now) }
@@ -67,7 +67,7 @@ fn has_few_lists(alloc: Global, history: &[Entry], edits: &[Edit]) -> Result<boo
     Ok(lists.len() <= MAX_LISTS)
 }
 
-/// Whether a batch meets no limit.
+/// Returns whether a batch is within all limits.
 pub fn takes_batch(alloc: Global, history: &[Entry], batch: &Batch) -> Result<bool, AllocError>
     ensures { IfOk result (λ takes. takes ≡ takes_batch history.now batch.now) }
 {

@@ -18,12 +18,12 @@ use dmap_tags::Tag;
 use item_model::{Entry, Look, Meta, Query, Row, ShownProperties, Target, is_shown_alike, project};
 use std::alloc::{AllocError, Global};
 
-/// What a listing of items says.
+/// The contents of a listing of items.
 #[derive(Debug, Drop)]
 pub struct Listing {
     pub is_delta: bool,
     pub revision: u32,
-    /// How many rows there are before the range.
+    /// The number of rows before the range.
     pub total: u32,
     /// The listed rows with their keys, ascending.
     pub rows: Vec<(u32, Tag)>,
@@ -31,7 +31,7 @@ pub struct Listing {
     pub gone: Vec<u32>,
 }
 
-// In a container the row of an item tells its key as a member.
+// In a container the row of an item also states its key, the member's id.
 fn member_of(target: Target, key: u32) -> Option<u32>
     ensures { result ≡ member_of target key }
 {
@@ -89,7 +89,7 @@ fn full_of(
     })
 }
 
-/// The full listing.
+/// Returns the full listing.
 pub fn full_listing(
     alloc: Global,
     history: &[Entry],
@@ -118,7 +118,7 @@ fn push_row_if<'a>(
     Ok(())
 }
 
-// Whether the earlier history shows another row under the key, or none.
+// Returns whether the earlier history shows no row or another one under the key.
 fn is_new(
     earlier: &[Entry],
     target: Target,
@@ -135,7 +135,7 @@ fn is_new(
     !is_shown_alike(old, now, ShownProperties::of(meta).as_slice())
 }
 
-// Those of the rows that the earlier history does not show.
+// Returns those of the rows that the earlier history does not show.
 fn new_rows<'a>(
     alloc: Global,
     earlier: &[Entry],
@@ -154,7 +154,7 @@ fn new_rows<'a>(
     Ok(found)
 }
 
-// The keys of those earlier rows that have no row now.
+// Returns the keys of those earlier rows that the history does not have any more.
 #[tactic(auto, using(crate::proofs::LoopFacts::filtered_key_next))]
 fn gone_keys(
     alloc: Global,
@@ -194,8 +194,7 @@ fn delta_with(
     })
 }
 
-/// The change of a listing since a base: the rows that it did not show then, or showed otherwise, and the keys
-/// that are gone.
+/// Returns the delta since `base`: the rows that are new or shown differently, and the keys that are gone.
 pub fn delta_listing(
     alloc: Global,
     history: &[Entry],
@@ -224,7 +223,7 @@ pub fn delta_listing(
     Ok(delta)
 }
 
-/// The listing that answers a request: the change since its base where that is kept, else the whole.
+/// Returns the listing for a look: a delta if its base is in the window, else the full listing.
 pub fn listing_for(
     alloc: Global,
     keep: u32,

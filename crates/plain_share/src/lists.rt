@@ -9,14 +9,14 @@ use crate::revisions::edits_of;
 use dmap_tags::Text;
 use item_model::{Edit, Entry, Query};
 
-/// A list that is there: one whose members are put, or one of the items of which a rule holds.
+/// An existing list: a playlist whose members are put, or a smart playlist of the items that match a rule.
 #[derive(Clone, Copy)]
 pub enum PlaylistRef<'a> {
     Plain { name: &'a Text },
     Ruled { name: &'a Text, rule: &'a Query },
 }
 
-// What was found before the edit, or what the edit says in its place.
+// Returns what the edit says of list `id`, or `found` if it says nothing.
 fn list_after<'a>(
     found: Option<PlaylistRef<'a>>,
     edit: &'a Edit,
@@ -47,7 +47,7 @@ fn list_after<'a>(
     }
 }
 
-// What was found before the edits, or what the last of them that speaks says.
+// Returns what the last of `edits` that names list `id` says, or `found`.
 fn list_in<'a>(
     mut found: Option<PlaylistRef<'a>>,
     edits: &'a [Edit],
@@ -61,7 +61,7 @@ fn list_in<'a>(
     found
 }
 
-/// The list of an id. Container 1 is no list of a history.
+/// Returns the list `id`. Container 1 is not a list of a history.
 #[tactic(auto, using(crate::proofs::SaidFacts::said_entries_left))]
 pub fn list(history: &[Entry], id: u32) -> Option<PlaylistRef<'_>>
     ensures { option_map playlist_of result ≡ list_at (all_edits history.now) id }
@@ -73,7 +73,7 @@ pub fn list(history: &[Entry], id: u32) -> Option<PlaylistRef<'_>>
     found
 }
 
-// The list of an id after some edits more.
+// Returns the list `id` after the history and `edits`.
 #[tactic(auto, using(crate::proofs::SaidFacts::said_more_edits))]
 pub(crate) fn list_with<'a>(
     history: &'a [Entry],
@@ -85,7 +85,7 @@ pub(crate) fn list_with<'a>(
     list_in(list(history, id), edits, id)
 }
 
-// What was found before the edit, or what the edit says in its place.
+// Returns what the edit says of the member, or `found` if it says nothing.
 fn member_after(found: Option<u32>, edit: &Edit, list: u32, member: u32) -> Option<u32>
     ensures { result ≡ unwrap_or (says_member list member edit.now) found }
 {
@@ -121,7 +121,7 @@ fn member_after(found: Option<u32>, edit: &Edit, list: u32, member: u32) -> Opti
     }
 }
 
-// What was found before the edits, or what the last of them that speaks says.
+// Returns what the last of `edits` that names the member says, or `found`.
 fn member_in(mut found: Option<u32>, edits: &[Edit], list: u32, member: u32) -> Option<u32>
     ensures { result ≡ unwrap_or (last_said (says_member list member) edits.now) found }
 {
@@ -131,7 +131,7 @@ fn member_in(mut found: Option<u32>, edits: &[Edit], list: u32, member: u32) -> 
     found
 }
 
-/// The id of a member's item.
+/// Returns the id of a member's item.
 #[tactic(auto, using(crate::proofs::SaidFacts::said_entries_left))]
 pub fn member(history: &[Entry], list: u32, member: u32) -> Option<u32>
     ensures { result ≡ member_at (all_edits history.now) list member }

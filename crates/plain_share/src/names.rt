@@ -76,7 +76,7 @@ fn one_names(edits: &[Edit], named: Named) -> bool
     false
 }
 
-/// Whether some edit of the entries names it.
+/// Returns whether some edit of the entries names it.
 #[tactic(auto, using(crate::proofs::LoopFacts::any_entries_left))]
 pub fn is_named(entries: &[Entry], named: Named) -> bool
     ensures { result ≡ list_any (names named) (all_edits entries.now) }

@@ -1,11 +1,11 @@
-//! The part of a listing that a range asks for.
+//! The rows in a range.
 
 ghost use Rattle.std.specs.Prelude.{◌≡◌, take, drop};
 ghost use Rattle.share_history.specs.Ranges.{in_range};
 
 use item_model::Range;
 
-// The first ones, as far as there are any.
+// Returns the first `count` rows, or all if there are fewer.
 fn front<T>(rows: &[T], count: usize) -> &[T]
     ensures { result.now ≡ take count rows.now }
 {
@@ -16,7 +16,7 @@ fn front<T>(rows: &[T], count: usize) -> &[T]
     front
 }
 
-// All but the first ones.
+// Returns all but the first `count` rows.
 fn back<T>(rows: &[T], count: usize) -> &[T]
     ensures { result.now ≡ drop count rows.now }
 {
@@ -27,7 +27,7 @@ fn back<T>(rows: &[T], count: usize) -> &[T]
     back
 }
 
-/// The rows that a range asks for, as far as there are any.
+/// Returns the rows in the range; rows past the last are left out.
 pub(crate) fn in_range<T>(range: Range, rows: &[T]) -> &[T]
     ensures { result.now ≡ in_range range rows.now }
 {

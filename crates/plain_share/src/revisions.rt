@@ -1,4 +1,4 @@
-//! Revisions, and the parts of a history before and behind one.
+//! Revisions, and the parts of a history before and after one.
 
 ghost use Rattle.std.specs.Prelude.{◌≡◌, ◌<◌, ◌-◌, ◌^◌, ◌∷◌, [], drop, length};
 ghost use Rattle.share_history.specs.Histories.{at_revision, batches, edits_in, revision};
@@ -7,7 +7,7 @@ ghost use Rattle.share_history.specs.Numbers.{first_revision};
 use item_model::{Edit, Entry};
 use share_history::{FIRST_REVISION, revision_after};
 
-// The edits that an entry brings.
+// Returns the edits of an entry.
 pub(crate) fn edits_of(entry: &Entry) -> &[Edit]
     ensures { result.now ≡ edits_in entry.now }
 {
@@ -17,7 +17,7 @@ pub(crate) fn edits_of(entry: &Entry) -> &[Edit]
     }
 }
 
-/// The revision of a history.
+/// Returns the revision of a history.
 #[tactic(auto, using(crate::proofs::LoopFacts::revisions_left))]
 pub fn revision(history: &[Entry]) -> u32
     requires { revision (batches history.now) < 2 ^ 32 }
@@ -30,7 +30,7 @@ pub fn revision(history: &[Entry]) -> u32
     revision
 }
 
-// How many batches there are still to pass, of at least one, behind an entry.
+// Returns how many of `left` batches remain after the entry; `left` is at least 1 for a batch.
 fn left_behind(left: u32, entry: &Entry) -> u32
     requires { 0 < left }
     ensures { result ≡ left - length (batches (entry.now ∷ [])) }
@@ -41,8 +41,8 @@ fn left_behind(left: u32, entry: &Entry) -> u32
     }
 }
 
-/// The history that ends with the entry that made a revision: none of it where it is the first, all of it where it is
-/// not reached yet.
+/// Returns the history up to and with the batch that makes `revision`: nothing for the first revision, all past the
+/// last.
 #[tactic(auto, using(crate::proofs::LoopFacts::until_left))]
 pub fn at_revision(history: &[Entry], revision: u32) -> &[Entry]
     ensures { result.now ≡ at_revision history.now revision }
@@ -58,8 +58,7 @@ pub fn at_revision(history: &[Entry], revision: u32) -> &[Entry]
     history
 }
 
-/// The entries behind the one that made a revision: all of them where it is the first, none where it is not
-/// reached yet.
+/// Returns the entries after the batch that makes `revision`: all for the first revision, none past the last.
 #[tactic(auto, using(crate::proofs::LoopFacts::batches_left))]
 pub fn after(history: &[Entry], revision: u32) -> &[Entry]
     ensures { batches result.now ≡ drop (revision - first_revision) (batches history.now) }

@@ -18,7 +18,7 @@ use std::alloc::{AllocError, Global};
 use std::marker::Brand;
 use std::sync::ledger::{Blank, Ledger};
 
-// The steps that it counts are told to nobody.
+// No contract states the steps that it counts.
 fn does_hold_by<L: Ledger>(blank: Blank, query: &Query, row: &Row) -> bool
     requires name { blank.name ≡ L.name }
     requires parts { blank.parts ≡ L.parts }
@@ -34,7 +34,7 @@ fn does_hold(query: &Query, row: &Row) -> bool
     does_hold_by::<Brand>(Blank::new(1), query, row)
 }
 
-/// Whether a listing with that query shows the row. Without a query it shows every row.
+/// Returns whether the row matches the query. Without a query every row does.
 pub fn is_asked(query: Option<&Query>, row: &Row) -> bool
     ensures { result ≡ is_asked (option_copied query.entry) row.now }
 {
@@ -44,7 +44,7 @@ pub fn is_asked(query: Option<&Query>, row: &Row) -> bool
     }
 }
 
-// The row, where it is there and asked for.
+// Returns the row if it exists and matches.
 fn if_asked<'a>(query: Option<&Query>, found: Option<&'a Row>) -> Option<&'a Row>
     ensures { option_copied result ≡ option_and_then (if_asked (option_copied query.entry)) (option_copied found.entry) }
 {
@@ -83,7 +83,7 @@ fn in_target(history: &[Entry], target: Target, key: u32) -> Option<&Row>
     }
 }
 
-/// Whether the target of a listing is there.
+/// Returns whether the target of a listing exists.
 pub fn is_there(history: &[Entry], target: Target) -> bool
     ensures { result ≡ is_there (all_edits history.now) target }
 {
@@ -93,7 +93,7 @@ pub fn is_there(history: &[Entry], target: Target) -> bool
     }
 }
 
-/// The row of a listing under a key.
+/// Returns the row of a listing under `key`.
 pub fn row<'a>(
     history: &'a [Entry],
     target: Target,
@@ -134,7 +134,7 @@ fn found_rows<'a>(
     Ok(rows)
 }
 
-/// The rows of a listing with their keys, ascending by key.
+/// Returns the rows of a listing with their keys, ascending.
 #[tactic(auto, using(crate::proofs::CountFacts::few_rows))]
 pub fn rows<'a>(
     alloc: Global,
@@ -149,7 +149,7 @@ pub fn rows<'a>(
     Ok(rows)
 }
 
-/// The items of the library with their ids, ascending by id.
+/// Returns the items of the library with their ids, ascending.
 pub fn library(alloc: Global, history: &[Entry]) -> Result<Vec<(u32, &Row)>, AllocError>
     ensures rows { IfOk result (λ found. map row_of found.items ≡ library (all_edits history.now)) }
     ensures few { IfOk result (λ found. length found.items ≤ length (all_edits history.now)) }

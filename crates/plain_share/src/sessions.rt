@@ -56,7 +56,7 @@ fn logins(entries: &[Entry]) -> usize
     count
 }
 
-// The entries behind a session's login.
+// Returns the entries after a session's login.
 #[tactic(auto, using(crate::proofs::LoginFacts::login_left))]
 fn after_login(history: &[Entry], session: u32) -> Option<&[Entry]>
     ensures { option_copied result ≡ after_login session history.now }
@@ -70,7 +70,7 @@ fn after_login(history: &[Entry], session: u32) -> Option<&[Entry]>
     None
 }
 
-/// The history up to and with the login of a session, and all of it where the session never logged in.
+/// Returns the history up to and with the login of a session, or all of it if the session never logged in.
 #[tactic(auto, using(crate::proofs::LoginFacts::until_login_left))]
 pub fn until_login(history: &[Entry], session: u32) -> &[Entry]
     ensures { result.now ≡ until_login session history.now }
@@ -96,7 +96,7 @@ fn is_logged_out(history: &[Entry], session: u32) -> bool
     false
 }
 
-/// Whether a session is live.
+/// Returns whether a session is live.
 pub fn is_live(history: &[Entry], session: u32) -> bool
     ensures { result ≡ is_live history.now session }
 {
@@ -106,7 +106,7 @@ pub fn is_live(history: &[Entry], session: u32) -> bool
     }
 }
 
-/// The id of the next login.
+/// Returns the id of the next login.
 pub fn next_session(history: &[Entry]) -> u32
     requires { next_session history.now < 2 ^ 32 }
     ensures { result ≡ next_session history.now }
@@ -114,7 +114,7 @@ pub fn next_session(history: &[Entry]) -> u32
     logins(history) as u32 + 1
 }
 
-/// Whether the share was stopped.
+/// Returns whether the share was stopped.
 #[tactic(auto, using(crate::proofs::LoopFacts::any_left))]
 pub fn is_stopped(history: &[Entry]) -> bool
     ensures { result ≡ is_stopped history.now }

@@ -8,8 +8,8 @@ use Rattle.std.proofs.lemmas.List.Folds.{list_any-append}
 use Rattle.std.proofs.Math.Nat.{min-le_right, min-eq_left}
 use Rattle.std.proofs.Math.Bool.{or-false}
 use Rattle.key_versions.specs.Held.{at, value_at, is_among, behind}
-use Rattle.playlist_store.specs.declared.kept.Kept.{Kept}
-use Rattle.playlist_store.specs.declared.kept.KeptList.{KeptList}
+use Rattle.playlist_store.specs.declared.kept.ListVersion.{ListVersion}
+use Rattle.playlist_store.specs.declared.kept.ListHistory.{ListHistory}
 use Rattle.playlist_store.specs.Names.{Names}
 use Rattle.playlist_store.specs.Lists.{Lists, top, list_in, since_of, has_rule}
 use Rattle.playlist_store.specs.Changes.{InPlace, ChangesOne, Everywhere, ReturnsAt, Returns, ReturnsMembers, ReturnsItems, ReturnsNamed, Pops, PopsOne, TakesBack, found_of, now_of, is_member_among}
@@ -23,7 +23,7 @@ apart a b h = ⊎_elim (λ same. absurd (let e : b ≡ a = eqb-true b a same in 
 apart_up : (a b : ℕ) → a < b → (a == b) ≡ false
 apart_up a b h = ⊎_elim (λ same. absurd (let e : a ≡ b = eqb-true a b same in omega (arith, h, e))) (λ other. other) (cases_Bool (a == b))
 
-module _ (R : Kept → Kept → Type 0) (old mid : Lists) (last : Option ℕ) (passed : (c : ℕ) → c < behind last → InPlace R (at c old) (at c mid))
+module _ (R : ListVersion → ListVersion → Type 0) (old mid : Lists) (last : Option ℕ) (passed : (c : ℕ) → c < behind last → InPlace R (at c old) (at c mid))
     (rest : (c : ℕ) → behind last ≤ c → at c mid ≡ at c old) where
   pub passed_more : (new : Lists) (id : ℕ) → behind last ≤ id → ((q : ℕ) → behind last ≤ q → q < id → at q mid ≡ None) → ChangesOne id R mid new
       → (c : ℕ) → c < behind (Some id) → InPlace R (at c old) (at c new)
@@ -52,7 +52,7 @@ module _ (R : Kept → Kept → Type 0) (old mid : Lists) (last : Option ℕ) (p
       (cases_lt c (behind last))
 
 -- a change of each list, and then of one
-pub everywhere_then : (R : Kept → Kept → Type 0) → ((k : Kept) → R k k) → ((a b c : Kept) → R a b → R b c → R a c) → (c : ℕ) (old mid new : Lists) → Everywhere R old mid → ChangesOne c R mid new
+pub everywhere_then : (R : ListVersion → ListVersion → Type 0) → ((k : ListVersion) → R k k) → ((a b c : ListVersion) → R a b → R b c → R a c) → (c : ℕ) (old mid new : Lists) → Everywhere R old mid → ChangesOne c R mid new
     → Everywhere R old new
 everywhere_then R same join c old mid new p one q =
     ⊎_elim
@@ -69,7 +69,7 @@ any_next p xs i x lt is =
 
 -- ---- keys that are as they were
 
-pub returns_same : (n : ℕ) (picks : ℕ → Bool) (k : Kept) → ((key : ℕ) → picks key ≡ false) → Returns n picks k k
+pub returns_same : (n : ℕ) (picks : ℕ → Bool) (k : ListVersion) → ((key : ℕ) → picks key ≡ false) → Returns n picks k k
 returns_same n picks k none = record {
   since = refl;
   head = refl;
@@ -77,7 +77,7 @@ returns_same n picks k none = record {
   members = λ key base. sym (ap (λ b. value_at k.members key (cond b (min base (n - 1)) base)) (none key));
 }
 
-pub returns_then : (n : ℕ) (p q r : ℕ → Bool) (a b c : Kept) → ((key : ℕ) → r key ≡ (p key || q key)) → Returns n p a b → Returns n q b c → Returns n r a c
+pub returns_then : (n : ℕ) (p q r : ℕ → Bool) (a b c : ListVersion) → ((key : ℕ) → r key ≡ (p key || q key)) → Returns n p a b → Returns n q b c → Returns n r a c
 returns_then n p q r a b c both s t = record {
   since = t.since ∙ s.since;
   head = t.head ∙ s.head;
@@ -168,11 +168,11 @@ pops_more n ids i id old mid new some lt is p here others = record {
       others c (second (is_among c (take i ids)) (id == c) parts) ∙ p.others c (neither (is_among c (take i ids)) (id == c) parts);
 }
   where
-    seen : (x y : Option KeptList) → PopsOne n x y → (v : ℕ) → v < n → found_of y v ≡ found_of x v
+    seen : (x y : Option ListHistory) → PopsOne n x y → (v : ℕ) → v < n → found_of y v ≡ found_of x v
     seen x None h v less = sym (h v less)
     seen x (Some l) h v less = sym (h.0 v less)
 
-    gone : (x y : Option KeptList) → PopsOne n x y → since_of (now_of y) < n
+    gone : (x y : Option ListHistory) → PopsOne n x y → since_of (now_of y) < n
     gone x None h = omega (arith, some)
     gone x (Some l) h = h.1
 
@@ -188,7 +188,7 @@ pops_more n ids i id old mid new some lt is p here others = record {
     neither true b h = absurd (true≢false h)
     neither false b h = refl
 
--- where there is no next list
+-- for the case of no next list
 pub none_of : (o : Option ℕ) (P : Type 0) → ((x : ℕ) → o ≡ Some x → ⊥) → IfNone o P → P
 none_of None P none h = h
 none_of (Some x) P none h = absurd (none x refl)

@@ -25,7 +25,7 @@ counted_ids es ks is = ap length is ∙ length-keys_of (lists es)
 
 -- ---- the lists after more edits
 
--- the lists after one more edit: a put takes the place of what stood there, a drop takes it out
+-- the lists after one edit more: a put replaces the list, a drop removes it
 abbrev lists_with : List (ℕ × Playlist) → Edit → List (ℕ × Playlist)
 lists_with ls (PutItem row) = ls
 lists_with ls (DropItem id) = ls
@@ -64,7 +64,7 @@ lists_more es e =
     lists_are (es ++ e ∷ []) (lists_with (lists es) e) (ascending-lists_with (lists es) e (ascending-lists es))
     (λ c. at-lists_with c (lists es) e (ascending-lists es) ∙ ap (unwrap_or (says_list c e)) (at-lists es c) ∙ sym (list_more es e c))
 
--- ---- their ids alone
+-- ---- their ids
 
 keys-out : {A : Type 0} (k : ℕ) (es : List (ℕ × A)) → keys_of (taken_out es k) ≡ remove_key (is_at (nat_cmp k)) (keys_of es)
 keys-out k [] = refl

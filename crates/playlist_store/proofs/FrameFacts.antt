@@ -11,7 +11,7 @@ use Rattle.share_history.proofs.KeyedFacts.{is_eq-cmp, key_itself}
 use Rattle.item_store.specs.Stands.{named_items}
 use Rattle.item_store.proofs.BatchFacts.{among_named}
 use Rattle.playlist_store.specs.declared.head.ListHead.{ListHead}
-use Rattle.playlist_store.specs.declared.kept.Kept.{Kept}
+use Rattle.playlist_store.specs.declared.kept.ListVersion.{ListVersion}
 use Rattle.playlist_store.specs.Lists.{Lists, top, list_in, head_in, since_of, member_in, near_in, has_rule, names_key}
 use Rattle.playlist_store.specs.Changes.{Keeps, Frames, Puts, Leaves, LeavesMember, LeavesRule, ChangesOne, Everywhere, is_plain, found_of}
 use Rattle.playlist_store.proofs.KeptFacts.{on_top, on_found, found_older, one_of_all}
@@ -31,9 +31,9 @@ found_any p (x ∷ es) (suc i) e lt is h = later (p x) (found_any p es i e (omeg
 pub not_any : (p : Edit → Bool) (es : List Edit) (i : ℕ) (e : Edit) → i < length es → e ≡ get_or es i e → list_any p es ≡ false → p e ≡ false
 not_any p es i e lt is h = ⊎_elim (λ yes. absurd (true≢false (sym (found_any p es i e lt is yes) ∙ h))) (λ no. no) (cases_Bool (p e))
 
--- ---- what is kept
+-- ---- what edits leave
 
-pub keeps_same : (n c : ℕ) (batch : List Edit) (a b : Option Kept) → b ≡ a → Keeps n c batch a b
+pub keeps_same : (n c : ℕ) (batch : List Edit) (a b : Option ListVersion) → b ≡ a → Keeps n c batch a b
 keeps_same n c batch a b same = record {
   head = ap head_in same;
   since = ap since_of same;
@@ -42,7 +42,7 @@ keeps_same n c batch a b same = record {
   others = λ key base un. ap (λ o. member_in o key base) same;
 }
 
-pub keeps_then : (n c : ℕ) (batch : List Edit) (a b d : Option Kept) → Keeps n c batch a b → Keeps n c batch b d → Keeps n c batch a d
+pub keeps_then : (n c : ℕ) (batch : List Edit) (a b d : Option ListVersion) → Keeps n c batch a b → Keeps n c batch b d → Keeps n c batch a d
 keeps_then n c batch a b d p q = record {
   head = q.head ∙ p.head;
   since = q.since ∙ p.since;
@@ -85,7 +85,7 @@ frames_among n batch i e old new lt is p = record {
 
 -- ---- a list that is put or dropped
 
-pub put_frames : {E : Type 0} (n c : ℕ) (e : Edit) (kept : Kept) (r : Result ⊤ E) (old new : Lists) → 1 ≤ n → kept.since ≡ n → ((q : ℕ) → names_list q e ≡ (c == q))
+pub put_frames : {E : Type 0} (n c : ℕ) (e : Edit) (kept : ListVersion) (r : Result ⊤ E) (old new : Lists) → 1 ≤ n → kept.since ≡ n → ((q : ℕ) → names_list q e ≡ (c == q))
     → Puts c kept r old new → Frames n (e ∷ []) old new
 put_frames n c e kept r old new some since names p = record {
   last = λ q. keeps_same n q (e ∷ []) (list_in old q (n - 1)) (list_in new q (n - 1)) (p.below q (n - 1) (omega (arith, some, since)));
@@ -104,7 +104,7 @@ put_frames n c e kept r old new some since names p = record {
 
 -- ---- a member
 
-leaves_keeps : (n c : ℕ) (batch : List Edit) (picks : ℕ → Bool) (a b : Kept) → ((key : ℕ) → list_any (names_key a.head c key) batch ≡ false → picks key ≡ false)
+leaves_keeps : (n c : ℕ) (batch : List Edit) (picks : ℕ → Bool) (a b : ListVersion) → ((key : ℕ) → list_any (names_key a.head c key) batch ≡ false → picks key ≡ false)
     → Leaves n picks a b → Keeps n c batch (Some a) (Some b)
 leaves_keeps n c batch picks a b named p = record {
   head = p.head;
@@ -114,7 +114,7 @@ leaves_keeps n c batch picks a b named p = record {
   others = λ key base un. p.others key base (named key un);
 }
 
-pub leaves_same : (n : ℕ) (picks : ℕ → Bool) (k : Kept) → Leaves n picks k k
+pub leaves_same : (n : ℕ) (picks : ℕ → Bool) (k : ListVersion) → Leaves n picks k k
 leaves_same n picks k = record { since = refl; head = refl; near = λ item key is. is; below = λ key base lt. refl; others = λ key base un. refl }
 
 itself : (c : ℕ) → (c == c) ≡ true

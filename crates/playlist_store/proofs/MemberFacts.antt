@@ -1,5 +1,5 @@
--- The members of a list: what stands under each key is the row there, and ascending pairs that are right under each key are
--- those of the rows.
+-- The members of a list: the item under each key is that of the row, and ascending pairs that are right under each
+-- key are those of the rows.
 use Rattle.std.proofs.Common.{◌≡◌, ◌==◌, ℕ, ◌+◌, ◌<◌, ◌≤◌, ◌++◌, ◌∷◌, length, get_or, drop, add-one, drop-cons, append-nil, Ok, Err, Bool, true, false, cond, List, map, Option, Some, None, is_some, refl, sym, ap, ◌∙◌}
 use Rattle.std.specs.Prelude.{Result, IfOk}
 use Rattle.std.specs.Option.{option_and_then, option_map, option_to_list}
@@ -25,7 +25,7 @@ use Rattle.share_history.proofs.RowFacts.{at-rows, ascending-rows, found_itself}
 use Rattle.playlist_store.specs.Words.{ruled, standing}
 use Rattle.playlist_store.specs.Reads.{there}
 
--- ---- what stands under a key is the row there
+-- ---- the item under a key is that of the row
 
 if_there : (es : List Edit) (k : ℕ) (row : Row) (b : Bool) → item_at es k ≡ Some row → only_if b row ≡ option_and_then (item_at es) (only_if b k)
 if_there es k row true is = sym is
@@ -74,7 +74,7 @@ members_are es c ms other sorted h =
     same_pairs ms (map by_id (rows es (Container c) None)) sorted (ascending-map by_id (λ row. refl) (rows es (Container c) None) (ascending-rows es (Container c) None))
     (λ q. h q ∙ sym (at-members es c q other))
 
--- the same of pairs that were made of the keys under which something stands
+-- the same of pairs made of the keys that have an item
 named_there : (es : List Edit) (b : Bool) (found : Option ℕ) → b ≡ is_some found → cond b (option_and_then (there es) found) None ≡ option_and_then (there es) found
 named_there es b None is = either b
   where

@@ -1,4 +1,4 @@
--- The members that are noted beside an item, and the keys that batches touch, as a loop finds them one after the other.
+-- The index of members by item, and the keys that batches touch, as a loop finds them one by one.
 use Rattle.std.proofs.Common.{◌≡◌, ◌<◌, ◌-◌, ◌+◌, ◌^◌, ◌==◌, ◌&&◌, ◌||◌, not, ℕ, Bool, true, false, cond, List, [], ◌∷◌, length, get_or, drop, flat_map, Some, is_some, refl, sym, ap, ◌∙◌, ⊎_elim, true≢false, arith, eqb-true, eq-eqb, nat_cmp, is_eq, Ordering, Less, Equal, Greater}
 use Rattle.std.specs.Prelude.{nat_le, nat_lt}
 use Rattle.std.specs.List.{list_any}
@@ -18,7 +18,7 @@ use Rattle.share_history.specs.LastSaid.{member_at}
 use Rattle.share_history.proofs.KeyedFacts.{same_key, is_eq-cmp, member-insert_key}
 use Rattle.share_history.proofs.EditFacts.{member_unnamed, drop_more}
 use Rattle.share_history.proofs.ValidFacts.{keys_are_ids}
-use Rattle.playlist_store.specs.declared.kept.Kept.{Kept}
+use Rattle.playlist_store.specs.declared.kept.ListVersion.{ListVersion}
 use Rattle.playlist_store.specs.Names.{Names}
 use Rattle.playlist_store.specs.Lists.{near_cmp}
 use Rattle.playlist_store.specs.Reads.{is_key, is_member, pairs_of, is_near, is_item_of, is_touched_by}
@@ -58,7 +58,7 @@ same_pair item key pair h = by_first (nat_cmp item pair.0) refl h
     by_first Equal is e = λ i. (same_key item pair.0 (ap is_eq is) i, same_key key pair.1 e i)
     by_first Greater is e = absurd (true≢false (sym e))
 
--- a member that is noted beside an item is found there
+-- a member in the index under an item is found there
 pub near_found : (near : List (ℕ × ℕ)) (item key : ℕ) → key < 2 ^ 32 → list_any (is_at (near_cmp (item, key))) near ≡ true → is_near near item key ≡ true
 near_found [] item key small h = h
 near_found (pair ∷ near) item key small h = by_head (is_eq (near_cmp (item, key) pair)) refl h (near_found near item key small)
@@ -93,7 +93,7 @@ or_again : (a b c : Bool) → ((a || b) || c) ≡ (a || (b || c))
 or_again true b c = refl
 or_again false b c = refl
 
--- what was found and what the rest finds, where one more was looked at
+-- what is found so far and in the rest, after one more step
 pub found_left : {A : Type 0} (test : A → Bool) (xs : List A) (i : ℕ) (x : A) (was now : Bool) → i < length xs → x ≡ get_or xs i x → now ≡ (was || test x)
     → (now || list_any test (drop (i + 1) xs)) ≡ (was || list_any test (drop i xs))
 found_left test xs i x was now lt at is =
@@ -102,7 +102,7 @@ found_left test xs i x was now lt at is =
 pub found_next : (was one rest now : Bool) → now ≡ (was || one) → (now || rest) ≡ (was || (one || rest))
 found_next was one rest now is = ap (λ b. b || rest) is ∙ or_again was one rest
 
--- a test of the keys alone, among pairs
+-- a test of only the keys, among pairs
 pub near_tested : (test : ℕ → Bool) (q : ℕ) (pairs : List (ℕ × ℕ)) → list_any (λ pair. test pair.1 && (pair.1 == q)) pairs ≡ (list_any (λ pair. pair.1 == q) pairs && test q)
 near_tested test q [] = refl
 near_tested test q (pair ∷ pairs) = ap (λ b. (test pair.1 && (pair.1 == q)) || b) (near_tested test q pairs) ∙ one (pair.1 == q) refl
@@ -135,7 +135,7 @@ or_apart false true true d = refl
 or_apart false true false d = refl
 or_apart false false c d = refl
 
-pub touched_together : (kept : Kept) (c q : ℕ) (named : List Names)
+pub touched_together : (kept : ListVersion) (c q : ℕ) (named : List Names)
     → list_any (is_touched_by kept c q) named ≡ (list_any (is_member c q) (flat_map (λ n. n.members) named) || list_any (is_item_of kept q) (flat_map (λ n. n.items) named))
 touched_together kept c q [] = refl
 touched_together kept c q (n ∷ named) =

@@ -3,14 +3,14 @@ use Rattle.std.proofs.Common.{◌≡◌, ◌≤◌, inl, inr, ℕ, Bool, true, f
 use Rattle.std.specs.Prelude.{nat_lt}
 use Rattle.std.proofs.lemmas.Bool.{cases_Bool, le-ltb}
 use Rattle.key_versions.specs.Held.{Held, at, value_at}
-use Rattle.playlist_store.specs.declared.kept.Kept.{Kept}
-use Rattle.playlist_store.specs.declared.kept.KeptList.{KeptList}
+use Rattle.playlist_store.specs.declared.kept.ListVersion.{ListVersion}
+use Rattle.playlist_store.specs.declared.kept.ListHistory.{ListHistory}
 use Rattle.playlist_store.specs.Lists.{Lists, top, list_in, head_in, since_of, member_in, near_in, near_cmp}
 use Rattle.playlist_store.specs.Changes.{Everywhere, Prunes, PrunesAll, PrunesKept, ForgetsOne, GoneBy, found_of, now_of, is_plain}
 use Rattle.playlist_store.proofs.KeptFacts.{on_top, on_found, found_now}
 use Rattle.playlist_store.proofs.NearFacts.{same_pair}
 
-pub prunes_same : (low : ℕ) (a b : Option Kept) → b ≡ a → Prunes low a b
+pub prunes_same : (low : ℕ) (a b : Option ListVersion) → b ≡ a → Prunes low a b
 prunes_same low a b same = record {
   head = ap head_in same;
   since = λ base le. ap (λ o. nat_lt base (since_of o)) same;
@@ -18,7 +18,7 @@ prunes_same low a b same = record {
   near = λ item key base le plain is noted. ap (λ o. near_in o item key) same ∙ noted;
 }
 
-pub prunes_then : (low : ℕ) (a b c : Option Kept) → Prunes low a b → Prunes low b c → Prunes low a c
+pub prunes_then : (low : ℕ) (a b c : Option ListVersion) → Prunes low a b → Prunes low b c → Prunes low a c
 prunes_then low a b c p q = record {
   head = q.head ∙ p.head;
   since = λ base le. q.since base le ∙ p.since base le;
@@ -44,10 +44,10 @@ prunes_all_then low before old mid new p q = record {
 
 -- ---- members
 
-pub kept_same : (low : ℕ) (k : Kept) → PrunesKept low k k
+pub kept_same : (low : ℕ) (k : ListVersion) → PrunesKept low k k
 kept_same low k = record { since = refl; head = refl; members = λ key base le. refl; near = λ item key base le is noted. noted }
 
-pub kept_then : (low : ℕ) (a b c : Kept) → PrunesKept low a b → PrunesKept low b c → PrunesKept low a c
+pub kept_then : (low : ℕ) (a b c : ListVersion) → PrunesKept low a b → PrunesKept low b c → PrunesKept low a c
 kept_then low a b c p q = record {
   since = q.since ∙ p.since;
   head = q.head ∙ p.head;
@@ -55,7 +55,7 @@ kept_then low a b c p q = record {
   near = λ item key base le is noted. q.near item key base le (p.members key base le ∙ is) (p.near item key base le is noted);
 }
 
-kept_prunes : (low : ℕ) (a b : Kept) → PrunesKept low a b → Prunes low (Some a) (Some b)
+kept_prunes : (low : ℕ) (a b : ListVersion) → PrunesKept low a b → Prunes low (Some a) (Some b)
 kept_prunes low a b p = record {
   head = p.head;
   since = λ base le. ap (nat_lt base) p.since;
@@ -81,17 +81,17 @@ forgets_prunes low before id old new here others = record {
       (cases_Bool (id == c)));
 }
   where
-    same_now : (x y : Option KeptList) → ForgetsOne before x y → now_of y ≡ now_of x
+    same_now : (x y : Option ListHistory) → ForgetsOne before x y → now_of y ≡ now_of x
     same_now None y h = ap now_of h
     same_now (Some l) None h = absurd h
     same_now (Some l) (Some m) h = ap Some h.0
 
-    same_found : (x y : Option KeptList) → ForgetsOne before x y → found_of y before ≡ found_of x before
+    same_found : (x y : Option ListHistory) → ForgetsOne before x y → found_of y before ≡ found_of x before
     same_found None y h = ap (λ o. found_of o before) h
     same_found (Some l) None h = absurd h
     same_found (Some l) (Some m) h = h.1 before (omega arith)
 
-gone_prunes : (low : ℕ) (x : Option Kept) → GoneBy low x → Prunes low x None
+gone_prunes : (low : ℕ) (x : Option ListVersion) → GoneBy low x → Prunes low x None
 gone_prunes low None h = prunes_same low None None refl
 gone_prunes low (Some k) h = record {
   head = sym h.0;
@@ -114,13 +114,13 @@ removal_prunes low before id old new le gone out = record {
       (cases_Bool (id == c));
 }
   where
-    early : (x : Option Kept) → GoneBy low x → since_of x ≤ before
+    early : (x : Option ListVersion) → GoneBy low x → since_of x ≤ before
     early None h = omega arith
     early (Some k) h = omega (arith, h.1, le)
 
 -- ---- pairs
 
--- a pair is let go only where no version of the member has the item
+-- a pair is removed only if no version of the member has the item
 pub pair_stays : (members : Held ℕ) (item key k other base : ℕ) (has was now : Bool) → ((b : ℕ) → value_at members key b ≡ Some item → has ≡ true) → has ≡ false
     → (is_eq (near_cmp (item, key) (other, k)) ≡ false → now ≡ was) → value_at members k base ≡ Some other → was ≡ true → now ≡ true
 pair_stays members item key k other base has was now holds none left stands noted =

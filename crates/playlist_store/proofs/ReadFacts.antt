@@ -1,4 +1,4 @@
--- What a store that stands for some batches answers.
+-- What a store that represents some batches returns.
 use Rattle.std.proofs.Common.{◌≡◌, ◌≤◌, ◌<◌, ◌-◌, ◌+◌, ◌^◌, ◌==◌, ◌&&◌, ◌||◌, not, ℕ, Bool, true, false, cond, List, [], ◌∷◌, ◌++◌, length, drop, filter, fold, map, flat_map, Option, Some, None, is_some, refl, sym, ap, subst, ◌∙◌, ⊎_elim, true≢false, arith, nat_cmp, Ok, Err}
 use Rattle.std.specs.Prelude.{Result, IfOk, nat_le, nat_lt}
 use Rattle.std.specs.Option.{option_map, option_and_then}
@@ -33,8 +33,8 @@ use Rattle.share_history.proofs.RowFacts.{ascending-lists}
 use Rattle.share_history.proofs.EditFacts.{up_to-all}
 use Rattle.share_history.proofs.ValidFacts.{few_lists}
 use Rattle.playlist_store.specs.declared.head.ListHead.{ListHead}
-use Rattle.playlist_store.specs.declared.kept.Kept.{Kept}
-use Rattle.playlist_store.specs.declared.kept.KeptList.{KeptList}
+use Rattle.playlist_store.specs.declared.kept.ListVersion.{ListVersion}
+use Rattle.playlist_store.specs.declared.kept.ListHistory.{ListHistory}
 use Rattle.playlist_store.specs.Words.{head_of, standing}
 use Rattle.playlist_store.specs.Names.{names_of, members_in}
 use Rattle.playlist_store.specs.Lists.{top, has_rule, head_in, since_of, member_in, near_in}
@@ -61,24 +61,24 @@ module _ {bs : List (List Edit)} {s : Store} (h : StandsFor bs s) where
       ltb-false s.revision (since_of (top s.lists c))
       (sym (h.now.since c s.revision low_reached) ∙ ap (list_any (names_list c)) (nothing_later bs s.revision (omega (arith, h.revision))))
 
-  -- what stands under a key now
+  -- the item under a key at present
   pub stands_now : (c key base : ℕ) → s.revision ≤ base → member_in (top s.lists c) key base ≡ standing (list_at (edits bs) c) (edits bs) c key
   stands_now c key base le =
       h.now.members c key base (omega (arith, le, low_reached)) (omega (arith, le, since_past c)) (and-false (nat_lt (revision bs) base))
       ∙ ap (λ cs. standing (list_at (edits bs) c) (edits cs) c key) (up_to-all bs base (omega (arith, le, h.revision)))
 
-  -- and what stood there at a base since which the list was not put
+  -- and the one at a base after the list's last put
   pub stood_then : (c key base : ℕ) → s.low ≤ base → since_of (top s.lists c) ≤ base → base ≤ s.revision
       → member_in (top s.lists c) key base ≡ standing (list_at (edits bs) c) (edits (up_to bs base)) c key
   stood_then c key base from since to =
       h.now.members c key base from since (and-false (nat_lt (revision bs) base))
 
--- the newest value is the one that stands at some revision, and at each above it
+-- the newest value is the one at some revision, and at each later one
 newest_seen : {T : Type 0} (vs : List (Version T)) → (from : ℕ) × ((base : ℕ) → from ≤ base → value_in vs base ≡ newest_value vs)
 newest_seen [] = (0, λ base le. refl)
 newest_seen (v ∷ vs) = (v.revision, λ base le. ap (option_and_then (λ w. w.value)) (found_first v vs base le))
 
-pub newest_stands : {bs : List (List Edit)} {s : Store} → StandsFor bs s → (c key : ℕ) (kept : Kept) → top s.lists c ≡ Some kept
+pub newest_stands : {bs : List (List Edit)} {s : Store} → StandsFor bs s → (c key : ℕ) (kept : ListVersion) → top s.lists c ≡ Some kept
     → newest_value (versions_at key kept.members) ≡ standing (list_at (edits bs) c) (edits bs) c key
 newest_stands {bs} {s} h c key kept is =
     let seen = newest_seen (versions_at key kept.members) in
@@ -106,11 +106,11 @@ ids_listed {bs} {s} h sorted =
     ∙ ap is_some (lookup-filter-values (eq_by_cmp_equiv nat_cmp_total) (λ list. is_some list.now.head) c s.lists (IsDistinct-from_sorted nat_cmp (keys_of s.lists) sorted))
     ∙ filled (at c s.lists) ∙ ap is_some (h.now.heads c) ∙ some_mapped head_of (list_at (edits bs) c))
   where
-    filled_one : (list : KeptList) (b : Bool) → is_some list.now.head ≡ b → is_some (cond b (Some list) None) ≡ is_some list.now.head
+    filled_one : (list : ListHistory) (b : Bool) → is_some list.now.head ≡ b → is_some (cond b (Some list) None) ≡ is_some list.now.head
     filled_one list true is = sym is
     filled_one list false is = sym is
 
-    filled : (found : Option KeptList) → is_some (option_filter (λ list. is_some list.now.head) found) ≡ is_some (head_in (option_map (λ list. list.now) found))
+    filled : (found : Option ListHistory) → is_some (option_filter (λ list. is_some list.now.head) found) ≡ is_some (head_in (option_map (λ list. list.now) found))
     filled None = refl
     filled (Some list) = filled_one list (is_some list.now.head) refl
 
@@ -151,7 +151,7 @@ count_same more count quiet is bs h =
     is bs h ∙ sym (counted_ids (edits bs) (keys_of (lists (edits bs))) refl) ∙ ap length (sym (same_ids (keys_of (lists (edits bs))) more quiet) ∙ list_ids_after (edits bs) more)
     ∙ counted_ids (edits bs ++ more) (keys_of (lists (edits bs ++ more))) refl
 
--- ---- kept bases
+-- ---- bases in the delta window
 
 kept_test : (a b c d e : Bool) → (a ≡ true → b ≡ true → c ≡ true → d ≡ e) → (a && (b && (c && d))) ≡ (a && (b && (c && e)))
 kept_test true true true d e h = h refl refl refl
@@ -183,7 +183,7 @@ kept_is {s} {now} same r c base since is tested bs h =
     ∙ ap (λ v. nat_le first_revision base && (nat_le base s.revision && (nat_le s.revision (base + s.keep) && ((c == base_list) || nat_le v base)))) is
     ∙ kept_told (subst (StandsFor bs) (sym same) h) c base ∙ ap (λ t. is_kept t.keep bs (Container c) base) same
 
--- what a kept base says
+-- what follows from a base in the delta window
 pub kept_parts : {bs : List (List Edit)} {s : Store} → StandsFor bs s → (c base : ℕ) → (c == base_list) ≡ false → is_kept s.keep bs (Container c) base ≡ true
     → (s.low ≤ base) × ((since_of (top s.lists c) ≤ base) × (base ≤ s.revision))
 kept_parts {bs} {s} h c base other kept =
@@ -215,7 +215,7 @@ plain_list (Some (Plain name)) head is none = (name, refl)
 plain_list (Some (Ruled name rule)) head is none =
     absurd (true≢false (ap has_rule is ∙ none))
 
-pub plain_touched : {bs : List (List Edit)} {s : Store} → StandsFor bs s → (c base : ℕ) (kept : Kept) (head : ListHead) (ks : List ℕ)
+pub plain_touched : {bs : List (List Edit)} {s : Store} → StandsFor bs s → (c base : ℕ) (kept : ListVersion) (head : ListHead) (ks : List ℕ)
     → (c == base_list) ≡ false → s.low ≤ base → top s.lists c ≡ Some kept → kept.head ≡ Some head → is_some head.rule ≡ false → AreAscending ks
     → ((q : ℕ) → is_key q ks ≡ list_any (is_touched_by kept c q) (drop (base - s.low) s.named))
     → ks ≡ touched bs (Container c) base
@@ -232,7 +232,7 @@ plain_touched {bs} {s} h c base kept head ks other from is has_head no_rule sort
     ∙ ap (λ ids. list_any (is_member c q) (flat_map members_in (later bs base)) || list_any (is_item_of kept q) ids)
     (named_later names_of (λ n. n.items) items_in (λ b. refl) bs s.named s.low base h.named h.least from))
 
-pub plain_told : {X E : Type 0} (listed : X → List ℕ) (r : Result X E) {s now : Store} → s ≡ now → (items : items_store.Store) (c base passed : ℕ) (kept : Kept) (head : ListHead)
+pub plain_told : {X E : Type 0} (listed : X → List ℕ) (r : Result X E) {s now : Store} → s ≡ now → (items : items_store.Store) (c base passed : ℕ) (kept : ListVersion) (head : ListHead)
     → (c == base_list) ≡ false → floor_of now.keep now.revision ≤ base → top s.lists c ≡ Some kept → kept.head ≡ Some head → is_some head.rule ≡ false → passed ≡ base - s.low
     → IfOk r (λ v. AreAscending (listed v)) → IfOk r (λ v. (q : ℕ) → is_key q (listed v) ≡ list_any (is_touched_by kept c q) (drop passed s.named))
     → IfOk r (λ v. (bs : List (List Edit)) → StandsFor bs now → items_stand.StandsFor bs items → listed v ≡ touched bs (Container c) base)
@@ -245,7 +245,7 @@ plain_told listed (Ok v) {s} {now} same items c base passed kept head other from
     reached : {bs : List (List Edit)} {s now : Store} → StandsFor bs s → s ≡ now → (base : ℕ) → floor_of now.keep now.revision ≤ base → s.low ≤ base
     reached h same base from = omega (arith, h.reach, from, ap (λ s. s.keep) same, ap (λ s. s.revision) same)
 
-pub ruled_told : {X E : Type 0} (listed : X → List ℕ) (r : Result X E) {s now : Store} → s ≡ now → (items : items_store.Store) (c base : ℕ) (kept : Kept) (head : ListHead)
+pub ruled_told : {X E : Type 0} (listed : X → List ℕ) (r : Result X E) {s now : Store} → s ≡ now → (items : items_store.Store) (c base : ℕ) (kept : ListVersion) (head : ListHead)
     → (c == base_list) ≡ false → top s.lists c ≡ Some kept → kept.head ≡ Some head → is_some head.rule ≡ true
     → IfOk r (λ v. (bs : List (List Edit)) → items_stand.StandsFor bs items → listed v ≡ touched bs Items base)
     → IfOk r (λ v. (bs : List (List Edit)) → StandsFor bs now → items_stand.StandsFor bs items → listed v ≡ touched bs (Container c) base)
@@ -267,7 +267,7 @@ some_list : (o : Option Playlist) {A : Type 0} (x : A) → is_some (option_map h
 some_list None x is = absurd (true≢false (sym is))
 some_list (Some l) x is = refl
 
-pub members_told : {s now : Store} → s ≡ now → (items : items_store.Store) (c : ℕ) (kept : Kept) (found : List (ℕ × ℕ))
+pub members_told : {s now : Store} → s ≡ now → (items : items_store.Store) (c : ℕ) (kept : ListVersion) (found : List (ℕ × ℕ))
     → (c == base_list) ≡ false → top s.lists c ≡ Some kept → is_some kept.head ≡ true
     → ((bs : List (List Edit)) (c : ℕ) → items_stand.StandsFor bs items → (c == base_list) ≡ false
     → ((key : ℕ) → newest_value (versions_at key kept.members) ≡ standing (list_at (edits bs) c) (edits bs) c key)

@@ -7,18 +7,18 @@ use Rattle.share_history.specs.Named.{names_list}
 use Rattle.item_store.specs.Stands.{named_items}
 use Rattle.std.specs.List.{list_any}
 use Rattle.std.proofs.lemmas.Bool.{cases_Bool}
-use Rattle.playlist_store.specs.declared.kept.KeptList.{KeptList}
+use Rattle.playlist_store.specs.declared.kept.ListHistory.{ListHistory}
 use Rattle.playlist_store.proofs.StandFacts.{other_number}
 use Rattle.playlist_store.specs.Words.{ruled}
 use Rattle.item_model.specs.declared.changes.Edit.{Edit}
 use Rattle.item_model.specs.declared.query.Query.{Query}
 use Rattle.key_versions.specs.Held.{Held, at, value_at, is_among}
-use Rattle.playlist_store.specs.declared.kept.Kept.{Kept}
+use Rattle.playlist_store.specs.declared.kept.ListVersion.{ListVersion}
 use Rattle.playlist_store.specs.Lists.{Lists, top, since_of, has_rule}
 use Rattle.playlist_store.specs.Changes.{InPlace, Everywhere, Sets, LeavesRule, TestsRule, TellsOne, Tells, Taken, tested_ids, ruled_in, puts_rule, now_of}
 use Rattle.playlist_store.proofs.FrameFacts.{leaves_same}
 
-pub rule_leaves_same : (n : ℕ) (ids : List ℕ) (k : Kept) → LeavesRule n ids k k
+pub rule_leaves_same : (n : ℕ) (ids : List ℕ) (k : ListVersion) → LeavesRule n ids k k
 rule_leaves_same n ids k = record {
   since = refl;
   head = refl;
@@ -26,7 +26,7 @@ rule_leaves_same n ids k = record {
   leaves = λ before. leaves_same n (λ key. has_rule k.head && is_among key ids) k;
 }
 
-pub rule_leaves_then : (n : ℕ) (ids : List ℕ) (a b c : Kept) → LeavesRule n ids a b → LeavesRule n ids b c → LeavesRule n ids a c
+pub rule_leaves_then : (n : ℕ) (ids : List ℕ) (a b c : ListVersion) → LeavesRule n ids a b → LeavesRule n ids b c → LeavesRule n ids a c
 rule_leaves_then n ids a b c p q = record {
   since = q.since ∙ p.since;
   head = q.head ∙ p.head;
@@ -56,7 +56,7 @@ rule_put (Ok x) P rule n id item old new said put = λ bs h key base. put key ba
     here bs h key base true is = ap (λ x. cond (nat_le n base) x (value_at old key base)) (said bs h ∙ ap (λ k. ruled rule k (item_at (edits bs) k)) (eqb-true id key is))
     here bs h key base false is = refl
 
-same_head : (n : ℕ) (picks : ℕ → Bool) (value : ℕ → Option ℕ) (k : Kept) → ((key : ℕ) → picks key ≡ false) → Sets n picks value k k
+same_head : (n : ℕ) (picks : ℕ → Bool) (value : ℕ → Option ℕ) (k : ListVersion) → ((key : ℕ) → picks key ≡ false) → Sets n picks value k k
 same_head n picks value k none = record {
   since = refl;
   head = refl;
@@ -64,8 +64,8 @@ same_head n picks value k none = record {
   members = λ key base. sym (ap (λ b. cond (b && nat_le n base) (value key) (value_at k.members key base)) (none key));
 }
 
--- where a batch names no item and puts no rule, there is nothing to look at
-unlooked : (n : ℕ) (es : List Edit) (list : Option Playlist) (member : ℕ → Option ℕ) (named rule : Bool) (old : Option Kept) (x : Option KeptList) → rule ≡ false → since_of old < n
+-- if a batch names no item and puts no rule, there is nothing to evaluate
+unlooked : (n : ℕ) (es : List Edit) (list : Option Playlist) (member : ℕ → Option ℕ) (named rule : Bool) (old : Option ListVersion) (x : Option ListHistory) → rule ≡ false → since_of old < n
     → TellsOne n list member named rule old (now_of x) → InPlace (TestsRule n es []) x x
 unlooked n es list member named rule old None no_rule early t = refl
 unlooked n es list member named rule old (Some l) no_rule early t = (refl, same_head n (λ key. has_rule l.now.head && is_among key (tested_ids (l.now.since == n) es [])) (ruled_in l.now.head es) l.now unpicked)
@@ -93,7 +93,7 @@ pub no_length : {A : Type 0} (xs : List A) → (length xs == 0) ≡ true → xs 
 no_length [] h = refl
 no_length (x ∷ xs) h = absurd (let e : length (x ∷ xs) ≡ 0 = eqb-true (length (x ∷ xs)) 0 h in omega (arith, e))
 
--- a batch whose rules were looked at
+-- a batch whose rules were evaluated
 pub all_taken : {E : Type 0} (r : Result ⊤ E) (P : List (List Edit) → Type 0) (n : ℕ) (batch : List Edit) (ids : List ℕ) (old mid new : Lists) → ids ≡ named_items batch
     → ((es : List Edit) → Tells n es [] old old → Tells n (es ++ batch) batch old mid)
     → OnOk r ((bs : List (List Edit)) → P bs → Everywhere (TestsRule n (edits bs) ids) mid new)

@@ -1,4 +1,4 @@
--- What is shown of batches where what is read changes its place.
+-- What is shown of batches if other versions are read.
 use Rattle.std.proofs.Common.{◌≡◌, ◌≤◌, ◌-◌, ℕ, Bool, true, false, ◌&&◌, List, [], ◌∷◌, ◌++◌, drop, Option, Some, None, min, refl, sym, ap, subst, ◌∙◌, ⊎_elim, true≢false, arith}
 use Rattle.std.specs.Prelude.{nat_lt}
 use Rattle.std.specs.Option.{option_map}
@@ -13,7 +13,7 @@ use Rattle.share_history.specs.Histories.{edits, revision, up_to, later}
 use Rattle.share_history.specs.LastSaid.{Playlist, Plain, Ruled, list_at, member_at}
 use Rattle.share_history.specs.Named.{names_list}
 use Rattle.share_history.proofs.EditFacts.{edits_more, up_to-all}
-use Rattle.playlist_store.specs.declared.kept.Kept.{Kept}
+use Rattle.playlist_store.specs.declared.kept.ListVersion.{ListVersion}
 use Rattle.playlist_store.specs.Words.{head_of, standing}
 use Rattle.playlist_store.specs.Lists.{head_in, since_of, member_in, near_in, names_key}
 use Rattle.playlist_store.specs.Stands.{Shows}
@@ -34,7 +34,7 @@ up_to_least bs base v le =
     (λ above. up_to-all bs (min base v) (omega (arith, le, le-min {k = v} {a = base} {b = v} above (omega arith))) ∙ sym (up_to-all bs base (omega (arith, le, above))))
     (cases_lt base v)
 
--- ---- what stands in a list of a kind
+-- ---- the items under the keys of each kind of list
 
 pub plain_is : (l : Option Playlist) → is_plain (option_map head_of l) ≡ true → (name : List ℕ) × (l ≡ Some (Plain name))
 plain_is None h = absurd (true≢false (sym h))
@@ -50,8 +50,8 @@ no_head (Some l) h = absurd (cc)
 
 -- ---- readings
 
--- where a value that is read now was read before
-pub record Source (bs : List (List Edit)) (more : List Edit) (low c key base : ℕ) (new old : Option Kept) : Type 0 where
+-- from which earlier value a value is read
+pub record Source (bs : List (List Edit)) (more : List Edit) (low c key base : ℕ) (new old : Option ListVersion) : Type 0 where
   pub from : ℕ
   pub same : member_in new key base ≡ member_in old key from
   pub reached : low ≤ from
@@ -59,8 +59,8 @@ pub record Source (bs : List (List Edit)) (more : List Edit) (low c key base : �
   pub left : (nat_lt (revision bs) from && list_any (names_key (head_in old) c key) more) ≡ false
   pub until : up_to bs from ≡ up_to bs base
 
--- what is read in another place shows the same batches
-pub shows_moved : (bs : List (List Edit)) (more more' : List Edit) (low : ℕ) (read read' : ℕ → Option Kept) → Shows bs more low read
+-- other versions with the same reads show the same batches
+pub shows_moved : (bs : List (List Edit)) (more more' : List Edit) (low : ℕ) (read read' : ℕ → Option ListVersion) → Shows bs more low read
     → ((c : ℕ) → head_in (read' c) ≡ head_in (read c)) → ((c : ℕ) → since_of (read' c) ≡ since_of (read c))
     → ((c item key : ℕ) → near_in (read c) item key ≡ true → near_in (read' c) item key ≡ true)
     → ((c key base : ℕ) → low ≤ base → since_of (read c) ≤ base → (nat_lt (revision bs) base && list_any (names_key (head_in (read c)) c key) more') ≡ false
@@ -76,12 +76,12 @@ shows_moved bs more more' low read read' h head since near moved = record {
 }
 
 -- a list came by the last revision
-pub since_shown : (bs : List (List Edit)) (more : List Edit) (low : ℕ) (read : ℕ → Option Kept) → Shows bs more low read → low ≤ revision bs → (c : ℕ) → since_of (read c) ≤ revision bs
+pub since_shown : (bs : List (List Edit)) (more : List Edit) (low : ℕ) (read : ℕ → Option ListVersion) → Shows bs more low read → low ≤ revision bs → (c : ℕ) → since_of (read c) ≤ revision bs
 since_shown bs more low read h le c =
     ltb-false (revision bs) (since_of (read c)) (sym (h.since c (revision bs) le) ∙ ap (list_any (names_list c)) (later_none bs (revision bs) (omega arith)))
 
 -- one that edits since a revision don't name came by the revision
-pub since_by : (bs : List (List Edit)) (more : List Edit) (low : ℕ) (read : ℕ → Option Kept) → Shows bs more low read → (c base : ℕ) → low ≤ base
+pub since_by : (bs : List (List Edit)) (more : List Edit) (low : ℕ) (read : ℕ → Option ListVersion) → Shows bs more low read → (c base : ℕ) → low ≤ base
     → list_any (names_list c) (later bs base) ≡ false → since_of (read c) ≤ base
 since_by bs more low read h c base le un = ltb-false base (since_of (read c)) (sym (h.since c base le) ∙ un)
 
@@ -104,7 +104,7 @@ left_below v base lower b le h =
     and_true false = refl
 
 -- what is pruned shows the same from the low revision on
-pub shows_pruned : (bs : List (List Edit)) (more : List Edit) (low low' : ℕ) (read read' : ℕ → Option Kept) → low ≤ low' → low' ≤ revision bs → Shows bs more low read
+pub shows_pruned : (bs : List (List Edit)) (more : List Edit) (low low' : ℕ) (read read' : ℕ → Option ListVersion) → low ≤ low' → low' ≤ revision bs → Shows bs more low read
     → ((c : ℕ) → Prunes low' (read c) (read' c)) → Shows bs more low' read'
 shows_pruned bs more low low' read read' le few h p = record {
   heads = λ c. (p c).head ∙ h.heads c;

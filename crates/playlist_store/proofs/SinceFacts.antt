@@ -30,7 +30,7 @@ named_edits : {X : Type 0} (said : Edit → List X) (bs : List (List Edit)) → 
 named_edits said [] = refl
 named_edits said (b ∷ bs) = ap (λ xs. flat_map said b ++ xs) (named_edits said bs) ∙ sym (flat_map-append said b (edits bs))
 
--- of what each batch from a low revision on names, the part behind a base is what the edits after the base name
+-- of what the batches from `low` on name, the part after a base is what the edits after it name
 pub named_later : {N X : Type 0} (names_of : List Edit → N) (part : N → List X) (said : Edit → List X) → ((b : List Edit) → part (names_of b) ≡ flat_map said b)
     → (bs : List (List Edit)) (named : List N) (low base : ℕ) → named ≡ map names_of (drop (low - first_revision) bs) → first_revision ≤ low → low ≤ base
     → flat_map part (drop (base - low) named) ≡ flat_map said (later bs base)
@@ -86,7 +86,7 @@ near_items near own (item ∷ items) known =
     ap (λ b. b || list_any (λ item. near item && (item == own)) items) (near_item near own item (item == own) refl known)
     ∙ ap (λ b. (item == own) || b) (near_items near own items known)
 
--- some of the items is that of a member, where the member stands near its own
+-- some edit names the member's item, if the index has the member under it
 pub items_named : (near : ℕ → Bool) (found : Option ℕ) (es : List Edit) → ((item : ℕ) → found ≡ Some item → near item ≡ true)
     → list_any (λ item. near item && has_item found item) (named_items es) ≡ names_its_item found es
 items_named near None es known = no_item near (named_items es)
@@ -108,7 +108,7 @@ module _ (bs : List (List Edit)) (c base : ℕ) (other : (c == base_list) ≡ fa
   no_keys [] = refl
   no_keys (k ∷ ks) = no_keys ks
 
-  -- where no list is there are none
+  -- a list that does not exist has no touched keys
   pub touched_none : list_at (edits bs) c ≡ None → [] ≡ touched bs (Container c) base
   touched_none is = sym (ap (λ test. filter test (ascending (named_keys (edits bs)))) (λ i k. touches_listed None is k i) ∙ no_keys (ascending (named_keys (edits bs))))
 

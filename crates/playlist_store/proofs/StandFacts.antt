@@ -1,4 +1,4 @@
--- What a store stands for before and after each of its calls.
+-- What a store represents before and after each of its calls.
 use Rattle.std.proofs.Common.{◌≡◌, ◌≤◌, ◌<◌, ◌+◌, ◌-◌, ℕ, Bool, true, false, cond, ◌||◌, ◌&&◌, ◌==◌, List, [], ◌∷◌, ◌++◌, Option, Some, None, is_some, refl, sym, ap, subst, ◌∙◌, ⊎_elim, true≢false, eqb-true, arith}
 use Rattle.std.specs.Prelude.{nat_lt}
 use Rattle.std.specs.Option.{option_map}
@@ -20,7 +20,7 @@ use Rattle.share_history.proofs.RowFacts.{at-library}
 use Rattle.item_store.specs.Stands.{named_items}
 use Rattle.item_store.proofs.BatchFacts.{among_named}
 use Rattle.item_store.proofs.StandFacts.{has-among}
-use Rattle.playlist_store.specs.declared.kept.Kept.{Kept}
+use Rattle.playlist_store.specs.declared.kept.ListVersion.{ListVersion}
 use Rattle.playlist_store.specs.Words.{head_of, ruled, standing}
 use Rattle.playlist_store.specs.Lists.{Lists, top, list_in, head_in, since_of, member_in, near_in, has_rule, names_key}
 use Rattle.playlist_store.specs.Store.{Store}
@@ -45,7 +45,7 @@ module _ {bs : List (List Edit)} {s : Store} (h : StandsFor bs s) where
       (left_unnamed (revision bs) base false refl)
       ∙ ap (λ cs. standing (list_at (edits bs) c) (edits cs) c key) (up_to-all bs base le)
 
-  -- no edit of the next revision is told yet
+  -- no edit of the next revision is applied yet
   pub tells_start : (n : ℕ) → n ≡ s.revision + 1 → Tells n (edits bs) [] s.lists s.lists
   tells_start n next c = record {
     heads = h.now.heads c;
@@ -71,14 +71,14 @@ not_in_library es id h = none (item_at es id) (sym (has-keys_of id (library es) 
     none (Some row) h = absurd (true≢false h)
 
 -- what the last of a rule's looks says
-pub record Looked (n : ℕ) (es : List Edit) (ids : List ℕ) (old new : Option Kept) : Type 0 where
+pub record Looked (n : ℕ) (es : List Edit) (ids : List ℕ) (old new : Option ListVersion) : Type 0 where
   pub head : head_in new ≡ head_in old
   pub since : since_of new ≡ since_of old
   pub near : (item key : ℕ) → near_in old item key ≡ true → near_in new item key ≡ true
   pub members : (key base : ℕ) → n ≤ base
       → member_in new key base ≡ cond (has_rule (head_in old) && is_among key (tested_ids (since_of old == n) es ids)) (ruled_in (head_in old) es key) (member_in old key base)
 
-pub looked : (n : ℕ) (es : List Edit) (ids : List ℕ) (a b : Kept) → TestsRule n es ids a b → Looked n es ids (Some a) (Some b)
+pub looked : (n : ℕ) (es : List Edit) (ids : List ℕ) (a b : ListVersion) → TestsRule n es ids a b → Looked n es ids (Some a) (Some b)
 looked n es ids a b t = record {
   head = t.head;
   since = t.since;
@@ -101,13 +101,13 @@ is_rule None h es c key = absurd (true≢false (sym h))
 is_rule (Some (Plain name)) h es c key = absurd (true≢false (sym h))
 is_rule (Some (Ruled name rule)) h es c key = refl
 
--- in a rule list nothing stands under a key without an item
+-- in a smart playlist a key whose item does not exist has no item
 no_item_stands : (l : Option Playlist) → is_plain (option_map head_of l) ≡ false → (es : List Edit) (c key : ℕ) → item_at es key ≡ None → standing l es c key ≡ None
 no_item_stands None h es c key none = refl
 no_item_stands (Some (Plain name)) h es c key none = absurd (true≢false h)
 no_item_stands (Some (Ruled name rule)) h es c key none = ap (ruled rule key) none
 
--- and where the item stays, what stands under the key does
+-- and while the item stays, the item under the key does
 item_stands : (l : Option Playlist) → is_plain (option_map head_of l) ≡ false → (es ds : List Edit) (c key : ℕ) → item_at es key ≡ item_at ds key → standing l es c key ≡ standing l ds c key
 item_stands None h es ds c key same = refl
 item_stands (Some (Plain name)) h es ds c key same = absurd (true≢false h)
@@ -190,7 +190,7 @@ module _ (bs : List (List Edit)) (batch : List Edit) (s : Store) (n : ℕ) (new 
       no_rule : has_rule (head_in (top taken.mid c)) ≡ false
       no_rule = ap has_rule (tells c).heads ∙ ap (λ o. has_rule (option_map head_of o)) (plain_is (list_at es c) p).1
 
-  -- where a rule did not look
+  -- if a rule was not evaluated
   member_unlooked : (c key base : ℕ) → n ≤ base → is_plain (option_map head_of (list_at es c)) ≡ false
       → (has_rule (head_in (top taken.mid c)) ≡ true → is_among key (tested_ids (since_of (top taken.mid c) == n) es (named_items batch)) ≡ false)
       → member_in (top taken.mid c) key base ≡ standing (list_at es c) es c key

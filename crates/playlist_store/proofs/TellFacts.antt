@@ -1,4 +1,4 @@
--- What is told of each list, edit by edit.
+-- What each list is, edit by edit.
 use Rattle.std.proofs.Common.{◌≡◌, ◌≤◌, ◌<◌, ◌+◌, ℕ, Bool, true, false, cond, ◌||◌, ◌&&◌, ◌==◌, List, [], ◌∷◌, ◌++◌, length, take, get_or, append_assoc, Option, Some, None, unwrap_or, refl, sym, ap, subst, ◌∙◌, ⊎_elim, true≢false, eqb-true, Ok, Err}
 use Rattle.std.specs.Prelude.{Result, OnOk, nat_le, ⊤}
 use Rattle.std.specs.Option.{option_map}
@@ -15,7 +15,7 @@ use Rattle.share_history.specs.LastSaid.{Playlist, only_if, says_list, says_memb
 use Rattle.share_history.specs.Named.{names_list}
 use Rattle.share_history.proofs.EditFacts.{list_more, member_more}
 use Rattle.playlist_store.specs.declared.head.ListHead.{ListHead}
-use Rattle.playlist_store.specs.declared.kept.Kept.{Kept}
+use Rattle.playlist_store.specs.declared.kept.ListVersion.{ListVersion}
 use Rattle.playlist_store.specs.Words.{head_of}
 use Rattle.playlist_store.specs.Lists.{Lists, top, since_of, near_in, has_rule}
 use Rattle.playlist_store.specs.Changes.{TellsOne, Tells, Puts, SetsMember, ChangesOne, InPlace, now_of, is_plain, puts_rule}
@@ -23,8 +23,8 @@ use Rattle.playlist_store.proofs.KeptFacts.{on_top}
 
 -- ---- one list
 
--- what is told stays told of what is the same
-tells_same : (n : ℕ) (l l' : Option Playlist) (m m' : ℕ → Option ℕ) (named named' rule rule' : Bool) (old a b : Option Kept)
+-- equal lists and versions agree alike
+tells_same : (n : ℕ) (l l' : Option Playlist) (m m' : ℕ → Option ℕ) (named named' rule rule' : Bool) (old a b : Option ListVersion)
     → l' ≡ l → ((k : ℕ) → m' k ≡ m k) → named' ≡ named → (rule ≡ true → rule' ≡ true) → b ≡ a
     → TellsOne n l m named rule old a → TellsOne n l' m' named' rule' old b
 tells_same n l l' m m' named named' rule rule' old a b list member names rules same h =
@@ -43,7 +43,7 @@ none_some : (item : ℕ) → ◌≡◌ {A = Option ℕ} None (Some item) → ⊥
 none_some item h = absurd (cc)
 
 -- a list that was put or dropped
-tells_put : (n : ℕ) (l : Option Playlist) (m : ℕ → Option ℕ) (rule : Bool) (old : Option Kept) (kept : Kept)
+tells_put : (n : ℕ) (l : Option Playlist) (m : ℕ → Option ℕ) (rule : Bool) (old : Option ListVersion) (kept : ListVersion)
     → kept.since ≡ n → kept.head ≡ option_map head_of l → kept.members ≡ [] → ((k : ℕ) → m k ≡ None) → (has_rule kept.head ≡ true → rule ≡ true)
     → TellsOne n l m true rule old (Some kept)
 tells_put n l m rule old kept since head members none rules = record {
@@ -71,7 +71,7 @@ unchosen : (p q r : Bool) (x y : Option ℕ) → p ≡ false → cond ((p && q) 
 unchosen p q r x y un = ap (λ p. cond ((p && q) && r) x y) un
 
 -- a member that was put or dropped
-tells_set : (n : ℕ) (l : Option Playlist) (m m' : ℕ → Option ℕ) (named rule : Bool) (old : Option Kept) (key : ℕ) (item : Option ℕ) (a b : Kept)
+tells_set : (n : ℕ) (l : Option Playlist) (m m' : ℕ → Option ℕ) (named rule : Bool) (old : Option ListVersion) (key : ℕ) (item : Option ℕ) (a b : ListVersion)
     → ((k : ℕ) → m' k ≡ cond (key == k) item (m k)) → SetsMember n key item a b → TellsOne n l m named rule old (Some a) → TellsOne n l m' named rule old (Some b)
 tells_set n l m m' named rule old key item a b says s h = record {
   heads = s.sets.head ∙ h.heads;
@@ -99,8 +99,8 @@ tells_set n l m m' named rule old key item a b says s h = record {
     other : (k base : ℕ) → is_plain b.head ≡ false → value_at b.members k base ≡ value_at a.members k base
     other k base p = s.sets.members k base ∙ unchosen (is_plain a.head) (key == k) (nat_le n base) item (value_at a.members k base) (was p)
 
--- members are told of plain lists alone
-tells_unset : (n : ℕ) (l : Option Playlist) (m m' : ℕ → Option ℕ) (named rule : Bool) (old : Option Kept) → TellsOne n l m named rule old None → TellsOne n l m' named rule old None
+-- only playlists have members to set
+tells_unset : (n : ℕ) (l : Option Playlist) (m m' : ℕ → Option ℕ) (named rule : Bool) (old : Option ListVersion) → TellsOne n l m named rule old None → TellsOne n l m' named rule old None
 tells_unset n l m m' named rule old h = record {
   heads = h.heads;
   since = h.since;
@@ -142,7 +142,7 @@ module _ (n : ℕ) (all batch : List Edit) (e : Edit) (old mid new : Lists) (h :
       → Tells n (all ++ e ∷ []) (batch ++ e ∷ []) old new
   tells_none list member names same q = untold q (list q) (member q) (names q) (ap (λ ls. top ls q) same)
 
-  pub tells_list : {E : Type 0} (r : Result ⊤ E) (c : ℕ) (kept : Kept) (l : Option Playlist) → ((q : ℕ) → says_list q e ≡ only_if (c == q) l)
+  pub tells_list : {E : Type 0} (r : Result ⊤ E) (c : ℕ) (kept : ListVersion) (l : Option Playlist) → ((q : ℕ) → says_list q e ≡ only_if (c == q) l)
       → ((q k : ℕ) → says_member q k e ≡ only_if (c == q) None) → ((q : ℕ) → names_list q e ≡ (c == q))
       → kept.since ≡ n → kept.head ≡ option_map head_of l → kept.members ≡ [] → (has_rule kept.head ≡ true → puts_rule e ≡ true)
       → OnOk r ((q : ℕ) → top new q ≡ cond (c == q) (Some kept) (top mid q))
@@ -200,7 +200,7 @@ module _ (n : ℕ) (all batch : List Edit) (e : Edit) (old mid new : Lists) (h :
 abbrev pub Told : (n : ℕ) (e : Edit) (mid new : Lists) → Type 0
 Told n e mid new = (es batch : List Edit) (first : Lists) → Tells n es batch first mid → Tells n (es ++ e ∷ []) (batch ++ e ∷ []) first new
 
-pub put_told : {E : Type 0} (r : Result ⊤ E) (n c : ℕ) (e : Edit) (kept : Kept) (l : Option Playlist) (mid new : Lists) → ((q : ℕ) → says_list q e ≡ only_if (c == q) l)
+pub put_told : {E : Type 0} (r : Result ⊤ E) (n c : ℕ) (e : Edit) (kept : ListVersion) (l : Option Playlist) (mid new : Lists) → ((q : ℕ) → says_list q e ≡ only_if (c == q) l)
     → ((q k : ℕ) → says_member q k e ≡ only_if (c == q) None) → ((q : ℕ) → names_list q e ≡ (c == q))
     → kept.since ≡ n → kept.head ≡ option_map head_of l → kept.members ≡ [] → (has_rule kept.head ≡ true → puts_rule e ≡ true)
     → Puts c kept r mid new → OnOk r (Told n e mid new)

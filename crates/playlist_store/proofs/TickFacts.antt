@@ -1,4 +1,4 @@
--- How often rules are looked at.
+-- How often rules are evaluated.
 use Rattle.std.proofs.Common.{◌≡◌, ◌≤◌, ◌<◌, ◌+◌, ◌⊎◌, inl, inr, ℕ, Bool, true, false, cond, ◌==◌, List, [], ◌∷◌, ◌++◌, length, map, Option, Some, None, refl, sym, ap, subst, ◌∙◌, ⊎_elim, true≢false, eqb-true, nat_cmp, is_eq, arith}
 use Rattle.std.specs.Prelude.{nat_lt}
 use Rattle.std.specs.Option.{option_map, option_map_or}
@@ -16,7 +16,7 @@ use Rattle.share_history.proofs.KeyedFacts.{same_key, is_eq-cmp, key_itself}
 use Rattle.share_history.proofs.EditFacts.{edits_more}
 use Rattle.share_history.proofs.RowFacts.{at-lists}
 use Rattle.item_store.specs.Stands.{named_items}
-use Rattle.playlist_store.specs.declared.kept.Kept.{Kept}
+use Rattle.playlist_store.specs.declared.kept.ListVersion.{ListVersion}
 use Rattle.playlist_store.specs.Words.{head_of}
 use Rattle.playlist_store.specs.Tests.{tests_for, tests_of}
 use Rattle.playlist_store.specs.Lists.{Lists, top, since_of, has_rule}
@@ -93,8 +93,8 @@ rule_of (Some (Ruled name rule)) h = (Ruled name rule, refl, λ es batch c. refl
 abbrev pub most_of : (es batch : List Edit) → List (ℕ × ℕ)
 most_of es batch = map (λ p. (p.0, tests_for es batch p.0 p.1)) (lists es)
 
-ticks_few : (n c : ℕ) (es batch : List Edit) (named : Bool) (m : ℕ → Option ℕ) (rule : Bool) (old : Option Kept) → list_any (names_list c) batch ≡ named → since_of old < n
-    → (x : Option Kept) → TellsOne n (list_at es c) m named rule old x → option_map_or (ticks_in n es (named_items batch)) x 0 ≤ allowed c (most_of es batch)
+ticks_few : (n c : ℕ) (es batch : List Edit) (named : Bool) (m : ℕ → Option ℕ) (rule : Bool) (old : Option ListVersion) → list_any (names_list c) batch ≡ named → since_of old < n
+    → (x : Option ListVersion) → TellsOne n (list_at es c) m named rule old x → option_map_or (ticks_in n es (named_items batch)) x 0 ≤ allowed c (most_of es batch)
 ticks_few n c es batch named m rule old is lt None t = omega arith
 ticks_few n c es batch named m rule old is lt (Some k) t =
     ⊎_elim

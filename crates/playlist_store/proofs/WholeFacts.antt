@@ -1,4 +1,4 @@
--- A batch that is taken in, one of which a part is taken in and back, and the last that is taken back.
+-- A batch that is applied, one of which a part is applied and reverted, and the last one when it is reverted.
 use Rattle.std.proofs.Common.{◌≡◌, ◌≤◌, ◌<◌, ◌+◌, ◌-◌, ◌⊎◌, inl, inr, ℕ, Bool, true, false, cond, ◌||◌, ◌&&◌, ◌==◌, List, [], ◌∷◌, ◌++◌, length, drop, map, Option, Some, None, is_some, min, refl, sym, ap, subst, ◌∙◌, ⊎_elim, true≢false, arith}
 use Rattle.std.specs.Prelude.{nat_lt}
 use Rattle.std.specs.List.{list_any}
@@ -20,8 +20,8 @@ use Rattle.share_history.proofs.ValidFacts.{valid_front}
 use Rattle.item_store.specs.Stands.{floor_of, named_items}
 use Rattle.item_store.proofs.BatchFacts.{among_named}
 use Rattle.playlist_store.specs.declared.head.ListHead.{ListHead}
-use Rattle.playlist_store.specs.declared.kept.Kept.{Kept}
-use Rattle.playlist_store.specs.declared.kept.KeptList.{KeptList}
+use Rattle.playlist_store.specs.declared.kept.ListVersion.{ListVersion}
+use Rattle.playlist_store.specs.declared.kept.ListHistory.{ListHistory}
 use Rattle.playlist_store.specs.Names.{Names, members_in, named_members, names_of}
 use Rattle.playlist_store.specs.Lists.{Lists, top, list_in, head_in, since_of, member_in, near_in, has_rule, names_key}
 use Rattle.playlist_store.specs.Store.{Store}
@@ -89,13 +89,13 @@ unpicked c batch (Some head) key h = kind (is_some head.rule) refl
 -- ---- what is taken back of one list
 
 -- all but the values of picked keys is as it was
-pub record Restored (n : ℕ) (picks : ℕ → Bool) (old new : Option Kept) : Type 0 where
+pub record Restored (n : ℕ) (picks : ℕ → Bool) (old new : Option ListVersion) : Type 0 where
   pub head : head_in new ≡ head_in old
   pub since : since_of new ≡ since_of old
   pub near : (item key : ℕ) → near_in new item key ≡ near_in old item key
   pub members : (key base : ℕ) → member_in new key base ≡ member_in old key (cond (picks key) (min base (n - 1)) base)
 
-restored : (n c : ℕ) (batch : List Edit) (x y : Option KeptList) → InPlace (ReturnsNamed n (names_of batch) c) x y → Restored n (picked c batch (head_in (now_of x))) (now_of x) (now_of y)
+restored : (n c : ℕ) (batch : List Edit) (x y : Option ListHistory) → InPlace (ReturnsNamed n (names_of batch) c) x y → Restored n (picked c batch (head_in (now_of x))) (now_of x) (now_of y)
 restored n c batch None y p = subst (λ w. Restored n (picked c batch None) None (now_of w)) (sym p) (record { head = refl; since = refl; near = λ item key. refl; members = λ key base. refl })
 restored n c batch (Some l) None p = absurd p
 restored n c batch (Some l) (Some m) p = record { head = p.1.head; since = p.1.since; near = p.1.near; members = p.1.members }
@@ -181,16 +181,16 @@ undone bs batch s n named new h can last lists taken =
       until = refl;
     }
 
--- ---- a part that is taken in and back
+-- ---- a part that is applied and reverted
 
 -- what is read is what was, or what was before the revision
-pub record Undone (n : ℕ) (old new : Option Kept) : Type 0 where
+pub record Undone (n : ℕ) (old new : Option ListVersion) : Type 0 where
   pub head : head_in new ≡ head_in old
   pub since : since_of new ≡ since_of old
   pub near : (item key : ℕ) → near_in old item key ≡ true → near_in new item key ≡ true
   pub members : (key base : ℕ) → (member_in new key base ≡ member_in old key base) ⊎ (member_in new key base ≡ member_in old key (min base (n - 1)))
 
-undone_same : (n : ℕ) (a b : Option Kept) → b ≡ a → Undone n a b
+undone_same : (n : ℕ) (a b : Option ListVersion) → b ≡ a → Undone n a b
 undone_same n a b same = record {
   head = ap head_in same;
   since = ap since_of same;
@@ -212,8 +212,8 @@ module _ (n : ℕ) (batch : List Edit) (old new : Lists) (step : StepsBack n bat
   back_top : (c : ℕ) → Restored n (picked c batch (head_in (list_in step.mid c (n - 1)))) (list_in step.mid c (n - 1)) (top new c)
   back_top c = restored_top n batch step.mid new step.back some c (early c)
 
-  -- what edits kept, and what was then taken back
-  undone_by : (c : ℕ) (a b d : Option Kept) → Keeps n c batch a b → Restored n (picked c batch (head_in b)) b d → Undone n a d
+  -- what edits left, and what was then reverted
+  undone_by : (c : ℕ) (a b d : Option ListVersion) → Keeps n c batch a b → Restored n (picked c batch (head_in b)) b d → Undone n a d
   undone_by c a b d k r = record {
     head = r.head ∙ k.head;
     since = r.since ∙ k.since;
@@ -247,7 +247,7 @@ module _ (n : ℕ) (batch : List Edit) (old new : Lists) (step : StepsBack n bat
       (subst (λ o. Undone n (top old c) o) (sym (top_found new c v (subst (λ k. k ≤ v) (sym (undone_top c).since) newest))) (undone_top c)))
       (cases_lt v (since_of (top old c)))
 
-moved_back : (bs : List (List Edit)) (more : List Edit) (low n c key base : ℕ) (a b : Option Kept) → low ≤ base → low ≤ n - 1 → revision bs ≤ n - 1 → since_of a ≤ base → since_of a ≤ n - 1
+moved_back : (bs : List (List Edit)) (more : List Edit) (low n c key base : ℕ) (a b : Option ListVersion) → low ≤ base → low ≤ n - 1 → revision bs ≤ n - 1 → since_of a ≤ base → since_of a ≤ n - 1
     → (nat_lt (revision bs) base && list_any (names_key (head_in a) c key) more) ≡ false
     → (member_in b key base ≡ member_in a key base) ⊎ (member_in b key base ≡ member_in a key (min base (n - 1))) → Source bs more low c key base b a
 moved_back bs more low n c key base a b le low_few few put put_few left (inl same) = record { from = base; same = same; reached = le; since = put; left = left; until = refl }
@@ -316,7 +316,7 @@ not_applied {s} same n batch named new next lists step =
     subst (λ old. IsUnchanged old (record { keep = s.keep; revision = s.revision; low = s.low; can_undo = s.can_undo; named = named; lists = new }))
     same (left_alone s n batch named new (next ∙ ap (λ t. t.revision + 1) (sym same)) lists step)
 
--- ---- a batch that is taken in
+-- ---- a batch that is applied
 
 pub applied : (bs : List (List Edit)) (batch : List Edit) (s : Store) (n low : ℕ) (named : List Names) (mid new : Lists)
     → StandsFor bs s → AreValid batch → n ≡ s.revision + 1 → low ≡ floor_of s.keep s.revision

@@ -1,4 +1,4 @@
--- What is looked for when lists, members and changes are read.
+-- Definitions for the reads of lists, members and changes.
 use Rattle.std.specs.Prelude.{ℕ, ◌-◌, ◌^◌, List, ◌==◌, Bool, true, false, ◌&&◌, ◌||◌, Option, None, Some, is_some}
 use Rattle.std.specs.Ordering.{nat_cmp}
 use Rattle.std.specs.List.{list_any, filter}
@@ -12,42 +12,42 @@ use Rattle.item_model.specs.declared.changes.Edit.TheVariants.{PutItem, DropItem
 use Rattle.key_versions.specs.Found.{newest_value}
 use Rattle.key_versions.specs.Held.{versions_at}
 use Rattle.share_history.specs.LastSaid.{only_if, item_at}
-use Rattle.playlist_store.specs.declared.kept.Kept.{Kept}
+use Rattle.playlist_store.specs.declared.kept.ListVersion.{ListVersion}
 use Rattle.playlist_store.specs.Names.{Names}
 use Rattle.playlist_store.specs.Lists.{near_cmp}
 
 abbrev pub is_key : ℕ → List ℕ → Bool
 is_key key keys = list_any (is_at (nat_cmp key)) keys
 
--- an id, if there is an item of it
+-- an id, if its item exists
 abbrev pub there : List Edit → ℕ → Option ℕ
 there es id = only_if (is_some (item_at es id)) id
 
--- whether what is named is a member of a list under a key
+-- whether a named member is the one under a key of a list
 abbrev pub is_member : ℕ → ℕ → ℕ × ℕ → Bool
 is_member c key named = (named.0 == c) && (named.1 == key)
 
--- whether a member that has this item, or none, has that one
+-- whether the item of a member is the given one
 abbrev pub has_item : Option ℕ → ℕ → Bool
 has_item None item = false
 has_item (Some own) item = item == own
 
--- the pairs that note members beside an item
+-- the pairs in the index under an item
 abbrev pub pairs_of : ℕ → List (ℕ × ℕ) → List (ℕ × ℕ)
 pairs_of item near = filter (range_contains near_cmp (Included (item, 0)) (Included (item, 2 ^ 32 - 1))) near
 
 abbrev pub is_near : List (ℕ × ℕ) → ℕ → ℕ → Bool
 is_near near item key = list_any (λ pair. pair.1 == key) (pairs_of item near)
 
--- whether a member of a plain list has an item
-abbrev pub is_item_of : Kept → ℕ → ℕ → Bool
+-- whether a member of a playlist has an item
+abbrev pub is_item_of : ListVersion → ℕ → ℕ → Bool
 is_item_of kept key item = is_near kept.near.keys item key && has_item (newest_value (versions_at key kept.members)) item
 
--- whether what a batch names touches a key of a plain list
-abbrev pub is_touched_by : Kept → ℕ → ℕ → Names → Bool
+-- whether a batch touches a key of a playlist, by what it names
+abbrev pub is_touched_by : ListVersion → ℕ → ℕ → Names → Bool
 is_touched_by kept c key names = list_any (is_member c key) names.members || list_any (is_item_of kept key) names.items
 
--- the ids of lists after an edit
+-- the ids of existing lists after an edit
 abbrev pub with_list : List ℕ → Edit → List ℕ
 with_list ids (PutItem row) = ids
 with_list ids (DropItem id) = ids

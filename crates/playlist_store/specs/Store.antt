@@ -1,13 +1,13 @@
--- What a store of lists keeps.
+-- The contents of a store of lists.
 use Rattle.std.specs.Prelude.{ℕ, List, Bool}
 use Rattle.playlist_store.specs.Names.{Names}
 use Rattle.playlist_store.specs.Lists.{Lists}
 
 pub record Store : Type 0 where
-  -- for how many revisions back changes are told
+  -- the length of the delta window in revisions
   pub keep : ℕ
   pub revision : ℕ
-  -- the least revision that the members and the names reach back to
+  -- the first revision that the members and the names cover
   pub low : ℕ
   pub can_undo : Bool
   -- what each batch after `low` names, in order

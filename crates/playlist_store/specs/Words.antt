@@ -1,4 +1,4 @@
--- What is told of a list: what it is, the item that stands under each of its keys, and a member as a pair.
+-- What contracts say of a list: its head, the item under each of its keys, and a member as a pair.
 use Rattle.std.specs.Prelude.{ℕ, List, Option, Some, None, if◌then◌else◌}
 use Rattle.item_model.specs.declared.item.Row.{Row}
 use Rattle.item_model.specs.declared.query.Query.{Query}
@@ -13,13 +13,13 @@ abbrev pub head_of : Playlist → ListHead
 head_of (Plain name) = record { name = name; rule = None }
 head_of (Ruled name rule) = record { name = name; rule = Some rule }
 
--- an item stands under its own id, where the rule holds of it
+-- the id, if the rule matches the item
 abbrev pub ruled : Query → ℕ → Option Row → Option ℕ
 ruled rule id None = None
 ruled rule id (Some row) = if is_asked (Some rule) row then Some id else None
 
--- the id of the item that stands under a key of a list: that of a plain list's member, whether the library has it or
--- not, or that of an item of which the rule holds
+-- the id of the item under a key of a list: for a playlist the member's, whether the library has it or not; for a
+-- smart playlist that of a matching item
 abbrev pub standing : Option Playlist → List Edit → ℕ → ℕ → Option ℕ
 standing None es c key = None
 standing (Some (Plain name)) es c key = member_at es c key

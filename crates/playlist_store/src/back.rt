@@ -1,10 +1,10 @@
-//! A batch that is taken back, whole or as far as it was taken in.
+//! Reverts a batch, whole or as far as it was applied.
 
 ghost use Rattle.std.specs.Prelude.{◌≡◌, ◌≤◌};
 ghost use Rattle.playlist_store.specs.Changes.{ChangesOne, Everywhere, ReturnsAt, ReturnsKey, ReturnsMembers, ReturnsItems, TakesBack};
 
 use crate::heads::has_rule;
-use crate::kept::Kept;
+use crate::kept::ListVersion;
 use crate::lists::{Lists, pop_all};
 use crate::named::Named;
 use key_versions::next_key;
@@ -37,7 +37,7 @@ fn back_member(lists: &mut Lists, id: u32, key: u32, revision: u32)
     }
 }
 
-// Takes items back in the lists that have a rule.
+// Reverts the members of smart playlists that are among `items`.
 fn back_items(lists: &mut Lists, items: &[u32], revision: u32)
     ensures { 1 ≤ revision → Everywhere (ReturnsItems revision items.now) lists.old.entries lists.new.entries }
 {
@@ -57,7 +57,7 @@ fn back_rule(lists: &mut Lists, id: u32, items: &[u32], revision: u32)
     }
 }
 
-fn back_kept(kept: &mut Kept, items: &[u32], revision: u32)
+fn back_kept(kept: &mut ListVersion, items: &[u32], revision: u32)
     ensures { 1 ≤ revision → ReturnsItems revision items.now kept.old kept.new }
 {
     if has_rule(&kept.head) {

@@ -1,4 +1,4 @@
-//! Batches, as they change what a store keeps.
+//! Applying and reverting one batch.
 
 ghost use Rattle.std.specs.Prelude.{◌≡◌, ◌≤◌, ◌<◌, ◌+◌, ◌++◌, ◌∷◌, [], ℕ, List, ◌⊎◌, OnOk, OnErr};
 ghost use Rattle.std.specs.Option.{option_map_or};
@@ -23,7 +23,7 @@ use std::alloc::{AllocError, Global};
 use std::collections::VecDeque;
 use std::sync::ledger::Ledger;
 
-// Takes in a batch that makes a revision. After an `Err` what was taken in is taken back.
+// Applies a batch that makes `revision`. After an `Err` what was applied is reverted.
 pub(crate) fn take_in_batch<L: Ledger>(
     alloc: Global,
     lists: &mut Lists,
@@ -73,7 +73,7 @@ pub(crate) fn take_in_batch<L: Ledger>(
     }
 }
 
-// Takes in the edits, and then looks at rules on the items that they name. After an `Err` a part is in.
+// Applies the edits, and then evaluates rules on the items that they name. After an `Err` a part is applied.
 fn take_in_all<L: Ledger>(
     alloc: Global,
     lists: &mut Lists,
@@ -97,14 +97,14 @@ fn take_in_all<L: Ledger>(
         Ok(()) => {}
         Err(error) => return Err(error),
     }
-    // no rule has anything new to look at
+    // no rule can have another result
     if ids.is_empty() && !has_rule_put(batch) {
         return Ok(());
     }
     test_lists(lists, ids, revision, items, steps)
 }
 
-// Takes back the last batch, which made a revision.
+// Reverts the last batch, which made `revision`.
 pub(crate) fn take_back_batch(lists: &mut Lists, named: &mut VecDeque<Named>, revision: u32)
     ensures named { (front : List Names) (names : Names) → named.old.items ≡ front ++ names ∷ [] → named.new.items ≡ front }
     ensures lists { 1 ≤ revision → (front : List Names) (names : Names) → named.old.items ≡ front ++ names ∷ [] → TakesBack revision names lists.old.entries lists.new.entries }

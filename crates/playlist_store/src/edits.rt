@@ -1,4 +1,4 @@
-//! Edits, as they change the lists.
+//! Applying the edits of a batch to the lists.
 
 ghost use Rattle.std.specs.Prelude.{◌≡◌, ◌≤◌, ◌++◌, ◌∷◌, [], ℕ, List, Some, true, OnOk};
 ghost use Rattle.std.specs.List.{list_any};
@@ -8,13 +8,13 @@ ghost use Rattle.playlist_store.specs.Lists.{Lists as KeptLists, near_cmp};
 ghost use Rattle.playlist_store.specs.Changes.{ChangesOne, Frames, Tells, SetsMember, LeavesMember};
 
 use crate::heads::{fresh, is_plain, plain_head, ruled_head};
-use crate::kept::Kept;
+use crate::kept::ListVersion;
 use crate::lists::{Lists, put};
 use item_model::Edit;
 use std::alloc::{AllocError, Global};
 use std::collections::BTreeSet;
 
-// Takes in edits that make a revision. After an `Err` some of them are in.
+// Applies the edits of `batch`, which make `revision`. After an `Err` some of them are applied.
 pub(crate) fn take_in(
     alloc: Global,
     lists: &mut Lists,
@@ -62,7 +62,7 @@ fn take_in_one(
     }
 }
 
-// Gives a member of a plain list an item, or none, from a revision on. Other lists have no members of their own.
+// Sets the item of a member of a playlist from `revision` on. A smart playlist has no members to set.
 fn set_member(
     lists: &mut Lists,
     id: u32,
@@ -79,7 +79,12 @@ fn set_member(
     }
 }
 
-fn set_in(kept: &mut Kept, key: u32, revision: u32, item: Option<u32>) -> Result<(), AllocError>
+fn set_in(
+    kept: &mut ListVersion,
+    key: u32,
+    revision: u32,
+    item: Option<u32>,
+) -> Result<(), AllocError>
     ensures sets { OnOk result (SetsMember revision key item kept.old kept.new) }
     ensures leaves { LeavesMember revision key kept.old kept.new }
 {
@@ -93,7 +98,7 @@ fn set_in(kept: &mut Kept, key: u32, revision: u32, item: Option<u32>) -> Result
     kept.members.put_number(key, revision, item)
 }
 
-// Notes a member beside its item.
+// Adds the member to the index by item.
 fn note(near: &mut BTreeSet<(u32, u32)>, key: u32, item: Option<u32>) -> Result<(), AllocError>
     ensures stay { (other k : ℕ) → list_any (is_at (near_cmp (other, k))) near.old.keys ≡ true → list_any (is_at (near_cmp (other, k))) near.new.keys ≡ true }
     ensures noted { OnOk result ((other : ℕ) → item ≡ Some other → list_any (is_at (near_cmp (other, key))) near.new.keys ≡ true) }

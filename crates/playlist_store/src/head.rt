@@ -1,16 +1,16 @@
-//! What a list is, and a member of it.
+//! The head of a list, and a member.
 
 use dmap_tags::Text;
 use item_model::Query;
 
-/// What a list is: its name, and for a rule list the rule. A plain list has none.
+/// The head of a list: its name, and the rule of a smart playlist. A playlist has no rule.
 #[derive(Debug, Drop)]
 pub struct ListHead {
     pub name: Text,
     pub rule: Option<Query>,
 }
 
-/// A member of a list. In a rule list an item has its own id as its key.
+/// A member of a list. In a smart playlist the key is the item's id.
 #[derive(Clone, Copy, Debug, PartialEq, Eq)]
 pub struct Member {
     pub key: u32,

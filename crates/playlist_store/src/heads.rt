@@ -1,11 +1,11 @@
-//! Heads of lists, and lists that begin.
+//! Heads of lists, and new lists.
 
 ghost use Rattle.std.specs.Prelude.{◌≡◌, [], Some, None, IfOk};
 ghost use Rattle.playlist_store.specs.Lists.{has_rule};
 ghost use Rattle.playlist_store.specs.Changes.{is_plain};
 
 use crate::head::ListHead;
-use crate::kept::Kept;
+use crate::kept::ListVersion;
 use dmap_tags::Text;
 use item_model::Query;
 use key_versions::Versions;
@@ -37,13 +37,13 @@ pub(crate) fn ruled_head(name: &Text, rule: &Query) -> Result<ListHead, AllocErr
     }
 }
 
-// A list that begins with a revision, without members; with no head it ends with it.
-pub(crate) fn fresh(alloc: Global, since: u32, head: Option<ListHead>) -> Kept
+// Returns a list without members as it is from `since` on; without a head it is a dropped one.
+pub(crate) fn fresh(alloc: Global, since: u32, head: Option<ListHead>) -> ListVersion
     ensures since { result.since ≡ since }
     ensures head { result.head ≡ head }
     ensures members { result.members ≡ [] }
 {
-    Kept {
+    ListVersion {
         since,
         head,
         members: Versions::new(alloc),

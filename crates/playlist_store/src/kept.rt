@@ -1,25 +1,25 @@
-//! What is kept of a list.
+//! The stored versions of a list.
 
 use crate::head::ListHead;
 use key_versions::Versions;
 use std::collections::{BTreeSet, VecDeque};
 
-/// A list from one of its puts or drops on.
+/// A list since one of its puts or drops.
 #[derive(Debug, Drop)]
-pub(crate) struct Kept {
+pub(crate) struct ListVersion {
     // the revision of the put or drop
     pub(crate) since: u32,
-    // none where the list was dropped
+    // `None` if the list was dropped
     pub(crate) head: Option<ListHead>,
-    // under each key the id of its item; in a rule list the key is that id
+    // the id of the item under each key; in a smart playlist the key is that id
     pub(crate) members: Versions<u32>,
-    // the members of a plain list beside their items, as (item, key); some pairs may be out of date
+    // the members of a playlist by item, as (item, key); some pairs may be out of date
     pub(crate) near: BTreeSet<(u32, u32)>,
 }
 
-/// A list under its id, and what it was before, the newest first.
+/// A list as it is, and its earlier versions, newest first.
 #[derive(Debug, Drop)]
-pub(crate) struct KeptList {
-    pub(crate) now: Kept,
-    pub(crate) older: VecDeque<Kept>,
+pub(crate) struct ListHistory {
+    pub(crate) now: ListVersion,
+    pub(crate) older: VecDeque<ListVersion>,
 }

@@ -1,5 +1,5 @@
-//! The lists of a share, and which of their members changed since a base. Contracts see a store by the batches of edits
-//! that it stands for: what it answers is what `share_history` says of these batches.
+//! The lists of a share, and which of their members changed since a base. A contract sees a store by the batches of
+//! edits that it represents: it returns what `share_history` says of these batches.
 #![tactic(auto)]
 
 mod back;

@@ -9,13 +9,13 @@ ghost use Rattle.std.specs.List.Sorted.{IsStrictlySortedBy};
 ghost use Rattle.share_history.specs.Keyed.{ascending};
 ghost use Rattle.playlist_store.specs.Reads.{with_list, is_of_list};
 
-use crate::kept::KeptList;
+use crate::kept::ListHistory;
 use item_model::Edit;
 use std::alloc::{AllocError, Global};
 use std::collections::{BTreeMap, BTreeSet};
 
-// The ids of the lists that are there, ascending.
-pub(crate) fn ids(alloc: Global, lists: &BTreeMap<u32, KeptList>) -> Result<Vec<u32>, AllocError>
+// Returns the ids of the existing lists, ascending.
+pub(crate) fn ids(alloc: Global, lists: &BTreeMap<u32, ListHistory>) -> Result<Vec<u32>, AllocError>
     ensures ids { IfOk result (λ ids. ids.items ≡ keys_of (filter (λ e. is_some e.1.now.head) lists.now.entries)) }
     ensures ascending { IfOk result (λ _. IsStrictlySortedBy nat_cmp (keys_of lists.now.entries)) }
 {
@@ -28,7 +28,7 @@ pub(crate) fn ids(alloc: Global, lists: &BTreeMap<u32, KeptList>) -> Result<Vec<
     Ok(ids)
 }
 
-// One more, where it is counted.
+// Returns `count`, plus one if `is_counted`.
 fn count_with(count: u32, is_counted: bool) -> u32
     ensures { count + (if is_counted then 1 else 0) < 2 ^ 32 → result ≡ count + (if is_counted then 1 else 0) }
 {
@@ -38,8 +38,8 @@ fn count_with(count: u32, is_counted: bool) -> u32
     count
 }
 
-// How many lists are there.
-pub(crate) fn count(lists: &BTreeMap<u32, KeptList>) -> u32
+// Returns the number of existing lists.
+pub(crate) fn count(lists: &BTreeMap<u32, ListHistory>) -> u32
     ensures count { length (filter (λ e. is_some e.1.now.head) lists.now.entries) < 2 ^ 32 → result ≡ length (filter (λ e. is_some e.1.now.head) lists.now.entries) }
     ensures ascending { IsStrictlySortedBy nat_cmp (keys_of lists.now.entries) }
 {
@@ -59,7 +59,7 @@ fn is_of_list(edit: &Edit) -> bool
     )
 }
 
-// Whether some of the edits puts or drops a list.
+// Returns whether some of the edits puts or drops a list.
 pub(crate) fn has_list(edits: &[Edit]) -> bool
     ensures { result ≡ list_any is_of_list edits.now }
 {
@@ -71,7 +71,7 @@ pub(crate) fn has_list(edits: &[Edit]) -> bool
     false
 }
 
-// The ids as a set.
+// Returns the ids as a set.
 pub(crate) fn set_of(alloc: Global, ids: &[u32]) -> Result<BTreeSet<u32>, AllocError>
     ensures { IfOk result (λ set. set.keys ≡ ascending ids.now) }
 {
@@ -82,7 +82,7 @@ pub(crate) fn set_of(alloc: Global, ids: &[u32]) -> Result<BTreeSet<u32>, AllocE
     Ok(set)
 }
 
-// Changes the ids of the lists that are there as some edits do.
+// Changes the ids of existing lists as the edits do.
 pub(crate) fn take_in(ids: &mut BTreeSet<u32>, edits: &[Edit]) -> Result<(), AllocError>
     ensures { OnOk result (ids.new.keys ≡ fold with_list ids.old.keys edits.now) }
 {

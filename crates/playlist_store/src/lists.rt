@@ -1,18 +1,23 @@
-//! Lists under their ids: a list that is put or dropped, and one that is taken back.
+//! Lists by id: putting, dropping and reverting one.
 
 ghost use Rattle.std.specs.Prelude.{◌≡◌, ◌≤◌, ◌<◌, ◌==◌, ℕ, true, false, None, OnOk, OnErr, if◌then◌else◌};
 ghost use Rattle.key_versions.specs.Held.{at};
 ghost use Rattle.playlist_store.specs.Changes.{found_in, Puts, PopsOne, Pops};
 
-use crate::kept::{Kept, KeptList};
+use crate::kept::{ListHistory, ListVersion};
 use std::alloc::{AllocError, Global};
 use std::collections::{BTreeMap, VecDeque};
 use std::mem;
 
-pub(crate) type Lists = BTreeMap<u32, KeptList>;
+pub(crate) type Lists = BTreeMap<u32, ListHistory>;
 
-// Makes this the newest of a list, in the place of one of its revision.
-pub(crate) fn put(alloc: Global, lists: &mut Lists, id: u32, kept: Kept) -> Result<(), AllocError>
+// Makes `kept` the newest version of list `id`; it replaces one of the same revision.
+pub(crate) fn put(
+    alloc: Global,
+    lists: &mut Lists,
+    id: u32,
+    kept: ListVersion,
+) -> Result<(), AllocError>
     ensures { Puts id kept result lists.old.entries lists.new.entries }
 {
     match lists.get_mut(&id) {
@@ -21,7 +26,7 @@ pub(crate) fn put(alloc: Global, lists: &mut Lists, id: u32, kept: Kept) -> Resu
     }
 }
 
-fn put_over(list: &mut KeptList, kept: Kept) -> Result<(), AllocError>
+fn put_over(list: &mut ListHistory, kept: ListVersion) -> Result<(), AllocError>
     ensures now { OnOk result (list.new.now ≡ kept) }
     ensures left { OnErr result (list.new.now ≡ list.old.now) }
     ensures below { (v : ℕ) → v < kept.since → found_in list.new v ≡ found_in list.old v }
@@ -39,11 +44,11 @@ fn put_over(list: &mut KeptList, kept: Kept) -> Result<(), AllocError>
     Ok(())
 }
 
-fn put_first(alloc: Global, lists: &mut Lists, id: u32, kept: Kept) -> Result<(), AllocError>
+fn put_first(alloc: Global, lists: &mut Lists, id: u32, kept: ListVersion) -> Result<(), AllocError>
     requires { at id lists.old.entries ≡ None }
     ensures { Puts id kept result lists.old.entries lists.new.entries }
 {
-    let list = KeptList {
+    let list = ListHistory {
         now: kept,
         older: VecDeque::new(alloc),
     };
@@ -53,7 +58,7 @@ fn put_first(alloc: Global, lists: &mut Lists, id: u32, kept: Kept) -> Result<()
     }
 }
 
-// Takes out what lists were from a revision on.
+// Removes the versions of lists from `revision` on.
 pub(crate) fn pop_all(lists: &mut Lists, ids: &[u32], revision: u32)
     ensures { 1 ≤ revision → Pops revision ids.now lists.old.entries lists.new.entries }
 {
@@ -81,8 +86,8 @@ fn pop_at(lists: &mut Lists, id: u32, revision: u32) -> bool
     }
 }
 
-// Tells whether nothing is left.
-fn step_back(list: &mut KeptList, revision: u32) -> bool
+// Returns whether no version is left.
+fn step_back(list: &mut ListHistory, revision: u32) -> bool
     ensures gone { result ≡ true → (v : ℕ) → v < revision → found_in list.old v ≡ None }
     ensures left { result ≡ false → (v : ℕ) → v < revision → found_in list.new v ≡ found_in list.old v }
     ensures since { result ≡ false → list.new.now.since < revision }

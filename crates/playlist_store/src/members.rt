@@ -1,4 +1,4 @@
-//! The members of a list whose items are there.
+//! The members of a list whose items exist.
 
 ghost use Rattle.std.specs.Prelude.{◌≡◌, ◌==◌, ◌++◌, ℕ, List, None, false, is_some, map, option_map, option_and_then, option_to_list, IfOk, OnOk};
 ghost use Rattle.item_model.specs.declared.changes.Edit.{Edit};
@@ -68,7 +68,7 @@ fn members_under(
     Ok(found)
 }
 
-// The members with their items, ascending by key, of a list under whose keys stands what these are.
+// Returns the members with their items, ascending by key. The values in `members` are those of a list.
 pub(crate) fn members(
     alloc: Global,
     members: &Versions<u32>,

@@ -2,7 +2,7 @@
 
 use std::marker::Model;
 
-/// What a batch names, each kind in order.
+/// The lists, members and items that a batch names, each kind in order.
 #[derive(Debug, Drop)]
 pub(crate) struct Named {
     pub(crate) lists: Vec<u32>,

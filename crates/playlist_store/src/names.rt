@@ -1,4 +1,4 @@
-//! What a batch names.
+//! Collects what a batch names.
 
 ghost use Rattle.std.specs.Prelude.{◌≡◌, option_to_list, IfOk};
 ghost use Rattle.std.specs.List.{list_any};
@@ -92,7 +92,7 @@ fn item_of(edit: &Edit) -> Option<u32>
     }
 }
 
-// Whether one of the edits puts a rule list.
+// Returns whether one of the edits puts a smart playlist.
 pub(crate) fn has_rule_put(batch: &[Edit]) -> bool
     ensures { result ≡ list_any puts_rule batch.now }
 {

@@ -1,4 +1,4 @@
-//! What no revision that is kept can see is let go.
+//! Removing versions that no revision in the window can read.
 
 ghost use Rattle.std.specs.Prelude.{◌≡◌, ◌≤◌, ◌-◌, ◌==◌, ◌∷◌, ℕ, None, Some, true, false, drop, take, nat_le, if◌then◌else◌};
 ghost use Rattle.std.specs.List.{find, list_any};
@@ -8,15 +8,15 @@ ghost use Rattle.playlist_store.specs.Lists.{near_cmp};
 ghost use Rattle.playlist_store.specs.Changes.{found_in, now_of, ChangesOne, Everywhere, GoneBy, PrunesAll, PrunesKept, ForgetsOne};
 
 use crate::heads::has_rule;
-use crate::kept::{Kept, KeptList};
+use crate::kept::{ListHistory, ListVersion};
 use crate::lists::{Lists, remove};
 use crate::named::Named;
 use key_versions::{Versions, next_key};
 use std::alloc::Global;
 use std::collections::{BTreeSet, VecDeque};
 
-// Takes out what nobody can ask for from a floor on, if the last batch may still be taken back to the revision `before`,
-// and the names of the batches that made the floor and those between a low revision and it.
+// Removes versions that are read at no revision from `floor` on, if the last batch may still be reverted to revision
+// `before`. Also removes the names of the batches up to `floor`.
 pub(crate) fn prune_to(
     alloc: Global,
     lists: &mut Lists,
@@ -34,7 +34,7 @@ pub(crate) fn prune_to(
     }
 }
 
-// What the lists of the last two batches were is asked for at no revision below `before`.
+// Removes versions of the lists in the last two batches that are read at no revision from `before` on.
 fn forget_last(alloc: Global, lists: &mut Lists, named: &VecDeque<Named>, before: u32)
     ensures { (floor : ℕ) → floor ≤ before → PrunesAll floor before lists.old.entries lists.new.entries }
 {
@@ -61,7 +61,7 @@ fn forget(alloc: Global, lists: &mut Lists, id: u32, before: u32)
     }
 }
 
-fn forget_older(alloc: Global, list: &mut KeptList, before: u32)
+fn forget_older(alloc: Global, list: &mut ListHistory, before: u32)
     ensures now { list.new.now ≡ list.old.now }
     ensures found { (v : ℕ) → before ≤ v → found_in list.new v ≡ found_in list.old v }
 {
@@ -74,7 +74,7 @@ fn forget_older(alloc: Global, list: &mut KeptList, before: u32)
     }
 }
 
-fn is_first_seen(older: &VecDeque<Kept>, before: u32) -> bool
+fn is_first_seen(older: &VecDeque<ListVersion>, before: u32) -> bool
     ensures { result ≡ true → (v : ℕ) → before ≤ v → find (λ kept. nat_le kept.since v) (take 1 older.now.items) ≡ find (λ kept. nat_le kept.since v) older.now.items }
 {
     if older.is_empty() {
@@ -104,7 +104,7 @@ fn prune_named(lists: &mut Lists, names: &Named, floor: u32)
     prune_items(lists, names.items.as_slice(), floor);
 }
 
-// Lists that were dropped by a floor leave nothing.
+// Removes lists that were dropped at `floor` or before.
 fn drop_all(lists: &mut Lists, ids: &[u32], floor: u32)
     ensures { (before : ℕ) → floor ≤ before → PrunesAll floor before lists.old.entries lists.new.entries }
 {
@@ -166,7 +166,7 @@ fn prune_rule(lists: &mut Lists, id: u32, items: &[u32], floor: u32)
     }
 }
 
-fn prune_ruled(kept: &mut Kept, items: &[u32], floor: u32)
+fn prune_ruled(kept: &mut ListVersion, items: &[u32], floor: u32)
     ensures { PrunesKept floor kept.old kept.new }
 {
     if has_rule(&kept.head) {
@@ -174,7 +174,7 @@ fn prune_ruled(kept: &mut Kept, items: &[u32], floor: u32)
     }
 }
 
-fn prune_keys(kept: &mut Kept, keys: &[u32], floor: u32)
+fn prune_keys(kept: &mut ListVersion, keys: &[u32], floor: u32)
     ensures { PrunesKept floor kept.old kept.new }
 {
     for key in keys {
@@ -182,8 +182,8 @@ fn prune_keys(kept: &mut Kept, keys: &[u32], floor: u32)
     }
 }
 
-// A pair is let go with the last of its versions.
-fn prune_key(kept: &mut Kept, key: u32, floor: u32)
+// Removes a key's versions before `floor`, and each pair whose item no version has any more.
+fn prune_key(kept: &mut ListVersion, key: u32, floor: u32)
     ensures { PrunesKept floor kept.old kept.new }
 {
     while let Some(version) = kept.members.pop_past(key, floor) {

@@ -1,4 +1,4 @@
-//! What a store of lists answers.
+//! What a store of lists returns.
 
 ghost use Rattle.std.specs.Prelude.{◌≡◌, ◌≤◌, ◌+◌, ◌==◌, ◌++◌, ◌&&◌, ◌||◌, nat_le, List, None, true, false, map, length, option_copied, option_map, IfOk};
 ghost use Rattle.std.specs.Map.{keys_of};
@@ -24,7 +24,7 @@ use item_store::ItemStore;
 use share_history::{BASE_LIST, FIRST_REVISION};
 use std::alloc::AllocError;
 
-// Whether a base is in the window, and not before the last put or drop of a list.
+// Returns whether a base is in the window and at or after the last put or drop of the list.
 fn is_kept(keep: u32, revision: u32, list: u32, since: u32, base: u32) -> bool
     ensures { result ≡ (nat_le first_revision base && (nat_le base revision && (nat_le revision (base + keep) && ((list == base_list) || nat_le since base)))) }
 {
@@ -35,28 +35,30 @@ fn is_kept(keep: u32, revision: u32, list: u32, since: u32, base: u32) -> bool
 }
 
 impl PlaylistStore {
-    /// The name of a list that is there, and its rule.
+    /// Returns the name and the rule of an existing list.
     pub fn head(&self, list: u32) -> Option<&ListHead>
         ensures { (bs : List (List Edit)) → StandsFor bs self.now → option_copied result ≡ option_map head_of (list_at (edits bs) list) }
     {
         tops::head(&self.lists, list)
     }
 
-    /// The ids of the lists that are there, ascending. Container 1 is none of them.
+    /// Returns the ids of the existing lists, ascending, without container 1.
+    /// Returns `AllocError` if allocation fails.
     pub fn lists(&self) -> Result<Vec<u32>, AllocError>
         ensures { IfOk result (λ ids. (bs : List (List Edit)) → StandsFor bs self.now → ids.items ≡ keys_of (lists (edits bs))) }
     {
         listed::ids(self.alloc, &self.lists)
     }
 
-    /// How many lists are there.
+    /// Returns the number of existing lists.
     pub fn count(&self) -> u32
         ensures { (bs : List (List Edit)) → StandsFor bs self.now → result ≡ length (lists (edits bs)) }
     {
         listed::count(&self.lists)
     }
 
-    /// How many there would be after some edits more.
+    /// Returns how many lists there would be after the edits `more`.
+    /// Returns `AllocError` if allocation fails.
     pub fn count_after(&self, more: &[Edit]) -> Result<usize, AllocError>
         ensures { IfOk result (λ count. (bs : List (List Edit)) → StandsFor bs self.now → count ≡ length (lists (edits bs ++ more.now))) }
     {
@@ -69,8 +71,8 @@ impl PlaylistStore {
         Ok(set.len())
     }
 
-    /// Whether the change of a list since a base can be told: the base is in the window, and the list was neither put nor
-    /// dropped after it.
+    /// Returns whether `base` is in the delta window of `list`: recent enough, and with no later put or drop of the
+    /// list.
     pub fn kept(&self, list: u32, base: u32) -> bool
         ensures { (bs : List (List Edit)) → StandsFor bs self.now → result ≡ is_kept self.now.keep bs (Container list) base }
     {
@@ -78,8 +80,9 @@ impl PlaylistStore {
         is_kept(self.keep, self.revision, list, since, base)
     }
 
-    /// The members of a list whose items are there, ascending by key, if the list is there. `items` are those of the
-    /// same batches. Container 1 is not asked for: its members are the items.
+    /// Returns the members of an existing list whose items exist, ascending by key. `items` are those of the same
+    /// batches. Container 1 is excluded: its members are the items.
+    /// Returns `AllocError` if allocation fails.
     pub fn members(&self, list: u32, items: &ItemStore) -> Result<Option<Vec<Member>>, AllocError>
         requires { (list == base_list) ≡ false }
         ensures { IfOk result (λ found. (bs : List (List Edit)) → StandsFor bs self.now → item_stands.StandsFor bs items.now
@@ -97,7 +100,9 @@ impl PlaylistStore {
         }
     }
 
-    /// The keys of a list that batches after a base touch, ascending, each once. `items` are those of the same batches.
+    /// Returns the keys of `list` that batches after `base` touch, ascending, each once. `items` are those of the
+    /// same batches.
+    /// Returns `AllocError` if allocation fails.
     pub fn changed_since(
         &self,
         list: u32,
@@ -126,7 +131,7 @@ impl PlaylistStore {
         }
     }
 
-    /// The id of the item that stood under a key of a list at a base since which its change can be told.
+    /// Returns the id of the item under `key` of `list` at `base`, a base in the list's delta window.
     pub fn member_at(&self, list: u32, key: u32, base: u32) -> Option<u32>
         requires { (list == base_list) ≡ false }
         ensures { (bs : List (List Edit)) → StandsFor bs self.now → is_kept self.now.keep bs (Container list) base ≡ true

@@ -1,4 +1,4 @@
-//! Rules, as they are looked at after the edits of a batch.
+//! Evaluating rules after the edits of a batch.
 
 ghost use Rattle.std.specs.Prelude.{◌≡◌, ◌≤◌, ◌<◌, ◌+◌, ℕ, List, ◌&&◌, ◌==◌, false, nat_le, length, OnOk, OnErr, if◌then◌else◌};
 ghost use Rattle.std.specs.Option.{option_map_or};
@@ -13,7 +13,7 @@ ghost use Rattle.playlist_store.specs.Words.{ruled};
 ghost use Rattle.playlist_store.specs.Lists.{top};
 ghost use Rattle.playlist_store.specs.Changes.{ChangesOne, Everywhere, TestsRule, LeavesRule, tested_ids, ticks_in, allowed};
 
-use crate::kept::Kept;
+use crate::kept::ListVersion;
 use crate::lists::Lists;
 use item_model::Query;
 use item_store::ItemStore;
@@ -22,7 +22,7 @@ use song_query::{Steps, matches};
 use std::alloc::AllocError;
 use std::sync::ledger::Ledger;
 
-// Looks at the rule of each list: on the items of some ids, and on all where the list came with this revision.
+// Evaluates the rule of each smart playlist: on the items of `ids`, or on all items if the list is new at `revision`.
 pub(crate) fn test_lists<L: Ledger>(
     lists: &mut Lists,
     ids: &[u32],
@@ -66,7 +66,7 @@ fn test_list<L: Ledger>(
 }
 
 fn test_kept<L: Ledger>(
-    kept: &mut Kept,
+    kept: &mut ListVersion,
     ids: &[u32],
     revision: u32,
     items: &ItemStore,
@@ -153,7 +153,7 @@ fn test_id<L: Ledger>(
     members.put_number(id, revision, item)
 }
 
-// The id, if the rule holds of its item.
+// Returns `id` if the rule matches its item.
 fn ruled<L: Ledger>(rule: &Query, id: u32, items: &ItemStore, steps: &mut Steps<L>) -> Option<u32>
     ensures ruled { (bs : List (List Edit)) → StandsFor bs items.now → result ≡ ruled rule.now id (item_at (edits bs) id) }
     ensures cost { steps.new ≤ steps.old + 1 }

@@ -10,7 +10,7 @@ ghost use Rattle.playlist_store.specs.Tests.{tests_of};
 ghost use Rattle.playlist_store.specs.Stands.{StandsFor, IsUnchanged};
 
 use crate::batches::{take_back_batch, take_in_batch};
-use crate::kept::KeptList;
+use crate::kept::ListHistory;
 use crate::named::Named;
 use crate::prune::prune_to;
 use item_model::Edit;
@@ -22,18 +22,18 @@ use std::collections::{BTreeMap, VecDeque};
 use std::marker::Model;
 use std::sync::ledger::Ledger;
 
-/// The lists that batches of edits leave, with what they were as far back as is kept.
+/// The lists after batches of edits, with their earlier versions in the window.
 #[derive(Debug, Drop)]
 pub struct PlaylistStore {
     pub(crate) alloc: Global,
     pub(crate) keep: u32,
     pub(crate) revision: u32,
-    // the least revision that `lists` and `named` reach back to
+    // the first revision that `lists` and `named` cover
     pub(crate) low: u32,
     pub(crate) can_undo: bool,
     // what each batch after `low` names, in order
     pub(crate) named: VecDeque<Named>,
-    pub(crate) lists: BTreeMap<u32, KeptList>,
+    pub(crate) lists: BTreeMap<u32, ListHistory>,
 }
 
 impl Model for PlaylistStore {
@@ -49,8 +49,8 @@ impl Model for PlaylistStore {
 }
 
 impl PlaylistStore {
-    /// A store that no batch has changed yet, without memory. It keeps what was for `keep` revisions back, and for one
-    /// more as long as the last batch can be taken back.
+    /// Returns a store without batches, which keeps `keep` revisions back, and one more while the last batch can be
+    /// reverted. Does not allocate.
     pub fn open(alloc: Global, keep: u32) -> PlaylistStore
         requires some { 1 ≤ keep }
         requires few { keep ≤ 65536 }
@@ -68,9 +68,9 @@ impl PlaylistStore {
         }
     }
 
-    /// Takes in a batch, which makes the next revision. The items are those that are there with this batch. After an `Err`
-    /// the store answers as before. A rule is looked at only where an item of the batch may come or go, or where the
-    /// batch puts the rule: `steps` counts it.
+    /// Applies `batch`, which makes the next revision. `items` are those after the batch. A rule is evaluated only
+    /// for an item that the batch puts or drops, or if the batch puts the rule; `steps` counts the evaluations.
+    /// Returns `AllocError` if allocation fails; the store then returns what it did before.
     pub fn apply<L: Ledger>(
         &mut self,
         batch: &[Edit],
@@ -97,7 +97,7 @@ impl PlaylistStore {
         );
         match taken {
             Ok(()) => {
-                // what was is kept as the revision before has it, so that the batch can be taken back
+                // versions that the revision before can read stay, so that the batch can be reverted
                 let low = floor(self.keep, self.revision);
                 prune_to(
                     self.alloc,
@@ -116,7 +116,7 @@ impl PlaylistStore {
         }
     }
 
-    /// Takes the last batch back, without memory. This can be done after an `apply` that answered `Ok`, and once.
+    /// Reverts the last batch. Does not allocate. It can be called once after an `apply` that returned `Ok`.
     pub fn undo(&mut self)
         requires { self.old.can_undo ≡ true }
         ensures stands { (bs : List (List Edit)) (batch : List Edit) → StandsFor (bs ++ batch ∷ []) self.old → StandsFor bs self.new }
@@ -134,7 +134,7 @@ impl PlaylistStore {
         self.revision
     }
 
-    /// The least base that `changed_since` may be asked from.
+    /// Returns the least base that `changed_since` accepts.
     pub fn floor(&self) -> u32
         ensures { result ≡ floor_of self.now.keep self.now.revision }
     {
@@ -142,7 +142,7 @@ impl PlaylistStore {
     }
 }
 
-// The least base that `keep` allows at a revision.
+// Returns the least base that `keep` allows at `revision`.
 pub(crate) fn floor(keep: u32, revision: u32) -> u32
     ensures { result ≡ floor_of keep revision }
 {

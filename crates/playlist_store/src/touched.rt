@@ -1,4 +1,4 @@
-//! The keys of a plain list that batches touch.
+//! The keys of a playlist that batches touch.
 
 ghost use Rattle.std.specs.Prelude.{◌≡◌, ◌==◌, ◌&&◌, ◌||◌, ℕ, Bool, drop, IfOk, OnOk};
 ghost use Rattle.std.specs.Ordering.{nat_cmp};
@@ -8,7 +8,7 @@ ghost use Rattle.key_versions.specs.Found.{newest_value};
 ghost use Rattle.key_versions.specs.Held.{versions_at};
 ghost use Rattle.playlist_store.specs.Reads.{is_key, is_member, has_item, is_item_of, is_touched_by};
 
-use crate::kept::Kept;
+use crate::kept::ListVersion;
 use crate::named::Named;
 use key_versions::Versions;
 use std::alloc::{AllocError, Global};
@@ -33,7 +33,7 @@ fn put_if(keys: &mut BTreeSet<u32>, key: u32, is_asked: bool) -> Result<(), Allo
     Ok(())
 }
 
-// Puts those of some members that are of a list.
+// Adds the keys of those members that are in `list`.
 fn put_members(
     keys: &mut BTreeSet<u32>,
     list: u32,
@@ -47,8 +47,8 @@ fn put_members(
     Ok(())
 }
 
-// Puts the members of a list that have an item.
-fn put_item(keys: &mut BTreeSet<u32>, kept: &Kept, item: u32) -> Result<(), AllocError>
+// Adds the keys of the members that have `item`.
+fn put_item(keys: &mut BTreeSet<u32>, kept: &ListVersion, item: u32) -> Result<(), AllocError>
     ensures { OnOk result ((q : ℕ) → is_key q keys.new.keys ≡ (is_key q keys.old.keys || is_item_of kept.now q item)) }
 {
     let bounds = (
@@ -61,7 +61,7 @@ fn put_item(keys: &mut BTreeSet<u32>, kept: &Kept, item: u32) -> Result<(), Allo
     Ok(())
 }
 
-fn put_items(keys: &mut BTreeSet<u32>, kept: &Kept, items: &[u32]) -> Result<(), AllocError>
+fn put_items(keys: &mut BTreeSet<u32>, kept: &ListVersion, items: &[u32]) -> Result<(), AllocError>
     ensures { OnOk result ((q : ℕ) → is_key q keys.new.keys ≡ (is_key q keys.old.keys || list_any (is_item_of kept.now q) items.now)) }
 {
     for item in items {
@@ -73,7 +73,7 @@ fn put_items(keys: &mut BTreeSet<u32>, kept: &Kept, items: &[u32]) -> Result<(),
 fn put_named(
     keys: &mut BTreeSet<u32>,
     list: u32,
-    kept: &Kept,
+    kept: &ListVersion,
     named: &Named,
 ) -> Result<(), AllocError>
     ensures { OnOk result ((q : ℕ) → is_key q keys.new.keys ≡ (is_key q keys.old.keys || is_touched_by kept.now list q named.now)) }
@@ -93,11 +93,11 @@ fn keys_of(alloc: Global, set: &BTreeSet<u32>) -> Result<Vec<u32>, AllocError>
     Ok(keys)
 }
 
-// The keys that batches touch, but the first ones, ascending.
+// Returns the keys that the batches after the first `passed` touch, ascending.
 pub(crate) fn touched(
     alloc: Global,
     list: u32,
-    kept: &Kept,
+    kept: &ListVersion,
     named: &VecDeque<Named>,
     passed: usize,
 ) -> Result<Vec<u32>, AllocError>

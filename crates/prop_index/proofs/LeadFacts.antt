@@ -1,7 +1,8 @@
 -- What stands under a text after changes that lead from one library to another.
-use Rattle.std.proofs.Common.{◌≡◌, ◌≢◌, ℕ, Bool, true, false, not, cond, ◌&&◌, ◌||◌, ◌==◌, eqb-true, true≢false, List, [], ◌∷◌, map, Option, Some, None, refl, sym, ap, ◌∙◌, subst, ⊎_elim, nat_cmp, Less, Equal}
+use Rattle.std.proofs.Common.{◌≡◌, ◌≢◌, ℕ, Bool, true, false, not, cond, ◌&&◌, ◌||◌, ◌==◌, eqb-true, eq-eqb, true≢false, List, [], ◌∷◌, Option, Some, None, option_copied, refl, sym, ap, ap₂, ◌∙◌, subst, ⊎_elim, nat_cmp, is_eq, Less, Equal}
 use Rattle.std.specs.Option.{option_map_or}
 use Rattle.std.specs.List.{list_any, AllByRecursion}
+use Rattle.std.specs.Map.{keys_of}
 use Rattle.std.specs.List.Sorted.{IsStrictlySortedBy}
 use Rattle.std.specs.Str.{bytes_eq}
 use Rattle.std.specs.Cmp.{nat_cmp_total}
@@ -10,13 +11,15 @@ use Rattle.std.proofs.lemmas.Cmp.{tied_itself}
 use Rattle.std.proofs.lemmas.Slice.Eq.{bytes_eq-Decides}
 use Rattle.item_model.specs.declared.item.Row.{Row}
 use Rattle.item_model.specs.declared.request.Browse.{Browse}
-use Rattle.share_history.specs.Keyed.{at, AreAscending}
+use Rattle.share_history.specs.Keyed.{at, IsAscending}
+use Rattle.share_history.proofs.KeyedFacts.{is_eq-cmp}
 use Rattle.share_history.specs.BrowseListings.{is_filled}
-use Rattle.prop_index.specs.declared.changes.Span.{Span}
+use Rattle.prop_index.specs.declared.changes.Turn.{Turn}
 use Rattle.prop_index.specs.Forms.{Form, finds, HasTexts}
-use Rattle.prop_index.specs.Keys.{key_in, key_or_none, HasTextsIfAny, Turned, span_at, Lead, brings, leaves, gives_back}
+use Rattle.prop_index.specs.Turns.{TurnsAs, TurnTo}
+use Rattle.prop_index.specs.Keys.{key_or_none, HasTextsIfAny, HaveTexts, old_key, new_key, brings, leaves, gives_back}
 
--- ---- one change for each id
+-- ---- one turn for each id
 
 not_less : (x y : ℕ) → x ≡ y → nat_cmp x y ≢ Less
 not_less x y e h = apart (sym (tied_itself nat_cmp_total x) ∙ ap (nat_cmp x) e ∙ h)
@@ -24,46 +27,56 @@ not_less x y e h = apart (sym (tied_itself nat_cmp_total x) ∙ ap (nat_cmp x) e
     apart : Equal ≢ Less
     apart p = (cc)
 
-none_past : (p : Span → Bool) (id : ℕ) (spans : List Span) → ((s : Span) → p s ≡ true → (id == s.id) ≡ true)
-    → AllByRecursion (λ y. nat_cmp id y ≡ Less) (map (λ s. s.id) spans) → list_any p spans ≡ false
-none_past p id [] only all = refl
-none_past p id (s ∷ spans) only all =
-    ap (λ b. b || list_any p spans) (false_from_ne_true (p s) (λ h. not_less id s.id (eqb-true id s.id (only s h)) all.0))
-    ∙ none_past p id spans only all.1
+abbrev IsOfId : ℕ → (ℕ × Turn → Bool) → Type 0
+IsOfId id p = (turn : ℕ × Turn) → p turn ≡ true → (id == turn.0) ≡ true
 
-first_missed : (p : Span → Bool) (id : ℕ) (s : Span) → ((s : Span) → p s ≡ true → (id == s.id) ≡ true) → (id == s.id) ≡ false → p s ≡ false
-first_missed p id s only missed = false_from_ne_true (p s) (λ h. true≢false (sym (only s h) ∙ missed))
+none_past : (p : ℕ × Turn → Bool) (id : ℕ) (turns : List (ℕ × Turn)) → IsOfId id p
+    → AllByRecursion (λ y. nat_cmp id y ≡ Less) (keys_of turns) → list_any p turns ≡ false
+none_past p id [] only all = refl
+none_past p id (t ∷ turns) only all =
+    ap (λ b. b || list_any p turns) (false_from_ne_true (p t) (λ h. not_less id t.0 (eqb-true id t.0 (only t h)) all.0))
+    ∙ none_past p id turns only all.1
 
 or_nothing : (b c : Bool) → c ≡ false → (b || c) ≡ b
 or_nothing true c h = refl
 or_nothing false c h = h
 
--- of changes with ascending ids, some one passes a test of the id only if the one of the id does
-pub any_at : (p : Span → Bool) (id : ℕ) (spans : List Span) → ((s : Span) → p s ≡ true → (id == s.id) ≡ true)
-    → AreAscending (map (λ s. s.id) spans) → list_any p spans ≡ option_map_or p (span_at id spans) false
+swapped : (q k : ℕ) → (q == k) ≡ is_eq (nat_cmp q k)
+swapped q k =
+    ⊎_elim
+    (λ (h : (q == k) ≡ true). h ∙ sym (is_eq-cmp q k ∙ eq-eqb k q (sym (eqb-true q k h))))
+    (λ (h : (q == k) ≡ false). h ∙ sym (is_eq-cmp q k ∙ false_from_ne_true (k == q) (λ e. true≢false (sym (eq-eqb q k (sym (eqb-true k q e))) ∙ h))))
+    (cases_Bool (q == k))
+
+-- of turns with ascending ids, one passes a test of the id only if the one of the id does
+pub any_at : (p : ℕ × Turn → Bool) (id : ℕ) (turns : List (ℕ × Turn)) → IsOfId id p → IsAscending turns
+    → list_any p turns ≡ option_map_or (λ turn. p (id, turn)) (at id turns) false
 unfolding IsStrictlySortedBy
 any_at p id [] only rising = refl
-any_at p id (s ∷ spans) only rising =
+any_at p id (t ∷ turns) only rising =
     ⊎_elim
-    (λ (h : (id == s.id) ≡ true).
-    or_nothing (p s) (list_any p spans)
-    (none_past p id spans only (subst (λ k. AllByRecursion (λ y. nat_cmp k y ≡ Less) (map (λ s. s.id) spans)) (sym (eqb-true id s.id h)) rising.0))
-    ∙ sym (ap (λ b. option_map_or p (cond b (Some s) (span_at id spans)) false) h))
-    (λ (h : (id == s.id) ≡ false).
-    ap (λ b. b || list_any p spans) (first_missed p id s only h) ∙ any_at p id spans only rising.1
-    ∙ sym (ap (λ b. option_map_or p (cond b (Some s) (span_at id spans)) false) h))
-    (cases_Bool (id == s.id))
-
--- the change of an id is one of it
-pub is_its : (id : ℕ) (spans : List Span) (s : Span) → span_at id spans ≡ Some s → (id == s.id) ≡ true
-is_its id [] s e = absurd (cc)
-is_its id (x ∷ spans) s e =
-    ⊎_elim
-    (λ (h : (id == x.id) ≡ true). let same : x ≡ s = some_same x s (sym (ap (λ b. cond b (Some x) (span_at id spans)) h) ∙ e) in ap (λ y. id == y.id) (sym same) ∙ h)
-    (λ (h : (id == x.id) ≡ false). is_its id spans s (sym (ap (λ b. cond b (Some x) (span_at id spans)) h) ∙ e))
-    (cases_Bool (id == x.id))
+    (λ (h : (id == t.0) ≡ true).
+    let same : t.0 ≡ id = sym (eqb-true id t.0 h) in
+    or_nothing (p t) (list_any p turns) (none_past p id turns only (subst (λ k. AllByRecursion (λ y. nat_cmp k y ≡ Less) (keys_of turns)) same rising.0))
+    ∙ ap (λ k. p (k, t.1)) same ∙ sym (ap (option_by t) (sym (swapped id t.0) ∙ h)))
+    (λ (h : (id == t.0) ≡ false).
+    ap (λ b. b || list_any p turns) (false_from_ne_true (p t) (λ e. true≢false (sym (only t e) ∙ h)))
+    ∙ any_at p id turns only rising.1 ∙ sym (ap (option_by t) (sym (swapped id t.0) ∙ h)))
+    (cases_Bool (id == t.0))
   where
-    some_same : (x y : Span) → Some x ≡ Some y → x ≡ y
+    option_by : ℕ × Turn → Bool → Bool
+    option_by t b = option_map_or (λ turn. p (id, turn)) (cond b (Some t.1) (at id turns)) false
+
+-- what all turns have, the one of an id has
+pub all_at : (P : Turn → Type 0) (id : ℕ) (turns : List (ℕ × Turn)) (turn : Turn) → AllByRecursion (λ t. P t.1) turns → at id turns ≡ Some turn → P turn
+all_at P id [] turn all is = absurd (cc)
+all_at P id (t ∷ turns) turn all is =
+    elim (is_eq (nat_cmp id t.0)) as (λ b. cond b (Some t.1) (at id turns) ≡ Some turn → P turn) [
+      | true ↦ λ is. subst P (some_same t.1 turn is) all.0
+      | false ↦ λ is. all_at P id turns turn all.1 is
+    ] is
+  where
+    some_same : (x y : Turn) → Some x ≡ Some y → x ≡ y
     some_same x y p = (cc)
 
 -- ---- the texts of a row
@@ -118,6 +131,13 @@ stays_back true now kept only = ap (λ b. b && true) (kept refl)
 stays_back false true kept only = absurd (true≢false (sym (only refl)))
 stays_back false false kept only = refl
 
+-- one turn of many is settled
+pub settled_one : (held gone kept rest : Bool) → ((held && (not gone || kept)) && not rest) ≡ (held && not ((gone && not kept) || rest))
+settled_one false gone kept rest = refl
+settled_one true false kept rest = refl
+settled_one true true true rest = refl
+settled_one true true false rest = refl
+
 -- ---- the whole index
 
 its_id : (b c : Bool) → (b && c) ≡ true → c ≡ true
@@ -128,104 +148,105 @@ first_of_both : (b c : Bool) → (b && c) ≡ true → b ≡ true
 first_of_both true c h = refl
 first_of_both false c h = h
 
-module _ (rows later : List (ℕ × Row)) (spans : List Span) (lead : Lead rows later spans) (browse : Browse) (form : Form) (text : List ℕ) (id : ℕ) where
+same_id : (id : ℕ) → (id == id) ≡ true
+same_id id = eq-eqb id id refl
+
+module _ (rows later : List (ℕ × Row)) (turns : List (ℕ × Turn)) (leads : TurnTo rows later turns) (browse : Browse) (form : Form) (text : List ℕ) (id : ℕ) where
   abbrev by_key : List ℕ → Bool
   by_key key = bytes_eq key text
 
-  brings_at : list_any (brings browse form text id) spans ≡ option_map_or (brings browse form text id) (span_at id spans) false
+  -- whether the text is the id's key in some rows
+  abbrev keyed : List (ℕ × Row) → Bool
+  keyed rs = by_key (key_or_none form browse (at id rs))
+
+  brings_at : list_any (brings browse form text id) turns ≡ option_map_or (λ turn. brings browse form text id (id, turn)) (at id turns) false
   brings_at =
-      any_at (brings browse form text id) id spans
-      (λ s h. its_id (by_key (key_in s.new browse form)) (id == s.id) (its_id (is_filled (key_in s.new browse form)) _ h)) lead.ascending
+      any_at (brings browse form text id) id turns
+      (λ t h. its_id (by_key (new_key form browse t.1)) (id == t.0) (its_id (is_filled (new_key form browse t.1)) _ h)) leads.ascending
 
-  leaves_at : list_any (leaves browse form text id) spans ≡ option_map_or (leaves browse form text id) (span_at id spans) false
+  leaves_at : list_any (leaves browse form text id) turns ≡ option_map_or (λ turn. leaves browse form text id (id, turn)) (at id turns) false
   leaves_at =
-      any_at (leaves browse form text id) id spans
-      (λ s h. its_id (by_key (key_in s.old browse form)) (id == s.id) (first_of_both _ (not (by_key (key_in s.new browse form))) h)) lead.ascending
+      any_at (leaves browse form text id) id turns
+      (λ t h. its_id (by_key (old_key form browse t.1)) (id == t.0) (first_of_both _ (not (by_key (new_key form browse t.1))) h)) leads.ascending
 
-  gives_back_at : list_any (gives_back browse form text id) spans ≡ option_map_or (gives_back browse form text id) (span_at id spans) false
+  gives_back_at : list_any (gives_back browse form text id) turns ≡ option_map_or (λ turn. gives_back browse form text id (id, turn)) (at id turns) false
   gives_back_at =
-      any_at (gives_back browse form text id) id spans
-      (λ s h. its_id (by_key (key_in s.new browse form)) (id == s.id) (first_of_both _ (not (by_key (key_in s.old browse form))) h)) lead.ascending
+      any_at (gives_back browse form text id) id turns
+      (λ t h. its_id (by_key (new_key form browse t.1)) (id == t.0) (first_of_both _ (not (by_key (old_key form browse t.1))) h)) leads.ascending
 
   abbrev found_in : List (ℕ × Row) → Bool
   found_in rs = option_map_or (finds form browse text) (at id rs) false
 
-  -- the test of a change of the id, with the rows' keys for those of the change
-  module _ (s : Span) (is : span_at id spans ≡ Some s) where
-    turned : Turned (Some s) (at id rows) (at id later)
-    turned = subst (λ o. Turned o (at id rows) (at id later)) is (lead.each id)
+  -- the tests of the id's turn, with the rows' keys for those of the turn
+  module _ (turn : Turn) (is : at id turns ≡ Some turn) where
+    turned : TurnsAs (Some turn) (at id rows) (at id later)
+    turned = subst (λ o. TurnsAs o (at id rows) (at id later)) is (leads.each id)
 
-    old_key : by_key (key_in s.old browse form) ≡ by_key (key_or_none form browse (at id rows))
-    old_key = ap by_key (turned.0 browse form)
+    old_is : by_key (old_key form browse turn) ≡ keyed rows
+    old_is = ap (λ row. by_key (key_or_none form browse row)) (sym turned.0)
 
-    new_key : by_key (key_in s.new browse form) ≡ by_key (key_or_none form browse (at id later))
-    new_key = ap by_key (turned.1 browse form)
+    new_is : by_key (new_key form browse turn) ≡ keyed later
+    new_is = ap (λ row. by_key (key_or_none form browse row)) (sym turned.1)
 
-    brings_is : brings browse form text id s ≡ (is_filled text && by_key (key_or_none form browse (at id later)))
-    brings_is = filled_alike (key_in s.new browse form) text (id == s.id) (is_its id spans s is) ∙ ap (λ b. is_filled text && b) new_key
+    brings_is : brings browse form text id (id, turn) ≡ (is_filled text && keyed later)
+    brings_is = filled_alike (new_key form browse turn) text (id == id) (same_id id) ∙ ap (λ b. is_filled text && b) new_is
 
-    and_true : (b : Bool) → (b && true) ≡ b
-    and_true true = refl
-    and_true false = refl
+    apart : (old new : Bool) → ((old && (id == id)) && not new) ≡ (old && not new)
+    apart old new = ap (λ b. (old && b) && not new) (same_id id) ∙ ap (λ b. b && not new) (and_true old)
+      where
+        and_true : (b : Bool) → (b && true) ≡ b
+        and_true true = refl
+        and_true false = refl
 
-    leaves_is : leaves browse form text id s ≡ (by_key (key_or_none form browse (at id rows)) && not (by_key (key_or_none form browse (at id later))))
-    leaves_is =
-        ap (λ b. (by_key (key_in s.old browse form) && b) && not (by_key (key_in s.new browse form))) (is_its id spans s is)
-        ∙ ap (λ b. b && not (by_key (key_in s.new browse form))) (and_true (by_key (key_in s.old browse form)))
-        ∙ ap (λ b. b && not (by_key (key_in s.new browse form))) old_key
-        ∙ ap (λ b. by_key (key_or_none form browse (at id rows)) && not b) new_key
+    leaves_is : leaves browse form text id (id, turn) ≡ (keyed rows && not (keyed later))
+    leaves_is = apart _ _ ∙ ap₂ (λ b c. b && not c) old_is new_is
 
-    gives_back_is : gives_back browse form text id s ≡ (by_key (key_or_none form browse (at id later)) && not (by_key (key_or_none form browse (at id rows))))
-    gives_back_is =
-        ap (λ b. (by_key (key_in s.new browse form) && b) && not (by_key (key_in s.old browse form))) (is_its id spans s is)
-        ∙ ap (λ b. b && not (by_key (key_in s.old browse form))) (and_true (by_key (key_in s.new browse form)))
-        ∙ ap (λ b. b && not (by_key (key_in s.old browse form))) new_key
-        ∙ ap (λ b. by_key (key_or_none form browse (at id later)) && not b) old_key
+    gives_back_is : gives_back browse form text id (id, turn) ≡ (keyed later && not (keyed rows))
+    gives_back_is = apart _ _ ∙ ap₂ (λ b c. b && not c) new_is old_is
 
   -- what was put and settled is found by the later rows
-  pub found_later : (before between now : Bool) → before ≡ found_in rows → between ≡ (before || list_any (brings browse form text id) spans)
-      → now ≡ (between && not (list_any (leaves browse form text id) spans)) → now ≡ found_in later
+  pub found_later : (before between now : Bool) → before ≡ found_in rows → between ≡ (before || list_any (brings browse form text id) turns)
+      → now ≡ (between && not (list_any (leaves browse form text id) turns)) → now ≡ found_in later
   found_later before between now was put settled_now =
-      settled_now ∙ ap (λ b. b && not (list_any (leaves browse form text id) spans)) put
-      ∙ ap (λ b. (before || b) && not (list_any (leaves browse form text id) spans)) brings_at
-      ∙ ap (λ b. (before || option_map_or (brings browse form text id) (span_at id spans) false) && not b) leaves_at
-      ∙ elim (span_at id spans) as (λ o. span_at id spans ≡ o → ((before || option_map_or (brings browse form text id) o false) && not (option_map_or (leaves browse form text id) o false)) ≡ found_in later) [
-        | None ↦ λ is. stays before ∙ was ∙ sym (ap (λ r. option_map_or (finds form browse text) r false) (subst (λ o. Turned o (at id rows) (at id later)) is (lead.each id)))
-        | Some s ↦ λ is.
-            ap (λ b. (b || brings browse form text id s) && not (leaves browse form text id s)) (was ∙ found_key form browse text (at id rows))
-            ∙ ap (λ b. ((is_filled text && by_key (key_or_none form browse (at id rows))) || b) && not (leaves browse form text id s)) (brings_is s is)
-            ∙ ap (λ b. ((is_filled text && by_key (key_or_none form browse (at id rows))) || (is_filled text && by_key (key_or_none form browse (at id later)))) && not b) (leaves_is s is)
-            ∙ settled (is_filled text) (by_key (key_or_none form browse (at id rows))) (by_key (key_or_none form browse (at id later)))
+      settled_now ∙ ap (λ b. b && not (list_any (leaves browse form text id) turns)) put
+      ∙ ap₂ (λ b c. (before || b) && not c) brings_at leaves_at
+      ∙ elim (at id turns) as (λ o. at id turns ≡ o → ((before || option_map_or (λ turn. brings browse form text id (id, turn)) o false) && not (option_map_or (λ turn. leaves browse form text id (id, turn)) o false)) ≡ found_in later) [
+        | None ↦ λ is. stays before ∙ was ∙ sym (ap (λ r. option_map_or (finds form browse text) r false) (subst (λ o. TurnsAs o (at id rows) (at id later)) is (leads.each id)))
+        | Some turn ↦ λ is.
+            ap (λ b. (b || brings browse form text id (id, turn)) && not (leaves browse form text id (id, turn))) (was ∙ found_key form browse text (at id rows))
+            ∙ ap₂ (λ b c. ((is_filled text && keyed rows) || b) && not c) (brings_is turn is) (leaves_is turn is)
+            ∙ settled (is_filled text) (keyed rows) (keyed later)
             ∙ sym (found_key form browse text (at id later))
       ] refl
 
   -- what was put in part and taken back is found by the rows before
   pub found_before : (before between now : Bool) → before ≡ found_in rows → (before ≡ true → between ≡ true)
-      → (between ≡ true → (before || list_any (brings browse form text id) spans) ≡ true)
-      → now ≡ (between && not (list_any (gives_back browse form text id) spans)) → now ≡ found_in rows
+      → (between ≡ true → (before || list_any (brings browse form text id) turns) ≡ true)
+      → now ≡ (between && not (list_any (gives_back browse form text id) turns)) → now ≡ found_in rows
   found_before before between now was kept only back =
       back ∙ ap (λ b. between && not b) gives_back_at
-      ∙ elim (span_at id spans) as (λ o. span_at id spans ≡ o → (between && not (option_map_or (gives_back browse form text id) o false)) ≡ found_in rows) [
+      ∙ elim (at id turns) as (λ o. at id turns ≡ o → (between && not (option_map_or (λ turn. gives_back browse form text id (id, turn)) o false)) ≡ found_in rows) [
         | None ↦ λ is.
             stays_back before between kept
-            (λ h. ap (λ b. before || b) (sym (brings_at ∙ ap (λ o. option_map_or (brings browse form text id) o false) is)) ∙ only h)
+            (λ h. ap (λ b. before || b) (sym (brings_at ∙ ap (λ o. option_map_or (λ turn. brings browse form text id (id, turn)) o false) is)) ∙ only h)
             ∙ was
-        | Some s ↦ λ is.
-            let o = is_filled text && by_key (key_or_none form browse (at id rows)) in
+        | Some turn ↦ λ is.
+            let o = is_filled text && keyed rows in
             let was_old : before ≡ o = was ∙ found_key form browse text (at id rows) in
-            ap (λ b. between && not b) (gives_back_is s is)
-            ∙ taken_back (is_filled text) (by_key (key_or_none form browse (at id rows))) (by_key (key_or_none form browse (at id later))) between
+            ap (λ b. between && not b) (gives_back_is turn is)
+            ∙ taken_back (is_filled text) (keyed rows) (keyed later) between
             (λ h. kept (was_old ∙ h))
-            (λ h. sym (ap (λ b. b || list_any (brings browse form text id) spans) was_old
-            ∙ ap (λ b. o || b) (brings_at ∙ ap (λ p. option_map_or (brings browse form text id) p false) is ∙ brings_is s is)) ∙ only h)
+            (λ h. sym (ap (λ b. b || list_any (brings browse form text id) turns) was_old
+            ∙ ap (λ b. o || b) (brings_at ∙ ap (λ p. option_map_or (λ turn. brings browse form text id (id, turn)) p false) is ∙ brings_is turn is)) ∙ only h)
             ∙ sym (found_key form browse text (at id rows))
       ] refl
 
 -- the later rows have their texts as texts
-pub later_texts : (rows later : List (ℕ × Row)) (spans : List Span) → Lead rows later spans
+pub later_texts : (rows later : List (ℕ × Row)) (turns : List (ℕ × Turn)) → TurnTo rows later turns → HaveTexts turns
     → ((id : ℕ) (row : Row) → at id rows ≡ Some row → HasTexts row) → (id : ℕ) (row : Row) → at id later ≡ Some row → HasTexts row
-later_texts rows later spans lead texts id row is =
-    elim (span_at id spans) as (λ o. Turned o (at id rows) (at id later) → HasTexts row) [
-      | None ↦ λ turned. texts id row (sym turned ∙ is)
-      | Some s ↦ λ turned. subst HasTextsIfAny is turned.2
-    ] (lead.each id)
+later_texts rows later turns leads have texts id row is =
+    elim (at id turns) as (λ o. at id turns ≡ o → TurnsAs o (at id rows) (at id later) → HasTexts row) [
+      | None ↦ λ none turned. texts id row (sym turned ∙ is)
+      | Some turn ↦ λ some turned.
+          subst HasTextsIfAny (sym turned.1 ∙ is) (all_at (λ turn. HasTextsIfAny (option_copied turn.new)) id turns turn have some)
+    ] refl (leads.each id)

@@ -5,3 +5,4 @@ pub mod FoundFacts
 pub mod NeedFacts
 pub mod ValueFacts
 pub mod LawFacts
+pub mod LoweredFacts

@@ -1,17 +1,13 @@
 -- What changes come to, id by id.
-use Rattle.std.proofs.Common.{◌≡◌, ℕ, Bool, true, false, cond, ◌==◌, eqb-true, eq-eqb, true≢false, List, [], ◌∷◌, map, Option, Some, None, option_copied, refl, sym, ap, ◌∙◌, subst, ⊎_elim, nat_cmp, is_eq}
-use Rattle.std.specs.Map.{keys_of}
+use Rattle.std.proofs.Common.{◌≡◌, ℕ, Bool, true, false, cond, List, [], ◌∷◌, Option, Some, None, option_copied, refl, sym, ap, ◌∙◌, subst, nat_cmp, is_eq}
 use Rattle.std.specs.List.Sorted.{IsStrictlySortedBy}
-use Rattle.std.proofs.lemmas.Bool.{cases_Bool, false_from_ne_true}
 use Rattle.item_model.specs.declared.item.Row.{Row}
-use Rattle.share_history.specs.Keyed.{at, put_in, IsAscending, AreAscending}
-use Rattle.share_history.proofs.KeyedFacts.{same_key, is_eq-cmp, at-put, ascending-put, at-out, ascending-out}
+use Rattle.share_history.specs.Keyed.{at, put_in, IsAscending}
+use Rattle.share_history.proofs.KeyedFacts.{same_key, at-put, ascending-put, at-out, ascending-out}
 use Rattle.prop_index.specs.declared.changes.Change.{Change}
 use Rattle.prop_index.specs.declared.changes.Turn.{Turn}
-use Rattle.prop_index.specs.declared.changes.Span.{Span}
 use Rattle.prop_index.specs.Library.{after, Fits, after_all, FitInTurn}
 use Rattle.prop_index.specs.Turns.{id_of, first_of, TurnsAs, TurnTo, Midway}
-use Rattle.prop_index.specs.Keys.{HasKeys, HasTextsIfAny, Turned, span_at, Lead, HasSpan, HaveSpans}
 
 some_same : {A : Type 0} (x y : A) → Some x ≡ Some y → x ≡ y
 some_same x y p = (cc)
@@ -99,39 +95,3 @@ midway_more rows turns later left behind last change old new is first then added
       fits = fits.1;
       leads = ap (after_all midway.now) (sym is) ∙ midway.leads;
     }
-
--- ---- the texts of turns
-
-ids_of_spans : (turns : List (ℕ × Turn)) (spans : List Span) → HaveSpans turns spans → map (λ s. s.id) spans ≡ keys_of turns
-ids_of_spans [] [] have = refl
-ids_of_spans [] (s ∷ spans) have = absurd have
-ids_of_spans (t ∷ turns) [] have = absurd have
-ids_of_spans (t ∷ turns) (s ∷ spans) have = λ i. have.0.id i ∷ ids_of_spans turns spans have.1 i
-
-swapped : (q k : ℕ) → (q == k) ≡ is_eq (nat_cmp q k)
-swapped q k =
-    ⊎_elim
-    (λ (h : (q == k) ≡ true). h ∙ sym (is_eq-cmp q k ∙ eq-eqb k q (sym (eqb-true q k h))))
-    (λ (h : (q == k) ≡ false). h ∙ sym (is_eq-cmp q k ∙ false_from_ne_true (k == q) (λ e. true≢false (sym (eq-eqb q k (sym (eqb-true k q e))) ∙ h))))
-    (cases_Bool (q == k))
-
-turned_by : (before now : Option Row) (turn : Turn) (s : Span) (k : ℕ) → HasSpan (k, turn) s → TurnsAs (Some turn) before now → Turned (Some s) before now
-turned_by before now turn s k has turned =
-    (subst (λ row. HasKeys row s.old) (sym turned.0) has.old, subst (λ row. HasKeys row s.new) (sym turned.1) has.new, subst HasTextsIfAny (sym turned.1) has.texts)
-
-turned_at : (before now : Option Row) (turns : List (ℕ × Turn)) (spans : List Span) (q : ℕ) → HaveSpans turns spans → TurnsAs (at q turns) before now → Turned (span_at q spans) before now
-turned_at before now [] [] q have turned = turned
-turned_at before now [] (s ∷ spans) q have turned = absurd have
-turned_at before now (t ∷ turns) [] q have turned = absurd have
-turned_at before now (t ∷ turns) (s ∷ spans) q have turned =
-    subst (λ b. Turned (cond b (Some s) (span_at q spans)) before now) (sym (ap (λ n. q == n) have.0.id ∙ swapped q t.0))
-    (elim (is_eq (nat_cmp q t.0)) as (λ b. TurnsAs (cond b (Some t.1) (at q turns)) before now → Turned (cond b (Some s) (span_at q spans)) before now) [
-      | true ↦ turned_by before now t.1 s t.0 have.0
-      | false ↦ turned_at before now turns spans q have.1
-    ] turned)
-
-pub leads_by : (rows now : List (ℕ × Row)) (turns : List (ℕ × Turn)) (spans : List Span) → HaveSpans turns spans → TurnTo rows now turns → Lead rows now spans
-leads_by rows now turns spans have turned = record {
-  ascending = subst AreAscending (sym (ids_of_spans turns spans have)) turned.ascending;
-  each = λ q. turned_at (at q rows) (at q now) turns spans q have (turned.each q);
-}

@@ -5,9 +5,7 @@ ghost use Rattle.item_model.specs.declared.item.Row.{Row};
 ghost use Rattle.share_history.specs.Keyed.{at, IsAscending};
 ghost use Rattle.prop_index.specs.Library.{after, Fits, after_all, FitInTurn};
 ghost use Rattle.prop_index.specs.Turns.{id_of, first_of, TurnTo};
-ghost use Rattle.prop_index.specs.Keys.{Lead};
 
-use crate::keys::Keys;
 use item_model::{Row, SharedRow};
 use std::alloc::{AllocError, Global};
 use std::collections::BTreeMap;
@@ -24,14 +22,6 @@ pub struct Change {
 pub(crate) struct Turn<'a> {
     pub old: Option<&'a Row>,
     pub new: Option<&'a Row>,
-}
-
-/// The texts of an id's row before and after some changes.
-#[derive(Drop)]
-pub(crate) struct Span<'a> {
-    pub id: u32,
-    pub old: Keys<'a>,
-    pub new: Keys<'a>,
 }
 
 fn row_of(row: &Option<SharedRow>) -> Option<&Row>
@@ -94,22 +84,4 @@ pub(crate) fn turns_of(
         add(&mut turns, row_of(&change.old), row_of(&change.new))?;
     }
     Ok(turns)
-}
-
-/// The texts that the changes lead from and to.
-pub(crate) fn spans_of<'a>(
-    alloc: Global,
-    turns: &BTreeMap<u32, Turn<'a>>,
-) -> Result<Vec<Span<'a>>, AllocError>
-    ensures { IfOk result (λ spans. (rows now : List (ℕ × Row)) → TurnTo rows now turns.now.entries → Lead rows now spans.items) }
-{
-    let mut spans = Vec::with_capacity(alloc, turns.len())?;
-    for (id, turn) in turns {
-        spans.push(Span {
-            id: *id,
-            old: Keys::of(alloc, turn.old)?,
-            new: Keys::of(alloc, turn.new)?,
-        })?;
-    }
-    Ok(spans)
 }

@@ -1,12 +1,13 @@
 //! Ids by the text of one property, in both of its forms.
 
-ghost use Rattle.std.specs.Prelude.{◌≡◌, ℕ, List, [], OnOk};
-ghost use Rattle.prop_index.specs.Keys.{form_in};
+ghost use Rattle.std.specs.Prelude.{◌≡◌, ℕ, List, [], OnOk, option_copied};
+ghost use Rattle.prop_index.specs.Keys.{key_or_none, IsTextAt};
 ghost use Rattle.prop_index.specs.Forms.{Form};
 ghost use Rattle.prop_index.specs.Ids.{ids_under, Puts, PutsAtMost, Settles};
 
 use crate::keys::Forms;
 use crate::texts::TextIds;
+use item_model::{Browse, Row};
 use std::alloc::{AllocError, Global};
 
 /// The ids under each text as it is spelled, and under each folded text.
@@ -28,21 +29,32 @@ impl FormIds {
         }
     }
 
-    /// Puts the id under both forms. After an `Err` it may stand under one of them.
-    pub(crate) fn put(&mut self, alloc: Global, forms: &Forms, id: u32) -> Result<(), AllocError>
-        ensures ok { OnOk result ((form : Form) → Puts (form_in forms.now form) id (texts_of self.old form) (texts_of self.new form)) }
-        ensures part { (form : Form) → PutsAtMost (form_in forms.now form) id (texts_of self.old form) (texts_of self.new form) }
+    /// Puts the id under both forms of the row's text. After an `Err` it may stand under one of them.
+    pub(crate) fn put(
+        &mut self,
+        alloc: Global,
+        row: Option<&Row>,
+        browse: Browse,
+        id: u32,
+    ) -> Result<(), AllocError>
+        ensures ok { OnOk result ((form : Form) → Puts (key_or_none form browse (option_copied row.entry)) id (texts_of self.old form) (texts_of self.new form)) }
+        ensures part { (form : Form) → PutsAtMost (key_or_none form browse (option_copied row.entry)) id (texts_of self.old form) (texts_of self.new form) }
+        ensures text { IsTextAt browse (option_copied row.entry) }
     {
+        let forms = Forms::of(row, browse);
         self.spelled.put(alloc, forms.spelled, id)?;
         self.any_case.put(alloc, forms.any_case.as_str(), id)
     }
 
-    /// Takes the id away from under the forms that it is no longer found by, without memory.
-    pub(crate) fn settle(&mut self, kept: &Forms, gone: &Forms, id: u32)
-        ensures { (form : Form) → Settles (form_in kept.now form) (form_in gone.now form) id (texts_of self.old form) (texts_of self.new form) }
+    /// Takes the id away from under the forms that it is no longer found by. It does not allocate.
+    pub(crate) fn settle(&mut self, kept: Option<&Row>, gone: Option<&Row>, browse: Browse, id: u32)
+        ensures { (form : Form) → Settles (key_or_none form browse (option_copied kept.entry)) (key_or_none form browse (option_copied gone.entry)) id
+            (texts_of self.old form) (texts_of self.new form) }
     {
-        self.spelled.settle(kept.spelled, gone.spelled, id);
+        let stays = Forms::of(kept, browse);
+        let goes = Forms::of(gone, browse);
+        self.spelled.settle(stays.spelled, goes.spelled, id);
         self.any_case
-            .settle(kept.any_case.as_str(), gone.any_case.as_str(), id);
+            .settle(stays.any_case.as_str(), goes.any_case.as_str(), id);
     }
 }

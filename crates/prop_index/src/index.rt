@@ -11,14 +11,15 @@ ghost use Rattle.std.specs.List.{list_any};
 ghost use Rattle.item_model.specs.declared.item.Row.{Row};
 ghost use Rattle.prop_index.specs.IdSets.{has};
 ghost use Rattle.item_model.specs.declared.request.Browse.{Browse};
-ghost use Rattle.prop_index.specs.Keys.{key_in, brings, leaves, gives_back, Lead};
+ghost use Rattle.prop_index.specs.Keys.{key_or_none, HasTextsIfAny, HaveTexts, brings, leaves, gives_back};
+ghost use Rattle.prop_index.specs.Turns.{TurnTo};
 ghost use Rattle.prop_index.specs.Forms.{Form, spelled, finds};
 ghost use Rattle.prop_index.specs.Ids.{ids_under, Puts, PutsAtMost, Settles};
 
 use crate::candidates::needed_text;
-use crate::changes::{Change, Span, add, spans_of, turns_of};
+use crate::changes::{Change, Turn, add, turns_of};
 use crate::forms::FormIds;
-use crate::keys::{Keys, folded};
+use crate::keys::folded;
 use item_model::{Browse, Query, Row, Texts};
 use std::alloc::{AllocError, Global};
 use std::collections::BTreeMap;
@@ -62,8 +63,7 @@ impl PropIndex {
     {
         let mut turns = BTreeMap::new(self.alloc);
         add(&mut turns, old, new)?;
-        let spans = spans_of(self.alloc, &turns)?;
-        self.take_in(spans.as_slice())
+        self.take_in(&turns)
     }
 
     /// Takes in changes in order, all of them or none. Each has the old row that the library has after those before it.
@@ -74,8 +74,7 @@ impl PropIndex {
             → StandsFor rows self.old → StandsFor rows self.new) }
     {
         let turns = turns_of(self.alloc, changes)?;
-        let spans = spans_of(self.alloc, &turns)?;
-        self.take_in(spans.as_slice())
+        self.take_in(&turns)
     }
 
     /// The values by which the library is browsed, as they are spelled, each once, in the order of their bytes.
@@ -125,77 +124,80 @@ impl PropIndex {
         }
     }
 
-    // Puts the id under all keys. After an `Err` it may stand under some of them.
-    fn put(&mut self, keys: &Keys, id: u32) -> Result<(), AllocError>
+    // Puts the id under all texts of the row. After an `Err` it may stand under some of them.
+    fn put(&mut self, row: Option<&Row>, id: u32) -> Result<(), AllocError>
         ensures ok { OnOk result ((browse : Browse) (form : Form) →
-            Puts (key_in keys.now browse form) id (texts_in self.old browse form) (texts_in self.new browse form)) }
+            Puts (key_or_none form browse (option_copied row.entry)) id (texts_in self.old browse form) (texts_in self.new browse form)) }
         ensures part { (browse : Browse) (form : Form) →
-            PutsAtMost (key_in keys.now browse form) id (texts_in self.old browse form) (texts_in self.new browse form) }
+            PutsAtMost (key_or_none form browse (option_copied row.entry)) id (texts_in self.old browse form) (texts_in self.new browse form) }
+        ensures texts { OnOk result (HasTextsIfAny (option_copied row.entry)) }
     {
-        self.artists.put(self.alloc, &keys.artists, id)?;
-        self.albums.put(self.alloc, &keys.albums, id)?;
-        self.genres.put(self.alloc, &keys.genres, id)?;
-        self.composers.put(self.alloc, &keys.composers, id)
+        self.artists.put(self.alloc, row, Browse::Artists, id)?;
+        self.albums.put(self.alloc, row, Browse::Albums, id)?;
+        self.genres.put(self.alloc, row, Browse::Genres, id)?;
+        self.composers.put(self.alloc, row, Browse::Composers, id)
     }
 
-    // Takes the id away from under the keys that it is no longer found by, without memory.
-    fn settle(&mut self, kept: &Keys, gone: &Keys, id: u32)
+    // Takes the id away from under the texts that it is no longer found by. It does not allocate.
+    fn settle(&mut self, kept: Option<&Row>, gone: Option<&Row>, id: u32)
         ensures { (browse : Browse) (form : Form) →
-            Settles (key_in kept.now browse form) (key_in gone.now browse form) id (texts_in self.old browse form) (texts_in self.new browse form) }
+            Settles (key_or_none form browse (option_copied kept.entry)) (key_or_none form browse (option_copied gone.entry)) id
+            (texts_in self.old browse form) (texts_in self.new browse form) }
     {
-        self.artists.settle(&kept.artists, &gone.artists, id);
-        self.albums.settle(&kept.albums, &gone.albums, id);
-        self.genres.settle(&kept.genres, &gone.genres, id);
-        self.composers.settle(&kept.composers, &gone.composers, id);
+        self.artists.settle(kept, gone, Browse::Artists, id);
+        self.albums.settle(kept, gone, Browse::Albums, id);
+        self.genres.settle(kept, gone, Browse::Genres, id);
+        self.composers.settle(kept, gone, Browse::Composers, id);
     }
 
-    // Puts the new keys of all changes. After an `Err` some of them may stand.
-    fn put_all(&mut self, spans: &[Span]) -> Result<(), AllocError>
+    // Puts the ids under the texts of their new rows. After an `Err` some of them may stand there.
+    fn put_all(&mut self, turns: &BTreeMap<u32, Turn>) -> Result<(), AllocError>
         ensures ok { OnOk result ((browse : Browse) (form : Form) (text : List ℕ) (id : ℕ) →
-            has id (found self.new browse form text) ≡ (has id (found self.old browse form text) || list_any (brings browse form text id) spans.now)) }
+            has id (found self.new browse form text) ≡ (has id (found self.old browse form text) || list_any (brings browse form text id) turns.now.entries)) }
         ensures kept { (browse : Browse) (form : Form) (text : List ℕ) (id : ℕ) →
             has id (found self.old browse form text) ≡ true → has id (found self.new browse form text) ≡ true }
         ensures only { (browse : Browse) (form : Form) (text : List ℕ) (id : ℕ) →
-            has id (found self.new browse form text) ≡ true → (has id (found self.old browse form text) || list_any (brings browse form text id) spans.now) ≡ true }
+            has id (found self.new browse form text) ≡ true → (has id (found self.old browse form text) || list_any (brings browse form text id) turns.now.entries) ≡ true }
+        ensures texts { OnOk result (HaveTexts turns.now.entries) }
     {
-        for span in spans {
-            self.put(&span.new, span.id)?;
+        for (id, turn) in turns {
+            self.put(turn.new, *id)?;
         }
         Ok(())
     }
 
-    // Takes each id away from under the keys that it has no longer, without memory.
-    fn settle_all(&mut self, spans: &[Span])
+    // Takes each id away from under the texts of its old row that its new one does not have. It does not allocate.
+    fn settle_all(&mut self, turns: &BTreeMap<u32, Turn>)
         ensures { (browse : Browse) (form : Form) (text : List ℕ) (id : ℕ) →
-            has id (found self.new browse form text) ≡ (has id (found self.old browse form text) && not (list_any (leaves browse form text id) spans.now)) }
+            has id (found self.new browse form text) ≡ (has id (found self.old browse form text) && not (list_any (leaves browse form text id) turns.now.entries)) }
     {
-        for span in spans {
-            self.settle(&span.new, &span.old, span.id);
+        for (id, turn) in turns {
+            self.settle(turn.new, turn.old, *id);
         }
     }
 
-    // Takes the new keys of all changes back, without memory.
-    fn take_back(&mut self, spans: &[Span])
+    // Takes each id back from under the texts of its new row that its old one does not have. It does not allocate.
+    fn take_back(&mut self, turns: &BTreeMap<u32, Turn>)
         ensures { (browse : Browse) (form : Form) (text : List ℕ) (id : ℕ) →
-            has id (found self.new browse form text) ≡ (has id (found self.old browse form text) && not (list_any (gives_back browse form text id) spans.now)) }
+            has id (found self.new browse form text) ≡ (has id (found self.old browse form text) && not (list_any (gives_back browse form text id) turns.now.entries)) }
     {
-        for span in spans {
-            self.settle(&span.old, &span.new, span.id);
+        for (id, turn) in turns {
+            self.settle(turn.old, turn.new, *id);
         }
     }
 
-    // Takes in the changes, at most one for each id. All that needs memory comes first, and is taken back where it fails.
-    fn take_in(&mut self, spans: &[Span]) -> Result<(), AllocError>
-        ensures ok { OnOk result ((rows later : List (ℕ × Row)) → Lead rows later spans.now → StandsFor rows self.old → StandsFor later self.new) }
-        ensures err { OnErr result ((rows later : List (ℕ × Row)) → Lead rows later spans.now → StandsFor rows self.old → StandsFor rows self.new) }
+    // Takes in the changes, one for each id. All that allocates comes first, and is taken back if it fails.
+    fn take_in(&mut self, turns: &BTreeMap<u32, Turn>) -> Result<(), AllocError>
+        ensures ok { OnOk result ((rows later : List (ℕ × Row)) → TurnTo rows later turns.now.entries → StandsFor rows self.old → StandsFor later self.new) }
+        ensures err { OnErr result ((rows later : List (ℕ × Row)) → TurnTo rows later turns.now.entries → StandsFor rows self.old → StandsFor rows self.new) }
     {
-        match self.put_all(spans) {
+        match self.put_all(turns) {
             Ok(()) => {
-                self.settle_all(spans);
+                self.settle_all(turns);
                 Ok(())
             }
             Err(error) => {
-                self.take_back(spans);
+                self.take_back(turns);
                 Err(error)
             }
         }

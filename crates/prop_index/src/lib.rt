@@ -8,6 +8,7 @@ mod forms;
 mod index;
 mod keys;
 pub mod laws;
+mod lowered;
 mod texts;
 
 pub use changes::Change;

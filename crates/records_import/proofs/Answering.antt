@@ -1,4 +1,4 @@
--- What records answer, one after another.
+-- The results of records, one after another.
 use Rattle.std.proofs.Common.{◌≢◌, MatchResult, ◌≡◌, ◌≤◌, ◌<◌, ◌+◌, ◌∷◌, ◌++◌, ◌∙◌, [], ℕ, zero, suc, List, inl, inr, Result, Ok, Err, refl, sym, ap, subst, length, take, get_or, drop, map, nat_lt, append_assoc, append-nil, arith}
 use Rattle.std.proofs.lemmas.Bool.{cases_Bool, ltb-true}
 use Rattle.std.proofs.lemmas.List.{drop_all, drop_more}
@@ -13,12 +13,12 @@ use Rattle.records_import.specs.declared.header.Column.{Column}
 use Rattle.records_import.specs.declared.refusal.RecordError.{RecordError}
 use Rattle.records_import.specs.declared.refusal.RecordError.TheVariants.{Memory, TooMany}
 
--- edits before those that further records answer
+-- edits before those of further records
 abbrev pub behind : List Edit → Result (List Edit) RecordError → Result (List Edit) RecordError
 behind edits (Ok rest) = Ok (edits ++ rest)
 behind edits (Err fault) = Err fault
 
--- none are before the first
+-- no edits come before the first
 pub behind_none : (columns : List Column) (row : ℕ) (records : List Cells) (answer : Result (List Edit) RecordError)
     → RecordsAnswer columns row records answer → RecordsAnswer columns row records (behind [] answer)
 behind_none columns row records (Ok edits) h = h
@@ -33,7 +33,7 @@ behind_more columns row cells records all edits edit told here (Ok rest) h =
     rw append_assoc (told (Ok (edit ∷ rest)) (edit, rest, here, h, refl))
 behind_more columns row cells records all edits edit told here (Err fault) h = told (Err fault) (inr (edit, here, h))
 
--- of more records than a batch has, one more than it has are enough
+-- of more records than a batch has, one more than it has determines the result
 enough : (columns : List Column) (row k : ℕ) (records : List Cells) (answer : Result (List Edit) RecordError) → row ≤ most_records + 1 → row + k ≡ most_records + 2
     → RecordsAnswer columns row (take k records) answer → RecordsAnswer columns row records answer
 enough columns row zero records answer below count h = absurd (omega arith)
@@ -63,13 +63,13 @@ under_enough : (header : Result (List Column) RecordError) (records : List Cells
 under_enough (Ok columns) records answer h = enough columns 1 (most_records + 1) records answer (omega arith) (omega arith) h
 under_enough (Err fault) records answer h = h
 
--- so the first rows answer what all of them do
+-- so the result of the first rows is that of all
 pub first_enough : (rows : List Cells) (answer : Result (List Edit) RecordError) → BatchReads (take (most_records + 2) rows) answer → BatchReads rows answer
 unfolding BatchReads
 first_enough [] answer h = h
 first_enough (header ∷ records) answer h = under_enough (header_of header) records answer h
 
--- the rows answer what was answered
+-- the result is that of the rows
 abbrev pub Told : List Cells → Result (List Edit) RecordError → Type 0
 Told rows result = MatchResult result (λ edits. BatchReads rows (Ok edits)) (λ fault. fault ≢ Memory → BatchReads rows (Err fault))
 
@@ -77,19 +77,19 @@ pub whole_told : (rows first : List Cells) (result : Result (List Edit) RecordEr
 whole_told rows first (Ok edits) e h = first_enough rows (Ok edits) (subst (λ some. BatchReads some (Ok edits)) e h)
 whole_told rows first (Err fault) e h = λ other. first_enough rows (Err fault) (subst (λ some. BatchReads some (Err fault)) e (h other))
 
--- the records from a place on are the one there and those behind it
+-- the records from an index on are the one there and those after it
 records_at : (records : List ByteRecord) (i : ℕ) (r : ByteRecord) → i < length records → r ≡ get_or records i r
     → map fields_of (drop i records) ≡ fields_of r ∷ map fields_of (drop (i + 1) records)
 records_at records i r inside here =
     ap (map fields_of) (drop_more records i r inside) ∙ ap (λ x. fields_of x ∷ map fields_of (drop (i + 1) records)) (sym here)
 
--- the record at a place is at fault
+-- the record at an index is malformed
 pub fault_here : (columns : List Column) (records : List ByteRecord) (i : ℕ) (r : ByteRecord) (fault : RecordError) → i < length records → r ≡ get_or records i r
     → RecordAnswers columns (i + 1) (fields_of r) (Err fault) → RecordsAnswer columns (i + 1) (map fields_of (drop i records)) (Err fault)
 fault_here columns records i r fault inside here told =
     subst (λ rows. RecordsAnswer columns (i + 1) rows (Err fault)) (sym (records_at records i r inside here)) (inl told)
 
--- the record at a place gives one more edit
+-- the record at an index adds one edit
 pub edit_more : (columns : List Column) (records : List ByteRecord) (i : ℕ) (r : ByteRecord) (edits later : List Edit) (edit : Edit) → i < length records → r ≡ get_or records i r
     → RecordAnswers columns (i + 1) (fields_of r) (Ok edit)
     → ((answer : Result (List Edit) RecordError) → RecordsAnswer columns (i + 1) (map fields_of (drop i records)) answer → RecordsAnswer columns 1 (map fields_of records) (behind edits answer))
@@ -101,7 +101,7 @@ edit_more columns records i r edits later edit inside here told before e answer 
     rw e (behind_more columns (i + 1) (fields_of r) (map fields_of (drop (i + 1) records)) (map fields_of records) edits edit
     (λ a more. before a (subst (λ rows. RecordsAnswer columns (i + 1) rows a) (sym (records_at records i r inside here)) more)) told answer moved)
 
--- all records gave their edits
+-- all records are edits
 pub edits_all : (columns : List Column) (records : List ByteRecord) (i : ℕ) (edits : List Edit) → length records ≤ i
     → ((answer : Result (List Edit) RecordError) → RecordsAnswer columns (i + 1) (map fields_of (drop i records)) answer → RecordsAnswer columns 1 (map fields_of records) (behind edits answer))
     → RecordsAnswer columns 1 (map fields_of records) (Ok edits)

@@ -1,4 +1,4 @@
--- Written cells read back as what they hold.
+-- Written cells read back as their values.
 use Rattle.std.proofs.Common.{◌≡◌, ◌≤◌, ◌<◌, ◌^◌, ◌∷◌, ◌&&◌, [], ℕ, List, Some, None, true, false, nat_le, nat_lt, Ok, IsUtf8, refl, ap, length, decimal, arith}
 use Rattle.std.proofs.lemmas.Bool.{and_from, and_parts, le-leb, ltb-true}
 use Rattle.std.proofs.lemmas.Fmt.{decimal_is_IsNumeral, decimal_nonempty, length-decimal-le}
@@ -42,7 +42,7 @@ number_filled n h = filled (decimal n) (decimal_nonempty n h)
 narrow : (least n : ℕ) → (nat_le least n && nat_lt n (2 ^ 32)) ≡ true → n < 2 ^ 64
 narrow least n h = let parts = and_parts (nat_le least n) (nat_lt n (2 ^ 32)) h in omega (arith, ltb-true n (2 ^ 32) parts.1)
 
--- an id in its range reads back, also where the record needs it
+-- an id in its range reads back, also if the record needs it
 pub id_back : (least n : ℕ) → (nat_le least n && nat_lt n (2 ^ 32)) ≡ true → id_in least (decimal n) ≡ Ok n
 id_back least n h = rw (number_back n (narrow least n h)) (rw h refl)
 
@@ -52,7 +52,7 @@ needed_back least n h = rw (number_filled n (narrow least n h)) (id_back least n
 pub digits_back : (least n : ℕ) → (nat_le least n && nat_lt n (2 ^ 32)) ≡ true → digits_value 10 (decimal n) ≡ n
 digits_back least n h = (decimal_is_IsNumeral n (narrow least n h)).1
 
--- no kind has numbers past 64 bits
+-- no kind has numbers of more than 64 bits
 few_numbers : (k : Kind) → numbers_of k ≤ 2 ^ 64
 few_numbers kind.U8 = omega arith
 few_numbers kind.I8 = omega arith
@@ -143,6 +143,6 @@ pub value_taken : (p : Property) (v : PropValue) (item : Properties) → is_valu
     → with_cell (holds.Property p) (value_cell (Some v)) item ≡ with_value p v item
 value_taken p v item h utf8 = taken_by p (value_cell (Some v)) v item (value_filled p v h) (value_back p v h utf8)
 
--- and nothing is wrong with it
+-- and it is not malformed
 pub value_sound : (p : Property) (v : PropValue) → is_value_of p v ≡ true → IsUtf8 (value_cell (Some v)) → None ≡ property_flaw p (value_cell (Some v))
 value_sound p v h utf8 = rw (value_filled p v h, value_back p v h utf8) refl

@@ -1,4 +1,4 @@
--- Rows have an answer: their cells are taken in one after another, and give a batch or a fault.
+-- Rows have a result: their cells are applied one after another, which results in a batch or an error.
 use Rattle.std.proofs.Common.{◌≡◌, ◌≢◌, ◌⊎◌, ◌+◌, ◌==◌, ◌&&◌, ◌^◌, ◌++◌, ℕ, suc, Bool, true, false, List, [], ◌∷◌, length, drop, get_or, nat_lt, nat_le, Option, Some, None, Result, Ok, Err, refl, ap, sym, subst, ◌∙◌, inl, inr, arith}
 use Rattle.std.proofs.lemmas.Bool.{cases_Bool, eqb-true, false≢true}
 use Rattle.std.proofs.lemmas.List.{length-drop}
@@ -12,7 +12,7 @@ use Rattle.item_model.specs.declared.refusal.RecordWhy.{RecordWhy}
 use Rattle.item_model.specs.declared.refusal.RecordWhy.TheVariants as reason
 use Rattle.song_query.specs.Answers.{Answers}
 use Rattle.song_query.proofs.Decided.{answer_for}
-use Rattle.records_import.specs.Actions.{drop_action, least_id, put_action, uses}
+use Rattle.records_import.specs.Actions.{drop_of_kind, least_id, put_of_kind, uses}
 use Rattle.records_import.specs.Columns.{column_named, columns_of, header_of, is_named, unless_known}
 use Rattle.records_import.specs.Limits.{most_records}
 use Rattle.records_import.specs.Number.{cell_number}
@@ -29,7 +29,7 @@ use Rattle.records_import.specs.declared.refusal.RecordError.TheVariants.{Header
 use Rattle.records_import.specs.declared.values.Values.{Values}
 use Rattle.records_import.proofs.Walks.{EditAnswer, walked_edit}
 
--- an answer that is not want of memory
+-- an error other than out of memory
 abbrev is_fault : RecordError → Bool
 is_fault Memory = false
 is_fault (Header column) = true
@@ -41,7 +41,7 @@ abbrev is_answer : {A : Type 0} → Result A RecordError → Bool
 is_answer (Ok x) = true
 is_answer (Err fault) = is_fault fault
 
--- the query's cell is a rule, or has a flaw
+-- the query's cell is a rule, or has an error
 abbrev RuleDecided : List ℕ → Type 0
 RuleDecided cell = ((rule : Query) × RuleFlaw cell None × RuleReads cell (Ok rule)) ⊎ ((why : RecordWhy) × RuleFlaw cell (Some why))
 
@@ -56,7 +56,7 @@ rule_decided (b ∷ bytes) = elim (cases_Bool (is_utf8 (b ∷ bytes))) [
   | inr other ↦ inr (reason.Text, rw other refl)
 ]
 
--- a cell is an id that the record can't do without, or has a flaw
+-- a cell is an id that the record needs, or has an error
 abbrev IdDecided : ℕ → List ℕ → Type 0
 IdDecided least cell = ((id : ℕ) × (needed_id least cell ≡ Ok id) × (cell_number cell ≡ Some id)) ⊎ ((why : RecordWhy) × (needed_id least cell ≡ Err why))
 
@@ -71,7 +71,7 @@ id_decided : (least : ℕ) (cell : List ℕ) → IdDecided least cell
 id_decided least [] = inr (reason.Missing, refl)
 id_decided least (b ∷ bytes) = number_decided least b bytes (cell_number (b ∷ bytes)) refl
 
--- a cell that the action uses adds something, or has a flaw
+-- a cell that the action uses adds something, or has an error
 abbrev UsedDecided : Column → List ℕ → Values → Type 0
 UsedDecided column cell before = ((next : Values) × UsedFlaw column cell None × Added column cell before next) ⊎ ((why : RecordWhy) × UsedFlaw column cell (Some why))
 
@@ -94,14 +94,14 @@ used_decided holds.Item cell before = elim (id_decided 1 cell) [
   | inr flaw ↦ inr (flaw.0, rw flaw.1 refl)
 ]
 
--- and one that it doesn't use is empty, or has a flaw
+-- and one that it doesn't use is empty, or has an error
 cell_decided : (is_used : Bool) (column : Column) (cell : List ℕ) (before : Values)
     → ((next : Values) × FlawBy is_used column cell None × AddedBy is_used column cell before next) ⊎ ((why : RecordWhy) × FlawBy is_used column cell (Some why))
 cell_decided true column cell before = used_decided column cell before
 cell_decided false column [] before = inl (before, refl, refl)
 cell_decided false column (b ∷ bytes) before = inr (reason.Extra, refl)
 
--- all cells are taken in, or the leftmost with a flaw is at fault
+-- all cells are applied, or the leftmost malformed one has the error
 abbrev CellsDecided : Action → ℕ → ℕ → List Column → Cells → Values → Type 0
 CellsDecided action row place columns cells before =
     ((after : Values) × Walked action columns cells before after) ⊎ ((fault : RecordError) × (is_fault fault ≡ true) × IsLeftmost action row place columns cells fault)
@@ -117,7 +117,7 @@ cells_decided action row place (c ∷ columns) (cell ∷ cells) before same = el
   | inr flaw ↦ inr (Field row place flaw.0, refl, inl (flaw.0, flaw.1, refl))
 ]
 
--- so a record is an edit or has a fault, by its parts from the last on
+-- so a record is an edit or has an error, by its parts from the last on
 edit_decided : (action : Action) (row id : ℕ) (columns : List Column) (cells : Cells) (found : Option Edit) → EditAnswer action row id columns cells found
     → (answer : Result Edit RecordError) × (is_answer answer ≡ true) × FurtherAnswer action row id columns cells answer
 edit_decided action row id columns cells (Some edit) h = (Ok edit, refl, h)
@@ -147,9 +147,9 @@ kind_decided row (Some action) = refl
 
 action_decided : (row : ℕ) (op kind : List ℕ) → is_answer (action_of row op kind) ≡ true
 action_decided row op kind = elim (cases_Bool (bytes_eq op (codes "put"))) [
-  | inl puts ↦ rw puts (kind_decided row (put_action kind))
+  | inl puts ↦ rw puts (kind_decided row (put_of_kind kind))
   | inr other ↦ elim (cases_Bool (bytes_eq op (codes "drop"))) [
-    | inl drops ↦ rw (other, drops) (kind_decided row (drop_action kind))
+    | inl drops ↦ rw (other, drops) (kind_decided row (drop_of_kind kind))
     | inr neither ↦ rw (other, neither) refl
   ]
 ]
@@ -168,7 +168,7 @@ within_batch_decided false row columns cells = (Err (TooMany row), refl, refl)
 record_decided : (columns : List Column) (row : ℕ) (cells : Cells) → (answer : Result Edit RecordError) × (is_answer answer ≡ true) × RecordAnswers columns row cells answer
 record_decided columns row cells = within_batch_decided (nat_lt row (suc most_records)) row columns cells
 
--- records are edits, or the first at fault has one
+-- records are edits, or the first malformed one has an error
 abbrev RecordsDecided : List Column → ℕ → List Cells → Type 0
 RecordsDecided columns row records = (answer : Result (List Edit) RecordError) × (is_answer answer ≡ true) × RecordsAnswer columns row records answer
 
@@ -188,7 +188,7 @@ records_decided columns row (cells ∷ records) =
     let first = record_decided columns row cells in
     with_records columns row cells records first.0 first.1 first.2 (records_decided columns (suc row) records)
 
--- the header gives columns, or has a fault
+-- the header has columns, or an error
 column_decided : (place : ℕ) (known : List Column) (name : List ℕ) (names : Cells) (found : Option Column) → unless_known known (column_named name) ≡ found
     → ((column : Column) → is_answer (columns_of (suc place) (known ++ column ∷ []) names) ≡ true) → is_answer (columns_of place known (name ∷ names)) ≡ true
 column_decided place known name names None e later = rw (e, columns_of, is_answer) refl
@@ -227,6 +227,6 @@ batch_decided (header ∷ records) = under_header_decided (header_of header) rec
 not_memory : (answer : Result (List Edit) RecordError) → is_answer answer ≡ true → answer ≢ Err Memory
 not_memory answer fine e = false≢true (sym (ap is_answer e) ∙ fine)
 
--- rows read as a batch, or have a fault
+-- rows read as a batch, or have an error
 pub batch_for : (rows : List Cells) → (answer : Result (List Edit) RecordError) × (answer ≢ Err Memory) × BatchReads rows answer
 batch_for rows = let found = batch_decided rows in (found.0, not_memory found.0 found.1, found.2)

@@ -1,4 +1,4 @@
--- Bytes that are decimal digits, and what they write.
+-- Bytes that are decimal digits, and their number.
 use Rattle.std.proofs.Common.{◌≡◌, ◌≤◌, ◌<◌, ◌-◌, ◌^◌, ℕ, List, true, refl, arith, length}
 use Rattle.std.specs.Char.{digit_value, is_ascii_digit}
 use Rattle.std.specs.Int.{IsInRange}
@@ -23,7 +23,7 @@ tells_bytes = record {
   more = λ b bytes range h. and_from _ _ (and_from _ _ (le-leb 48 b range.0) (le-leb b 57 range.1)) h;
 }
 
--- the bytes that all pass the test are just the decimal digits
+-- the bytes that all pass the test are exactly the decimal digits
 pub are_decimal : IsNumeralModel AreDigits (digits_value 10)
 are_decimal = numerals_by_value AreDigits tells_bytes
 
@@ -31,7 +31,7 @@ are_decimal = numerals_by_value AreDigits tells_bytes
 pub digit_distance : (b : ℕ) → is_ascii_digit b ≡ true → digit_value b ≡ b - 48
 digit_distance b h = omega (arith, digit_value_digit b (is_between b h), (is_between b h).0)
 
--- twenty digits or fewer stay below 10 ^ 20
+-- the number of twenty digits or fewer is below 10 ^ 20
 pub digits_small : (bytes : List ℕ) → list_all is_ascii_digit bytes ≡ true → length bytes ≤ 20 → digits_value 10 bytes < 10 ^ 20
 digits_small bytes h short =
     omega (arith, digits_value-lt 10 bytes (are_decimal.to bytes h), pow-le-pow_right {n = 10} (omega arith) short)

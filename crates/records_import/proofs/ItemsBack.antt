@@ -1,4 +1,4 @@
--- The properties of an item are written each under its column, and read back as the item.
+-- The properties of an item, each written in its column, read back as the item.
 use Rattle.std.proofs.Common.{◌≡◌, ◌≤◌, ◌<◌, ◌+◌, ◌∷◌, ◌++◌, ◌&&◌, ◌∙◌, [], ℕ, suc, List, Option, Some, None, true, nat_le, IsUtf8, IfSome, refl, sym, ap, subst, inl, inr, map, append_assoc, append-nil, arith}
 use Rattle.std.proofs.lemmas.Bool.{and_from, and_parts, cases_Bool, eq-eqb, eqb-false, leb-true, lt-ltb, le-leb, ne_eqb}
 use Rattle.csv.specs.Records.{AllText}
@@ -36,7 +36,7 @@ below_more : (n : ℕ) (p : Property) (v : PropValue) (entries : Properties) →
 below_more n p v [] e h = (omega (arith, e), tt)
 below_more n p v (f ∷ entries) e h = (omega (arith, h.0), below_more n p v entries e h.1)
 
--- a property behind all entries is set behind them, and looked for behind them
+-- a property after all entries is appended, and found there
 set_behind : (p : Property) (v : PropValue) (entries : Properties) → AreBelow (rank_of p) entries → with_value p v entries ≡ entries ++ (p, v) ∷ []
 set_behind p v [] h = refl
 set_behind p v (e ∷ entries) h = rw (lt-ltb (rank_of e.0) (rank_of p) h.0) (ap (λ s. e ∷ s) (set_behind p v entries h.1))
@@ -67,14 +67,14 @@ value_before p n (e ∷ entries) below h =
 abbrev other_columns : List Column
 other_columns = holds.Query ∷ holds.List ∷ holds.Item ∷ []
 
--- the columns of these properties, and what they hold of an item
+-- the columns of these properties, and their cells for an item
 abbrev columns_for : List Property → List Column
 columns_for ps = map (λ p. holds.Property p) ps ++ other_columns
 
 abbrev cells_for : Properties → List Property → List (List ℕ)
 cells_for item ps = map (property_cell item) (columns_for ps)
 
--- what is set so far, and what is left of the item
+-- the properties set so far, and those left of the item
 record IsSplit (item : Properties) (n : ℕ) (set left : Properties) : Type 0 where
   pub whole : item ≡ set ++ left
   pub below : AreBelow n set
@@ -98,12 +98,12 @@ value_there item n set left p s r = ap (value_of p) s.whole ∙ value_behind p s
 found : (p q : Property) (v : PropValue) (entries : Properties) → q ≡ p → value_of p ((q, v) ∷ entries) ≡ Some v
 found p q v entries e = rw (eq-eqb (rank_of q) (rank_of p) (ap rank_of e)) refl
 
--- no entry has a rank past the last
+-- no entry has a rank above the last
 none_left : (left : Properties) (n : ℕ) → property_count ≤ n → rises_from n left ≡ true → left ≡ []
 none_left [] n past h = refl
 none_left (e ∷ left) n past h = absurd (omega (arith, (rises n e left h).from, rank_below e.0))
 
--- the next property sets nothing, or the first entry that is left
+-- the next property sets nothing, or the first entry left
 record Stepped (item : Properties) (n : ℕ) (p : Property) (set : Properties) : Type 0 where
   pub next : Properties
   pub left : Properties
@@ -166,6 +166,6 @@ sound_value : (p : Property) (o : Option PropValue) → IfSome o (λ v. is_value
 sound_value p None fits utf8 = refl
 sound_value p (Some v) fits utf8 = value_sound p v fits utf8
 
--- and nothing is wrong with them
+-- and none of them is malformed
 pub property_sound : (item : Properties) → is_item item ≡ true → (p : Property) → IsUtf8 (value_cell (value_of p item)) → None ≡ property_flaw p (value_cell (value_of p item))
 property_sound item h p utf8 = sound_value p (value_of p item) (value_fits p 0 item h) utf8

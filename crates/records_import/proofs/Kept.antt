@@ -1,4 +1,4 @@
--- What is known of an edit that was read, beside that it is valid: an item's properties are in order, and some text reads as a rule.
+-- An edit that was read is not only valid: an item's properties are in order, and some text reads as a rule.
 use Rattle.std.proofs.Common.{◌≡◌, ◌∷◌, ◌+◌, ◌==◌, [], ℕ, suc, List, Bool, true, false, nat_lt, Result, Ok, Err, refl, drop, get_or, length}
 use Rattle.item_model.specs.Items.{is_item}
 use Rattle.item_model.specs.declared.changes.Edit.{Edit}

@@ -1,4 +1,4 @@
--- Rows have one answer: they read as one batch, or have one refusal.
+-- Rows have one result: they read as one batch, or have one error.
 use Rattle.std.proofs.Common.{◌≡◌, ℕ, suc, List, [], ◌∷◌, length, get_or, drop, nat_lt, ◌==◌, ◌+◌, Bool, true, false, Option, Some, None, Result, Ok, Err, refl, sym, ap, ◌∙◌, inl, inr}
 use Rattle.std.proofs.lemmas.Bool.{false≢true}
 use Rattle.std.specs.Str.{is_utf8}
@@ -23,7 +23,7 @@ use Rattle.records_import.specs.declared.header.Column.TheVariants as holds
 use Rattle.records_import.specs.declared.refusal.RecordError.{RecordError}
 use Rattle.records_import.specs.declared.refusal.RecordError.TheVariants.{Field}
 
--- the text of a rule is not both read and refused
+-- the text of a rule does not both read and have an error
 rule_once : (text : List ℕ) (rule : Query) (e : QueryError) → RuleReads text (Ok rule) → RuleReads text (Err e) → ⊥
 rule_once text rule e h k = answers_once text rule e (λ m. k.0 (ap (λ (x : QueryError). Err x) m)) h.1 k.1
 
@@ -37,7 +37,7 @@ rule_same text p q h k = ok_is (one_answer_of_text text (Ok p) (Ok q) h.0 k.0 h.
     ok_is : ◌≡◌ {A = Result Query QueryError} (Ok p) (Ok q) → p ≡ q
     ok_is e = cc
 
--- a cell has one flaw or none
+-- a cell has one error or none
 read_flaw_once : (cell : List ℕ) (f g : Option RecordWhy) → ReadFlaw cell f → ReadFlaw cell g → f ≡ g
 read_flaw_once cell None None h k = refl
 read_flaw_once cell None (Some (reason.Query e)) h k = absurd (rule_once cell h.0 e h.1 k)
@@ -68,7 +68,7 @@ flaw_by_once false column cell f g h k = h ∙ sym k
 flaw_once : (action : Action) (column : Column) (cell : List ℕ) (f g : Option RecordWhy) → CellFlaw action column cell f → CellFlaw action column cell g → f ≡ g
 flaw_once action column cell f g h k = flaw_by_once (uses action column) column cell f g h k
 
--- a sound cell is not at fault
+-- a sound cell is not malformed
 sound_once : (action : Action) (column : Column) (cell : List ℕ) (why : RecordWhy) → CellFlaw action column cell None → CellFlaw action column cell (Some why) → ⊥
 sound_once action column cell why h k = none_some why (flaw_once action column cell None (Some why) h k)
   where
@@ -81,7 +81,7 @@ why_once action column cell v w h k = some_is v w (flaw_once action column cell 
     some_is : (x y : RecordWhy) → Some x ≡ Some y → x ≡ y
     some_is x y e = cc
 
--- sound cells have none at fault
+-- sound cells have no leftmost error
 sound_cells_once : (action : Action) (row place : ℕ) (columns : List Column) (cells : Cells) (fault : RecordError)
     → AreSound action columns cells → IsLeftmost action row place columns cells fault → ⊥
 sound_cells_once action row place [] cells fault h k = k
@@ -91,7 +91,7 @@ sound_cells_once action row place (c ∷ columns) (cell ∷ cells) fault h k = e
   | inr later ↦ sound_cells_once action row (suc place) columns cells fault h.1 later.1
 ]
 
--- the leftmost fault is one
+-- there is one leftmost error
 leftmost_once : (action : Action) (row place : ℕ) (columns : List Column) (cells : Cells) (d e : RecordError)
     → IsLeftmost action row place columns cells d → IsLeftmost action row place columns cells e → d ≡ e
 leftmost_once action row place [] cells d e h k = absurd h
@@ -107,7 +107,7 @@ leftmost_once action row place (c ∷ columns) (cell ∷ cells) d e h k = elim h
   ]
 ]
 
--- two answers that are one
+-- two results that are one
 same_answer : (A : Type 0) (a b answer : Result A RecordError) → a ≡ answer → b ≡ answer → a ≡ b
 same_answer A a b answer h k = h ∙ sym k
 
@@ -172,12 +172,12 @@ within_batch_once : (is_within : Bool) (row : ℕ) (columns : List Column) (cell
 within_batch_once true row columns cells a b h k = of_length_once (length cells == length columns + 3) row columns cells a b h k
 within_batch_once false row columns cells a b h k = same_answer Edit a b _ h k
 
--- two answers of a record are the same
+-- two results of a record are equal
 record_once : (columns : List Column) (row : ℕ) (cells : Cells) (a b : Result Edit RecordError)
     → RecordAnswers columns row cells a → RecordAnswers columns row cells b → a ≡ b
 record_once columns row cells a b h k = within_batch_once (nat_lt row (suc most_records)) row columns cells a b h k
 
--- so a record that is an edit is not refused, and has one edit and one fault
+-- so a record that is an edit has no error, and a record has one edit or one error
 not_both : (columns : List Column) (row : ℕ) (cells : Cells) (edit : Edit) (fault : RecordError)
     → RecordAnswers columns row cells (Ok edit) → RecordAnswers columns row cells (Err fault) → ⊥
 not_both columns row cells edit fault h k = ok_err (record_once columns row cells (Ok edit) (Err fault) h k)
@@ -197,7 +197,7 @@ one_fault columns row cells d e h k = err_is (record_once columns row cells (Err
     err_is : ◌≡◌ {A = Result Edit RecordError} (Err d) (Err e) → d ≡ e
     err_is x = cc
 
--- records are not both edits and a refusal
+-- records do not both have edits and an error
 no_edits_twice : (columns : List Column) (row : ℕ) (records : List Cells) (edits : List Edit) (fault : RecordError)
     → RecordsAnswer columns row records (Ok edits) → RecordsAnswer columns row records (Err fault) → ⊥
 no_edits_twice columns row [] edits fault h k = k
@@ -216,7 +216,7 @@ edits_once columns row (cells ∷ records) xs ys h k =
     ∙ ap (λ rest. k.0 ∷ rest) (edits_once columns (suc row) records h.1 k.1 h.3 k.3)
     ∙ sym k.4
 
--- and one fault
+-- and one error
 records_fault_once : (columns : List Column) (row : ℕ) (records : List Cells) (d e : RecordError)
     → RecordsAnswer columns row records (Err d) → RecordsAnswer columns row records (Err e) → d ≡ e
 records_fault_once columns row [] d e h k = absurd h
@@ -243,7 +243,7 @@ under_header_once : (header : Result (List Column) RecordError) (records : List 
 under_header_once (Ok columns) records a b h k = records_once columns 1 records a b h k
 under_header_once (Err fault) records a b h k = same_answer (List Edit) a b _ h k
 
--- two answers of a text's rows are the same
+-- two results of a text's rows are equal
 pub one_answer : (rows : List Cells) (a b : Result (List Edit) RecordError) → BatchReads rows a → BatchReads rows b → a ≡ b
 unfolding BatchReads
 one_answer [] a b h k = same_answer (List Edit) a b _ h k
@@ -256,7 +256,7 @@ batch_same rows a b h k = ok_is (one_answer rows (Ok a) (Ok b) h k)
     ok_is : ◌≡◌ {A = Result (List Edit) RecordError} (Ok a) (Ok b) → a ≡ b
     ok_is e = cc
 
--- rows that read as a batch are not refused
+-- rows that read as a batch have no error
 pub batch_once : (rows : List Cells) (edits : List Edit) (e : RecordError) → BatchReads rows (Ok edits) → BatchReads rows (Err e) → ⊥
 batch_once rows edits e h k = ok_err (one_answer rows (Ok edits) (Err e) h k)
   where

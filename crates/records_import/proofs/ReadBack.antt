@@ -1,4 +1,4 @@
--- What is written reads back as the rows.
+-- Rows that were written read back.
 use Rattle.std.proofs.Common.{◌≡◌, ◌==◌, ◌∷◌, [], ℕ, suc, List, false, refl, sym, subst, arith, inl, inr}
 use Rattle.std.proofs.lemmas.Bool.{cases_Bool}
 use Rattle.csv.specs.Writing.{default_writer, needs_quotes}
@@ -27,14 +27,14 @@ reached_written ((cell ∷ []) ∷ rows) h =
 reached_written ((cell ∷ next ∷ cells) ∷ rows) h =
     ((cell ∷ next ∷ cells, st.StartRecord, table_text rows), read-write-many cell next cells (table_text rows), refl, reached_written rows (others_have (cell ∷ next ∷ cells) rows h))
 
--- rows that each have a cell, written with no byte order mark in front, read back
+-- rows that each have a cell, written without a byte order mark, read back
 pub reads_back : (rows : List Cells) → All HasCell rows → IsUnmarked (table_text rows) → table_of (table_text rows) ≡ rows
 unfolding next_record
 reads_back rows celled unmarked =
     let reached = subst (λ (text : List ℕ). Reached default_config st.StartRecord text rows st.StartRecord []) (sym unmarked) (reached_written rows celled) in
     sym (all_rows st.StartRecord (table_text rows) [] rows reached refl)
 
--- a text that begins with another byte than a byte order mark's first has no such mark
+-- a text that does not begin with a byte order mark's first byte has no such mark
 pub unmarked : (first : ℕ) (rest : List ℕ) → (first == 0xEF) ≡ false → IsUnmarked (first ∷ rest)
 unfolding strip_bom
 unmarked first [] other = refl

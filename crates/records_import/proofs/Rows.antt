@@ -1,4 +1,4 @@
--- What a reader of records has reached are the first rows of the text.
+-- The rows that a reader has reached are the first ones of the text.
 use Rattle.std.proofs.Common.{◌≡◌, ◌≤◌, ◌+◌, ◌-◌, ◌==◌, ◌||◌, if◌then◌else◌, ◌∷◌, ◌++◌, ◌∙◌, [], ℕ, zero, suc, List, Bool, true, false, Some, None, refl, sym, ap, length, take, arith, inl, inr}
 use Rattle.std.proofs.lemmas.Bool.{cases_Bool}
 use Rattle.std.proofs.lemmas.List.{append-nil, take_all}
@@ -11,11 +11,11 @@ use Rattle.csv.specs.declared.parser.State.{State}
 use Rattle.csv.specs.declared.parser.State.TheVariants as st
 use Rattle.records_import.specs.Table.{table_of}
 
--- where a byte ends a record, the state after it is one in which the end of the text ends no other
+-- if a byte ends a record, in the state after it the end of the text ends no other one
 abbrev EndsClean : State × Action → Type 0
 EndsClean after = is_end after.1 ≡ true → ends_at_end after.0 ≡ false
 
--- a byte in a field, by what it is: a comma, an end of line, a carriage return
+-- a byte in a field, by its kind: a comma, an end of line, a carriage return
 abbrev in_field_by : Bool → Bool → Bool → State × Action
 in_field_by comma ends return =
     if comma then (st.StartField, act.EndField)
@@ -66,7 +66,7 @@ step_clean st.AfterQuote c = after_quote_clean (c == 34) (c == 44) ((c == 13) ||
 step_clean st.InComment c = in_comment_clean (c == 10)
 step_clean st.AfterCr c = after_return_clean (c == 10) ((c == 13) || (c == 10)) (c == 34) (c == 44) ((c == 13) || (c == 10)) (c == 13)
 
--- a record that was read ends cleanly, and leaves less than there was
+-- a record that was read ends cleanly, and shortens the rest
 record_ends : (s : State) (fields : List (List ℕ)) (field xs : List ℕ) (p : Read) → next_record default_config s fields field xs ≡ Some p
     → (ends_at_end p.1 ≡ false) × (length p.2 ≤ length xs - 1)
 unfolding next_record
@@ -96,7 +96,7 @@ reached_first s s2 k xs ys (r ∷ rs) h =
     let n : suc (length rs) + k ≡ suc (length rs + k) = omega arith in
     rw (n, h.1, h.2) (ap (λ (t : List (List (List ℕ))). h.0.0 ∷ t) (reached_first h.0.1 s2 k h.0.2 ys rs h.3))
 
--- a record that starts cleanly takes a byte
+-- a record that starts cleanly reads at least one byte
 record_takes : (s : State) (xs : List ℕ) (p : Read) → ends_at_end s ≡ false → next_record default_config s [] [] xs ≡ Some p
     → length p.2 + 1 ≤ length xs
 unfolding next_record
@@ -111,7 +111,7 @@ rows_bound s s2 xs ys [] clean h = omega arith
 rows_bound s s2 xs ys (r ∷ rs) clean h =
     omega (arith, record_takes s xs h.0 clean h.1, rows_bound h.0.1 s2 h.0.2 ys rs (record_ends s [] [] xs h.0 h.1).0 h.3)
 
--- where there is no next record there are none
+-- if there is no next record, there are none
 no_records : (s : State) (ys : List ℕ) (k : ℕ) → next_record default_config s [] [] ys ≡ None → records_from default_config k s ys ≡ []
 unfolding records_from
 no_records s ys zero h = refl
@@ -133,13 +133,13 @@ pub first_rows : (s2 : State) (text ys : List ℕ) (rows : List (List (List ℕ)
 first_rows s2 text ys rows most count h =
     rw (← count, rows_reached s2 text ys rows h) (sym (take-append_seam rows (records_from default_config (length (strip_bom text) + 1 - length rows) s2 ys)))
 
--- and all of them where there is no next one
+-- and all of them if there is no next one
 pub all_rows : (s2 : State) (text ys : List ℕ) (rows : List (List (List ℕ))) → Reached default_config st.StartRecord (strip_bom text) rows s2 ys
     → next_record default_config s2 [] [] ys ≡ None → rows ≡ table_of text
 all_rows s2 text ys rows h none =
     sym (rows_reached s2 text ys rows h ∙ rw (no_records s2 ys (length (strip_bom text) + 1 - length rows) none) (append-nil rows))
 
--- the same, where no more were asked for
+-- the same if no more were requested
 pub few_rows : (s2 : State) (text ys : List ℕ) (rows : List (List (List ℕ))) (most : ℕ) → length rows ≤ most
     → Reached default_config st.StartRecord (strip_bom text) rows s2 ys → next_record default_config s2 [] [] ys ≡ None → rows ≡ take most (table_of text)
 few_rows s2 text ys rows most few h none = rw (← all_rows s2 text ys rows h none) (sym (take_all most rows few))

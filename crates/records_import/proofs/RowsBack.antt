@@ -34,7 +34,7 @@ use Rattle.records_import.proofs.Texts.{AreTexts}
 use Rattle.records_import.proofs.ValidEdits.{batch_valid}
 use Rattle.records_import.proofs.Walks.{record_answers}
 
--- what the first two cells of an edit's record say
+-- the action in the first two cells of an edit's record
 abbrev action_for : Edit → Action
 action_for (PutItem row) = does.PutItem
 action_for (DropItem id) = does.DropItem
@@ -82,7 +82,7 @@ rule_name_sound false p name same short utf8 = refl
 needed_sound : (least n : ℕ) → (nat_le least n && nat_lt n (2 ^ 32)) ≡ true → None ≡ flaw_of (needed_id least (decimal n))
 needed_sound least n h = rw (needed_back least n h) refl
 
--- nothing is wrong with a written cell
+-- no written cell is malformed
 cell_sound : (edit : Edit) → IsValid edit → IsKept edit → (c : Column) → IsUtf8 (written_cell edit c) → CellFlaw (action_for edit) c (written_cell edit c) None
 cell_sound (PutItem r) valid kept (holds.Property p) utf8 = property_sound r.item kept p utf8
 cell_sound (PutItem r) valid kept holds.Query utf8 = refl
@@ -130,7 +130,7 @@ none_lacks (DropList list) = refl
 none_lacks (PutMember list member item) = refl
 none_lacks (DropMember list member) = refl
 
--- the name of a list reads back, from the cells of a plain list and from those of a rule list
+-- the name of a list reads back, from the cells of a playlist and from those of a smart playlist
 list_name_back : (list : ℕ) (name : List ℕ) → is_list_name name ≡ true → IsUtf8 name → name_in (properties_of written_columns (written_cells (PutList list name))) ≡ name
 list_name_back list [] short utf8 = refl
 list_name_back list (b ∷ bytes) short utf8 = ap (λ r. name_in (with_property Minm r [])) (text_back (b ∷ bytes) utf8 short)
@@ -199,7 +199,7 @@ all_celled : (edits : List Edit) → All HasCell (map written_row edits)
 all_celled [] = λ k d below. absurd (omega arith)
 all_celled (edit ∷ edits) = more_celled (written_row edit) (map written_row edits) tt (all_celled edits)
 
--- so the text of a batch that reading gives reads as the batch
+-- so the text of a batch that some text reads as reads as the batch
 pub batch_text_back : (edits : List Edit) → IsReadable edits → AreTexts edits → BatchReads (table_of (table_text (written_rows edits))) (Ok edits)
 batch_text_back edits readable texts =
     let known = batch_valid (table_of readable.text) edits readable.reads in

@@ -1,4 +1,4 @@
--- The printed text of a rule that was read stands within the limits, and reads back as the rule.
+-- The printed text of a rule that was read is within the limits, and reads back as the rule.
 use Rattle.std.proofs.Common.{◌≡◌, ◌∷◌, ◌++◌, [], ℕ, List, None, true, false, Ok, IsUtf8, refl, sym, subst}
 use Rattle.std.proofs.lemmas.Bool.{and_parts}
 use Rattle.std.proofs.lemmas.Str.{is_utf8-from_IsUtf8}
@@ -13,7 +13,7 @@ use Rattle.records_import.specs.Values.{ReadFlaw, RuleFlaw, TextFlaw, is_empty}
 use Rattle.song_query.proofs.ReadAgain.{read_again}
 use Rattle.song_query.proofs.ReadLaws.{reads_proper}
 
--- the printed text of a rule reads as the rule, where some text does
+-- the printed text of a rule reads as the rule, if some text does
 pub rule_back : (rule : Query) (text : List ℕ) → RuleReads text (Ok rule) → RuleReads (printed (tree_of rule)) (Ok rule)
 rule_back rule text reads = (λ e. absurd (cc e), read_again rule text reads.1)
 
@@ -49,7 +49,7 @@ sound_cell : (cell : List ℕ) → is_empty cell ≡ false → is_utf8 cell ≡ 
 sound_cell [] some utf8 flaw = absurd (cc some)
 sound_cell (b ∷ bytes) some utf8 flaw = subst (λ t. TextFlaw t (b ∷ bytes) None) (sym utf8) flaw
 
--- so nothing is wrong with it in a cell
+-- so as a cell it is not malformed
 pub rule_sound : (rule : Query) (text : List ℕ) → RuleReads text (Ok rule) → IsUtf8 (printed (tree_of rule)) → RuleFlaw (printed (tree_of rule)) None
 rule_sound rule text reads utf8 =
     sound_cell (printed (tree_of rule)) (filled_query (tree_of rule) (reads_proper text (tree_of rule) reads.1.1)) (is_utf8-from_IsUtf8 _ utf8) (rule, rule_back rule text reads)

@@ -1,4 +1,4 @@
--- The edits that records give are valid, and not too many.
+-- The edits of records are valid, and not too many.
 use Rattle.std.proofs.Common.{◌≡◌, ◌≤◌, ◌<◌, ◌+◌, ◌^◌, ◌∷◌, ◌∙◌, ◌==◌, ◌&&◌, ◌||◌, not, [], ℕ, zero, suc, List, Option, Some, None, Bool, true, false, nat_le, nat_lt, Result, Ok, Err, IfOk, IfSome, refl, sym, subst, inl, inr, length, get_or, drop, arith}
 use Rattle.std.proofs.lemmas.Bool.{and_from, and_parts, cases_Bool, lt-ltb, ltb-true}
 use Rattle.std.specs.Str.{is_utf8}
@@ -47,7 +47,7 @@ ranged least (Some n) id h = elim (cases_Bool (nat_le least n && nat_lt n (2 ^ 3
 id_ranged : (least : ℕ) (cell : List ℕ) (id : ℕ) → id_in least cell ≡ Ok id → (nat_le least id && nat_lt id (2 ^ 32)) ≡ true
 id_ranged least cell id h = ranged least (cell_number cell) id h
 
--- and is what the cell writes
+-- and is the number in the cell
 numbered : (least : ℕ) (cell : List ℕ) (n : Option ℕ) (id : ℕ) → cell_number cell ≡ n → id_from least n ≡ Ok id → id ≡ digits_value 10 cell
 numbered least cell None id e h = absurd (cc h)
 numbered least cell (Some n) id e h = elim (cases_Bool (nat_le least n && nat_lt n (2 ^ 32))) [
@@ -58,7 +58,7 @@ numbered least cell (Some n) id e h = elim (cases_Bool (nat_le least n && nat_lt
   | inr bad ↦ absurd (cc (rw bad at h))
 ]
 
--- a needed id with which nothing is wrong is in its range
+-- a needed id without an error is in its range
 needed_by : (least : ℕ) (cell : List ℕ) (r : Result ℕ RecordWhy) → id_in least cell ≡ r → None ≡ flaw_of r
     → (nat_le least (digits_value 10 cell) && nat_lt (digits_value 10 cell) (2 ^ 32)) ≡ true
 needed_by least cell (Ok id) e h =
@@ -70,7 +70,7 @@ needed_ranged : (least : ℕ) (cell : List ℕ) → None ≡ flaw_of (needed_id 
 needed_ranged least [] h = absurd (cc h)
 needed_ranged least (b ∷ bytes) h = needed_by least (b ∷ bytes) (id_in least (b ∷ bytes)) refl h
 
--- the id under the column of a list, where the action uses it
+-- the id in the column of a list, if the action uses it
 list_step : (has same : Bool) (c : Column) (columns : List Column) (cell : List ℕ) (cells : Cells) (b : Bool)
     → has_column holds.List columns ≡ has → is_same_column holds.List c ≡ same → (same ≡ true → b ≡ true) → FlawBy b c cell None
     → (has ≡ true → is_list_id (number_under holds.List columns cells) ≡ true) → (same || has) ≡ true
@@ -92,7 +92,7 @@ list_ranged action (c ∷ columns) (cell ∷ cells) used sound has =
     list_step (has_column holds.List columns) (is_same_column holds.List c) c columns cell cells (uses action c) refl refl (list_used action c used) sound.0
     (λ later. list_ranged action columns cells used sound.1 later) has
 
--- the same of the item that a member stands for
+-- the same for a member's item
 entry_step : (has same : Bool) (c : Column) (columns : List Column) (cell : List ℕ) (cells : Cells) (b : Bool)
     → has_column holds.Item columns ≡ has → is_same_column holds.Item c ≡ same → (same ≡ true → b ≡ true) → FlawBy b c cell None
     → (has ≡ true → is_id (number_under holds.Item columns cells) ≡ true) → (same || has) ≡ true

@@ -1,4 +1,4 @@
--- What cells that were taken in one after another give.
+-- The values of cells that were applied one after another.
 use Rattle.std.proofs.Common.{nat_lt, ◌==◌, ◌≡◌, ◌≤◌, ◌<◌, ◌+◌, ◌∷◌, ◌∙◌, [], ℕ, suc, List, Option, Some, None, Bool, true, false, ◌||◌, inl, inr, Result, Ok, Err, refl, sym, ap, subst, length, get_or, drop, arith}
 use Rattle.std.proofs.lemmas.Bool.{cases_Bool}
 use Rattle.std.proofs.lemmas.List.{drop_all, drop_more}
@@ -56,7 +56,7 @@ leftmost_here action row columns cells i c why inside same flaw =
     let inside_too : i + 3 < length cells = omega arith in
     rw (drop_more columns i c inside, drop_more cells (i + 3) [] inside_too) (inl (why, flaw, refl))
 
--- nothing was wrong
+-- no cell was malformed
 walked_sound : (action : Action) (columns : List Column) (cells : Cells) (before after : Values) → Walked action columns cells before after → AreSound action columns cells
 walked_sound action [] cells before after w = tt
 walked_sound action (c ∷ columns) [] before after w = absurd w
@@ -85,7 +85,7 @@ walked_item action (c ∷ columns) (cell ∷ cells) before after w =
     walked_item action columns cells w.0 after w.3
     ∙ ap (λ item. with_cells item columns cells) (item_kept (uses action c) c cell before w.0 w.1 w.2)
 
--- what a number's cell writes
+-- the number in a cell
 pub number_value : (cell : List ℕ) (n : ℕ) → cell_number cell ≡ Some n → n ≡ digits_value 10 cell
 number_value cell n h = elim (cases_Bool (is_number cell_digits cell)) [
   | inl digits ↦
@@ -94,7 +94,7 @@ number_value cell n h = elim (cases_Bool (is_number cell_digits cell)) [
   | inr other ↦ absurd (cc (rw other at h))
 ]
 
--- a list's id, where there is a column of it and the action uses it
+-- a list's id, if there is a column of it and the action uses it
 abbrev ListFound : Bool → List Column → Cells → Values → Values → Type 0
 ListFound true columns cells before after = after.list ≡ Some (number_under holds.List columns cells)
 ListFound false columns cells before after = after.list ≡ before.list
@@ -133,7 +133,7 @@ walked_list action (c ∷ columns) (cell ∷ cells) before after used w =
     list_step (has_column holds.List columns) (is_same_column holds.List c) c columns cell cells before w.0 after (uses action c) refl refl
     (list_used action c used) w.2 (walked_list action columns cells w.0 after used w.3)
 
--- the same of the item that a member stands for
+-- the same for a member's item
 abbrev ItemFound : Bool → List Column → Cells → Values → Values → Type 0
 ItemFound true columns cells before after = after.entry ≡ Some (number_under holds.Item columns cells)
 ItemFound false columns cells before after = after.entry ≡ before.entry
@@ -172,7 +172,7 @@ walked_entry action (c ∷ columns) (cell ∷ cells) before after used w =
     entry_step (has_column holds.Item columns) (is_same_column holds.Item c) c columns cell cells before w.0 after (uses action c) refl refl
     (entry_used action c used) w.2 (walked_entry action columns cells w.0 after used w.3)
 
--- the cell under a column that stands further on, and the cell of a query that stands nowhere else
+-- the cell in a column that comes later, and the cell of a query that occurs only here
 cell_later : (column c : Column) (columns : List Column) (cell : List ℕ) (cells : Cells) → has_column column columns ≡ true
     → cell_under column (c ∷ columns) (cell ∷ cells) ≡ cell_under column columns cells
 cell_later column c columns cell cells has = rw has refl
@@ -180,7 +180,7 @@ cell_later column c columns cell cells has = rw has refl
 cell_here : (columns : List Column) (cell : List ℕ) (cells : Cells) → has_column holds.Query columns ≡ false → cell_under holds.Query (holds.Query ∷ columns) (cell ∷ cells) ≡ cell
 cell_here columns cell cells has = rw has refl
 
--- the same of a rule
+-- the same for a rule
 abbrev RuleFound : Bool → List Column → Cells → Values → Values → Type 0
 RuleFound true columns cells before after = (rule : Query) × (after.rule ≡ Some rule) × RuleReads (cell_under holds.Query columns cells) (Ok rule)
 RuleFound false columns cells before after = after.rule ≡ before.rule
@@ -221,7 +221,7 @@ walked_rule action (c ∷ columns) (cell ∷ cells) before after used w =
     rule_step (has_column holds.Query columns) (is_same_column holds.Query c) c columns cell cells before w.0 after (uses action c) refl refl
     (rule_used action c used) w.2 (walked_rule action columns cells w.0 after used w.3)
 
--- the edit that the values make is the answer, and where they make none, a column is missing
+-- the edit with the values is the result, and if there is none, a column is missing
 abbrev pub EditAnswer : Action → ℕ → ℕ → List Column → Cells → Option Edit → Type 0
 EditAnswer action row id columns cells (Some edit) = FurtherAnswer action row id columns cells (Ok edit)
 EditAnswer action row id columns cells None = FurtherAnswer action row id columns cells (Err (Field row (length columns + 4) Missing))
@@ -268,14 +268,14 @@ walked_edit DropMember row id columns cells after w =
     drop_answer (has_column holds.List columns) row id columns cells after refl (walked_sound DropMember columns cells no_values after w)
     (walked_list DropMember columns cells no_values after refl w)
 
--- what the further cells answer, a record with an action and an id answers
+-- the result of the further cells is that of a record with the action and the id
 pub record_answers : (columns : List Column) (row : ℕ) (cells : Cells) (action : Action) (id : ℕ) (answer : Result Edit RecordError)
     → nat_lt row (suc most_records) ≡ true → (length cells == length columns + 3) ≡ true
     → action_of row (get_or cells 0 []) (get_or cells 1 []) ≡ Ok action → id_in (least_id action) (get_or cells 2 []) ≡ Ok id
     → FurtherAnswer action row id columns (drop 3 cells) answer → RecordAnswers columns row cells answer
 record_answers columns row cells action id answer few same acts numbered further = rw (few, same, acts, numbered) further
 
--- behind the last column there is nothing to take in
+-- after the last column there is nothing to apply
 pub walked_all : (action : Action) (columns : List Column) (cells : Cells) (i : ℕ) (values : Values) → length columns ≤ i
     → Walked action (drop i columns) (drop (i + 3) cells) values values
 walked_all action columns cells i values past = rw (drop_all i columns past) refl

@@ -45,7 +45,7 @@ appended : (before : List ℕ) (after : Option (List ℕ)) (bytes : List ℕ) �
 appended before None bytes h = absurd h
 appended before (Some after) bytes h = ap Some h
 
--- one more row, by what the writer of `csv` promises
+-- one more row, by the contract of the writer of `csv`
 pub row_written : {W : Type 0} (contents : W → Option (List ℕ)) (old new : Writer W) (text : List ℕ) (cells : Cells) → HasWritten contents old text
     → (fields_written old ≡ 0 → has_written old ≡ false → (writer_setup old).style ≢ style.NonNumeric
     → Appends (text_written contents old) (text_written contents new) (row_text (writer_setup old) cells))

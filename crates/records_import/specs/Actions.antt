@@ -1,5 +1,5 @@
--- What a record does: an operation on a kind of thing. Each uses some of the further cells, and can't do
--- without some columns.
+-- The action of a record: an operation on a kind of thing. Each uses some of the further cells, and needs some of the
+-- columns.
 use Rattle.std.specs.Prelude.{ℕ, List, [], ◌∷◌, codes, Bool, true, false, not, ◌||◌, Option, Some, None, if◌then◌else◌}
 use Rattle.std.specs.List.{list_any}
 use Rattle.std.specs.Str.{bytes_eq}
@@ -10,22 +10,22 @@ use Rattle.records_import.specs.declared.header.Column.{Column}
 use Rattle.records_import.specs.declared.header.Column.TheVariants as holds
 use Rattle.records_import.specs.Columns.{has_column, is_same_column}
 
-abbrev pub put_action : List ℕ → Option Action
-put_action kind =
+abbrev pub put_of_kind : List ℕ → Option Action
+put_of_kind kind =
     if bytes_eq kind (codes "item") then Some PutItem
     else if bytes_eq kind (codes "list") then Some PutList
     else if bytes_eq kind (codes "rule") then Some PutRule
     else if bytes_eq kind (codes "member") then Some PutMember
     else None
 
-abbrev pub drop_action : List ℕ → Option Action
-drop_action kind =
+abbrev pub drop_of_kind : List ℕ → Option Action
+drop_of_kind kind =
     if bytes_eq kind (codes "item") then Some DropItem
     else if bytes_eq kind (codes "list") then Some DropList
     else if bytes_eq kind (codes "member") then Some DropMember
     else None
 
--- the least id of what is put or dropped: list 1 is always there and no record's
+-- the least id that may be put or dropped: list 1 always exists, and no record names it
 abbrev pub least_id : Action → ℕ
 least_id PutItem = 1
 least_id DropItem = 1
@@ -51,7 +51,7 @@ is_list column = is_same_column column holds.List
 abbrev pub is_item : Column → Bool
 is_item column = is_same_column column holds.Item
 
--- whether the cells of a column say something to the action
+-- whether the action uses the cells of a column
 abbrev pub uses : Action → Column → Bool
 uses PutItem column = is_property column
 uses DropItem column = false
@@ -61,7 +61,7 @@ uses DropList column = false
 uses PutMember column = is_list column || is_item column
 uses DropMember column = is_list column
 
--- the columns that the action can't do without
+-- the columns that the action needs
 abbrev pub needs : Action → List Column
 needs PutRule = holds.Query ∷ []
 needs PutMember = holds.List ∷ holds.Item ∷ []

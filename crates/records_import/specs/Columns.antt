@@ -1,5 +1,5 @@
--- The columns of records. The first three hold the operation, what it is done to, and an id; each further one
--- is named for what it holds, and no two hold the same.
+-- The columns of records. The first three have the operation, the kind of thing, and an id. Each further one has the
+-- name of its content, and no two have the same.
 use Rattle.std.specs.Prelude.{ℕ, suc, List, [], ◌∷◌, ◌++◌, drop, codes, get_or, Bool, true, false, Option, Some, None, option_map, Result, Ok, Err, if◌then◌else◌}
 use Rattle.std.specs.List.{list_any}
 use Rattle.std.specs.Str.{bytes_eq}
@@ -10,7 +10,7 @@ use Rattle.records_import.specs.declared.header.Column.TheVariants as holds
 use Rattle.records_import.specs.declared.refusal.RecordError.{RecordError}
 use Rattle.records_import.specs.declared.refusal.RecordError.TheVariants.{Header}
 
--- the column of a name, and none where no column has it
+-- the column with a name, or None
 abbrev pub column_named : List ℕ → Option Column
 column_named name =
     if bytes_eq name (codes "query") then Some holds.Query
@@ -28,13 +28,13 @@ is_same_column _ _ = false
 abbrev pub has_column : Column → List Column → Bool
 has_column column columns = list_any (is_same_column column) columns
 
--- a column, unless it stands among those before it
+-- a column, unless it is among the earlier ones
 abbrev pub unless_known : List Column → Option Column → Option Column
 unless_known known None = None
 unless_known known (Some column) = if has_column column known then None else Some column
 
--- the columns that further names give, after those that are known; the first name, by its place from 1, that
--- gives no new column is at fault
+-- the columns of further names, after the known ones; the error is at the first name, by its number from 1, that
+-- is not a new column's
 abbrev pub columns_of : ℕ → List Column → Cells → Result (List Column) RecordError
 columns_of place known [] = Ok known
 columns_of place known (name ∷ names) = elim (unless_known known (column_named name)) [
@@ -45,7 +45,7 @@ columns_of place known (name ∷ names) = elim (unless_known known (column_named
 abbrev pub is_named : Cells → ℕ → List ℕ → Bool
 is_named cells place name = bytes_eq (get_or cells place []) name
 
--- the columns of a header, below the first three
+-- the columns of a header, after the first three
 abbrev pub header_of : Cells → Result (List Column) RecordError
 header_of cells =
     if is_named cells 0 (codes "op") then (

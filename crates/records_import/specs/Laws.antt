@@ -1,4 +1,4 @@
--- What follows from the definitions. Each fact here is proved for all rows.
+-- Theorems about all rows that follow from the definitions.
 use Rattle.std.specs.Prelude.{◌≡◌, ◌≢◌, List, Result, Ok, Err}
 use Rattle.item_model.specs.declared.changes.Edit.{Edit}
 use Rattle.records_import.specs.Records.{BatchReads}
@@ -10,7 +10,7 @@ use Rattle.records_import.specs.declared.refusal.RecordError.TheVariants.{Memory
 abbrev pub RowsReadOnce : Type 0
 RowsReadOnce = (rows : List Cells) (a b : List Edit) → BatchReads rows (Ok a) → BatchReads rows (Ok b) → a ≡ b
 
--- rows have an answer, which is not want of memory
+-- rows have a result other than out of memory
 abbrev pub RowsHaveAnswers : Type 0
 RowsHaveAnswers = (rows : List Cells) → (answer : Result (List Edit) RecordError) × (answer ≢ Err Memory) × BatchReads rows answer
 

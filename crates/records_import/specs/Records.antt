@@ -1,4 +1,4 @@
--- Records as edits. A record is refused by its first column at fault, and records by the first record that is.
+-- Records as edits. A record's error is that of its first malformed column, and that of records is the first record's.
 use Rattle.std.specs.Prelude.{◌≡◌, ℕ, suc, ◌+◌, List, [], ◌∷◌, length, drop, get_or, codes, Bool, true, false, nat_lt, ◌==◌, Option, Some, None, Result, Ok, Err, ◌⊎◌, if◌then◌else◌}
 use Rattle.std.specs.Str.{bytes_eq}
 use Rattle.std.specs.Str.Parse.{digits_value}
@@ -12,7 +12,7 @@ use Rattle.item_model.specs.declared.property.Property.TheVariants.{Minm}
 use Rattle.item_model.specs.declared.query.Query.{Query}
 use Rattle.item_model.specs.declared.refusal.RecordWhy.{RecordWhy}
 use Rattle.item_model.specs.declared.refusal.RecordWhy.TheVariants as reason
-use Rattle.records_import.specs.Actions.{put_action, drop_action, least_id, lacks}
+use Rattle.records_import.specs.Actions.{put_of_kind, drop_of_kind, least_id, lacks}
 use Rattle.records_import.specs.Columns.{has_column, is_same_column, header_of}
 use Rattle.records_import.specs.Rules.{RuleReads}
 use Rattle.records_import.specs.Table.{Cells}
@@ -25,7 +25,7 @@ use Rattle.records_import.specs.declared.header.Column.TheVariants as holds
 use Rattle.records_import.specs.declared.refusal.RecordError.{RecordError}
 use Rattle.records_import.specs.declared.refusal.RecordError.TheVariants.{Field, Length, TooMany}
 
--- the cell under a column, and the empty one where the header lacks it; no column stands twice
+-- the cell in a column, or an empty one if the header lacks the column; no column occurs twice
 abbrev pub cell_under : Column → List Column → Cells → List ℕ
 cell_under column [] cells = []
 cell_under column (c ∷ columns) [] = []
@@ -66,11 +66,11 @@ name_text (Some (value.Text name)) = name
 name_text (Some (value.Number n)) = []
 name_text None = []
 
--- the name among properties, and the empty one where there is none
+-- the name among properties, or an empty one
 abbrev pub name_in : Properties → List ℕ
 name_in properties = name_text (value_of Minm properties)
 
--- the edit of a record, by its action, its id, and the cells under its further columns
+-- the edit of a record, by its action, its id, and the cells in its further columns
 abbrev pub EditIs : Action → ℕ → List Column → Cells → Edit → Type 0
 EditIs does.PutItem id columns cells edit = edit ≡ an_edit.PutItem (record { id = id; item = properties_of columns cells })
 EditIs does.DropItem id columns cells edit = edit ≡ an_edit.DropItem id
@@ -82,13 +82,13 @@ EditIs does.PutMember id columns cells edit =
     edit ≡ an_edit.PutMember (number_under holds.List columns cells) id (number_under holds.Item columns cells)
 EditIs does.DropMember id columns cells edit = edit ≡ an_edit.DropMember (number_under holds.List columns cells) id
 
--- nothing is wrong with the cells
+-- no cell is malformed
 abbrev pub AreSound : Action → List Column → Cells → Type 0
 AreSound action [] cells = Unit {0}
 AreSound action (c ∷ columns) [] = ⊥
 AreSound action (c ∷ columns) (cell ∷ cells) = CellFlaw action c cell None × AreSound action columns cells
 
--- the fault is that of the leftmost cell with which something is wrong, by its place from the given one on
+-- the error is that of the leftmost malformed cell, whose column is counted from `place`
 abbrev pub IsLeftmost : Action → ℕ → ℕ → List Column → Cells → RecordError → Type 0
 IsLeftmost action row place [] cells fault = ⊥
 IsLeftmost action row place (c ∷ columns) [] fault = ⊥
@@ -96,7 +96,7 @@ IsLeftmost action row place (c ∷ columns) (cell ∷ cells) fault =
     ((why : RecordWhy) × CellFlaw action c cell (Some why) × (fault ≡ Field row place why))
     ⊎ (CellFlaw action c cell None × IsLeftmost action row (suc place) columns cells fault)
 
--- what the further cells answer; a needed column that the header lacks is missing behind the last
+-- the result of the further cells; a needed column that the header lacks is missing after the last one
 abbrev pub FurtherAnswer : Action → ℕ → ℕ → List Column → Cells → Result Edit RecordError → Type 0
 FurtherAnswer action row id columns cells (Ok edit) =
     AreSound action columns cells × (lacks action columns ≡ false) × EditIs action id columns cells edit
@@ -111,8 +111,8 @@ or_fault fault (Some x) = Ok x
 -- the action of a record, by its first two cells
 abbrev pub action_of : ℕ → List ℕ → List ℕ → Result Action RecordError
 action_of row op kind =
-    if bytes_eq op (codes "put") then or_fault (Field row 2 reason.Kind) (put_action kind)
-    else if bytes_eq op (codes "drop") then or_fault (Field row 2 reason.Kind) (drop_action kind)
+    if bytes_eq op (codes "put") then or_fault (Field row 2 reason.Kind) (put_of_kind kind)
+    else if bytes_eq op (codes "drop") then or_fault (Field row 2 reason.Kind) (drop_of_kind kind)
     else Err (Field row 1 reason.Op)
 
 abbrev pub WithId : Action → ℕ → List Column → Cells → Result ℕ RecordWhy → Result Edit RecordError → Type 0
@@ -131,11 +131,11 @@ abbrev pub WithinBatch : Bool → ℕ → List Column → Cells → Result Edit 
 WithinBatch true row columns cells answer = OfLength (length cells == length columns + 3) row columns cells answer
 WithinBatch false row columns cells answer = answer ≡ Err (TooMany row)
 
--- what the record of this number, from 1, answers: its edit, or its fault
+-- the result of the record with this number, from 1: its edit, or its error
 abbrev pub RecordAnswers : List Column → ℕ → Cells → Result Edit RecordError → Type 0
 RecordAnswers columns row cells answer = WithinBatch (nat_lt row (suc most_records)) row columns cells answer
 
--- what records answer, from the one of this number on: the edits of all, or the fault of the first at fault
+-- the result of records, numbered from `row`: the edits of all, or the error of the first malformed one
 abbrev pub RecordsAnswer : List Column → ℕ → List Cells → Result (List Edit) RecordError → Type 0
 RecordsAnswer columns row [] (Ok edits) = edits ≡ []
 RecordsAnswer columns row [] (Err fault) = ⊥
@@ -150,7 +150,7 @@ abbrev pub UnderHeader : Result (List Column) RecordError → List Cells → Res
 UnderHeader (Ok columns) records answer = RecordsAnswer columns 1 records answer
 UnderHeader (Err fault) records answer = answer ≡ Err fault
 
--- what a text's rows answer: no row at all is the empty batch, and else the first is the header
+-- the result of a text's rows: without rows the empty batch, otherwise the first row is the header
 unfoldable pub BatchReads : List Cells → Result (List Edit) RecordError → Type 0
 BatchReads [] answer = answer ≡ Ok []
 BatchReads (header ∷ records) answer = UnderHeader (header_of header) records answer

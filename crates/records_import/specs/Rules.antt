@@ -1,4 +1,4 @@
--- What the text of a rule reads as: a query, or the refusal that reading a query gives.
+-- What the text of a rule reads as: a query, or the error of reading a query.
 use Rattle.std.specs.Prelude.{◌≢◌, ℕ, List, Result, Err}
 use Rattle.item_model.specs.declared.query.Query.{Query}
 use Rattle.item_model.specs.declared.refusal.QueryError.{QueryError}

@@ -1,4 +1,4 @@
--- What the cells of a record hold: ids, properties, rules, and what is wrong with them.
+-- The values in the cells of a record: ids, properties, rules, and what is malformed in them.
 use Rattle.std.specs.Prelude.{◌≡◌, ℕ, ◌^◌, List, [], ◌∷◌, length, Bool, true, false, ◌&&◌, nat_le, nat_lt, Option, Some, None, Result, Ok, Err, if◌then◌else◌}
 use Rattle.std.specs.Str.{is_utf8}
 use Rattle.dmap_tags.specs.declared.kinds.Kind.{Kind}
@@ -27,7 +27,7 @@ abbrev pub flaw_of : {A : Type 0} → Result A RecordWhy → Option RecordWhy
 flaw_of (Ok x) = None
 flaw_of (Err why) = Some why
 
--- an id is a number from the least on that has 32 bits
+-- an id is a number of 32 bits that is at least the least one
 abbrev pub id_from : ℕ → Option ℕ → Result ℕ RecordWhy
 id_from least None = Err reason.Number
 id_from least (Some n) = if nat_le least n && nat_lt n (2 ^ 32) then Ok n else Err reason.Range
@@ -35,7 +35,7 @@ id_from least (Some n) = if nat_le least n && nat_lt n (2 ^ 32) then Ok n else E
 abbrev pub id_in : ℕ → List ℕ → Result ℕ RecordWhy
 id_in least cell = id_from least (cell_number cell)
 
--- an id that the record can't do without
+-- an id that the record needs
 abbrev pub needed_id : ℕ → List ℕ → Result ℕ RecordWhy
 needed_id least cell = if is_empty cell then Err reason.Missing else id_in least cell
 
@@ -55,11 +55,11 @@ by_kind _ p cell = number_from p (cell_number cell)
 abbrev pub property_in : Property → List ℕ → Result PropValue RecordWhy
 property_in p cell = by_kind (property_kind p) p cell
 
--- an empty cell is a property that is not there
+-- an empty cell is a property that the item lacks
 abbrev pub property_flaw : Property → List ℕ → Option RecordWhy
 property_flaw p cell = if is_empty cell then None else flaw_of (property_in p cell)
 
--- what is wrong with a query's cell whose text was read
+-- the error of a query's cell whose text was read
 abbrev pub ReadFlaw : List ℕ → Option RecordWhy → Type 0
 ReadFlaw cell None = (rule : Query) × RuleReads cell (Ok rule)
 ReadFlaw cell (Some (reason.Query error)) = RuleReads cell (Err error)
@@ -73,7 +73,7 @@ abbrev pub RuleFlaw : List ℕ → Option RecordWhy → Type 0
 RuleFlaw [] flaw = flaw ≡ Some reason.Missing
 RuleFlaw (b ∷ bytes) flaw = TextFlaw (is_utf8 (b ∷ bytes)) (b ∷ bytes) flaw
 
--- what is wrong, if anything, with a cell that the action uses
+-- the error, if there is one, of a cell that the action uses
 abbrev pub UsedFlaw : Column → List ℕ → Option RecordWhy → Type 0
 UsedFlaw (holds.Property p) cell flaw = flaw ≡ property_flaw p cell
 UsedFlaw holds.Query cell flaw = RuleFlaw cell flaw
@@ -84,6 +84,6 @@ abbrev pub FlawBy : Bool → Column → List ℕ → Option RecordWhy → Type 0
 FlawBy true column cell flaw = UsedFlaw column cell flaw
 FlawBy false column cell flaw = flaw ≡ (if is_empty cell then None else Some reason.Extra)
 
--- what is wrong, if anything, with a cell of a record: one that the action doesn't use is to be empty
+-- the error, if there is one, of a cell of a record: one that the action doesn't use has to be empty
 abbrev pub CellFlaw : Action → Column → List ℕ → Option RecordWhy → Type 0
 CellFlaw action column cell flaw = FlawBy (uses action column) column cell flaw

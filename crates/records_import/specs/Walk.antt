@@ -1,5 +1,5 @@
--- How the cells of a record fill in what its edit is made of, one after another. It serves the contracts of
--- private functions alone.
+-- How the cells of a record fill in the values of its edit, one after another. Only contracts of private functions
+-- need it.
 use Rattle.std.specs.Prelude.{◌≡◌, ℕ, List, [], ◌∷◌, Bool, true, false, Option, Some, None, Result, Ok, Err, option_map}
 use Rattle.item_model.specs.declared.changes.Edit.{Edit}
 use Rattle.item_model.specs.declared.changes.Edit.TheVariants as an_edit
@@ -34,7 +34,7 @@ abbrev pub AddedBy : Bool → Column → List ℕ → Values → Values → Type
 AddedBy true column cell before after = Added column cell before after
 AddedBy false column cell before after = after ≡ before
 
--- an error for another cause than memory has this meaning
+-- an error whose cause is not memory has this meaning
 abbrev pub ForCause : CellError → (RecordWhy → Type 0) → Type 0
 ForCause (Refused why) Means = Means why
 ForCause Memory Means = Unit {0}
@@ -43,12 +43,12 @@ abbrev pub UsedTaken : Column → List ℕ → Values → Values → Result (Uni
 UsedTaken column cell before after (Ok _) = UsedFlaw column cell None × Added column cell before after
 UsedTaken column cell before after (Err error) = ForCause error (λ why. UsedFlaw column cell (Some why))
 
--- a cell was taken in, or refused
+-- a cell was applied, or is malformed
 abbrev pub CellTaken : Action → Column → List ℕ → Values → Values → Result (Unit {0}) CellError → Type 0
 CellTaken action column cell before after (Ok _) = CellFlaw action column cell None × AddedBy (uses action column) column cell before after
 CellTaken action column cell before after (Err error) = ForCause error (λ why. CellFlaw action column cell (Some why))
 
--- all cells were taken in
+-- all cells were applied
 abbrev pub Walked : Action → List Column → Cells → Values → Values → Type 0
 Walked action [] cells before after = after ≡ before
 Walked action (c ∷ columns) [] before after = ⊥
@@ -60,7 +60,7 @@ member_edit id (Some list) (Some item) = Some (an_edit.PutMember list id item)
 member_edit id None item = None
 member_edit id (Some list) None = None
 
--- the edit that the values make, and none where the action lacks one of them
+-- the edit with these values, or None if the action lacks one of them
 abbrev pub edit_from : Action → ℕ → Values → Option Edit
 edit_from does.PutItem id values = Some (an_edit.PutItem (record { id = id; item = values.item }))
 edit_from does.DropItem id values = Some (an_edit.DropItem id)

@@ -15,16 +15,16 @@ use Rattle.records_import.specs.declared.header.Column.TheVariants as holds
 use Rattle.records_import.specs.declared.refusal.RecordError.{RecordError}
 use Rattle.song_query.specs.Printing.{printed}
 
--- a batch that reading gives: some text reads as it
+-- some text reads as the batch
 pub record IsReadable (edits : List Edit) : Type 0 where
   pub text : List ℕ
   pub reads : BatchReads (table_of text) (Ok edits)
 
--- the rows read as the edits, and have no other answer
+-- the rows read as the edits, and have no other result
 abbrev pub ReadsOnlyAs : List Cells → List Edit → Type 0
 ReadsOnlyAs rows edits = (answer : Result (List Edit) RecordError) → BatchReads rows answer → answer ≡ Ok edits
 
--- the columns below the first three: all properties in the order of listings, and then what lists and members need
+-- the columns after the first three: all properties in the order of listings, and then those of lists and members
 abbrev pub written_columns : List Column
 written_columns = map (λ p. holds.Property p) all_properties ++ holds.Query ∷ holds.List ∷ holds.Item ∷ []
 
@@ -37,7 +37,7 @@ column_name holds.Item = codes "item"
 abbrev pub written_header : Cells
 written_header = codes "op" ∷ codes "kind" ∷ codes "id" ∷ map column_name written_columns
 
--- whether an edit puts or drops, what it is done to, and the id of that
+-- whether an edit puts or drops, the kind of thing, and its id
 abbrev pub written_op : Edit → List ℕ
 written_op (PutItem row) = codes "put"
 written_op (DropItem id) = codes "drop"
@@ -65,7 +65,7 @@ written_id (DropList list) = list
 written_id (PutMember list member item) = member
 written_id (DropMember list member) = member
 
--- a number in plain decimal, a text as it is, and nothing for no value
+-- a number in plain decimal, a text as it is, and an empty cell for no value
 abbrev pub value_cell : Option PropValue → List ℕ
 value_cell (Some (value.Number n)) = decimal n
 value_cell (Some (value.Text text)) = text
@@ -77,7 +77,7 @@ property_cell properties holds.Query = []
 property_cell properties holds.List = []
 property_cell properties holds.Item = []
 
--- what stands under a column in an edit's record: a rule as its shortest text, and nothing in a column that the edit doesn't use
+-- an edit's cell in a column: a rule as its shortest text, and an empty cell in a column that the edit doesn't use
 abbrev pub written_cell : Edit → Column → List ℕ
 written_cell (PutItem row) column = property_cell row.item column
 written_cell (DropItem id) column = []

@@ -1,7 +1,7 @@
-// What a record does.
+// The action of a record.
 
 ghost use Rattle.std.specs.Prelude.{◌≡◌};
-ghost use Rattle.records_import.specs.Actions.{drop_action, is_property, least_id, put_action, uses};
+ghost use Rattle.records_import.specs.Actions.{drop_of_kind, is_property, least_id, put_of_kind, uses};
 
 use crate::header::Column;
 use item_model::Property;
@@ -19,9 +19,9 @@ pub enum Action {
 }
 
 impl Action {
-    /// What is put of this kind.
-    pub fn put(kind: &[u8]) -> Option<Action>
-        ensures { result ≡ put_action kind.now }
+    /// Returns the action that puts this kind of thing.
+    pub fn put_of_kind(kind: &[u8]) -> Option<Action>
+        ensures { result ≡ put_of_kind kind.now }
     {
         if kind == b"item".as_slice() {
             return Some(Action::PutItem);
@@ -38,9 +38,9 @@ impl Action {
         None
     }
 
-    /// What is dropped of this kind.
-    pub fn drop_(kind: &[u8]) -> Option<Action>
-        ensures { result ≡ drop_action kind.now }
+    /// Returns the action that drops this kind of thing.
+    pub fn drop_of_kind(kind: &[u8]) -> Option<Action>
+        ensures { result ≡ drop_of_kind kind.now }
     {
         if kind == b"item".as_slice() {
             return Some(Action::DropItem);
@@ -54,7 +54,7 @@ impl Action {
         None
     }
 
-    /// The least id of what is put or dropped. List 1 is always there and no record's.
+    /// Returns the least id that may be put or dropped. List 1 always exists, and no record names it.
     pub fn least_id(self) -> u32
         ensures { result ≡ least_id self }
     {
@@ -64,7 +64,7 @@ impl Action {
         }
     }
 
-    /// Whether the cells of a column say something to the action.
+    /// Returns whether the action uses the cells of a column.
     pub fn uses(self, column: Column) -> bool
         ensures { result ≡ uses self column }
     {

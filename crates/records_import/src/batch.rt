@@ -15,18 +15,17 @@ use csv::ByteRecord;
 use item_model::{Batch, Edits};
 use std::alloc::Global;
 
-/// How many records a batch has at most.
+/// The maximum number of records in a batch.
 pub const MOST_RECORDS: usize = 65_536;
 
-/// Reads a batch, whole or not at all, from comma separated records below a header.
-///
-/// No record at all is the empty batch.
+/// Returns the batch of comma separated records below a header. A text without rows is the empty batch. If a record
+/// is malformed, the whole batch is refused.
 pub fn read_batch(alloc: Global, bytes: &[u8]) -> Result<Batch, RecordError>
     ensures exact { MatchResult result (λ batch. BatchReads (table_of bytes.now) (Ok batch)) (λ e. e ≢ RecordError.Memory → BatchReads (table_of bytes.now) (Err e)) }
     ensures valid { IfOk result (λ batch. AreValid batch) }
     ensures few { IfOk result (λ batch. length batch ≤ most_records) }
 {
-    // One record more than a batch has, below the header, shows that there are too many.
+    // The header, the records of the largest batch, and one more, which shows that there are too many.
     let rows = rows_of(alloc, bytes, MOST_RECORDS + 2)?;
     read_rows(alloc, rows.as_slice())
 }

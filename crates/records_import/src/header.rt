@@ -1,4 +1,4 @@
-// The header of records: what each column holds.
+// The header of records: the content of each column.
 
 ghost use Rattle.std.specs.Prelude.{◌≡◌, ◌≢◌, [], drop, Ok, Err, MatchResult};
 ghost use Rattle.std.specs.List.{find};
@@ -13,10 +13,10 @@ use csv::ByteRecord;
 use item_model::{PROPERTIES, Property};
 use std::alloc::Global;
 
-/// How many columns every header has, before those that are named for what they hold.
+/// The number of columns before those whose names the header chooses.
 pub const FIRST_COLUMNS: usize = 3;
 
-/// What a further column holds.
+/// The content of a further column.
 #[derive(Clone, Copy, Debug, PartialEq, Eq)]
 pub enum Column {
     Property(Property),
@@ -25,14 +25,14 @@ pub enum Column {
     Item,
 }
 
-/// The columns below the first three, in order.
+/// The columns after the first three, in order.
 #[derive(Debug, Drop)]
 pub struct Header {
     pub columns: Vec<Column>,
 }
 
 impl Column {
-    /// The column of a name.
+    /// Returns the column with the name.
     pub fn named(name: &[u8]) -> Option<Column>
         ensures { result ≡ column_named name.now }
     {
@@ -51,7 +51,7 @@ impl Column {
         }
     }
 
-    /// Whether both hold the same.
+    /// Returns whether both columns have the same content.
     pub fn is_same(self, other: Column) -> bool
         ensures { result ≡ is_same_column self other }
     {
@@ -73,7 +73,7 @@ impl Column {
     }
 }
 
-/// Reads the header, the first row.
+/// Parses the header, the first row.
 pub fn read_header(alloc: Global, cells: &ByteRecord) -> Result<Header, RecordError>
     ensures { MatchResult result (λ header. header_of (fields_of cells.now) ≡ Ok header.columns.items) (λ e. e ≢ RecordError.Memory → header_of (fields_of cells.now) ≡ Err e) }
 {
@@ -107,7 +107,7 @@ fn further_columns(alloc: Global, cells: &ByteRecord) -> Result<Vec<Column>, Rec
     Ok(columns)
 }
 
-/// The column of a name, unless it is known already.
+/// Returns the column with the name, unless it is among `known`.
 fn new_column(known: &[Column], name: &[u8]) -> Option<Column>
     ensures { result ≡ unless_known known.now (column_named name.now) }
 {

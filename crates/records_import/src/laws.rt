@@ -1,4 +1,4 @@
-//! What holds of all rows. Each function does nothing; its contract is a fact that follows from the definitions.
+//! What holds for all rows. Each function has an empty body; its contract is a theorem.
 
 ghost use Rattle.records_import.specs.Laws.{AnswersAreOne, RowsHaveAnswers, RowsReadOnce};
 
@@ -7,12 +7,12 @@ pub fn rows_read_as_one_batch()
     ensures { RowsReadOnce }
 {}
 
-/// Rows read as a batch, or are refused.
+/// Rows read as a batch, or have an error.
 pub fn rows_have_an_answer()
     ensures { RowsHaveAnswers }
 {}
 
-/// Rows are not both read and refused, and refused for one fault at one place.
+/// Rows do not both read and have an error, and have one error at one place at most.
 pub fn rows_have_one_answer()
     ensures { AnswersAreOne }
 {}

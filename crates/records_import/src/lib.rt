@@ -1,5 +1,4 @@
-//! Batches read from records and written as records: comma separated text, each row an edit, taken whole or
-//! not at all.
+//! Batches of edits as comma separated text: each row is an edit, and a batch is read whole or not at all.
 #![tactic(auto)]
 
 mod action;

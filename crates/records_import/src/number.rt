@@ -3,11 +3,11 @@
 ghost use Rattle.std.specs.Prelude.{◌≡◌, ◌≤◌};
 ghost use Rattle.records_import.specs.Number.{cell_number, number_of};
 
-/// The most digits that a number in a cell has.
+/// The maximum number of digits of a number in a cell.
 const CELL_DIGITS: usize = 20;
 
-/// The number that bytes write in 1 to `most` decimal digits, leading zeros among them, if they write one. Twenty
-/// digits go past 64 bits, and stay far below 128.
+/// Returns the number that `digits` are, which may have leading zeros, or `None` if they are not 1 to `most` decimal
+/// digits. Twenty digits need more than 64 bits, and far less than 128.
 pub fn read_number(digits: &[u8], most: usize) -> Option<u128>
     requires { most ≤ 20 }
     ensures { result ≡ number_of most digits.now }
@@ -25,7 +25,7 @@ pub fn read_number(digits: &[u8], most: usize) -> Option<u128>
     Some(value)
 }
 
-/// The number in a cell.
+/// Returns the number in a cell.
 pub(crate) fn read_cell(cell: &[u8]) -> Option<u128>
     ensures { result ≡ cell_number cell.now }
 {

@@ -16,7 +16,7 @@ use dmap_tags::Text;
 use item_model::{Edit, Item, PropValue, Property, RecordWhy, Row, SharedRow};
 use std::alloc::{AllocError, Global};
 
-/// The edit of the record with this number, from 1.
+/// Returns the edit of the record. `row` is its number, from 1.
 pub fn read_record(
     alloc: Global,
     row: u64,
@@ -49,15 +49,15 @@ fn field(row: u64, column: u64, why: RecordWhy) -> RecordError
     RecordError::Field { row, column, why }
 }
 
-/// The action of a record, by its first two cells.
+/// Returns the action of a record, by its first two cells.
 fn read_action(row: u64, cells: &ByteRecord) -> Result<Action, RecordError>
     ensures { result ≡ action_of row (get_or (fields_of cells.now) 0 []) (get_or (fields_of cells.now) 1 []) }
 {
     let kind = cell(cells, 1);
     let action = if cell(cells, 0) == b"put".as_slice() {
-        Action::put(kind)
+        Action::put_of_kind(kind)
     } else if cell(cells, 0) == b"drop".as_slice() {
-        Action::drop_(kind)
+        Action::drop_of_kind(kind)
     } else {
         return Err(field(row, 1, RecordWhy::Op));
     };
@@ -67,7 +67,7 @@ fn read_action(row: u64, cells: &ByteRecord) -> Result<Action, RecordError>
     }
 }
 
-/// Takes in the cells of the further columns, from left to right.
+/// Applies the cells of the further columns, from left to right.
 fn read_cells(
     alloc: Global,
     row: u64,
@@ -89,7 +89,7 @@ fn read_cells(
     Ok(values)
 }
 
-/// The edit that the values make, and none where the action lacks one of them.
+/// Returns the edit with these values, or `None` if the action lacks one of them.
 fn edit_from(
     alloc: Global,
     action: Action,
@@ -143,7 +143,7 @@ fn member_edit(member: u32, list: Option<u32>, entry: Option<u32>) -> Option<Edi
     Some(Edit::PutMember { list, member, item })
 }
 
-/// The name among an item's properties, empty where there is none.
+/// Returns the name among an item's properties, or an empty text.
 fn name_in(alloc: Global, item: &Item) -> Result<Text, AllocError>
     ensures { IfOk result (λ name. name ≡ name_in item.now) }
 {

@@ -1,4 +1,4 @@
-//! Why records are refused.
+//! Errors of records.
 
 ghost use Rattle.std.specs.Prelude.{◌≡◌};
 
@@ -6,15 +6,15 @@ use item_model::RecordWhy;
 use std::alloc::{AllocError, AllocFailed};
 use thiserror::Error;
 
-/// Why records are refused. Columns count from 1, and rows from 1 after the header.
+/// Errors of records. Columns count from 1, and rows from 1 after the header.
 #[derive(Debug, Drop, PartialEq, Eq, Error)]
 pub enum RecordError {
-    /// The header's cell at this column breaks the rule, or is missing.
+    /// The header's cell in this column is wrong or missing.
     #[error("header column {column}")]
     Header {
         column: u64,
     },
-    /// A cell of a record is refused.
+    /// A cell of a record is malformed.
     #[error("record {row} column {column}")]
     Field {
         row: u64,
@@ -26,7 +26,7 @@ pub enum RecordError {
     Length {
         row: u64,
     },
-    /// The record is one more than a batch has.
+    /// This record is the first one too many for a batch.
     #[error("record {row} too many")]
     TooMany {
         row: u64,

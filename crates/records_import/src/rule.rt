@@ -1,4 +1,4 @@
-// Rules: the queries of rule lists.
+// Rules: the queries of smart playlists.
 
 ghost use Rattle.std.specs.Prelude.{◌≢◌, Ok, Err, MatchResult};
 ghost use Rattle.records_import.specs.Rules.{RuleReads};
@@ -7,7 +7,7 @@ use item_model::{Query, QueryError};
 use song_query::read;
 use std::alloc::Global;
 
-/// Reads a rule's text as a query.
+/// Returns the query of a rule's text.
 pub fn read_rule(alloc: Global, text: &str) -> Result<Query, QueryError>
     ensures { MatchResult result (λ rule. RuleReads text.now (Ok rule)) (λ e. e ≢ QueryError.Memory → RuleReads text.now (Err e)) }
 {

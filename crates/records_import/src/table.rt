@@ -7,9 +7,8 @@ ghost use Rattle.records_import.specs.Table.{table_of};
 use csv::{ByteRecord, ReaderBuilder};
 use std::alloc::{AllocError, Global};
 
-/// The first `most` rows of a text, which are all of them where it has no more.
-///
-/// The text is read once, in the default form of `csv`, and not past the last row that is given.
+/// Returns the first `most` rows of a text, or all if it has fewer. Reads the text once, in the default form of
+/// `csv`, and not past the last row that it returns.
 pub fn rows_of(alloc: Global, text: &[u8], most: usize) -> Result<Vec<ByteRecord>, AllocError>
     ensures { IfOk result (λ v. map fields_of v.items ≡ take most (table_of text.now)) }
 {
@@ -29,7 +28,7 @@ pub fn rows_of(alloc: Global, text: &[u8], most: usize) -> Result<Vec<ByteRecord
     Ok(rows)
 }
 
-/// The cell at this place of a row, from 0, and the empty cell past its end.
+/// Returns the cell of a row at index `place`, or an empty cell if the row is shorter.
 pub fn cell(row: &ByteRecord, place: usize) -> &[u8]
     ensures { result.now ≡ get_or (fields_of row.now) place [] }
 {
@@ -39,7 +38,7 @@ pub fn cell(row: &ByteRecord, place: usize) -> &[u8]
     }
 }
 
-/// How many cells a row has.
+/// Returns the number of cells of a row.
 pub fn width(row: &ByteRecord) -> usize
     ensures { result ≡ length (fields_of row.now) }
 {

@@ -9,7 +9,7 @@ ghost use Rattle.records_import.specs.Writing.{HasWritten};
 use csv::{ByteRecord, Writer, WriterBuilder};
 use std::alloc::{AllocError, Global};
 
-/// A writer of rows into memory, which has written none.
+/// Returns a writer of rows into memory, with no row written.
 pub fn table_writer(alloc: Global) -> Writer<Vec<u8>>
     ensures { HasWritten (λ v. Some v.items) result [] }
 {
@@ -18,7 +18,7 @@ pub fn table_writer(alloc: Global) -> Writer<Vec<u8>>
         .from_writer(Vec::new(alloc))
 }
 
-/// Writes one more row. After an error the writer is of no more use.
+/// Appends one row. After an error the writer must not be used again.
 pub fn write_row(writer: &mut Writer<Vec<u8>>, row: &ByteRecord) -> Result<(), AllocError>
     ensures { (text : List ℕ) → HasWritten (λ v. Some v.items) writer.old text
         → OnOk result (HasWritten (λ v. Some v.items) writer.new (text ++ row_text default_writer (fields_of row.now))) }
@@ -29,7 +29,7 @@ pub fn write_row(writer: &mut Writer<Vec<u8>>, row: &ByteRecord) -> Result<(), A
     }
 }
 
-/// The text of all rows that were written.
+/// Returns the text of all rows written.
 pub fn written_text(writer: Writer<Vec<u8>>) -> Result<Vec<u8>, AllocError>
     ensures { (text : List ℕ) → HasWritten (λ v. Some v.items) writer text → IfOk result (λ v. v.items ≡ text) }
 {
@@ -39,7 +39,7 @@ pub fn written_text(writer: Writer<Vec<u8>>) -> Result<Vec<u8>, AllocError>
     }
 }
 
-/// The text of these rows in the default form of `csv`, one line for each.
+/// Returns the text of these rows in the default form of `csv`, one line for each.
 pub fn write_rows(alloc: Global, rows: &[ByteRecord]) -> Result<Vec<u8>, AllocError>
     ensures text { IfOk result (λ v. v.items ≡ table_text (map fields_of rows.now)) }
     ensures reads_back { IfOk result (λ v. All HasCell (map fields_of rows.now) → IsUnmarked v.items → table_of v.items ≡ map fields_of rows.now) }

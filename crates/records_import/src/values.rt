@@ -1,4 +1,4 @@
-// What the cells of a record hold.
+// The values in the cells of a record.
 
 ghost use Rattle.std.specs.Prelude.{◌≡◌, ◌≢◌, ◌<◌, ◌^◌, Some, None, Ok, Err, true, false, IfOk, MatchResult, option_map, if◌then◌else◌};
 ghost use Rattle.std.specs.Str.{is_utf8};
@@ -18,7 +18,7 @@ use item_model::{Item, ItemError, PropValue, Property, Query, QueryError, Record
 use std::alloc::{AllocError, Global};
 use std::str::from_utf8;
 
-/// Why a cell is not taken in.
+/// Errors of a cell.
 #[derive(Debug, Drop)]
 pub enum CellError {
     Refused(RecordWhy),
@@ -47,14 +47,14 @@ impl From<RecordWhy> for CellError {
     }
 }
 
-/// What the cells so far give to their record's edit.
+/// The values for a record's edit from its cells so far.
 #[derive(Debug, Drop)]
 pub struct Values {
     pub item: Item,
     pub rule: Option<Query>,
     /// The id of a list.
     pub list: Option<u32>,
-    /// The id of the item that a member stands for.
+    /// The id of a member's item.
     pub entry: Option<u32>,
 }
 
@@ -70,7 +70,7 @@ impl Values {
         }
     }
 
-    /// Takes in a cell of a record with this action.
+    /// Applies a cell of a record with this action.
     pub fn take(
         &mut self,
         alloc: Global,
@@ -113,7 +113,7 @@ impl Values {
     }
 }
 
-/// Sets the property that a cell gives; an empty one gives none.
+/// Sets the property in a cell, or nothing if the cell is empty.
 fn put_property(
     alloc: Global,
     item: &mut Item,
@@ -133,7 +133,7 @@ fn put_property(
     }
 }
 
-/// The value of a property in a cell that is not empty.
+/// Returns the value of a property in a cell that is not empty.
 fn property_value(alloc: Global, property: Property, cell: &[u8]) -> Result<PropValue, CellError>
     ensures { MatchResult result (λ value. property_in property cell.now ≡ Ok value) (λ e. ForCause e (λ why. property_in property cell.now ≡ Err why)) }
 {
@@ -171,7 +171,7 @@ fn number_value(property: Property, cell: &[u8]) -> Result<PropValue, RecordWhy>
     Ok(value)
 }
 
-/// The bytes as a text, if they are UTF-8.
+/// Returns the bytes as a text, if they are UTF-8.
 fn text_of(bytes: &[u8]) -> Option<&str>
     ensures { option_map (λ text. text.now) result ≡ (if is_utf8 bytes.now then Some bytes.now else None) }
 {
@@ -197,7 +197,7 @@ fn rule_value(alloc: Global, cell: &[u8]) -> Result<Query, CellError>
     }
 }
 
-/// An id that a record can't do without.
+/// Returns the id in a cell that the record needs.
 fn needed_id(cell: &[u8], least: u32) -> Result<u32, RecordWhy>
     ensures { result ≡ needed_id least cell.now }
 {
@@ -207,7 +207,7 @@ fn needed_id(cell: &[u8], least: u32) -> Result<u32, RecordWhy>
     read_id(cell, least)
 }
 
-/// The id in a cell, from the least that it may be on.
+/// Returns the id in a cell, which is at least `least`.
 pub fn read_id(cell: &[u8], least: u32) -> Result<u32, RecordWhy>
     ensures { result ≡ id_in least cell.now }
 {

@@ -1,4 +1,4 @@
-//! Batches of edits, written as records.
+//! Writes batches of edits as records.
 
 ghost use Rattle.std.specs.Prelude.{◌≡◌, ◌++◌, ◌∷◌, [], IfOk, Ok, OnOk, codes, decimal, if◌then◌else◌, map, option_copied, string_bytes};
 ghost use Rattle.csv.specs.Records.{AllText, fields_of};
@@ -20,10 +20,8 @@ use item_model::{Batch, Edit, Item, PROPERTIES, PropValue, Property, Query};
 use song_query::print;
 use std::alloc::{AllocError, Global};
 
-/// Writes a batch as comma separated records, which read back as the batch.
-///
-/// The header names all columns and is written for a batch without edits too. Numbers are in plain decimal,
-/// and a rule is the shortest text of its query.
+/// Returns a batch as comma separated records, which read back as the batch. The header names all columns, even for a
+/// batch without edits. Numbers are in plain decimal, and a rule is the shortest text of its query.
 pub fn write_batch(alloc: Global, batch: &Batch) -> Result<Bytes, AllocError>
     requires { IsReadable batch.now }
     ensures text { IfOk result (λ b. b ≡ table_text (written_rows batch.now)) }
@@ -41,7 +39,7 @@ pub fn write_batch(alloc: Global, batch: &Batch) -> Result<Bytes, AllocError>
     Ok(Bytes::from(written_text(writer)?))
 }
 
-/// The columns below the first three, in the order in which they are written.
+/// Returns the columns after the first three, in the order in which they are written.
 fn written_columns(alloc: Global) -> Result<Vec<Column>, AllocError>
     ensures { IfOk result (λ columns. columns.items ≡ written_columns) }
 {
@@ -72,7 +70,7 @@ fn header_row(alloc: Global, columns: &[Column]) -> Result<ByteRecord, AllocErro
     Ok(row)
 }
 
-/// The record of an edit.
+/// Returns the record of an edit.
 fn edit_row(alloc: Global, columns: &[Column], edit: &Edit) -> Result<ByteRecord, AllocError>
     requires { IsValid edit.now }
     ensures cells { IfOk result (λ row. fields_of row ≡ written_op edit.now ∷ written_kind edit.now ∷ decimal (written_id edit.now) ∷ map (written_cell edit.now) columns.now) }
@@ -126,7 +124,7 @@ fn kind_of(edit: &Edit) -> &'static str
     }
 }
 
-/// The id of what is put or dropped.
+/// Returns the id of what is put or dropped.
 fn id_of(edit: &Edit) -> u32
     ensures { result ≡ written_id edit.now }
 {
@@ -141,7 +139,7 @@ fn id_of(edit: &Edit) -> u32
     }
 }
 
-/// What stands under a column in an edit's record.
+/// Returns an edit's cell in a column.
 fn cell_of(alloc: Global, edit: &Edit, column: Column) -> Result<String, AllocError>
     requires { IsValid edit.now }
     ensures { IfOk result (λ cell. string_bytes cell ≡ written_cell edit.now column) }
@@ -157,7 +155,7 @@ fn cell_of(alloc: Global, edit: &Edit, column: Column) -> Result<String, AllocEr
     }
 }
 
-/// A property of an item as a cell.
+/// Returns a property of an item as a cell.
 fn property_cell(alloc: Global, item: &Item, column: Column) -> Result<String, AllocError>
     ensures { IfOk result (λ cell. string_bytes cell ≡ property_cell item.now column) }
 {
@@ -177,7 +175,7 @@ fn value_cell(alloc: Global, value: Option<&PropValue>) -> Result<String, AllocE
     }
 }
 
-/// What a plain list has under a column: its name, and nothing else.
+/// Returns a playlist's cell in a column: its name, or an empty cell.
 fn name_cell(alloc: Global, name: &str, column: Column) -> Result<String, AllocError>
     ensures { IfOk result (λ cell. string_bytes cell ≡ (if is_name column then name.now else [])) }
 {
@@ -187,7 +185,7 @@ fn name_cell(alloc: Global, name: &str, column: Column) -> Result<String, AllocE
     Ok(String::new(alloc))
 }
 
-/// What a rule list has under a column: its name or its rule.
+/// Returns a smart playlist's cell in a column: its name, its rule, or an empty cell.
 fn rule_cell(alloc: Global, name: &str, rule: &Query, column: Column) -> Result<String, AllocError>
     requires { IsProper rule.now }
     ensures { IfOk result (λ cell. string_bytes cell ≡ (if is_name column then name.now else if is_rule column then printed (tree_of rule.now) else [])) }
@@ -202,7 +200,7 @@ fn rule_cell(alloc: Global, name: &str, rule: &Query, column: Column) -> Result<
     Ok(String::new(alloc))
 }
 
-/// What a member that is put has under a column: its list or its item.
+/// Returns the cell of a member that is put: its list, its item, or an empty cell.
 fn member_cell(alloc: Global, list: u32, item: u32, column: Column) -> Result<String, AllocError>
     ensures { IfOk result (λ cell. string_bytes cell ≡ (if is_list column then decimal list else if is_item column then decimal item else [])) }
 {
@@ -215,7 +213,7 @@ fn member_cell(alloc: Global, list: u32, item: u32, column: Column) -> Result<St
     Ok(String::new(alloc))
 }
 
-/// What a member that is dropped has under a column: its list, and nothing else.
+/// Returns the cell of a member that is dropped: its list, or an empty cell.
 fn list_cell(alloc: Global, list: u32, column: Column) -> Result<String, AllocError>
     ensures { IfOk result (λ cell. string_bytes cell ≡ (if is_list column then decimal list else [])) }
 {

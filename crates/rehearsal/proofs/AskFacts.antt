@@ -1,4 +1,4 @@
--- Asks one after another, and what a mirror holds after them.
+-- Requests one after another, and what a mirror holds after them.
 use Rattle.std.proofs.Common.{◌≡◌, ◌≤◌, ℕ, zero, suc, ◌+◌, not, List, [], ◌∷◌, ◌++◌, Bool, true, false, cond, Option, take, drop, filter, fold, length, refl, sym, ap, subst, ◌∙◌, arith, length-append, count_by}
 use Rattle.std.specs.List.{AllByRecursion, range_with_len}
 use Rattle.std.proofs.lemmas.List.Elements.{filter-append}
@@ -15,7 +15,7 @@ use Rattle.share_history.proofs.MirrorFacts.{full_listings_suffice, mirrors_catc
 use Rattle.rehearsal.specs.Asks.{is_due, asks, kept_bases, deltas, fulls}
 use Rattle.rehearsal.specs.Following.{nothing_held, held_after}
 
--- ---- asks
+-- ---- requests
 
 range_more : (a n : ℕ) → range_with_len a (n + 1) ≡ range_with_len a n ++ (a + n) ∷ []
 range_more a n = subst (λ k. range_with_len a k ≡ range_with_len a n ++ (a + n) ∷ []) one (by_suc a n)
@@ -41,7 +41,7 @@ asks_more period last count =
     comm : 1 + count ≡ count + 1
     comm = omega arith
 
--- the asks are after batches that were
+-- the requests come after batches that exist
 abbrev pub AreWithin : ℕ → List ℕ → Type 0
 AreWithin count ns = AllByRecursion (λ n. n ≤ count) ns
 
@@ -60,7 +60,7 @@ within_filter top p (n ∷ ns) h = kept (p n) (within_filter top p ns h.1)
 asks_within : (period last count : ℕ) → AreWithin count (asks period last count)
 asks_within period last count = within_filter count (is_due period last) (range_with_len 1 count) (range_within count 1 count (omega arith))
 
--- ---- what is held
+-- ---- what a mirror holds
 
 -- the revision of the last ask
 last_base : List (List Edit) → ℕ → List ℕ → ℕ
@@ -74,7 +74,7 @@ unfolding held_from last_base
 held_base bs q held [] = refl
 held_base bs q held (n ∷ ns) = held_base bs q (mirrored (take n bs) Items q Default) ns
 
--- what is held lets a mirror catch up with the first n batches
+-- from what is held, a mirror catches up with the first n batches
 abbrev CatchesUp : ℕ → ℕ → List (List Edit) → Option Query → Held → Type 0
 CatchesUp keep n bs q held = mirror_after held (listing keep (take n bs) Items (mirror_look q Default held.revision)) ≡ mirrored (take n bs) Items q Default
 
@@ -101,7 +101,7 @@ within_more : (n : ℕ) (ns : List ℕ) → AreWithin n ns → AreWithin (n + 1)
 within_more n [] h = tt
 within_more n (m ∷ ns) h = (omega (arith, h.0), within_more n ns h.1)
 
--- a mirror that asked as it was due catches up with the next batch
+-- a mirror that made its requests catches up with the next batch
 pub catches_up : (keep period last count : ℕ) (bs : List (List Edit)) (q : Option Query) (held : Held) → held ≡ held_after bs q (asks period last count)
     → mirror_after held (listing keep (take (count + 1) bs) Items (mirror_look q Default held.revision)) ≡ mirrored (take (count + 1) bs) Items q Default
 unfolding held_from
@@ -144,7 +144,7 @@ count_more p [] x = refl
 count_more p (y ∷ xs) x =
     omega (arith, count_more p xs x, sum_by-cons (λ z. cond (p z) 1 0) y (xs ++ x ∷ []), sum_by-cons (λ z. cond (p z) 1 0) y xs)
 
--- one more ask, with the base that is held
+-- one request more, from the held base
 pub deltas_more : (keep : ℕ) (bs : List (List Edit)) (q : Option Query) (held : Held) (ns : List ℕ) (n : ℕ) → held ≡ held_after bs q ns
     → deltas keep bs (ns ++ n ∷ []) ≡ deltas keep bs ns + cond (is_kept keep (take n bs) Items held.revision) 1 0
 unfolding held_from

@@ -28,7 +28,7 @@ state_more number n =
     let one : suc n ≡ n + 1 = omega arith in
     subst (λ k. iterate next k number ≡ next (iterate next n number)) one (iterate_more next n number)
 
--- the draws of the edit at a place begin behind those of the edits before it
+-- the numbers of the edit at an index follow those of the edits before
 three_draws : (number place : ℕ) → next (next (next (state number (3 * place)))) ≡ state number (3 * (place + 1))
 three_draws number place =
     let last : 3 * place + 1 + 1 + 1 ≡ 3 * (place + 1) = omega arith in

@@ -8,7 +8,7 @@ use Rattle.item_store.specs.Store.{Store}
 use Rattle.share_history.specs.Kept.{is_kept}
 use Rattle.share_history.specs.Listings.{listing}
 use Rattle.share_history.specs.Mirror.{mirror_after, mirrored, mirror_look}
-use Rattle.rehearsal.specs.declared.follower.Follower.{Follower}
+use Rattle.rehearsal.specs.declared.follower.RehearsedMirror.{RehearsedMirror}
 use Rattle.rehearsal.specs.declared.plan.Rehearsal.{Rehearsal}
 use Rattle.rehearsal.specs.Asks.{is_due, asks, deltas, fulls}
 use Rattle.rehearsal.specs.Following.{held_after, IsAt, Follows, IsMirror}
@@ -23,8 +23,8 @@ same_asks period last count idle =
 more_asks : (period last count : ℕ) → is_due period last (count + 1) ≡ true → asks period last (count + 1) ≡ asks period last count ++ (count + 1) ∷ []
 more_asks period last count due = asks_more period last count ∙ ap (λ b. asks period last count ++ cond b ((count + 1) ∷ []) []) due
 
--- after a batch at which it is not due
-pub not_due : (plan : Rehearsal) (n : ℕ) (f : Follower) → Follows plan n f → is_due f.period plan.batches (n + 1) ≡ false → Follows plan (n + 1) f
+-- after a batch without a request
+pub not_due : (plan : Rehearsal) (n : ℕ) (f : RehearsedMirror) → Follows plan n f → is_due f.period plan.batches (n + 1) ≡ false → Follows plan (n + 1) f
 not_due plan n f h idle =
     let same : asks f.period plan.batches n ≡ asks f.period plan.batches (n + 1) = sym (same_asks f.period plan.batches n idle) in
     record {
@@ -37,11 +37,11 @@ not_due plan n f h idle =
       few = omega (arith, h.few);
     }
 
-pub may_ask : (plan : Rehearsal) (n : ℕ) (f : Follower) → Follows plan n f → MayAsk (take (n + 1) (batches_of plan)) f.mirror
+pub may_ask : (plan : Rehearsal) (n : ℕ) (f : RehearsedMirror) → Follows plan n f → MayAsk (take (n + 1) (batches_of plan)) f.mirror
 may_ask plan n f h = record { target = h.target; meta = h.meta; base = base_not_later f.period plan.batches n (batches_of plan) f.mirror.query f.mirror.held h.held }
 
--- after a batch at which it asked
-pub was_due : (plan : Rehearsal) (n : ℕ) (f g : Follower) (store : Store) (is_delta : Bool) → Follows plan n f → IsAt plan (n + 1) store → is_due f.period plan.batches (n + 1) ≡ true
+-- after a batch with a request
+pub was_due : (plan : Rehearsal) (n : ℕ) (f g : RehearsedMirror) (store : Store) (is_delta : Bool) → Follows plan n f → IsAt plan (n + 1) store → is_due f.period plan.batches (n + 1) ≡ true
     → g.mirror ≡ record {
       target = f.mirror.target;
       query = f.mirror.query;
@@ -76,7 +76,7 @@ was_due plan n f g store is_delta h at due mirror delta_is period delta full =
     counted true d e = omega (arith, h.few, d, e)
     counted false d e = omega (arith, h.few, d, e)
 
-pub same_mirror : (f g : Follower) (query : Option Query) (period : ℕ) → g.mirror.query ≡ f.mirror.query → g.period ≡ f.period → IsMirror period query f → IsMirror period query g
+pub same_mirror : (f g : RehearsedMirror) (query : Option Query) (period : ℕ) → g.mirror.query ≡ f.mirror.query → g.period ≡ f.period → IsMirror period query f → IsMirror period query g
 same_mirror f g query period q p is = record { period = p ∙ is.period; query = q ∙ is.query }
 
 -- ---- the end

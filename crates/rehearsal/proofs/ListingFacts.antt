@@ -1,4 +1,4 @@
--- The body of an answer is a listing that a mirror takes.
+-- The body of a response is a listing that a mirror applies.
 use Rattle.std.proofs.Common.{◌≡◌, ◌<◌, ◌≤◌, ℕ, zero, suc, ◌+◌, List, [], ◌∷◌, ◌++◌, Bool, true, false, cond, ◌&&◌, nat_le, length, map, filter, All, refl, sym, ap, subst, ◌∙◌, arith, true≢false, leb-true}
 use Rattle.dmap_tags.specs.Codes.{code}
 use Rattle.dmap_tags.specs.Tree.{Tree, list, trees_of}
@@ -23,7 +23,7 @@ use Rattle.rehearsal.specs.Shares.{IsShare, MayAsk}
 use Rattle.rehearsal.proofs.RowFacts.{AreGood}
 use Rattle.rehearsal.proofs.BodyFacts.{IsReadable, body_accepted, body_is_proper, listing_readable}
 
--- ---- answers as plans
+-- ---- responses as plans
 
 -- a plan of the listing is carried as its body
 pub carried_body : (l : Listing) (plan : Plan) → plan ≡ Rows (record { target = Items; listing = l }) → IsReadable l → IsCarried (body_tree Items l) (plan_bytes plan)
@@ -78,7 +78,7 @@ kept_above keep bs base h =
     let from : 2 ≤ base = leb-true 2 base (first_true (nat_le 2 base) (nat_le base (revision bs) && (nat_le (revision bs) (base + keep) && true)) h) in
     omega arith
 
--- the body of an answer whose rows begin with their keys is that listing, for a mirror that holds the look's base
+-- the body of a response whose rows begin with their keys is that listing, for a mirror at the look's base
 pub body_is_listing : (keep : ℕ) (bs : List (List Edit)) (look : Look) → All (IsRow Items) (listing keep bs Items look).rows
     → IsListing Items look.base (listing keep bs Items look) (body_tree Items (listing keep bs Items look))
 body_is_listing keep bs look rows =
@@ -95,7 +95,7 @@ body_is_listing keep bs look rows =
       };
     }
 
--- so is the body of an answer to a look
+-- so is the body of the response to a look
 pub answer_is_listing : (bs : List (List Edit)) (store : Store) (look : Look) → IsShare bs store → look.meta ≡ Default → look.range ≡ whole_range
     → IsListing Items look.base (listing store.keep bs Items look) (body_tree Items (listing store.keep bs Items look))
 answer_is_listing bs store look share meta whole =

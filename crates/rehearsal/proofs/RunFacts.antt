@@ -14,7 +14,7 @@ use Rattle.item_store.specs.Stands.{StandsFor}
 use Rattle.share_history.specs.Histories.{batches, edits, revision}
 use Rattle.share_history.specs.Listings.{shown}
 use Rattle.share_history.specs.Rows.{rows, library}
-use Rattle.rehearsal.specs.declared.follower.Follower.{Follower}
+use Rattle.rehearsal.specs.declared.follower.RehearsedMirror.{RehearsedMirror}
 use Rattle.rehearsal.specs.declared.plan.Rehearsal.{Rehearsal}
 use Rattle.rehearsal.specs.declared.run.Run.{Run}
 use Rattle.rehearsal.specs.declared.summary.Standing.{Standing}
@@ -139,7 +139,7 @@ on_err_anyway (Err e) p = p
 
 -- ---- the summary
 
-standing_is : (plan : Rehearsal) (f : Follower) (s : Standing) (number often : ℕ) (q : Option Query) → AreInRange plan → Follows plan plan.batches f → IsMirror often q f
+standing_is : (plan : Rehearsal) (f : RehearsedMirror) (s : Standing) (number often : ℕ) (q : Option Query) → AreInRange plan → Follows plan plan.batches f → IsMirror often q f
     → s.rows ≡ length f.mirror.held.rows → s.full ≡ f.full → s.delta ≡ f.delta
     → mirror_text number s.rows s.full s.delta ≡ mirror_line plan.keep (batches_of plan) number often q
 standing_is plan f s number often q range h is rows_is full_is delta_is =
@@ -189,5 +189,5 @@ summed_up plan run v items first second third text range mirrors stands v_is ite
     three : mirror_text 3 third.rows third.full third.delta ≡ mirror_line plan.keep (batches_of plan) 3 300 year_query
     three = standing_is plan run.third third 3 300 year_query range mirrors.third mirrors.years r3 f3 d3
 
-pub is_mirror : {often : ℕ} {p q : Option Query} {f : Follower} → IsMirror often p f → p ≡ q → IsMirror often q f
+pub is_mirror : {often : ℕ} {p q : Option Query} {f : RehearsedMirror} → IsMirror often p f → p ≡ q → IsMirror often q f
 is_mirror is same = record { period = is.period; query = is.query ∙ same }

@@ -1,4 +1,4 @@
--- When a mirror of a rehearsal asks, and how many of its asks are answered by a delta.
+-- When a mirror of a rehearsal requests, and how many of its requests get a delta.
 use Rattle.std.specs.Prelude.{ℕ, ◌%◌, List, [], ◌∷◌, ◌==◌, Bool, ◌||◌, not, take, filter, count_by}
 use Rattle.std.specs.List.{range_with_len}
 use Rattle.item_model.specs.declared.changes.Edit.{Edit}
@@ -6,20 +6,20 @@ use Rattle.item_model.specs.declared.request.Target.TheVariants.{Items}
 use Rattle.share_history.specs.Histories.{revision}
 use Rattle.share_history.specs.Kept.{is_kept}
 
--- it asks after each batch whose number its period divides, and after the last
+-- it requests after each batch whose number its period divides, and after the last
 abbrev pub is_due : (period last n : ℕ) → Bool
 is_due period last n = (n % period == 0) || (n == last)
 
--- the numbers, of the first so many batches, of those after which it asks; they count from 1
+-- the numbers of those among the first `count` batches after which it requests; they count from 1
 abbrev pub asks : (period last count : ℕ) → List ℕ
 asks period last count = filter (is_due period last) (range_with_len 1 count)
 
--- for each ask, whether its base is kept then. The base is the revision at the ask before
+-- for each request, whether its base is in the delta window then; the base is the revision at the request before
 abbrev pub kept_bases : (keep : ℕ) → List (List Edit) → (base : ℕ) → List ℕ → List Bool
 kept_bases keep bs base [] = []
 kept_bases keep bs base (n ∷ ns) = is_kept keep (take n bs) Items base ∷ kept_bases keep bs (revision (take n bs)) ns
 
--- how many asks are answered by a delta, and how many by a full listing, where the base of the first is 0
+-- how many requests get a delta, and how many a full listing, if the base of the first is 0
 abbrev pub deltas : (keep : ℕ) → List (List Edit) → List ℕ → ℕ
 deltas keep bs ns = count_by (λ b. b) (kept_bases keep bs 0 ns)
 

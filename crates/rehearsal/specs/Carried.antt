@@ -1,4 +1,4 @@
--- What is carried to a mirror: the bytes of one tag, which a reader by the standard codes takes.
+-- What is carried to a mirror: the bytes of one tag that a reader with the standard codes accepts.
 use Rattle.std.specs.Prelude.{◌≡◌, ℕ, List, true}
 use Rattle.dmap_tags.specs.Tree.{Tree}
 use Rattle.dmap_tags.specs.Spelling.{spelling}

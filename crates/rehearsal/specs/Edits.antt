@@ -1,5 +1,5 @@
--- The edits of a rehearsal. Each is made of three draws: the first says which item, the second whether it is dropped, and
--- else what it is named, the third its artist and its year.
+-- The edits of a rehearsal. Three numbers make each: the first selects the item; the second drops it or names it; the
+-- third selects its artist and its year.
 use Rattle.std.specs.Prelude.{ℕ, ◌+◌, ◌*◌, ◌%◌, ◌==◌, List, [], ◌∷◌, ◌++◌, map, codes, decimal, if◌then◌else◌}
 use Rattle.std.specs.List.{range_with_len}
 use Rattle.item_model.specs.declared.changes.Edit.{Edit}
@@ -19,22 +19,22 @@ row_by id b c =
 abbrev pub edit_of : (id b c : ℕ) → Edit
 edit_of id b c = if b % 4 == 0 then DropItem id else PutItem (row_by id b c)
 
--- the edit that three draws make
+-- the edit made from three numbers
 abbrev pub edit_by : (a b c : ℕ) → Edit
 edit_by a b c = edit_of (1 + a % 4096) b c
 
--- the edit that the three draws behind a state make
+-- the edit made from the three numbers after a state
 abbrev pub edit_next : ℕ → Edit
 edit_next x = edit_by (drawn (next x)) (drawn (next (next x))) (drawn (next (next (next x))))
 
--- the edit of a place, counted from 0 through all batches
+-- the edit at an index, counted from 0 through all batches
 abbrev pub edit_at : (number place : ℕ) → Edit
 edit_at number place = edit_by (draw number (3 * place + 1)) (draw number (3 * place + 2)) (draw number (3 * place + 3))
 
--- the edits of so many places from one on
+-- `size` edits from an index on
 abbrev pub edits_from : (number place size : ℕ) → List Edit
 edits_from number place size = map (edit_at number) (range_with_len place size)
 
--- the batches, each of so many edits; the places go on from batch to batch
+-- the batches, each of `size` edits; the indexes continue from batch to batch
 abbrev pub rehearsed : (number batches size : ℕ) → List (List Edit)
 rehearsed number batches size = map (λ n. edits_from number (n * size) size) (range_with_len 0 batches)

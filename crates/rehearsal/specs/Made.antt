@@ -1,5 +1,5 @@
--- Edits that three draws may make, whichever they are: the item has one of 4096 ids, and its name a number of five digits at
--- most.
+-- Edits that any three numbers may make: the item has one of 4096 ids, and its name has a number of at most five
+-- digits.
 use Rattle.std.specs.Prelude.{◌≡◌, ◌≤◌, ◌<◌, ℕ, List}
 use Rattle.std.specs.List.{AllByRecursion}
 use Rattle.item_model.specs.declared.changes.Edit.{Edit}

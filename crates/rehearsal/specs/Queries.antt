@@ -1,4 +1,4 @@
--- What the mirrors of a rehearsal ask for.
+-- The queries of the mirrors of a rehearsal.
 use Rattle.std.specs.Prelude.{[], ◌∷◌, Option, Some, codes}
 use Rattle.item_model.specs.declared.condition.Op.TheVariants.{Is}
 use Rattle.item_model.specs.declared.query.Query.{Query}

@@ -1,4 +1,4 @@
--- A rehearsal after so many batches.
+-- A rehearsal after `count` batches.
 use Rattle.std.specs.Prelude.{◌≡◌, ℕ, ◌*◌, None, take}
 use Rattle.rehearsal.specs.declared.plan.Rehearsal.{Rehearsal}
 use Rattle.rehearsal.specs.declared.run.Run.{Run}
@@ -8,7 +8,7 @@ use Rattle.rehearsal.specs.Histories.{history_of}
 use Rattle.rehearsal.specs.Plan.{batches_of}
 use Rattle.rehearsal.specs.Queries.{artist_query, year_query}
 
--- the next draws, the history and the share
+-- the generator, the history and the share
 pub record Stands (plan : Rehearsal) (count : ℕ) (run : Run) : Type 0 where
   pub draws : run.draws.state ≡ state plan.number (3 * (count * plan.size))
   pub log : run.log.entries ≡ history_of (take count (batches_of plan))

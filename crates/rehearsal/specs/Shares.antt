@@ -1,4 +1,4 @@
--- A share of a rehearsal, and a mirror that may ask it.
+-- A share of a rehearsal, and a mirror that may request from it.
 use Rattle.std.specs.Prelude.{◌≡◌, ◌≤◌, ◌<◌, ◌^◌, List, length}
 use Rattle.item_model.specs.declared.changes.Edit.{Edit}
 use Rattle.item_model.specs.declared.request.Meta.TheVariants.{Default}
@@ -10,7 +10,7 @@ use Rattle.mirror_core.specs.Mirrored.{Mirrored}
 use Rattle.share_history.specs.Histories.{edits, revision}
 use Rattle.rehearsal.specs.Made.{AreMade}
 
--- the store stands for batches of made edits, which are not too many
+-- the store represents batches of generated edits, within its limits
 pub record IsShare (bs : List (List Edit)) (store : Store) : Type 0 where
   pub stands : StandsFor bs store
   pub made : AreMade (edits bs)

@@ -8,7 +8,7 @@ use Rattle.share_history.specs.Rows.{rows, library}
 use Rattle.rehearsal.specs.Asks.{asks, deltas, fulls}
 use Rattle.rehearsal.specs.Queries.{artist_query, year_query}
 
--- a word and a number, with a space between
+-- a word, a space and a number
 abbrev pub told : List ℕ → ℕ → List ℕ
 told word n = word ++ codes " " ++ decimal n
 
@@ -18,7 +18,7 @@ line text = text ++ 10 ∷ []
 abbrev pub mirror_text : (number rows full delta : ℕ) → List ℕ
 mirror_text number rows full delta = line (told (codes "mirror") number ++ told (codes " rows") rows ++ told (codes " full") full ++ told (codes " delta") delta)
 
--- the line of a mirror: how many rows its query has, and how many full listings and deltas it was answered with
+-- the line of a mirror: the rows of its query, and how many full listings and deltas it got
 abbrev pub mirror_line : (keep : ℕ) → List (List Edit) → (number period : ℕ) → Option Query → List ℕ
 mirror_line keep bs number period query =
     mirror_text number (length (rows (edits bs) Items query)) (fulls keep bs (asks period (length bs) (length bs))) (deltas keep bs (asks period (length bs) (length bs)))

@@ -1,4 +1,4 @@
-//! One ask of a mirror: the store answers its look, and it takes the answer in.
+//! One request of a mirror: the store's listing for its look, applied to the mirror.
 
 ghost use Rattle.std.specs.Prelude.{◌≡◌, ◌≤◌, List, IfOk};
 ghost use Rattle.code_table.specs.Standard.{standard_rows};
@@ -13,7 +13,7 @@ ghost use Rattle.share_history.specs.Listings.{Listing, listing};
 ghost use Rattle.share_history.specs.Mirror.{mirror_after, mirror_look};
 ghost use Rattle.rehearsal.specs.Shares.{IsShare, MayAsk};
 
-use crate::carried::carried;
+use crate::carried::carry_plan;
 use code_table::CodeTable;
 use dmap_tags::Tag;
 use item_model::Look;
@@ -22,8 +22,8 @@ use mirror_core::{Mirror, MirrorError};
 use share_listings::items_listing;
 use std::alloc::{AllocError, Global};
 
-// Lets a mirror ask the store, and tells whether it was answered with a delta.
-pub(crate) fn answered(
+// Brings a mirror up to date with the store. Returns whether the response was a delta.
+pub(crate) fn update_mirror(
     alloc: Global,
     table: &CodeTable,
     store: &ItemStore,
@@ -46,7 +46,7 @@ pub(crate) fn answered(
     take(mirror, &body)
 }
 
-// The answer to a look, as it comes to a mirror.
+// Returns the body of the response to a look, as the mirror reads it.
 fn body_for(
     alloc: Global,
     table: &CodeTable,
@@ -60,10 +60,10 @@ fn body_for(
     ensures { IfOk result (λ body. (bs : List (List Edit)) → IsShare bs store.now → body ≡ body_tree Items (listing store.now.keep bs Items look)) }
 {
     let plan = items_listing(alloc, store, look)?;
-    carried(alloc, table, &plan)
+    carry_plan(alloc, table, &plan)
 }
 
-// The mirror takes in a body that is a listing and not an older one, and tells whether it was a delta.
+// Applies a body that is a listing and not an older one. Returns whether it was a delta.
 fn take(mirror: &mut Mirror, body: &Tag) -> Result<bool, AllocError>
     requires { (l : Listing) × IsListing mirror.old.target mirror.old.held.revision l body.now × (mirror.old.held.revision ≤ l.revision) }
     ensures delta { IfOk result (λ is_delta. (l : Listing) → IsListing mirror.old.target mirror.old.held.revision l body.now → is_delta ≡ l.is_delta) }

@@ -1,4 +1,4 @@
-//! A plan is carried to a mirror as bytes: written into memory, and read back as the tag that they are.
+//! Carries a plan to a mirror as bytes: it is written into memory, and read back as a tag.
 
 ghost use Rattle.std.specs.Prelude.{◌≡◌, Some, IfOk};
 ghost use Rattle.dmap_tags.specs.Tree.{Tree};
@@ -13,21 +13,21 @@ use dmap_tags::Tag;
 use listing_plan::Plan;
 use std::alloc::{AllocError, Global};
 
-/// How many bytes of payload a mirror reads of one tag at most.
+/// The most bytes of payload that a mirror reads of one tag.
 const TOP_LIMIT: u32 = 1_073_741_824;
 
-/// The tag that a plan writes, as a mirror reads it.
-pub(crate) fn carried(alloc: Global, table: &CodeTable, plan: &Plan) -> Result<Tag, AllocError>
+/// Returns the tag that a plan writes, as a mirror reads it.
+pub(crate) fn carry_plan(alloc: Global, table: &CodeTable, plan: &Plan) -> Result<Tag, AllocError>
     requires table { table.now ≡ standard_rows }
     requires writable { IsWritable plan.now }
     requires tag { (t : Tree) × IsCarried t (plan_bytes plan.now) }
     ensures { IfOk result (λ tag. (t : Tree) → IsCarried t (plan_bytes plan.now) → tag ≡ t) }
 {
-    let sink = written(alloc, plan)?;
+    let sink = write_plan(alloc, plan)?;
     read(alloc, table, sink.taken())
 }
 
-fn written(alloc: Global, plan: &Plan) -> Result<MemSink, AllocError>
+fn write_plan(alloc: Global, plan: &Plan) -> Result<MemSink, AllocError>
     requires { IsWritable plan.now }
     ensures { IfOk result (λ sink. ⟦<MemSink as Sink>⟧.taken sink ≡ Some (plan_bytes plan.now)) }
 {
@@ -35,7 +35,7 @@ fn written(alloc: Global, plan: &Plan) -> Result<MemSink, AllocError>
     let mut sink = MemSink::new(alloc, room, usize::MAX, &[])?;
     match plan.write(&mut sink) {
         Ok(()) => Ok(sink),
-        // the room is that of all bytes; what a sink fails for otherwise is not told
+        // The capacity is that of all bytes. No contract says what else a sink fails for.
         Err(_) => Err(AllocError),
     }
 }
@@ -51,7 +51,7 @@ fn read(alloc: Global, table: &CodeTable, bytes: &[u8]) -> Result<Tag, AllocErro
     }
 }
 
-// No other refusal comes here.
+// Converts the only error that can occur here.
 fn want_of_memory(error: StreamError) -> AllocError
     requires { error ≡ StreamError.Memory }
 {

@@ -1,16 +1,16 @@
-//! Draws.
+//! Pseudo-random numbers.
 
 ghost use Rattle.std.specs.Prelude.{◌≡◌, ◌<◌, ◌^◌};
 ghost use Rattle.rehearsal.specs.Draws.{next, drawn};
 
-/// The state of draws.
+/// The state of the generator.
 #[derive(Debug, Drop)]
 pub(crate) struct Draws {
     pub(crate) state: u32,
 }
 
 impl Draws {
-    /// The next draw.
+    /// Returns the next number.
     pub(crate) fn draw(&mut self) -> u32
         ensures state { self.new.state ≡ next self.old.state }
         ensures drawn { result ≡ drawn (next self.old.state) }

@@ -1,4 +1,4 @@
-//! The edits that draws make.
+//! The edits made from generated numbers.
 
 ghost use Rattle.std.specs.Prelude.{◌≡◌, ◌<◌, ◌+◌, ◌*◌, ◌%◌, ◌++◌, ◌∷◌, [], ℕ, true, length, IfOk, OnOk, decimal};
 ghost use Rattle.std.specs.List.{range_with_len};
@@ -14,7 +14,7 @@ use item_model::{Batch, Edit, Edits, Item, ItemError, PropValue, Property, Row, 
 use itoa::Buffer;
 use std::alloc::{AllocError, Global};
 
-/// The next batch of so many edits.
+/// Returns the next batch of `size` edits.
 pub(crate) fn batch(alloc: Global, draws: &mut Draws, size: u32) -> Result<Batch, AllocError>
     ensures edits { IfOk result (λ batch. (number place : ℕ) → draws.old.state ≡ state number (3 * place) → batch ≡ edits_from number place size) }
     ensures draws { OnOk result ((number place : ℕ) → draws.old.state ≡ state number (3 * place) → draws.new.state ≡ state number (3 * (place + size))) }
@@ -63,7 +63,7 @@ fn row(alloc: Global, id: u32, b: u32, c: u32) -> Result<Row, AllocError>
     Ok(Row { id, item })
 }
 
-// A letter with a number behind it.
+// Returns `letter` followed by the number.
 #[tactic(auto, using(crate::proofs::DrawFacts::text_fits))]
 fn numbered(alloc: Global, letter: &str, n: u32) -> Result<Text, AllocError>
     requires { length letter.now ≡ 1 }

@@ -7,7 +7,7 @@ ghost use Rattle.rehearsal.specs.Asks.{is_due};
 ghost use Rattle.rehearsal.specs.declared.plan.Rehearsal.{Rehearsal};
 ghost use Rattle.rehearsal.specs.Following.{IsAt, Follows, IsMirror};
 
-use crate::answering::answered;
+use crate::answering::update_mirror;
 use crate::plan::Rehearsal;
 use crate::summary::Standing;
 use code_table::CodeTable;
@@ -16,9 +16,9 @@ use item_store::ItemStore;
 use mirror_core::Mirror;
 use std::alloc::{AllocError, Global};
 
-/// A mirror of items with the period of its asks, and how they were answered so far.
+/// A mirror of items with the period of its requests, and how many of them got a full listing or a delta.
 #[derive(Debug, Drop)]
-pub(crate) struct Follower {
+pub(crate) struct RehearsedMirror {
     mirror: Mirror,
     period: u32,
     full: u32,
@@ -32,13 +32,13 @@ fn is_due(period: u32, last: u32, n: u32) -> bool
     n % period == 0 || n == last
 }
 
-impl Follower {
-    pub(crate) fn new(alloc: Global, query: Option<Query>, period: u32) -> Follower
+impl RehearsedMirror {
+    pub(crate) fn new(alloc: Global, query: Option<Query>, period: u32) -> RehearsedMirror
         requires { 1 ≤ period }
         ensures follows { (plan : Rehearsal) → Follows plan 0 result }
         ensures mirror { IsMirror period query result }
     {
-        Follower {
+        RehearsedMirror {
             mirror: Mirror::new(alloc, Target::Items, query, Meta::Default),
             period,
             full: 0,
@@ -46,7 +46,7 @@ impl Follower {
         }
     }
 
-    // After a batch, behind n others, it asks if it is due.
+    // Lets the mirror request after batch `n + 1`, if its period divides that number or the batch is the last.
     pub(crate) fn after_batch(
         &mut self,
         alloc: Global,
@@ -65,7 +65,7 @@ impl Follower {
         if !is_due(self.period, plan.batches, n + 1) {
             return Ok(());
         }
-        let is_delta = answered(alloc, table, store, &mut self.mirror)?;
+        let is_delta = update_mirror(alloc, table, store, &mut self.mirror)?;
         self.count(is_delta);
         Ok(())
     }

@@ -1,6 +1,6 @@
-//! A rehearsal of a share: it is edited by made-up batches, as many and as large as asked for, while three mirrors follow
-//! it, and a summary tells what they held and how they were answered. Both are functions of a few numbers: `specs/` says
-//! which edits are made, when a mirror asks and which of its asks a delta answers, without a share or a mirror.
+//! A rehearsal of a share: generated batches edit it while three mirrors follow it, and a summary states what they
+//! hold and how they were served. History and summary are functions of a few numbers: `specs/` defines the edits,
+//! when a mirror requests and which of its requests get a delta, without a share or a mirror.
 #![tactic(auto)]
 
 mod answering;

@@ -1,7 +1,7 @@
-//! What is rehearsed.
+//! The plan of a rehearsal.
 
-/// A rehearsal: the number that its draws begin with, how many batches there are, how many edits each has, and for how
-/// many revisions back the share tells changes.
+/// A rehearsal: the number that starts the generator, the number of batches, the edits in each, and the length of the
+/// share's delta window in revisions.
 #[derive(Clone, Copy, Debug)]
 pub struct Rehearsal {
     pub number: u32,

@@ -15,37 +15,37 @@ use item_model::Entries;
 use std::alloc::{AllocError, Global};
 use thiserror::Error;
 
-/// What a rehearsal leaves: the history of the share, and the summary.
+/// The result of a rehearsal: the history of the share, and the summary.
 #[derive(Debug, Drop)]
 pub struct Rehearsed {
     pub history: Entries,
     pub summary: Vec<u8>,
 }
 
-/// An allocation failed in a rehearsal. The history has the batches that were made until then.
+/// An allocation failed in a rehearsal. The history has the batches made before.
 #[derive(Debug, Drop, Error)]
 #[error("out of memory")]
 pub struct BrokenOff {
     pub history: Entries,
 }
 
-/// Edits a share by made-up batches while three mirrors follow it, and sums up.
+/// Edits a share with generated batches while three mirrors follow it, and writes a summary.
 ///
-/// The number begins a row of draws. Three draws make an edit: the first says which of 4,096 items it is of; of the second,
-/// each fourth number drops the item, and the others put it under a name with that number; the third gives it one of 16
+/// The plan's number starts a generator. Three numbers make an edit: the first selects one of 4,096 items; if the
+/// second is a multiple of 4 it drops the item, otherwise it is in the item's name; the third selects one of 16
 /// artists and one of 80 years. Each batch makes a revision.
 ///
-/// The mirrors ask for items: the first for all of them after each batch, the second for artists that begin with `a1`
-/// after each third, the third for the year 1983 after each three-hundredth, and all of them after the last. Each asks
-/// with the revision that it holds and gets the change since then, or the whole where the share does not keep that.
-/// Every answer goes to its mirror as bytes.
+/// The mirrors request items: the first all of them after each batch, the second artists that begin with `a1` after
+/// each third, the third the year 1983 after each three-hundredth, and each after the last. The base is the mirror's
+/// revision; the response is a delta if it is in the window, else a full listing. Every response goes to its mirror
+/// as bytes.
 ///
-/// The summary tells the revision, how many items there are, and for each mirror how many rows it holds and how many full
-/// listings and deltas it was answered with.
+/// The summary states the revision, the number of items, and for each mirror its rows and how many full listings and
+/// deltas it got.
 ///
 /// # Errors
 ///
-/// Returns `BrokenOff` if an allocation fails, with the history that the share has by then: the first batches.
+/// Returns `BrokenOff` if an allocation fails, with the history of the share so far: the first batches.
 pub fn rehearse(alloc: Global, plan: &Rehearsal) -> Result<Rehearsed, BrokenOff>
     requires { AreInRange plan.now }
     ensures history { IfOk result (λ done. done.history ≡ history_of (rehearsed plan.now.number plan.now.batches plan.now.size)) }
@@ -68,7 +68,7 @@ pub fn rehearse(alloc: Global, plan: &Rehearsal) -> Result<Rehearsed, BrokenOff>
     }
 }
 
-// The table of codes that is read by, and a share without batches with its mirrors.
+// Returns the code table for reading, and a share without batches with its mirrors.
 fn begun(alloc: Global, plan: &Rehearsal) -> Result<(CodeTable, Run), AllocError>
     requires { AreInRange plan.now }
     ensures table { IfOk result (λ begun. begun.0 ≡ standard_rows) }

@@ -11,7 +11,7 @@ ghost use Rattle.rehearsal.specs.Summary.{summary_text};
 
 use crate::draws::Draws;
 use crate::edits::batch;
-use crate::follower::Follower;
+use crate::follower::RehearsedMirror;
 use crate::plan::Rehearsal;
 use crate::queries::{artist_query, year_query};
 use crate::summary::summary;
@@ -26,9 +26,9 @@ pub(crate) struct Run {
     draws: Draws,
     log: EditLog,
     store: ItemStore,
-    first: Follower,
-    second: Follower,
-    third: Follower,
+    first: RehearsedMirror,
+    second: RehearsedMirror,
+    third: RehearsedMirror,
 }
 
 impl Run {
@@ -43,13 +43,13 @@ impl Run {
             draws: Draws { state: plan.number },
             log: EditLog::new(alloc),
             store: ItemStore::open(alloc, plan.keep),
-            first: Follower::new(alloc, None, 1),
-            second: Follower::new(alloc, Some(artists), 3),
-            third: Follower::new(alloc, Some(years), 300),
+            first: RehearsedMirror::new(alloc, None, 1),
+            second: RehearsedMirror::new(alloc, Some(artists), 3),
+            third: RehearsedMirror::new(alloc, Some(years), 300),
         })
     }
 
-    // All batches of the plan, and their summary.
+    // Runs all batches of the plan and returns their summary.
     pub(crate) fn play(
         &mut self,
         alloc: Global,
@@ -70,14 +70,14 @@ impl Run {
         self.summary(alloc, plan)
     }
 
-    // The history as it is by now.
+    // Returns the history so far.
     pub(crate) fn into_history(self) -> Entries
         ensures { result ≡ self.log.entries }
     {
         Entries::of(self.log.into_entries())
     }
 
-    // The next batch, behind n others.
+    // Runs the next batch, after `n` others.
     fn step(
         &mut self,
         alloc: Global,
@@ -135,7 +135,7 @@ impl Run {
         self.third.after_batch(alloc, table, &self.store, plan, n)
     }
 
-    // The summary after the last batch.
+    // Returns the summary after the last batch.
     fn summary(&self, alloc: Global, plan: &Rehearsal) -> Result<Vec<u8>, AllocError>
         requires range { AreInRange plan.now }
         requires stands { Stands plan.now plan.now.batches self.now }

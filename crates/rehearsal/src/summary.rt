@@ -6,7 +6,7 @@ ghost use Rattle.rehearsal.specs.Summary.{told, line, mirror_text};
 use itoa::Buffer;
 use std::alloc::{AllocError, Global};
 
-/// What a mirror did, as its line tells it.
+/// What the line of a mirror states.
 #[derive(Clone, Copy, Debug)]
 pub(crate) struct Standing {
     pub(crate) rows: u64,
@@ -47,7 +47,7 @@ fn push_mirror(out: &mut Vec<u8>, number: u64, standing: Standing) -> Result<(),
     Ok(())
 }
 
-// Adds a word and a number, with a space between.
+// Appends a word, a space and a number.
 fn push_told(out: &mut Vec<u8>, word: &str, n: u64) -> Result<(), AllocError>
     ensures { OnOk result (out.new.items ≡ out.old.items ++ told word.now n) }
 {

@@ -4,3 +4,6 @@ pub mod Staying
 pub mod Staff
 pub mod Success
 pub mod Shown
+pub mod Unstopped
+pub mod ServedRelays
+pub mod Succeeding

@@ -1,4 +1,4 @@
--- The workers of a relay, its pass, and the doors of both.
+-- The workers of a relay, its lock handle, and the listeners of both.
 use Rattle.std.proofs.Common.{◌≡◌, ℕ, ◌+◌, ◌<◌, List, [], ◌∷◌, ◌++◌, map, length, refl, sym, ap, ◌∙◌, subst, arith, length-append}
 use Rattle.std.proofs.lemmas.List.{get_or_append_left}
 use Rattle.std.proofs.lemmas.Simd.{map-map}

@@ -1,4 +1,4 @@
--- A relay leaves its pass as it was, but for what it has seen.
+-- A relay leaves its lock handle unchanged, except for what it has seen.
 use Rattle.std.proofs.Common.{◌≡◌, ℕ, List, Option, ap, ◌∙◌, inl, inr}
 use Rattle.mirror_client.specs.Points.{Point}
 use Rattle.share_server.specs.Passes.{Pass}

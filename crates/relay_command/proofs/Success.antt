@@ -1,5 +1,5 @@
 -- What success says of the workers.
-use Rattle.std.proofs.Common.{◌≡◌, ℕ, List, [], Bool, true, false, cond, true≢false, nat_le, Option, None, Some, refl, sym, ap, ◌∙◌, inl, inr, arith}
+use Rattle.std.proofs.Common.{◌≡◌, ◌==◌, ℕ, List, [], Bool, true, false, cond, nat_le, Option, None, Some, refl, sym, ap, ◌∙◌, inl, inr, arith}
 use Rattle.std.proofs.lemmas.Bool.{le-leb}
 use Rattle.command_core.specs.declared.fault.Fault.{Fault}
 use Rattle.command_core.specs.declared.fault.Fault.TheVariants as fault
@@ -14,7 +14,7 @@ use Rattle.relay_command.specs.Runs.{TellsBehind, TellsEnd}
 use Rattle.relay_command.specs.declared.fault.RelayFault.{RelayFault}
 use Rattle.relay_command.specs.declared.fault.RelayFault.TheVariants.{Network, Requests, Library, Row, Peer}
 
--- no fault has the status of success
+-- no error has status 0
 no_success : (f : Fault RelayFault) → fault_status relay_status f ≡ 0 → ⊥
 no_success (fault.Own Network) is = let e : 6 ≡ 0 = is in omega (arith, e)
 no_success (fault.Own Requests) is = let e : 8 ≡ 0 = is in omega (arith, e)
@@ -40,7 +40,7 @@ behind_none text (Some f) before after status (inl (inr h)) zero = absurd (omega
 behind_none text (Some f) before after status (inr (inl h)) zero = absurd (omega (arith, h.0, zero))
 behind_none text (Some f) before after status (inr (inr h)) zero = absurd (omega (arith, h.0, zero))
 
--- where the worse of two is none, the first is
+-- if the worse of two is `None`, the first is `None`
 first_none : (one other : Option (Fault RelayFault)) → worse one other ≡ None → one ≡ None
 first_none None other is = refl
 first_none (Some f) None is =
@@ -52,6 +52,21 @@ first_none (Some f) (Some g) is = absurd (by_rank (nat_le (rank_of (Some g)) (ra
     by_rank : (b : Bool) → cond b (Some f) (Some g) ≡ None → ⊥
     by_rank true is = cc
     by_rank false is = cc
+
+ranked : (network memory limit : Bool) → nat_le (cond network 4 (cond memory 3 (cond limit 2 1))) 0 ≡ false
+ranked true memory limit = refl
+ranked false true limit = refl
+ranked false false true = refl
+ranked false false false = refl
+
+-- and so is the other
+pub other_none : (one other : Option (Fault RelayFault)) → worse one other ≡ None → other ≡ None
+other_none None None is = refl
+other_none None (Some f) is =
+    let status : ℕ = fault_status relay_status f in
+    let none : Some f ≡ None = sym (ap (λ (b : Bool). cond b None (Some f)) (ranked (status == 6) (status == 9) (status == 8))) ∙ is in
+    absurd (cc)
+other_none (Some f) other is = let none : Some f ≡ None = first_none (Some f) other is in absurd (cc)
 
 pub end_none : (lines : List ℕ) (f : Option (Fault RelayFault)) (before after : OutputSeen) (status : ℕ) → TellsEnd lines f before after status → status ≡ 0 → f ≡ None
 end_none lines f before after status (inl h) zero = behind_none lines f before after status h zero

@@ -1,4 +1,4 @@
--- What is told at the end, behind a front.
+-- What is written at the end, after a prefix.
 use Rattle.std.specs.declared.alloc.AllocError.{AllocError}
 use Rattle.std.proofs.Common.{Vec, Global, MatchResult, IfOk, ◌≡◌, ◌++◌, ℕ, List, [], Option, Some, None, Result, Ok, Err, refl, sym, subst, inl, inr, append-nil}
 use Rattle.command_core.specs.declared.fault.Fault.{Fault}
@@ -12,7 +12,7 @@ use Rattle.relay_command.specs.Faults.{relay_line, relay_status, worse}
 use Rattle.relay_command.specs.Runs.{TellsBehind, TellsEnd, TellsRuling}
 use Rattle.relay_command.specs.declared.fault.RelayFault.{RelayFault}
 
--- the fault was told behind the front
+-- the error's line was written after the prefix
 pub ruled_behind : (start mid after : OutputSeen) (front : List ℕ) (fault : Option (Fault RelayFault)) (status : ℕ) → IsWritten start mid front
     → TellsBehind [] fault mid after status → TellsBehind front fault start after status
 ruled_behind start mid after front None status w h =
@@ -26,7 +26,7 @@ pub cut_in : (before after : OutputSeen) (lines : List ℕ) (fault : Option (Fau
 cut_in before after lines None c = inr (refl, c)
 cut_in before after lines (Some fault) c = inl (inr (refl, cut_wider before after lines (fault_line relay_line fault) c))
 
--- what is told by whether there are lines
+-- what is written if there are lines, and if there are not
 abbrev pub TellsLines : Option (Fault RelayFault) → OutputSeen → OutputSeen → ℕ → Result (Vec ℕ Global) AllocError → Type 0
 TellsLines fault before after status lines =
     MatchResult lines (λ text. TellsBehind text.items fault before after status) (λ _. TellsRuling (worse fault (Some Memory)) before after status)

@@ -1,4 +1,4 @@
--- The lines and the status of what ends a relay, and which of two counts more.
+-- The lines and the statuses of the errors of `relay`, and which of two counts more.
 use Rattle.std.specs.Prelude.{ℕ, List, [], ◌∷◌, ◌++◌, codes, decimal, Option, Some, None, ◌==◌, nat_le, if◌then◌else◌}
 use Rattle.daap_outside.specs.declared.net.NetError.{NetError}
 use Rattle.daap_outside.specs.declared.net.NetError.TheVariants as nets
@@ -28,13 +28,13 @@ relay_status Library = 8
 relay_status (Row index) = 7
 relay_status (Peer fault) = follow_status fault
 
--- ---- which fault is told
+-- ---- which error is reported
 
 abbrev pub net_fault : NetError → Fault RelayFault
 net_fault nets.Failed = fault.Own Network
 net_fault nets.Memory = fault.Memory
 
--- that of workers; without a keeper none of them loses an edit
+-- the workers' error; without a keeper none of them loses an edit
 abbrev pub crew_fault : Verdict → Option (Fault RelayFault)
 crew_fault crew.Done = None
 crew_fault crew.NetworkFailed = Some (fault.Own Network)
@@ -42,7 +42,7 @@ crew_fault crew.FileFailed = Some (fault.Own Network)
 crew_fault crew.OutOfMemory = Some fault.Memory
 crew_fault crew.Exhausted = Some (fault.Own Requests)
 
--- that of a relay; no other pass stops its share
+-- the relay's error; no other lock handle stops its share
 abbrev pub end_fault : RelayEnd → Option (Fault RelayFault)
 end_fault end.Done = None
 end_fault (end.Row index) = Some (fault.Own (Row index))
@@ -51,7 +51,7 @@ end_fault end.Stopped = None
 end_fault (end.Peer error) = Some (fault.Own (Peer (follow.Link error)))
 end_fault end.Memory = Some fault.Memory
 
--- a fault of the net counts before want of memory, this before a limit, and this before a peer's
+-- the network's error counts before out of memory, then a limit, then the peer's
 abbrev pub rank_of_status : ℕ → ℕ
 rank_of_status status = if status == 6 then 4 else if status == 9 then 3 else if status == 8 then 2 else 1
 

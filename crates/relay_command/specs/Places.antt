@@ -1,4 +1,4 @@
--- The link and the doors of a relay, and what opening them does to a net.
+-- The connection and the listeners of a relay, and what opening them does to a network.
 use Rattle.std.specs.Prelude.{◌≡◌, ◌⊎◌, ◌≤◌, ◌+◌, ◌-◌, ℕ, List, [], ◌∷◌, take, length, false, Option, Some, IfSome}
 use Rattle.daap_outside.specs.Counts.{Rose}
 use Rattle.daap_outside.specs.Places.{Returned}
@@ -12,7 +12,7 @@ use Rattle.relay_command.specs.declared.fault.RelayFault.TheVariants.{Network}
 use Rattle.relay_command.specs.declared.terms.Relaying.{Relaying}
 use Rattle.relay_command.specs.Terms.{places_of}
 
--- the link was made and the doors were opened, one more than workers, with no fault
+-- the connection was made and the listeners were opened, one more than workers, without an error
 pub record HasOpened (relaying : Relaying) (before after : NetSeen) (taken left : Option (List ℕ)) (faults : ℕ) (coming : List (Option (List (List ℕ)))) : Type 0 where
   pub count : length coming ≡ relaying.workers + 1
   pub asked : Grows before.asked after.asked (places_of relaying)
@@ -23,24 +23,24 @@ pub record HasOpened (relaying : Relaying) (before after : NetSeen) (taken left 
   pub fresh : faults ≡ 0
   pub faultless : after.faults ≡ before.faults
 
--- a place failed, or memory was wanted
+-- an address was not opened, or an allocation failed
 abbrev pub StopsOpening : ℕ → ℕ → Fault RelayFault → Type 0
 StopsOpening before after stop = ((stop ≡ fault.Own Network) × Rose before after) ⊎ ((stop ≡ fault.Memory) × (after ≡ before))
 
--- what a link that had taken nothing adds when it is hung up
+-- what a connection that had taken nothing adds when it is closed
 abbrev pub unused : List Returned
 unused = ([], false) ∷ []
 
--- a place was not opened; a link that was made had taken nothing, and was hung up
+-- an address was not opened; if a connection was made, it had taken nothing, and was closed
 pub record FailsToOpen (relaying : Relaying) (before after : NetSeen) (stop : Fault RelayFault) : Type 0 where
-  -- the first was asked for, or both
+  -- how many calls of `connect` and `listen` there were
   pub count : ℕ
   pub few : count ≤ 2
   pub asked : Grows before.asked after.asked (take count (places_of relaying))
   pub written : Grows before.written after.written (take (count - 1) unused)
   pub stops : StopsOpening before.faults after.faults stop
 
--- the link and the doors were given back unused
+-- the connection and the listeners were closed unused
 pub record IsGivenBack (relaying : Relaying) (before after : NetSeen) : Type 0 where
   pub asked : Grows before.asked after.asked (places_of relaying)
   pub written : Grows before.written after.written unused

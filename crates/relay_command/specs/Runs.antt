@@ -33,13 +33,13 @@ use Rattle.relay_command.specs.Lines.{relaying_line, round_lines}
 use Rattle.relay_command.specs.Places.{FailsToOpen, IsGivenBack}
 use Rattle.relay_command.specs.Terms.{places_of, roles_of, settings_of}
 
--- ---- what is told at the end
+-- ---- what is written at the end
 
--- the lines of the rounds, and the last line where no fault stands in its place
+-- the lines of the rounds, and the last line if there is no error
 abbrev pub last_lines : (revision : ℕ) → List (List LinkReport) → List Relayed → Option (Fault RelayFault) → List ℕ
 last_lines revision links rounds fault = round_lines rounds ++ (if is_none fault then ended_line revision links else [])
 
--- the line of a fault, or that of want of memory; or none
+-- the text, and then the line of the error, if there is one, or that of out of memory
 abbrev pub TellsBehind : (text : List ℕ) → Option (Fault RelayFault) → OutputSeen → OutputSeen → ℕ → Type 0
 TellsBehind text None before after status = Tells 0 text before after status
 TellsBehind text (Some fault) before after status =
@@ -48,20 +48,20 @@ TellsBehind text (Some fault) before after status =
 abbrev pub TellsRuling : Option (Fault RelayFault) → OutputSeen → OutputSeen → ℕ → Type 0
 TellsRuling fault before after status = TellsBehind [] fault before after status
 
--- the lines and the fault were told, or there was no memory for the lines
+-- the lines and the error's line were written, or an allocation for the lines failed
 abbrev pub TellsEnd : (lines : List ℕ) → Option (Fault RelayFault) → OutputSeen → OutputSeen → ℕ → Type 0
 TellsEnd lines fault before after status = TellsBehind lines fault before after status ⊎ TellsRuling (worse fault (Some Memory)) before after status
 
 -- ---- the run
 
--- the relay of a run: its pass at the end, its link, and its report
+-- the relay of a run: its lock handle at the end, its connection, and its report
 pub record RelayStint : Type 0 where
   pub pass : Pass
   pub link : LinkSeen
   pub report : RelayReport
 
--- The share was served and its upstream was relayed: the stints of its workers, that of the relay, the history that they left, and
--- what was told of them.
+-- The share was served and its upstream was relayed: the stints of its workers, that of the relay, the history that
+-- they left, and what was written of them.
 pub record HasServed (relaying : Relaying) (front : List ℕ) (net net' : NetSeen) (output output' : OutputSeen) (left : Outcome) : Type 0 where
   pub history : List Entry
   pub history_is : left.history ≡ Some history
@@ -69,28 +69,29 @@ pub record HasServed (relaying : Relaying) (front : List ℕ) (net net' : NetSee
   pub crew : List (Stint (settings_of relaying) [])
   pub roles : map (λ stint. stint.role) crew ≡ roles_of relaying
   pub links : left.links ≡ map (λ stint. stint.reports) crew
-  -- each saw a front of the history, and added its entries of its own number
+  -- each saw a prefix of the history, and added the entries of its number
   pub relay : RelayStint
   pub one : IsHistoryOf (relaying.workers + 1) history crew (relay.pass ∷ [])
-  -- the relay did its rounds over a new link
+  -- the relay made its rounds over a new connection
   pub begun : BeginsEmpty net.written relay.link.begun
   pub input : IfSome net.next_input (λ input. relay.link.left ≡ Some input)
   pub relayed : HasRelayed relaying.upstream relaying.rounds (start_of relay.link) relay.link.taken (fresh relay.pass.number (settings_of relaying) []) relay.pass relay.report
-  -- each worker had a door, which was given back, and then the link was
+  -- each worker had a listener, which was closed, and then the connection was
   pub to_come : HaveLinks net.door_links (map (λ stint. stint.to_come) crew)
   pub asked : Grows net.asked net'.asked (places_of relaying)
   pub written : GrowsByTold net.written net'.written (option_map (λ bytes. flat_map returns_of crew ++ (bytes, nat_lt 0 relay.link.faults) ∷ []) relay.link.taken)
   pub counts : MatchBool (has_end AcceptFault (map (λ stint. stint.end) crew) || is_fault relay.report.end) (Rose net.faults net'.faults) (net'.faults ≡ net.faults)
-  -- the first line was written whole, so a share whose first line fails is served to nobody; what was told at the end comes after it
+  -- the first line was written whole, so a share whose first line fails is not served; what is written at the end
+  -- follows
   pub at_line : OutputSeen
   pub line_written : IsWritten output at_line front
   pub told : TellsEnd
       (last_lines (revision (batches history)) left.links relay.report.rounds.items (worse (crew_fault (verdict_of (map (λ stint. stint.end) crew))) (end_fault relay.report.end)))
       (worse (crew_fault (verdict_of (map (λ stint. stint.end) crew))) (end_fault relay.report.end)) at_line output' left.status
-  -- success says that all links were served, or a stop came
+  -- status 0 says that all connections were served, or that a stop came
   pub whole : left.status ≡ 0 → AllByRecursion (IsWhole history) crew
 
--- no share came under a lock
+-- no share was put under a lock
 pub record HasNoShare (left : Outcome) : Type 0 where
   pub history : left.history ≡ None
   pub links : left.links ≡ []

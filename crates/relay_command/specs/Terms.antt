@@ -1,4 +1,4 @@
--- What follows from what a share is relayed with.
+-- What follows from the settings of `relay`.
 use Rattle.std.specs.Prelude.{◌≤◌, ℕ, ◌+◌, List, [], ◌∷◌, length, replicate}
 use Rattle.item_model.specs.Limits.{text_limit}
 use Rattle.share_asks.specs.declared.ask.Role.{Role}
@@ -7,7 +7,7 @@ use Rattle.share_replies.specs.Answers.{Shared}
 use Rattle.share_replies.specs.Settings.{Settings}
 use Rattle.relay_command.specs.declared.terms.Relaying.{Relaying}
 
--- the numbers of a share that may be relayed, and the length of its name
+-- the ranges of the settings
 pub record MayRelay (relaying : Relaying) : Type 0 where
   pub name : length relaying.name ≤ text_limit
   pub some_kept : 1 ≤ relaying.keep
@@ -20,7 +20,7 @@ pub record MayRelay (relaying : Relaying) : Type 0 where
 abbrev pub settings_of : Relaying → Settings
 settings_of relaying = record { name = relaying.name; keep = relaying.keep }
 
--- the place that is connected to, and the place of the players, with a door for each worker and one by which the relay wakes them
+-- the address to connect to, and the address of the players, with a listener for each worker and one for the relay
 abbrev pub places_of : Relaying → List (List ℕ × ℕ)
 places_of relaying = (relaying.upstream, 0) ∷ (relaying.listen, relaying.workers + 1) ∷ []
 

@@ -1,4 +1,4 @@
-//! What stands behind the last round: the lines that tell what was relayed and served, and the status.
+//! Writes the lines after the last round, and returns the status.
 
 ghost use Rattle.std.specs.Prelude.{◌≡◌, ◌<◌, ◌^◌, ◌++◌, Some, map, IfOk, MatchResult};
 ghost use Rattle.command_core.specs.Seen.{output_seen};
@@ -11,7 +11,7 @@ ghost use Rattle.relay_command.specs.Lines.{round_line, round_lines};
 ghost use Rattle.relay_command.specs.Runs.{TellsBehind, TellsEnd, TellsRuling, last_lines};
 
 use crate::fault::{RelayFault, rank_of};
-use command_core::{Fault, refused};
+use command_core::{Fault, write_error};
 use daap_outside::{Sink, put_all};
 use fault_lines::push_number;
 use item_model::Entries;
@@ -21,8 +21,8 @@ use share_crew::{LinkReports, Outcome, ended_line_of};
 use share_server::LinkReport;
 use std::alloc::{AllocError, Global};
 
-/// Tells what was relayed and served, or the fault that ended it.
-pub(crate) fn closed<W: Sink>(
+/// Writes what was relayed and served, or the line of `fault`. Returns the outcome of the run.
+pub(crate) fn finish<W: Sink>(
     alloc: Global,
     output: &mut W,
     share: Share,
@@ -41,7 +41,7 @@ pub(crate) fn closed<W: Sink>(
         result.status }
 {
     let lines = last_lines(alloc, share.revision(), links.as_slice(), rounds, &fault);
-    let status = told(alloc, output, lines, fault);
+    let status = write_end(alloc, output, lines, fault);
     Outcome {
         status,
         history: Some(Entries::of(share.into_history())),
@@ -49,7 +49,7 @@ pub(crate) fn closed<W: Sink>(
     }
 }
 
-// The lines of the rounds, and the last line where no fault stands in its place.
+// Returns the lines of the rounds, and the last line if there is no error.
 fn last_lines(
     alloc: Global,
     revision: u32,
@@ -95,8 +95,8 @@ fn round_line(alloc: Global, round: &Relayed) -> Result<Vec<u8>, AllocError>
     Ok(line)
 }
 
-// Writes the lines, and behind them that of the fault.
-fn told<W: Sink>(
+// Writes the lines, and then that of the error. Returns the status.
+fn write_end<W: Sink>(
     alloc: Global,
     output: &mut W,
     lines: Result<Vec<u8>, AllocError>,
@@ -114,24 +114,24 @@ fn told<W: Sink>(
 {
     match lines {
         Ok(lines) => match put_all(output, lines.as_slice()) {
-            Ok(()) => ruled(alloc, output, fault),
+            Ok(()) => write_verdict(alloc, output, fault),
             Err(_) => 5,
         },
-        Err(AllocError) => ruled(alloc, output, with_memory(fault)),
+        Err(AllocError) => write_verdict(alloc, output, with_memory(fault)),
     }
 }
 
-// Writes the line of a fault.
-fn ruled<W: Sink>(alloc: Global, output: &mut W, fault: Option<Fault<RelayFault>>) -> u8
+// Writes the line of `fault`, if there is one. Returns the status.
+fn write_verdict<W: Sink>(alloc: Global, output: &mut W, fault: Option<Fault<RelayFault>>) -> u8
     ensures { TellsRuling fault (output_seen (W.taken output.old) (W.faults output.old)) (output_seen (W.taken output.new) (W.faults output.new)) result }
 {
     match fault {
-        Some(fault) => refused(alloc, output, &fault).status,
+        Some(fault) => write_error(alloc, output, &fault).status,
         None => 0,
     }
 }
 
-// The fault where memory is wanted besides.
+// Returns the error that counts if an allocation failed besides.
 fn with_memory(fault: Option<Fault<RelayFault>>) -> Option<Fault<RelayFault>>
     ensures { result ≡ worse fault (Some Memory) }
 {

@@ -1,4 +1,4 @@
-//! The command, whole.
+//! The command `relay`.
 
 ghost use Rattle.std.specs.Prelude.{◌≡◌, ◌+◌, ◌-◌, length, map};
 ghost use Rattle.command_core.specs.Seen.{NetSeen, net_seen, output_seen};
@@ -10,7 +10,7 @@ ghost use Rattle.relay_command.specs.Terms.{MayRelay};
 use crate::opening::{Places, begin, opened};
 use crate::running::relay_begun;
 use crate::terms::Relaying;
-use command_core::refused;
+use command_core::write_error;
 use daap_outside::{Net, Sink};
 use share_crew::{LinkReports, Outcome, shut_all};
 use std::alloc::Global;
@@ -18,8 +18,8 @@ use std::sync::Wait;
 use std::thread::Threads;
 use std::time::Clock;
 
-/// Follows a share for so many listings, and serves its items to players until the last of them was read or the share could not be
-/// followed further.
+/// Follows a share for the listings that `relaying` names, and serves its items to players until the last listing was
+/// read or the share could not be followed further.
 pub fn relay<W: Sink, N: Net, R: Threads + Wait + Clock + Sync>(
     rt: &R,
     alloc: Global,
@@ -38,11 +38,11 @@ pub fn relay<W: Sink, N: Net, R: Threads + Wait + Clock + Sync>(
 {
     match opened(net, relaying) {
         Ok(places) => relay_at(rt, alloc, relaying, output, net, places),
-        Err(stop) => unrelayed(alloc, refused(alloc, output, &stop).status),
+        Err(stop) => unrelayed(alloc, write_error(alloc, output, &stop).status),
     }
 }
 
-// Relays a share over a link that was made, at doors that are open.
+// Relays a share over a connection that was made, at listeners that are open.
 fn relay_at<W: Sink, N: Net, R: Threads + Wait + Clock + Sync>(
     rt: &R,
     alloc: Global,
@@ -73,7 +73,7 @@ fn relay_at<W: Sink, N: Net, R: Threads + Wait + Clock + Sync>(
     }
 }
 
-// Gives the doors back, at which nobody waited, and hangs the link up.
+// Closes the listeners, at which no worker has accepted, and the connection.
 fn given_back<N: Net>(net: &mut N, places: Places<N::L, N::D>)
     ensures back { (start : NetSeen) (relaying : Relaying)
         → HasOpened relaying start (net_seen (N.asked net.old) (N.written net.old) (N.door_links net.old) (N.next_input net.old) (N.faults net.old))
@@ -87,7 +87,7 @@ fn given_back<N: Net>(net: &mut N, places: Places<N::L, N::D>)
     net.hang_up(places.link);
 }
 
-// The outcome where no share came under a lock.
+// Returns the outcome if no share was put under a lock.
 fn unrelayed(alloc: Global, status: u8) -> Outcome
     ensures status { result.status ≡ status }
     ensures none { HasNoShare result }

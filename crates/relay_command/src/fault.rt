@@ -1,4 +1,4 @@
-//! Why a share is not relayed, or not further.
+//! Errors of `relay`, and which of two counts more.
 
 ghost use Rattle.std.specs.Prelude.{◌≡◌, IfOk};
 ghost use Rattle.relay_command.specs.Faults.{relay_line, relay_status, net_fault, crew_fault, end_fault, rank_of, worse};
@@ -11,18 +11,18 @@ use relay_share::RelayEnd;
 use share_crew::Verdict;
 use std::alloc::{AllocError, Global};
 
-/// Why a share is not relayed, or not further. Want of memory is none of these.
+/// Errors of `relay`. Out of memory is `Fault::Memory`.
 #[derive(Debug, Drop)]
 pub enum RelayFault {
-    /// A place was not reached or could not be listened at, or the link failed.
+    /// An address was not reached or not opened, a listener failed, or the connection failed.
     Network,
-    /// A worker served as much as it may.
+    /// A worker reached its limit.
     Requests,
-    /// The relay's share has no room for a listing.
+    /// The relay's share has no capacity for a listing.
     Library,
-    /// A row of a listing cannot be read.
+    /// Row `index` of a listing cannot be read.
     Row { index: u64 },
-    /// The share that is followed answered otherwise than it should.
+    /// The followed share did not answer as it should.
     Peer(FollowFault),
 }
 
@@ -60,7 +60,7 @@ fn row_line(alloc: Global, index: u64) -> Result<Vec<u8>, AllocError>
     Ok(line)
 }
 
-/// What a place that was not opened is.
+/// Returns the error of an address that was not opened.
 pub(crate) fn net_fault(error: NetError) -> Fault<RelayFault>
     ensures { result ≡ net_fault error }
 {
@@ -70,7 +70,7 @@ pub(crate) fn net_fault(error: NetError) -> Fault<RelayFault>
     }
 }
 
-/// What is told of workers and a relay that have ended: what counts more, of two alike what the workers came to.
+/// Returns the error of workers and a relay that have ended: the one that counts more, and of two alike the workers'.
 pub(crate) fn ruling(verdict: Verdict, end: RelayEnd) -> Option<Fault<RelayFault>>
     ensures { result ≡ worse (crew_fault verdict) (end_fault end) }
 {
@@ -83,7 +83,7 @@ pub(crate) fn ruling(verdict: Verdict, end: RelayEnd) -> Option<Fault<RelayFault
     }
 }
 
-// A crew that keeps nothing loses no edit.
+// Workers without a keeper lose no edit, so `FileFailed` does not occur.
 fn crew_fault(verdict: Verdict) -> Option<Fault<RelayFault>>
     ensures { result ≡ crew_fault verdict }
 {
@@ -95,7 +95,7 @@ fn crew_fault(verdict: Verdict) -> Option<Fault<RelayFault>>
     }
 }
 
-// No other pass stops a share that is relayed.
+// No other lock handle stops a relay's share, so `Stopped` does not occur.
 fn end_fault(end: RelayEnd) -> Option<Fault<RelayFault>>
     ensures { result ≡ end_fault end }
 {
@@ -108,7 +108,7 @@ fn end_fault(end: RelayEnd) -> Option<Fault<RelayFault>>
     }
 }
 
-/// How much a fault counts: one of the net before want of memory, this before a limit, and this before a peer's.
+/// Returns how much an error counts: the network's before out of memory, then a limit, then the peer's.
 pub(crate) fn rank_of(fault: &Option<Fault<RelayFault>>) -> u8
     ensures { result ≡ rank_of fault.now }
 {

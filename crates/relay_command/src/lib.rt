@@ -1,5 +1,5 @@
-//! The command `relay`: a share that follows another one and serves what it follows. Its players' links are served by workers, each
-//! in a thread of its own, and beside them the relay reads the listings of the other share and edits its own.
+//! The command `relay`: follows another share, and serves what it follows to players. Workers serve the players'
+//! connections, each in its own thread; concurrently the relay reads the listings of the other share and edits its own.
 #![tactic(auto)]
 
 mod closing;

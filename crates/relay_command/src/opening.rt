@@ -1,4 +1,5 @@
-//! What stands before the first link is served: the link to the share that is followed, the doors, and the share under its lock.
+//! Opens what a relay needs before it serves: the connection to the followed share, the listeners, and a share under
+//! its lock.
 
 ghost use Rattle.std.specs.Prelude.{◌≡◌, ◌+◌, map, length, IfOk, IfErr, OnErr, MatchResult};
 ghost use Rattle.command_core.specs.Seen.{net_seen, output_seen};
@@ -15,17 +16,18 @@ use command_core::{Fault, out_of_memory};
 use daap_outside::{Failed, Net, Sink};
 use item_model::{Batch, Edits};
 use share_core::Share;
-use share_crew::{Begun, Room, announced};
+use share_crew::{LockedShare, WorkerBuffers, announced};
 use std::alloc::{AllocError, Global};
 
-/// The link to the share that is followed, and the doors of the relay, before anything went over them.
+/// The connection to the followed share, and the listeners of the relay, before their first use.
 #[derive(Drop)]
 pub(crate) struct Places<K, D> {
     pub(crate) link: K,
     pub(crate) doors: Vec<D>,
 }
 
-/// Connects to the share that is followed, and then opens the place of the players. Where that is not opened, the link is hung up.
+/// Connects to the share that is followed, and then opens the address of the players. If that fails, closes the
+/// connection.
 pub(crate) fn opened<N: Net>(
     net: &mut N,
     relaying: &Relaying,
@@ -56,13 +58,17 @@ pub(crate) fn opened<N: Net>(
     }
 }
 
-/// Opens an empty share, writes its line, and puts it under a lock. Where that fails, the line of the fault was written, and the
-/// status is answered that the program ends with.
+/// Opens an empty share, writes its line, and puts it under a lock.
+///
+/// # Errors
+///
+/// Returns the status that the program ends with: 5 if the output failed, and 9 if an allocation failed and the line of
+/// that was written.
 pub(crate) fn begin<W: Sink, D: Drop>(
     alloc: Global,
     relaying: &Relaying,
     output: &mut W,
-) -> Result<Begun<D>, u8>
+) -> Result<LockedShare<D>, u8>
     requires may { MayRelay relaying.now }
     ensures { MatchResult result
         (HasBegun relaying.now
@@ -85,11 +91,11 @@ pub(crate) fn begin<W: Sink, D: Drop>(
     }
 }
 
-// An empty share with the line that tells it, and the room for its workers.
+// An empty share, its first line, and the capacity for its workers.
 struct Prepared<D> {
     share: Share,
     line: Vec<u8>,
-    room: Room<D>,
+    room: WorkerBuffers<D>,
 }
 
 fn prepare<D: Drop>(alloc: Global, relaying: &Relaying) -> Result<Prepared<D>, AllocError>
@@ -107,7 +113,7 @@ fn prepare<D: Drop>(alloc: Global, relaying: &Relaying) -> Result<Prepared<D>, A
     Ok(Prepared {
         share,
         line: line_of(alloc, relaying)?,
-        room: Room::of(alloc, relaying.workers as usize)?,
+        room: WorkerBuffers::of(alloc, relaying.workers as usize)?,
     })
 }
 

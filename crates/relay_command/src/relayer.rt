@@ -1,4 +1,4 @@
-//! The relay beside the workers.
+//! The relay, as the partner of the workers.
 
 ghost use Rattle.std.specs.Prelude.{◌≡◌, ◌≤◌};
 ghost use Rattle.mirror_client.specs.Points.{nothing_read, place};
@@ -15,7 +15,7 @@ use std::alloc::Global;
 use std::sync::Wait;
 use std::time::Clock;
 
-/// What the relay works with: its pass, its link, and a door by which it wakes a worker at its end.
+/// What the relay works with: its lock handle, its connection, and a listener by which it wakes a worker at its end.
 pub(crate) struct Relayer<'a, K, D> {
     pub(crate) terms: &'a Relaying,
     pub(crate) pass: Pass<Share>,

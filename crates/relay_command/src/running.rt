@@ -1,4 +1,4 @@
-//! A relay's share from its first link to its last.
+//! Runs a relay's share from its first connection to its last.
 
 ghost use Rattle.std.specs.Prelude.{◌≡◌, ◌≤◌, ◌+◌, ◌-◌, [], ◌∷◌, ◌++◌, ℕ, List, map, length, All, vec_len, vec_capacity};
 ghost use Rattle.command_core.specs.Seen.{NetSeen, OutputSeen, net_seen, output_seen};
@@ -12,7 +12,7 @@ ghost use Rattle.relay_command.specs.Places.{HasOpened};
 ghost use Rattle.relay_command.specs.Runs.{HasServed};
 ghost use Rattle.relay_command.specs.Terms.{MayRelay};
 
-use crate::closing::closed;
+use crate::closing::finish;
 use crate::fault::ruling;
 use crate::opening::Places;
 use crate::relayer::Relayer;
@@ -21,14 +21,16 @@ use daap_outside::{Net, Sink};
 use relay_share::{RelayEnd, RelayReport};
 use share_asks::Role;
 use share_core::Share;
-use share_crew::{Begun, Gathered, Outcome, Room, hire, share_of, worked};
+use share_crew::{
+    Gathered, LockedShare, Outcome, WorkerBuffers, add_workers, run_workers, share_of,
+};
 use share_lock::Pass;
 use std::alloc::Global;
 use std::sync::Wait;
 use std::thread::Threads;
 use std::time::Clock;
 
-/// Serves the players of a share that is under its lock and relays another share to it, until all have ended.
+/// Serves the players of a share that is under its lock, and relays another share to it, until all have ended.
 pub(crate) fn relay_begun<W: Sink, N: Net, R: Threads + Wait + Clock + Sync>(
     rt: &R,
     alloc: Global,
@@ -36,7 +38,7 @@ pub(crate) fn relay_begun<W: Sink, N: Net, R: Threads + Wait + Clock + Sync>(
     output: &mut W,
     net: &mut N,
     places: Places<N::L, N::D>,
-    begun: Begun<N::D>,
+    begun: LockedShare<N::D>,
 ) -> Outcome
     requires may { MayRelay relaying.now }
     requires ready { IsReady (lock_id begun.lock) begun.first }
@@ -56,7 +58,7 @@ pub(crate) fn relay_begun<W: Sink, N: Net, R: Threads + Wait + Clock + Sync>(
     ensures closes { N.open_count net.new ≡ N.open_count net.old - (length places.doors.items + 1) }
 {
     let Places { link, doors } = places;
-    let (begun, pass, door) = staffed(rt, alloc, begun, doors);
+    let (begun, pass, door) = assign_workers(rt, alloc, begun, doors);
     let mut relayer = Relayer {
         terms: relaying,
         pass,
@@ -72,7 +74,7 @@ pub(crate) fn relay_begun<W: Sink, N: Net, R: Threads + Wait + Clock + Sync>(
         mut first,
         links,
         verdict,
-    } = worked(rt, alloc, net, begun, &mut relayer);
+    } = run_workers(rt, alloc, net, begun, &mut relayer);
     let Relayer {
         terms: _,
         pass,
@@ -84,7 +86,7 @@ pub(crate) fn relay_begun<W: Sink, N: Net, R: Threads + Wait + Clock + Sync>(
     net.shut(door);
     net.hang_up(link);
     let share = share_of(rt, &lock, &mut first);
-    closed(
+    finish(
         alloc,
         output,
         share,
@@ -94,13 +96,14 @@ pub(crate) fn relay_begun<W: Sink, N: Net, R: Threads + Wait + Clock + Sync>(
     )
 }
 
-// Gives each door but the last its worker, and then splits off the relay's pass.
-fn staffed<D: Drop, R: Wait>(
+// Makes a worker for each listener except the last, and then splits off the relay's lock handle. Returns it with that
+// listener.
+fn assign_workers<D: Drop, R: Wait>(
     rt: &R,
     alloc: Global,
-    begun: Begun<D>,
+    begun: LockedShare<D>,
     doors: Vec<D>,
-) -> (Begun<D>, Pass<Share>, D)
+) -> (LockedShare<D>, Pass<Share>, D)
     requires ready { IsReady (lock_id begun.lock) begun.first }
     requires empty { begun.room.crew.items ≡ [] }
     requires some { 1 ≤ length doors.items }
@@ -117,19 +120,19 @@ fn staffed<D: Drop, R: Wait>(
     ensures relay_some { 1 ≤ (known result.1).number }
     ensures relay_few { (known result.1).number + 1 ≤ passes_of begun.lock }
 {
-    let Begun {
+    let LockedShare {
         lock,
         mut first,
-        room: Room { mut crew, links },
+        room: WorkerBuffers { mut crew, links },
     } = begun;
     let mut doors = doors;
     let last = doors.pop().unwrap();
-    hire(rt, alloc, &lock, &mut first, doors, Role::Listen, &mut crew);
+    add_workers(rt, alloc, &lock, &mut first, doors, Role::Listen, &mut crew);
     let pass = lock.split(rt, &mut first).unwrap();
-    let begun = Begun {
+    let begun = LockedShare {
         lock,
         first,
-        room: Room { crew, links },
+        room: WorkerBuffers { crew, links },
     };
     (begun, pass, last)
 }

@@ -1,20 +1,20 @@
-//! What a share is relayed with.
+//! The settings of `relay`.
 
 use dmap_tags::Text;
 
-/// A share to be relayed: which, and where, and as what.
+/// The settings of `relay`.
 #[derive(Debug, Drop)]
 pub struct Relaying {
-    /// The place of the share that is followed.
+    /// The address of the share that is followed.
     pub upstream: Text,
-    /// The place that players connect to.
+    /// The address that players connect to.
     pub listen: Text,
     /// How many listings are read.
     pub rounds: u32,
     /// The name that players show.
     pub name: Text,
-    /// For how many revisions back the relay's share answers with changes.
+    /// The delta window of the relay's share, in revisions.
     pub keep: u32,
-    /// How many links of players are served at once.
+    /// How many connections of players are served at once.
     pub workers: u32,
 }

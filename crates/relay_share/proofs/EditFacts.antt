@@ -1,5 +1,5 @@
 -- The status that an edit gets, and the entry that it adds.
-use Rattle.std.proofs.Common.{◌≡◌, ◌⊎◌, ℕ, List, [], ◌∷◌, ◌++◌, ◌==◌, Bool, true, false, cond, not, Option, Some, None, is_some, MatchBool, refl, sym, ap, ◌∙◌, subst, inl, inr, arith}
+use Rattle.std.proofs.Common.{◌≡◌, ◌⊎◌, ℕ, List, [], ◌∷◌, ◌==◌, Bool, true, false, cond, not, Option, Some, None, is_some, MatchBool, refl, sym, ap, ◌∙◌, subst, inl, inr, arith}
 use Rattle.std.proofs.lemmas.Bool.{eqb-true}
 use Rattle.std.specs.Option.{option_or, option_map_or, option_to_list}
 use Rattle.std.specs.Prelude.{Ok}
@@ -11,18 +11,18 @@ use Rattle.share_asks.specs.declared.ask.Want.TheVariants.{Edit}
 use Rattle.share_history.specs.LastSaid.{only_if}
 use Rattle.share_history.specs.Limits.{takes_batch}
 use Rattle.share_history.specs.Sessions.{is_stopped}
-use Rattle.share_replies.specs.Added.{adds, made_by}
+use Rattle.share_replies.specs.Added.{adds}
 use Rattle.share_replies.specs.Replies.{Answer, Body, Holds, Nothing, Replies, Reply, answer_to, reply_with, success}
 use Rattle.share_replies.specs.Settings.{Settings}
 use Rattle.share_server.specs.declared.report.Served.{Served}
 use Rattle.share_server.specs.Served.{IsGivenUp, IsReplied, IsServed, added_part, answered_on, at_point}
 use Rattle.relay_share.specs.Rounds.{made_status}
 
--- an edit was made, or the share was stopped, has no room, or there was no memory
+-- an edit was made, or the share was stopped or at a limit, or an allocation failed
 abbrev pub IsStatus : List OneEdit → ℕ → Type 0
 IsStatus batch status = (status ≡ made_status batch) ⊎ ((status ≡ 503) ⊎ ((status ≡ 507) ⊎ (status ≡ 500)))
 
--- the entry of an edit, where it has records
+-- the entry of an edit, if it has records
 abbrev pub entry_of : ℕ → List OneEdit → List Entry
 entry_of by [] = []
 entry_of by (e ∷ es) = entry.Edits by (e ∷ es) ∷ []
@@ -59,6 +59,12 @@ module _ (h : List Entry) (want : Want) (granted : ℕ × Body) where
   refused_one false true reply is other new = refl
   refused_one false false reply is other new = absurd (other (sym (ap status_in is)))
 
+  -- only a share that was stopped answers with 503
+  stopped_one : (stopped limited : Bool) (reply : Reply) → (granted.0 ≡ 503 → ⊥) → replied stopped limited ≡ Replies reply → reply.status ≡ 503 → stopped ≡ true
+  stopped_one true limited reply no503 is got = refl
+  stopped_one false true reply no503 is got = absurd (let e : 507 ≡ 503 = ap status_in is ∙ got in omega (arith, e))
+  stopped_one false false reply no503 is got = absurd (no503 (ap status_in is ∙ got))
+
 status_replied : (settings : Settings) (h : List Entry) (batch : List OneEdit) (reply : Reply) → answer_to settings h (Edit (Ok batch)) ≡ Replies reply → IsStatus batch reply.status
 status_replied settings h [] reply is = by_refusal h (Edit (Ok [])) (success settings h (Edit (Ok []))) (is_stopped h) false reply is
 status_replied settings h (e ∷ es) reply is =
@@ -81,6 +87,13 @@ nothing_replied settings h by [] reply is other =
 nothing_replied settings h by (e ∷ es) reply is other =
     ap option_to_list
     (refused_one h (Edit (Ok (e ∷ es))) (success settings h (Edit (Ok (e ∷ es)))) (is_stopped h) (not (takes_batch h (e ∷ es))) reply is other (Some (entry.Edits by (e ∷ es))))
+
+stopped_replied : (settings : Settings) (h : List Entry) (batch : List OneEdit) (reply : Reply) → answer_to settings h (Edit (Ok batch)) ≡ Replies reply → reply.status ≡ 503
+    → is_stopped h ≡ true
+stopped_replied settings h [] reply is got =
+    stopped_one h (Edit (Ok [])) (success settings h (Edit (Ok []))) (is_stopped h) false reply (λ (e : 204 ≡ 503). omega (arith, e)) is got
+stopped_replied settings h (e ∷ es) reply is got =
+    stopped_one h (Edit (Ok (e ∷ es))) (success settings h (Edit (Ok (e ∷ es)))) (is_stopped h) (not (takes_batch h (e ∷ es))) reply (λ (e : 200 ≡ 503). omega (arith, e)) is got
 
 -- ---- a request that was served
 
@@ -115,3 +128,13 @@ refused_entry settings by h batch s is other = by_failure (s.status == 500) is.h
     by_failure false how =
         how.adds_it
         ∙ nothing_replied settings (answered_on s.added (at_point h s)) by batch how.reply how.replies (λ (made : how.reply.status ≡ made_status batch). other (how.status ∙ made))
+
+-- one that got 503 found the share stopped
+pub stopped_edit : (settings : Settings) (by : ℕ) (h : List Entry) (batch : List OneEdit) (s : Served) → IsServed settings by h (Edit (Ok batch)) s → s.status ≡ 503
+    → is_stopped (answered_on s.added (at_point h s)) ≡ true
+stopped_edit settings by h batch s is got = by_failure (s.status == 500) (ap (λ (n : ℕ). n == 500) got) is.how
+  where
+    by_failure : (b : Bool) → b ≡ (503 == 500) → MatchBool b (IsGivenUp s) (IsReplied settings by (at_point h s) (Edit (Ok batch)) s)
+        → is_stopped (answered_on s.added (at_point h s)) ≡ true
+    by_failure true other how = let no : true ≡ false = other in absurd (cc)
+    by_failure false other how = stopped_replied settings (answered_on s.added (at_point h s)) batch how.reply how.replies (sym how.status ∙ got)

@@ -39,7 +39,7 @@ use Rattle.relay_share.proofs.RoundFacts.{ascends, relays_more, walked}
 
 -- ---- before the first listing
 
--- a pass that took no turn served nothing
+-- a handle that took no turn served nothing
 unserved : (k : Pass) → Serves k k [] []
 unserved k = record {
   fresh = record { more = []; grows = sym (append-nil k.seen); looks = []; looked = sym (append-nil k.looks); rises = omega arith; among = tt; marked = tt };
@@ -105,7 +105,7 @@ unopened host rounds p taken k e (inr b) = record {
   stops = b.stops;
 }
 
--- ---- a listing is asked for
+-- ---- a listing is requested
 
 -- the body that answered was taken
 pub taken_round : (host : List ℕ) (rounds : ℕ) (p : Point) (known : Known) (ls : List Listing) (base : ℕ) (q q' : Point) (answer : Reply) (tag : Tree) (k k' k'' : Pass)
@@ -122,7 +122,7 @@ taken_round host rounds p known ls base q q' answer tag k k' k'' done done' old 
           (record { tag = tag; told = told; is = listed.1; later = listed.2 })) listed.3,
     )
 
--- a body that is no listing is undue
+-- a body that is not a listing is unexpected
 undue_body : (rows : List CodeRow) (held : Held) (used : ℕ) (answer : Reply) (tag : Tree) (e : FollowError) → Tells rows answer tag → IsNotTaken (holding held) tag e
     → UndueListing rows (holding held) used answer e
 undue_body rows held used answer tag (follow.Refused status) told is = absurd is
@@ -133,7 +133,7 @@ undue_body rows held used answer tag (follow.Codes error) told is = absurd is
 undue_body rows held used answer tag follow.LinkFault told is = absurd is
 undue_body rows held used answer tag follow.Memory told is = tt
 
--- and so is one that is no tag
+-- and so is one that is not a tag
 undue_tag : (rows : List CodeRow) (held : Held) (used : ℕ) (answer : Reply) (e : FollowError) → UndueTag rows used answer e → UndueListing rows (holding held) used answer e
 undue_tag rows held used answer (follow.Refused status) is = is
 undue_tag rows held used answer (follow.BadReply at) is = is
@@ -196,7 +196,7 @@ module _ (host : List ℕ) (rounds : ℕ) (p : Point) (known : Known) (ls : List
       → Refuses host rounds p q'.taken k k'' done status
   refuses k'' status listed = record { reached = k'; leaves = leaves listed.0 listed.1 listed.2; refused = listed.3 }
 
-  -- the tag is no listing
+  -- the tag is not a listing
   unlisted : (e : FollowError) → IsNotTaken (holding (held_after nothing_held ls)) tag e → Halts host rounds p q'.taken k k' done e
   unlisted e is = record {
     stage = Asking known ls;
@@ -302,7 +302,7 @@ not_logged_out host rounds p known ls q taken k k' done old e all one stops =
 
 -- ---- a tag that is read
 
--- the listing that a body is, at the revision that is held
+-- the listing that a body is, at the held revision
 pub listed : (held : Held) (tag : Tree) (l : Listing) (base : ℕ) (This : Listing → Type 0) → base ≡ held.revision → IsListing Items base l tag → base ≤ l.revision → This l
     → IsListed held tag This
 listed held tag l base This at is later this = (l, subst (λ (n : ℕ). IsListing Items n l tag) at is, subst (λ (n : ℕ). n ≤ l.revision) at later, this)
@@ -315,7 +315,7 @@ unread_one held tag k k' Stopped is = is
 unread_one held tag k k' (Peer e) is = absurd is.3
 unread_one held tag k k' Memory is = is
 
--- what a body is refused by, at the revision that is held
+-- why a body is refused, at the held revision
 refused_body : {T : Type 0} (held : Held) (tag : Tree) (base : ℕ) (error : MirrorError) → base ≡ held.revision
     → ((index : Option ℕ) → ◌≡◌ {A = Result T MirrorError} (Err error) (Err (mirror.NotListing index)) → IsNoListing Items base tag index)
     → ((was told : ℕ) → ◌≡◌ {A = Result T MirrorError} (Err error) (Err (mirror.Backwards was told))
@@ -363,7 +363,7 @@ counts_on before now (Err end) same h = subst (λ (b : Bool). MatchBool b (Rose 
 pub counts_none : (before now : ℕ) (end : RelayEnd) → is_fault end ≡ false → now ≡ before → CountsRelay before now end
 counts_none before now end h same = subst (λ (b : Bool). MatchBool b (Rose before now) (now ≡ before)) (sym h) same
 
--- a count behind one that stayed
+-- a counter after one that stayed
 pub counts_from : (before middle now : ℕ) (end : RelayEnd) → middle ≡ before → CountsRelay middle now end → CountsRelay before now end
 counts_from before middle now end same h = subst (λ (n : ℕ). CountsRelay n now end) same h
 

@@ -1,8 +1,9 @@
 -- What a relay leaves, however it ended, and what its share shows.
-use Rattle.std.proofs.Common.{◌≡◌, ℕ, List, [], ◌∷◌, ◌++◌, ◌==◌, Bool, true, false, cond, Option, refl, sym, ap, ap₂, ◌∙◌, subst, append-nil, inl, inr, arith, true≢false, eq-eqb}
+use Rattle.std.proofs.Common.{◌≡◌, ℕ, List, [], ◌∷◌, ◌++◌, ◌==◌, ◌||◌, Bool, true, false, cond, Option, refl, sym, ap, ap₂, ◌∙◌, subst, append-nil, inl, inr, arith, true≢false, eq-eqb}
 use Rattle.std.specs.Io.KnownBytes.{Appends}
 use Rattle.std.proofs.KnownBytes.{Appends-nil}
-use Rattle.std.specs.List.{AllByRecursion}
+use Rattle.std.proofs.lemmas.List.Folds.{list_any-append}
+use Rattle.std.specs.List.{AllByRecursion, list_any}
 use Rattle.item_model.specs.declared.changes.Edit.{Edit}
 use Rattle.item_model.specs.declared.changes.Entry.{Entry}
 use Rattle.item_model.specs.declared.changes.Entry.TheVariants as entry
@@ -21,23 +22,22 @@ use Rattle.share_history.proofs.EditFacts.{batches-append}
 use Rattle.share_lock.specs.Histories.{entries_of}
 use Rattle.share_replies.specs.Laws.{is_edit, maker}
 use Rattle.share_server.specs.Passes.{Pass}
-use Rattle.share_server.specs.Served.{added_part, at_point}
 use Rattle.relayed_rows.specs.Libraries.{IsLibrary}
 use Rattle.relayed_rows.specs.Relays.{nothing_held, relay_of, steps_between}
 use Rattle.relayed_rows.proofs.StepFacts.{relays_never_go_back}
-use Rattle.relay_share.specs.Ends.{EndsRelay, Halts, HasRelayed, Leaves, Refuses, Relays}
-use Rattle.relay_share.specs.Laws.{EditsAlone, LeavesSteps, RelaysLeaveSteps, RelaysShowWhatTheyRead, edits_by, stop_behind}
+use Rattle.relay_share.specs.Ends.{EndsRelay, Halts, Leaves, Refuses, Relays}
+use Rattle.relay_share.specs.Laws.{EditsAlone, RelaysLeaveSteps, RelaysShowWhatTheyRead, StoppedRelaysSawAStop, edits_by, is_stop_beside, stop_behind}
 use Rattle.relay_share.specs.Rounds.{IsRefused, batch_of, followed, made_status}
 use Rattle.relay_share.specs.declared.report.Relayed.{Relayed}
 use Rattle.relay_share.specs.declared.report.RelayEnd.{RelayEnd}
 use Rattle.relay_share.specs.declared.report.RelayEnd.TheVariants.{Done, Row, Full, Stopped, Peer, Memory}
 use Rattle.relay_share.proofs.EditFacts.{refused_entry}
 use Rattle.relay_share.proofs.StepFacts.{relays_make_steps}
-use Rattle.relay_share.proofs.StopFacts.{stops_come_last}
+use Rattle.relay_share.proofs.StopFacts.{edit_stopped, other_stop, stops_come_last}
 
 -- ---- the steps
 
--- what stands of a relay before its stop: no more entries than the steps
+-- a relay before its stop: its entries are exactly the steps
 record Stepped (host : List ℕ) (rounds : ℕ) (p : Point) (taken : Option (List ℕ)) (number : ℕ) (seen : List Entry) : Type 0 where
   stage : Stage
   there : Point
@@ -113,12 +113,12 @@ module _ (host : List ℕ) (rounds : ℕ) (p : Point) (taken : Option (List ℕ)
   ended k' done Memory (inr (inl x)) = left k' done x
   ended k' done Memory (inr (inr x)) = refused k' done 500 x (not_made 500 (λ (e : 500 ≡ 200). omega (arith, e)) (λ (e : 500 ≡ 204). omega (arith, e)))
 
--- edits alone stop nothing
+-- edits stop nothing
 unstopped : (number : ℕ) (bs : List (List Edit)) → is_stopped (edits_by number bs) ≡ false
 unstopped number [] = refl
 unstopped number (b ∷ bs) = unstopped number bs
 
--- the pass of a relay keeps its number up to its end
+-- the handle of a relay keeps its number to its end
 ends_numbered : (host : List ℕ) (rounds : ℕ) (p : Point) (taken : Option (List ℕ)) (k k' : Pass) (done : List Relayed) (end : RelayEnd)
     → EndsRelay host rounds p taken k k' done end → k'.number ≡ k.number
 ends_numbered host rounds p taken k k' done Done x = ap (λ (n : Pass). n.number) x.relays.serves.stays
@@ -154,6 +154,21 @@ relays_leave_steps host rounds p taken k k' report new r =
           ∙ ap (λ (es : List Entry). es ++ stop_behind r.before_stop.number k'.seen) steps);
     }
 
+-- a relay that ended `Stopped` found a stop of another pass
+pub stopped_relays_saw_a_stop : StoppedRelaysSawAStop
+stopped_relays_saw_a_stop host rounds p taken k k' report new r is =
+    let done : List Relayed = report.rounds.items in
+    let one : Stepped host rounds p taken k.number r.before_stop.seen = ended host rounds p taken k new r.before_stop done report.end r.ends in
+    let x : Refuses host rounds p taken k r.before_stop done 503 = subst (EndsRelay host rounds p taken k r.before_stop done) is r.ends in
+    let stopped : is_stopped r.before_stop.seen ≡ true = edit_stopped x.reached r.before_stop _ x.refused.refused x.refused.serves x.refused.is in
+    let none : is_stopped (entries_of maker k.number r.before_stop.seen) ≡ false =
+    ap is_stopped one.entries ∙ unstopped k.number (steps_between [] (relay_of (listings_in one.stage))) in
+    let beside : list_any (is_stop_beside k.number) r.before_stop.seen ≡ true = other_stop k.number r.before_stop.seen stopped none in
+    let number : k'.number ≡ k.number = ap (λ (n : Pass). n.number) r.stops.stays ∙ ends_numbered host rounds p taken k r.before_stop done report.end r.ends in
+    subst (λ (n : ℕ). list_any (is_stop_beside n) k'.seen ≡ true) (sym number)
+    (ap (list_any (is_stop_beside k.number)) r.stops.fresh.grows ∙ list_any-append (is_stop_beside k.number) r.before_stop.seen r.stops.fresh.more
+    ∙ ap (λ (b : Bool). b || list_any (is_stop_beside k.number) r.stops.fresh.more) beside)
+
 -- ---- what its share shows
 
 batches_by : (number : ℕ) (bs : List (List Edit)) → batches (edits_by number bs) ≡ bs
@@ -167,7 +182,7 @@ none_in false number = refl
 number_itself : (n : ℕ) → (n == n) ≡ true
 number_itself n = eq-eqb n n refl
 
--- the batches of a history are those of the one pass that edits
+-- the batches of a history are those of the one handle that edits
 module _ (number : ℕ) where
   one_more : (mine : Bool) (e : Entry) (h : List Entry) → (is_edit e ≡ true → maker e ≡ number) → (maker e == number) ≡ mine
       → batches h ≡ batches (entries_of maker number h) → batches (e ∷ h) ≡ batches (cond mine (e ∷ entries_of maker number h) (entries_of maker number h))

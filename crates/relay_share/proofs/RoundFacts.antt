@@ -1,4 +1,4 @@
--- A relay's rounds: one more, and what was told stays.
+-- A relay's rounds: one more, and what was reported stays.
 use Rattle.std.proofs.Common.{◌≡◌, ℕ, List, [], ◌∷◌, ◌++◌, length, refl, sym, ap, ◌∙◌, subst}
 use Rattle.std.specs.List.{AllByRecursion}
 use Rattle.item_model.specs.declared.changes.Entry.{Entry}
@@ -42,7 +42,7 @@ relayed_more h held (x ∷ ls) l [] s done r are is = absurd are
 relayed_more h held (x ∷ ls) l (y ∷ served) s [] r are is = absurd are
 relayed_more h held (x ∷ ls) l (y ∷ served) s (d ∷ done) r are is = (are.0, relayed_more h (mirror_after held x) ls l served s done r are.1 is)
 
--- what was told of listings stays, however the history goes on
+-- what was reported of listings stays, however the history grows
 relayed_longer : (settings : Settings) (by : ℕ) (h more : List Entry) (held : Held) (ls : List Listing) (served : List Served) (done : List Relayed)
     → AreServed settings by h (edits_asked held ls) served → AreRelayed h held ls served done → AreRelayed (h ++ more) held ls served done
 relayed_longer settings by h more held [] [] [] served_too are = tt
@@ -102,7 +102,7 @@ walked host rounds p known ls q q' k k' done now one walks = record {
   holds = one.holds;
 }
 
--- ---- what is held
+-- ---- what the relay holds
 
 ascends_from : (held : Held) (ls : List Listing) → IsAscending held.rows → IsAscending (held_after held ls).rows
 ascends_from held [] s = s

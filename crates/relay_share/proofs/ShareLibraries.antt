@@ -1,8 +1,9 @@
 -- The libraries that a relay reads are those of the share that answers.
-use Rattle.std.proofs.Common.{◌≡◌, ℕ, List, [], ◌∷◌, ◌++◌, ◌==◌, Bool, true, false, Option, Some, None, map, unwrap_or, refl, sym, ap, ap₂, ◌∙◌, subst, append-nil, append_assoc}
+use Rattle.std.proofs.Common.{◌≡◌, ℕ, ◌+◌, List, [], ◌∷◌, ◌++◌, ◌==◌, Bool, true, false, cond, not, Option, Some, None, is_none, map, unwrap_or, refl, sym, ap, ap₂, ◌∙◌, subst, append-nil, append_assoc}
 use Rattle.std.proofs.lemmas.Bool.{eqb-true}
-use Rattle.std.specs.List.{AllByRecursion}
+use Rattle.std.specs.List.{AllByRecursion, position_from}
 use Rattle.std.specs.Option.{option_or}
+use Rattle.dmap_tags.specs.Tree.{Tree}
 use Rattle.item_model.specs.declared.changes.Edit.{Edit}
 use Rattle.item_model.specs.declared.changes.Edit.TheVariants.{PutItem, DropItem, PutList, PutRule, DropList, PutMember, DropMember}
 use Rattle.item_model.specs.declared.changes.Entry.{Entry}
@@ -12,11 +13,12 @@ use Rattle.item_model.specs.declared.request.Target.TheVariants.{Items}
 use Rattle.item_model.specs.Valid.{is_id, is_valid}
 use Rattle.mirror_client.specs.Laws.{AreAnswers, NeverFall, last_point}
 use Rattle.mirror_client.proofs.FilterFacts.{caught_up}
-use Rattle.share_history.specs.Histories.{all_edits, batches, revision}
-use Rattle.share_history.specs.Keyed.{at}
+use Rattle.share_history.specs.Differences.{has_tag, new_tags}
+use Rattle.share_history.specs.Histories.{all_edits, batches, revision, up_to}
+use Rattle.share_history.specs.Kept.{is_kept}
 use Rattle.share_history.specs.LastSaid.{item_at, last_said, only_if, says_item}
-use Rattle.share_history.specs.Listings.{Listing}
-use Rattle.share_history.specs.Mirror.{Held, mirror_after, mirrored}
+use Rattle.share_history.specs.Listings.{Listing, delta_listing, full_listing, listing, shown_after, shown_rows}
+use Rattle.share_history.specs.Mirror.{Held, mirror_after, mirror_look, mirrored}
 use Rattle.share_history.specs.Rows.{library}
 use Rattle.share_history.specs.Whole.{AreWhole, IsWhole, PutsWhole}
 use Rattle.share_history.proofs.LawFacts.{library_ascends}
@@ -24,8 +26,9 @@ use Rattle.share_history.proofs.MirrorFacts.{full_listings_suffice}
 use Rattle.share_history.proofs.RowFacts.{at-library}
 use Rattle.share_history.proofs.WholeFacts.{point_whole}
 use Rattle.relayed_rows.specs.Libraries.{IsLibrary, IsOwn, Library, library_in}
-use Rattle.relayed_rows.specs.Relays.{libraries_after, nothing_held, relay_of}
-use Rattle.relayed_rows.proofs.LibraryFacts.{holds_of_all, libraries_read_back}
+use Rattle.relayed_rows.specs.Relays.{first_unread, is_unread, libraries_after, nothing_held}
+use Rattle.relayed_rows.proofs.LibraryFacts.{all_filtered, holds_of_all, libraries_read_back}
+use Rattle.relayed_rows.proofs.RowFacts.{rows_read_back}
 use Rattle.relay_share.specs.Laws.{LibrariesAreTheShares}
 
 -- ---- whole edits leave a library
@@ -78,7 +81,7 @@ whole_library es whole = record {
       (λ k row is. found_own k (item_at es k) row (sym (at-library es k) ∙ is) (found_says k (last_said (says_item k) es) (all_say k es whole)));
 }
 
--- ---- points
+-- ---- histories
 
 falls_on : (point : List Entry) (points : List (List Entry)) → NeverFall point points → (later : List Entry) × (last_point point points ≡ point ++ later)
 falls_on point [] fall = ([], sym (append-nil point))
@@ -117,3 +120,35 @@ libraries_are_the_shares keep point points (l ∷ ls) whole fall are =
     ap (λ (x : Listing). mirror_after nothing_held x) are.0 ∙ full_listings_suffice nothing_held (batches point) Items None All 0 in
     ap₂ (λ (x : Library) (xs : List Library). x ∷ xs) (read_at point (mirror_after nothing_held l) (whole_at point points whole fall) now)
     (read_on keep point points ls (mirror_after nothing_held l) now whole fall are.1)
+
+-- ---- each row that a share lists is read
+
+abbrev IsRead : ℕ × Tree → Type 0
+IsRead tag = is_unread tag.1 ≡ false
+
+rows_read : (rows : Library) → AllByRecursion IsOwn rows → AllByRecursion IsRead (shown_rows Items All rows)
+rows_read [] own = tt
+rows_read (e ∷ rows) own =
+    let one : IsOwn e = own.0 in
+    (ap is_none (rows_read_back e.1 one.item (subst (λ (n : ℕ). is_id n ≡ true) (sym one.own) one.id)), rows_read rows own.1)
+
+none_unread : (n : ℕ) (tags : List (ℕ × Tree)) → AllByRecursion IsRead tags → position_from (λ tag. is_unread tag.1) n tags ≡ None
+none_unread n [] read = refl
+none_unread n (tag ∷ tags) read =
+    ap (λ (b : Bool). cond b (Some n) (position_from (λ t. is_unread t.1) (n + 1) tags)) read.0 ∙ none_unread (n + 1) tags read.1
+
+pub all_are_read : (keep : ℕ) (h : List Entry) (base : ℕ) → IsWhole h → first_unread (listing keep (batches h) Items (mirror_look None All base)) ≡ None
+all_are_read keep h base whole = by_kept (is_kept keep (batches h) Items base)
+  where
+    before : List (ℕ × Tree)
+    before = shown_after (up_to (batches h) base) Items (mirror_look None All base)
+
+    all : AllByRecursion IsRead (shown_rows Items All (library (all_edits h)))
+    all = rows_read (library (all_edits h)) (whole_library (all_edits h) whole.edits).rows
+
+    by_kept : (kept : Bool)
+        → first_unread (cond kept (delta_listing (batches h) Items (mirror_look None All base) base) (full_listing (batches h) Items (mirror_look None All base))) ≡ None
+    by_kept true =
+        none_unread 0 (new_tags before (shown_rows Items All (library (all_edits h))))
+        (all_filtered IsRead (λ tag. not (has_tag before tag)) (shown_rows Items All (library (all_edits h))) all)
+    by_kept false = none_unread 0 (shown_rows Items All (library (all_edits h))) all

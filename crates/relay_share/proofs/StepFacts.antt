@@ -1,4 +1,4 @@
--- The entries of a relay's pass are the steps between libraries.
+-- The entries of a relay's handle are the steps between libraries.
 use Rattle.std.proofs.Common.{◌≡◌, ℕ, List, [], ◌∷◌, ◌++◌, refl, sym, ap, ap₂, ◌∙◌}
 use Rattle.item_model.specs.declared.changes.Edit.{Edit}
 use Rattle.item_model.specs.declared.changes.Entry.{Entry}

@@ -1,10 +1,11 @@
 -- What a stop leaves.
-use Rattle.std.proofs.Common.{◌≡◌, ℕ, List, [], ◌∷◌, ◌++◌, length, take, drop, ◌-◌, ◌==◌, Bool, true, false, cond, not, ◌&&◌, ◌||◌, true≢false, Option, Some, None, is_some, MatchBool, refl, sym, ap, ◌∙◌, subst, append-nil, take-append-drop, eq-eqb}
+use Rattle.std.proofs.Common.{◌≡◌, ℕ, List, [], ◌∷◌, ◌++◌, length, take, drop, ◌-◌, ◌==◌, Bool, true, false, cond, not, ◌&&◌, ◌||◌, Option, Some, None, is_some, MatchBool, refl, sym, ap, ◌∙◌, append-nil, take-append-drop, eq-eqb}
 use Rattle.std.proofs.Math.Seq.{take-length}
 use Rattle.std.proofs.lemmas.List.Folds.{list_any-append}
 use Rattle.std.proofs.lemmas.Bool.{eqb-true}
 use Rattle.std.specs.List.{list_any}
 use Rattle.std.specs.Option.{option_or, option_to_list}
+use Rattle.item_model.specs.declared.changes.Edit.{Edit}
 use Rattle.item_model.specs.declared.changes.Entry.{Entry}
 use Rattle.item_model.specs.declared.changes.Entry.TheVariants as entry
 use Rattle.share_asks.specs.declared.ask.Want.TheVariants.{Stop}
@@ -17,13 +18,14 @@ use Rattle.share_replies.specs.Replies.{Body, Nothing}
 use Rattle.share_replies.specs.Settings.{Settings}
 use Rattle.share_server.specs.declared.report.Served.{Served}
 use Rattle.share_server.specs.Passes.{Pass, Serves}
-use Rattle.share_server.specs.Served.{IsGivenUp, IsReplied, IsServed, added_part, answered_on, at_point}
-use Rattle.relay_share.specs.Asks.{stop_ask}
+use Rattle.share_server.specs.Served.{IsGivenUp, IsReplied, added_part, answered_on, at_point}
+use Rattle.relay_share.specs.Asks.{edit_ask, stop_ask}
 use Rattle.relay_share.specs.Laws.{StopsComeLast, is_stop_beside, stop_behind}
 use Rattle.relay_share.specs.Turns.{IsTold}
 use Rattle.relay_share.specs.declared.turns.Told.{Told}
+use Rattle.relay_share.proofs.EditFacts.{stopped_edit}
 
--- ---- a history at a point, in two parts
+-- ---- a history at a length, in two parts
 
 parts : (added : Bool) (p : List Entry) → p ≡ answered_on added p ++ added_part added p
 parts true p = sym (take-append-drop (length p - 1) p)
@@ -39,7 +41,7 @@ stop_by by stopped = cond (is_some (refused stopped)) None (Some (entry.Stop by)
 stop_added : (h : List Entry) (by : ℕ) → adds h by Stop ≡ stop_by by (is_stopped h)
 stop_added h by = refl
 
--- ---- the share is stopped behind it
+-- ---- the share is stopped afterwards
 
 stopped_both : (xs ys : List Entry) (p : List Entry) → p ≡ xs ++ ys → is_stopped p ≡ (is_stopped xs || is_stopped ys)
 stopped_both xs ys p is = ap is_stopped is ∙ list_any-append is_stop xs ys
@@ -77,14 +79,21 @@ told_stops k k' t is = by_failure (t.served.status == 500) refl is.serves.are_se
         stopped_first (at_point k'.seen t.served) (drop t.served.point k'.seen) k'.seen (sym (take-append-drop t.served.point k'.seen))
         (replied_stops k.settings k.number (at_point k'.seen t.served) t.served how)
 
+-- and so it was by the time at which an edit got 503
+pub edit_stopped : (k k' : Pass) (batch : List Edit) (s : Served) → Serves k k' (edit_ask batch ∷ []) (s ∷ []) → s.status ≡ 503 → is_stopped k'.seen ≡ true
+edit_stopped k k' batch s one got =
+    let p : List Entry = at_point k'.seen s in
+    stopped_first p (drop s.point k'.seen) k'.seen (sym (take-append-drop s.point k'.seen))
+    (stopped_first (answered_on s.added p) (added_part s.added p) p (parts s.added p) (stopped_edit k.settings k.number k'.seen batch s one.are_served.0 got))
+
 -- ---- whose stop it is
 
 any_of : (b : Bool) (xs ys : List Entry) → is_stopped (cond b xs ys) ≡ cond b (is_stopped xs) (is_stopped ys)
 any_of true xs ys = refl
 any_of false xs ys = refl
 
--- where a number made no stop, another one did
-other_stop : (n : ℕ) (h : List Entry) → is_stopped h ≡ true → is_stopped (entries_of maker n h) ≡ false → list_any (is_stop_beside n) h ≡ true
+-- if a number made no stop, another one did
+pub other_stop : (n : ℕ) (h : List Entry) → is_stopped h ≡ true → is_stopped (entries_of maker n h) ≡ false → list_any (is_stop_beside n) h ≡ true
 other_stop n [] stopped none = absurd (cc)
 other_stop n (e ∷ h) stopped none =
     by_maker (maker e == n) (is_stop e) stopped (sym (any_of (maker e == n) (e ∷ entries_of maker n h) (entries_of maker n h)) ∙ none) (other_stop n h)
@@ -106,7 +115,7 @@ none_beside n (e ∷ h) none = by_stop (is_stop e) none (none_beside n h)
     by_stop true none rest = absurd (cc)
     by_stop false none rest = rest none
 
--- its own stop, behind none, is no other's
+-- its own stop, in a history without one, is not another's
 own_stop : (n : ℕ) (h p : List Entry) → p ≡ h ++ entry.Stop n ∷ [] → is_stopped h ≡ false → list_any (is_stop_beside n) p ≡ false
 own_stop n h p is none =
     ap (list_any (is_stop_beside n)) is ∙ list_any-append (is_stop_beside n) h (entry.Stop n ∷ [])
@@ -114,7 +123,7 @@ own_stop n h p is none =
 
 module _ (k k' : Pass) (s : Served) (unstopped : is_stopped (entries_of maker k.number k.seen) ≡ false) (one : Serves k k' (stop_ask ∷ []) (s ∷ []))
     (latest : s.point ≡ length k'.seen) (stopped : is_stopped k'.seen ≡ true) where
-  -- no stop was added, so that another pass's is there
+  -- no stop was added, so there is another handle's
   nothing_added : added_part s.added (at_point k'.seen s) ≡ [] → added_part s.added (at_point k'.seen s) ++ [] ≡ stop_behind k.number k'.seen
   nothing_added none =
       let same : entries_of maker k.number k'.seen ≡ entries_of maker k.number k.seen =

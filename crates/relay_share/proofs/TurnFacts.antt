@@ -1,4 +1,4 @@
--- What one turn of a relay tells of an edit or a stop.
+-- What one turn of a relay reports of an edit or a stop.
 use Rattle.std.proofs.Common.{◌≡◌, ℕ, List, [], ◌∷◌, Bool, true, false, Option, Some, None, refl, subst}
 use Rattle.std.specs.Prelude.{Result, Ok, Err, IfOk, OnErr, IsOk}
 use Rattle.std.specs.Option.{option_map_or}
@@ -28,14 +28,14 @@ use Rattle.relay_share.specs.declared.turns.Told.{Told}
 told_as : (k k' : Pass) (ask : Ask) (a : Answered) → IsAnswered k k' ask a → IsTold k k' ask (record { served = a.served; revision = a.revision })
 told_as k k' ask a is = record { serves = is.serves; latest = is.latest; revised = is.revised; free = is.free }
 
--- whatever was refused or granted is told at once
+-- whatever was refused or granted is answered at once
 not_waiting : (share : Shared) (by : ℕ) (want : Want) (now point : ℕ) (o : Option (ℕ × Body))
     → IsToldBy (told share by want (option_map_or (reply_with share.history want) o (reply_with share.history want (success share.settings share.history want)))) (answer.Wait now point)
     → ⊥
 not_waiting share by want now point None is = is
 not_waiting share by want now point (Some fault) is = is
 
--- so a change is never held
+-- so a change is never pending
 never_waits : (share : Shared) (by : ℕ) (want : Want) (now point : ℕ) → is_change want ≡ true → IsToldBy (told_by share by want) (answer.Wait now point) → ⊥
 never_waits share by (Edit (Ok batch)) now point change is = not_waiting share by (Edit (Ok batch)) now point (refusal share.history (Edit (Ok batch))) is
 never_waits share by Stop now point change is = not_waiting share by Stop now point (refusal share.history Stop) is

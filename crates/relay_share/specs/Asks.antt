@@ -1,4 +1,4 @@
--- What a relay asks of its own share, and what a turn tells of the answer.
+-- What a relay requests of its own share, and what a turn reports of the answer.
 use Rattle.std.specs.Prelude.{ℕ, List, Bool, true, false, Result, Ok, Err}
 use Rattle.std.specs.declared.alloc.AllocError.{AllocError}
 use Rattle.item_model.specs.declared.changes.Edit.{Edit as OneEdit}
@@ -20,7 +20,7 @@ edit_ask batch = asks (Edit (Ok batch))
 abbrev pub stop_ask : Ask
 stop_ask = asks Stop
 
--- a change is never held
+-- A change is never pending.
 abbrev pub is_change : Want → Bool
 is_change (Edit (Ok batch)) = true
 is_change Stop = true

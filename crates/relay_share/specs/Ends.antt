@@ -1,5 +1,5 @@
--- A relay on its link and at its own share. One list of listings carries both: on the link they are what was read, and at the share
--- each of them is an edit of the relay's pass.
+-- A relay on its connection and at its own share. One list of listings serves both: the relay read them on the
+-- connection, and each of them is an edit of its handle at the share.
 use Rattle.std.specs.Prelude.{◌≡◌, ◌≢◌, ◌⊎◌, ℕ, List, [], ◌∷◌, ◌++◌, length, Bool, true, false, MatchBool, Option, Some, None, ◌==◌, if◌then◌else◌}
 use Rattle.std.specs.List.{AllByRecursion}
 use Rattle.daap_outside.specs.Counts.{Rose}
@@ -22,8 +22,8 @@ use Rattle.relay_share.specs.declared.report.RelayEnd.{RelayEnd}
 use Rattle.relay_share.specs.declared.report.RelayEnd.TheVariants.{Done, Row, Full, Stopped, Peer, Memory}
 use Rattle.relay_share.specs.declared.report.RelayReport.{RelayReport}
 
--- The relay read listings until it came to a stage of its client, and the edit of each of them was made by its pass. Each of them left
--- a library: items with ids and values as a program has them, each once.
+-- The relay read listings until it came to a stage of its client, and its handle made the edit of each of them. Each
+-- of them left a library: items with ids and values that the program allows, each once.
 pub record Relays (host : List ℕ) (rounds : ℕ) (p : Point) (stage : Stage) (q : Point) (k k' : Pass) (done : List Relayed) : Type 0 where
   pub walks : Walks host followed rounds Begun p stage q
   pub served : List Served
@@ -31,7 +31,7 @@ pub record Relays (host : List ℕ) (rounds : ℕ) (p : Point) (stage : Stage) (
   pub relayed : AreRelayed k'.seen nothing_held (listings_in stage) served done
   pub libraries : AllByRecursion IsLibrary (relay_of (listings_in stage))
 
--- all rounds were done, and it logged out
+-- All rounds were done, and the relay logged out.
 pub record IsDone (host : List ℕ) (rounds : ℕ) (p : Point) (taken : Option (List ℕ)) (k k' : Pass) (done : List Relayed) : Type 0 where
   pub known : Known
   pub listings : List Listing
@@ -40,7 +40,7 @@ pub record IsDone (host : List ℕ) (rounds : ℕ) (p : Point) (taken : Option (
   pub all : length listings ≡ rounds
   pub written : there.taken ≡ taken
 
--- a step of its client stopped
+-- A step of its client failed.
 pub record Halts (host : List ℕ) (rounds : ℕ) (p : Point) (taken : Option (List ℕ)) (k k' : Pass) (done : List Relayed) (e : FollowError) : Type 0 where
   pub stage : Stage
   pub there : Point
@@ -49,7 +49,7 @@ pub record Halts (host : List ℕ) (rounds : ℕ) (p : Point) (taken : Option (L
   pub is_due : due host followed rounds stage ≡ Some request
   pub stops : Stops request (UndueIn followed rounds stage) there taken e
 
--- one listing more was read, and nothing was made of it
+-- One more listing was read, and no edit was requested for it.
 pub record Leaves (host : List ℕ) (rounds : ℕ) (p : Point) (taken : Option (List ℕ)) (k k' : Pass) (done : List Relayed) : Type 0 where
   pub known : Known
   pub listings : List Listing
@@ -60,7 +60,7 @@ pub record Leaves (host : List ℕ) (rounds : ℕ) (p : Point) (taken : Option (
   pub walks : Walks host followed rounds (Asking known listings) middle (Holding known (listings ++ last ∷ [])) there
   pub written : there.taken ≡ taken
 
--- one listing more was read, and its edit was answered with another status
+-- One more listing was read, and its edit got another status.
 pub record Refuses (host : List ℕ) (rounds : ℕ) (p : Point) (taken : Option (List ℕ)) (k k' : Pass) (done : List Relayed) (status : ℕ) : Type 0 where
   pub reached : Pass
   pub leaves : Leaves host rounds p taken k reached done
@@ -75,7 +75,7 @@ EndsRelay host rounds p taken k k' done (Peer e) = (e ≢ follow.Memory) × Halt
 EndsRelay host rounds p taken k k' done Memory =
     Halts host rounds p taken k k' done follow.Memory ⊎ (Leaves host rounds p taken k k' done ⊎ Refuses host rounds p taken k k' done 500)
 
--- The relay ended so, and asked for a stop behind it: its share is stopped then.
+-- The relay ended as reported, and then requested a stop: its share is stopped.
 pub record HasRelayed (host : List ℕ) (rounds : ℕ) (p : Point) (taken : Option (List ℕ)) (k k' : Pass) (report : RelayReport) : Type 0 where
   pub before_stop : Pass
   pub ends : EndsRelay host rounds p taken k before_stop report.rounds.items report.end
@@ -84,7 +84,7 @@ pub record HasRelayed (host : List ℕ) (rounds : ℕ) (p : Point) (taken : Opti
   pub latest : last.point ≡ length k'.seen
   pub stopped : is_stopped k'.seen ≡ true
 
--- ---- what ends a relay
+-- ---- How a relay ends.
 
 abbrev pub is_memory : FollowError → Bool
 is_memory (follow.Refused status) = false
@@ -106,7 +106,7 @@ ending_of status =
     else if status == 507 then Some Full
     else Some Memory
 
--- the link's count rose exactly where its fault is told
+-- The connection's error counter increased exactly if the end reports its error.
 abbrev pub is_fault : RelayEnd → Bool
 is_fault Done = false
 is_fault (Row index) = false

@@ -1,4 +1,5 @@
--- The rounds of a relay, one for each listing that it read: the listing is made an edit of the relay's own share, and told.
+-- The rounds of a relay, one for each listing that it read: the listing becomes an edit of the relay's own share, and
+-- is reported.
 use Rattle.std.specs.Prelude.{◌≡◌, ⊤, ℕ, List, [], ◌∷◌, length, None}
 use Rattle.item_model.specs.declared.changes.Edit.{Edit}
 use Rattle.item_model.specs.declared.changes.Entry.{Entry}
@@ -18,7 +19,7 @@ use Rattle.relayed_rows.specs.Relays.{nothing_held}
 use Rattle.relay_share.specs.Asks.{edit_ask}
 use Rattle.relay_share.specs.declared.report.Relayed.{Relayed}
 
--- what is followed: all items, with all their properties
+-- What a relay follows: all items, with all their properties.
 abbrev pub followed : Mirrored
 followed = record { target = Items; query = None; meta = All; held = nothing_held }
 
@@ -28,16 +29,16 @@ before held = library_in held.rows
 abbrev pub behind : Held → Listing → Library
 behind held l = library_in (mirror_after held l).rows
 
--- the edits that lead from the library before a listing to the one behind it
+-- The edits from the library before a listing to the one after it.
 abbrev pub batch_of : Held → Listing → List Edit
 batch_of held l = difference (before held) (behind held l)
 
--- the edits that are asked for, one for each listing
+-- The edits that are requested, one for each listing.
 abbrev pub edits_asked : Held → List Listing → List Ask
 edits_asked held [] = []
 edits_asked held (l ∷ ls) = edit_ask (batch_of held l) ∷ edits_asked (mirror_after held l) ls
 
--- the status of an edit that was made; one without records adds nothing
+-- The status of an edit that was made. One without records adds nothing.
 abbrev pub made_status : List Edit → ℕ
 made_status [] = 204
 made_status (e ∷ es) = 200
@@ -52,14 +53,14 @@ relayed_by held l own =
       revision = own;
     }
 
--- in a turn of the pass the edit of a listing was asked for, and answered with another status
+-- In a turn of the handle the edit of a listing was requested, and got another status.
 pub record IsRefused (held : Held) (l : Listing) (k k' : Pass) (status : ℕ) : Type 0 where
   pub refused : Served
   pub serves : Serves k k' (edit_ask (batch_of held l) ∷ []) (refused ∷ [])
   pub latest : refused.point ≡ length k'.seen
   pub is : refused.status ≡ status
 
--- the edit of a listing was made at a point of the history, and is told with the revision there
+-- The edit of a listing was made at a history length, and is reported with the revision there.
 pub record IsRelayed (h : List Entry) (held : Held) (l : Listing) (s : Served) (r : Relayed) : Type 0 where
   pub made : s.status ≡ made_status (batch_of held l)
   pub told : r ≡ relayed_by held l (revision (batches (at_point h s)))

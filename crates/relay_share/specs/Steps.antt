@@ -1,4 +1,4 @@
--- The steps of a relay: a listing is taken, or why it is not; and where the relay stands behind each step.
+-- The steps of a relay: it applies a listing, or says why not; and its state after each step.
 use Rattle.std.specs.Prelude.{◌≡◌, ◌≢◌, ◌≤◌, ◌⊎◌, ℕ, List, [], ◌∷◌, ◌++◌, Some}
 use Rattle.dmap_tags.specs.Tree.{Tree}
 use Rattle.item_model.specs.declared.request.Meta.TheVariants.{All}
@@ -24,11 +24,11 @@ use Rattle.relay_share.specs.declared.report.Relayed.{Relayed}
 use Rattle.relay_share.specs.declared.report.RelayEnd.{RelayEnd}
 use Rattle.relay_share.specs.declared.report.RelayEnd.TheVariants.{Done, Row, Full, Stopped, Peer, Memory}
 
--- a client that follows and holds this
+-- A client that follows and holds `held`.
 abbrev pub holding : Held → Mirrored
 holding held = record followed { held = held }
 
--- a listing was taken by a relay: its edit was made, and told
+-- The relay applied a listing: its edit was made and reported.
 pub record Takes (held : Held) (l : Listing) (k k' : Pass) (done done' : List Relayed) (now : Relaying) : Type 0 where
   pub made : Served
   pub serves : Serves k k' (edit_ask (batch_of held l) ∷ []) (made ∷ [])
@@ -37,7 +37,7 @@ pub record Takes (held : Held) (l : Listing) (k k' : Pass) (done done' : List Re
   pub holds : now ≡ relaying_at (mirror_after held l)
   pub library : IsLibrary now.library
 
--- why it was not
+-- Why the relay did not apply the listing.
 abbrev pub IsUntaken : Held → Listing → Pass → Pass → RelayEnd → Type 0
 IsUntaken held l k k' Done = ⊥
 IsUntaken held l k k' (Row index) = (first_unread l ≡ Some index) × (k' ≡ k)
@@ -46,11 +46,11 @@ IsUntaken held l k k' Stopped = IsRefused held l k k' 503
 IsUntaken held l k k' (Peer e) = ⊥
 IsUntaken held l k k' Memory = (k' ≡ k) ⊎ IsRefused held l k k' 500
 
--- the tag is a listing, and this is so of it
+-- The tag is a listing with the property `This`.
 abbrev pub IsListed : Held → Tree → (Listing → Type 0) → Type 0
 IsListed held tag This = (l : Listing) × IsListing Items held.revision l tag × (held.revision ≤ l.revision) × This l
 
--- why a tag was not taken: it is no listing, or an untaken one
+-- Why a tag was not applied: it is not a listing, or one that the relay did not apply.
 abbrev pub IsUnread : Held → Tree → Pass → Pass → RelayEnd → Type 0
 IsUnread held tag k k' Done = ⊥
 IsUnread held tag k k' (Row index) = IsListed held tag (λ l. IsUntaken held l k k' (Row index))
@@ -59,7 +59,7 @@ IsUnread held tag k k' Stopped = IsListed held tag (λ l. IsUntaken held l k k' 
 IsUnread held tag k k' (Peer e) = (e ≢ follow.Memory) × IsNotTaken (holding held) tag e × (k' ≡ k)
 IsUnread held tag k k' Memory = IsListed held tag (λ l. IsUntaken held l k k' Memory)
 
--- a relay that came to this stage holds the library that its listings left
+-- A relay that came to this stage holds the library that its listings left.
 pub record Stands (host : List ℕ) (rounds : ℕ) (p : Point) (stage : Stage) (q : Point) (k k' : Pass) (done : List Relayed) (now : Relaying) : Type 0 where
   pub relays : Relays host rounds p stage q k k' done
   pub holds : now ≡ relaying_at (held_after nothing_held (listings_in stage))

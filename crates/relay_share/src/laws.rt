@@ -1,24 +1,29 @@
-//! What holds of all relays. Each function does nothing; its contract is a fact that follows from the definitions.
+//! Theorems about all relays. Each function has an empty body; its contract is the theorem.
 
-ghost use Rattle.relay_share.specs.Laws.{LibrariesAreTheShares, RelaysLeaveSteps, RelaysMakeSteps, RelaysShowWhatTheyRead, StopsComeLast};
+ghost use Rattle.relay_share.specs.Laws.{LibrariesAreTheShares, RelaysLeaveSteps, RelaysMakeSteps, RelaysShowWhatTheyRead, StoppedRelaysSawAStop, StopsComeLast};
 
-/// The entries of a relay's pass are the steps between the libraries that its listings left.
+/// The entries of a relay's handle are the steps between the libraries that its listings left.
 pub fn relays_make_steps()
     ensures { RelaysMakeSteps }
 {}
 
-/// Behind them stands a stop of the pass, unless another pass stopped the share.
+/// They are followed by a stop of the handle, unless another handle stopped the share.
 pub fn stops_come_last()
     ensures { StopsComeLast }
 {}
 
-/// However a relay ended, its entries are these steps and the stop behind them.
+/// However a relay ended, its entries are these steps and then the stop.
 pub fn relays_leave_steps()
     ensures { RelaysLeaveSteps }
 {}
 
-/// If only the relay edits its share, then the share's library is at each point one that the relay read, or the empty one, and never
-/// goes back to an earlier one.
+/// A relay that ended `Stopped` saw a stop that another handle made.
+pub fn stopped_relays_saw_a_stop()
+    ensures { StoppedRelaysSawAStop }
+{}
+
+/// If only the relay edits its share, the share's library is at each history length one that the relay read, or the
+/// empty one. At a later length it is that one, or one that the relay read later.
 pub fn relays_show_what_they_read()
     ensures { RelaysShowWhatTheyRead }
 {}

@@ -1,5 +1,5 @@
-//! A relay: a share that follows another one. Each listing that it reads over its link becomes one edit of its own share, made in
-//! a turn of the relay's pass; at its end it stops its share.
+//! A relay: a share that follows another one. Each listing that it reads over its connection becomes one edit of its
+//! own share, made in a turn of the relay's handle. When the relay ends, it stops its share.
 #![tactic(auto)]
 
 pub mod laws;

@@ -16,12 +16,12 @@ use share_lock::{Bell, Pass, ShareLock};
 use std::alloc::Global;
 use std::sync::Wait;
 
-/// Follows the items of the share at the other end of `link` for 1 to 16,384 rounds, and makes each listing an edit of the share
-/// under `lock`. Then it stops the share under `lock`, however it ended.
+/// Follows the items of the share at the other end of `link` for 1 to 16,384 rounds, and makes each listing an edit
+/// of the share under `lock`. Then it stops the share under `lock`, however it ended.
 ///
-/// A listing is asked for with all properties and with the revision that is held. Its edit drops the items that are gone and puts
-/// those that are new or changed; where nothing changed it has no records, and adds nothing. Between two rounds the relay waits
-/// for another revision. Each turn that added an entry rings the bell.
+/// Requests each listing with all properties and with the revision that it holds. The edit drops the items that are
+/// gone and puts those that are new or changed. If nothing changed, it has no records and adds nothing. Between two
+/// rounds the relay waits for another revision. Each turn that added an entry rings the bell.
 pub fn relay_link<K: Link, R: Wait>(
     rt: &R,
     alloc: Global,

@@ -8,14 +8,14 @@ use mirror_client::FollowError;
 /// A listing that was relayed.
 #[derive(Clone, Copy, Debug, PartialEq, Eq)]
 pub struct Relayed {
-    /// The revision that the listing told.
+    /// The revision of the listing.
     pub upstream: u32,
     pub delta: bool,
-    /// How many rows the edit put.
+    /// The number of rows that the edit put.
     pub puts: u32,
-    /// How many ids the edit dropped.
+    /// The number of ids that the edit dropped.
     pub drops: u32,
-    /// The relay's own revision behind the edit.
+    /// The relay's own revision after the edit.
     pub revision: u32,
 }
 
@@ -24,19 +24,19 @@ pub struct Relayed {
 pub enum RelayEnd {
     /// All rounds were done, and the relay logged out.
     Done,
-    /// The row of this index, counted from 0 in the last listing, cannot be read.
+    /// Row `index` of the last listing, counted from 0, cannot be read.
     Row { index: u64 },
-    /// The relay's share has no room for the last listing's edit.
+    /// The relay's share is at a limit, and refused the last listing's edit.
     Full,
     /// The relay's share was stopped before the last listing's edit.
     Stopped,
-    /// The share that is followed is not followed further. Want of memory is told by `Memory`.
+    /// Following the share failed. If that was an allocation, the end is `Memory`.
     Peer(FollowError),
-    /// There was no memory.
+    /// An allocation failed.
     Memory,
 }
 
-/// What is told of a relay.
+/// The report of a relay.
 #[derive(Debug, Drop)]
 pub struct RelayReport {
     /// The listings that were relayed, in order.
@@ -44,7 +44,7 @@ pub struct RelayReport {
     pub end: RelayEnd,
 }
 
-/// How a relay ends where its client can't go on.
+/// Returns the end for an error of the client.
 pub(crate) fn end_of(error: FollowError) -> RelayEnd
     ensures { result ≡ end_of error }
 {
@@ -54,7 +54,7 @@ pub(crate) fn end_of(error: FollowError) -> RelayEnd
     }
 }
 
-/// How a relay ends whose edit got this status. `None` if the edit was made.
+/// Returns the end for the status of an edit; `None` if the edit was made.
 pub(crate) fn ending_of(status: u16) -> Option<RelayEnd>
     ensures { result ≡ ending_of status }
 {

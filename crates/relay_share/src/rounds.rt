@@ -58,7 +58,7 @@ pub(crate) fn next_round<K: Link, R: Wait>(
     }
 }
 
-/// Asks for the listing, and makes it an edit of the relay's share.
+/// Requests the listing, and makes it an edit of the relay's share.
 pub(crate) fn relay_round<K: Link, R: Wait>(
     rt: &R,
     lock: &ShareLock<Share>,
@@ -94,7 +94,7 @@ pub(crate) fn relay_round<K: Link, R: Wait>(
     }
 }
 
-// Takes the body of a reply, if it is a listing.
+// Applies the body of a response, if it is a listing.
 fn take_tag<R: Wait>(
     rt: &R,
     lock: &ShareLock<Share>,
@@ -119,14 +119,14 @@ fn take_tag<R: Wait>(
     }
 }
 
-// How a relay ends of which a body is no listing.
+// Returns the end for a body that is not a listing.
 fn refused_by(error: MirrorError) -> RelayEnd
     ensures { result ≡ RelayEnd.Peer (FollowError.Listing error) }
 {
     RelayEnd::Peer(FollowError::Listing(error))
 }
 
-// Takes a listing, asks the share for the edit that it comes to, and tells of it. The room for that is there before.
+// Applies a listing: requests its edit of the share, and reports it. Reserves capacity for the report first.
 fn take_listing<R: Wait>(
     rt: &R,
     lock: &ShareLock<Share>,

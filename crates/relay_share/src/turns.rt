@@ -1,4 +1,4 @@
-//! Turns of the relay's pass.
+//! Turns of the relay's handle.
 
 ghost use Rattle.std.specs.Prelude.{◌≡◌, ◌<◌, true};
 ghost use Rattle.item_model.specs.Valid.{AreValid};
@@ -22,14 +22,14 @@ use std::marker::Brand;
 use std::sync::Wait;
 use std::sync::ledger::{Blank, Ledger};
 
-/// What a turn told: the answer, and the share's revision at its point.
+/// The report of a turn: the answer, and the share's revision at its history length.
 #[derive(Clone, Copy, Debug)]
 pub(crate) struct Told {
     pub(crate) served: Served,
     pub(crate) revision: u32,
 }
 
-/// Asks the share for an edit, in a turn of the pass.
+/// Requests an edit of the share, in a turn of the handle.
 pub(crate) fn edit<R: Wait>(
     rt: &R,
     lock: &ShareLock<Share>,
@@ -50,7 +50,7 @@ pub(crate) fn edit<R: Wait>(
     turn(rt, lock, bell, pass, &ask)
 }
 
-/// Stops the share, in a turn of the pass. It stays as it is if it was stopped before.
+/// Stops the share, in a turn of the handle. A share that was stopped before is unchanged.
 pub(crate) fn stop<R: Wait>(
     rt: &R,
     lock: &ShareLock<Share>,
@@ -69,7 +69,7 @@ pub(crate) fn stop<R: Wait>(
     turn(rt, lock, bell, pass, &ask)
 }
 
-// Takes a turn for an ask, gives it back, and rings the bell if an entry was added.
+// Takes a turn for a request, ends it, and rings the bell if an entry was added.
 fn turn<R: Wait>(
     rt: &R,
     lock: &ShareLock<Share>,
@@ -83,14 +83,19 @@ fn turn<R: Wait>(
     ensures ready { IsReady (lock_id lock.now) pass.new }
     ensures told { IsTold (known pass.old) (known pass.new) ask.now result }
 {
-    let told = looked(rt, lock, pass, ask);
+    let told = answer_in_turn(rt, lock, pass, ask);
     if told.served.added {
         bell.ring(rt, told.served.point);
     }
     told
 }
 
-fn looked<R: Wait>(rt: &R, lock: &ShareLock<Share>, pass: &mut Pass<Share>, ask: &Ask) -> Told
+fn answer_in_turn<R: Wait>(
+    rt: &R,
+    lock: &ShareLock<Share>,
+    pass: &mut Pass<Share>,
+    ask: &Ask,
+) -> Told
     requires ready { IsReady (lock_id lock.now) pass.old }
     requires valid { IsValidWant ask.now.want }
     requires change { is_change ask.now.want ≡ true }
@@ -99,13 +104,13 @@ fn looked<R: Wait>(rt: &R, lock: &ShareLock<Share>, pass: &mut Pass<Share>, ask:
 {
     let by = pass.number();
     let mut turn = lock.take(rt, pass);
-    let told = asked::<Brand>(Blank::new(1), turn.state(), by, ask);
+    let told = ask_share::<Brand>(Blank::new(1), turn.state(), by, ask);
     lock.give(turn);
     told
 }
 
-// Asks the share, for the pass of a number that found it so. Looks of rules at items are not counted.
-fn asked<L: Ledger>(blank: Blank, share: &mut Share, by: u32, ask: &Ask) -> Told
+// Answers the request for handle `by`. Evaluations of rules are not counted.
+fn ask_share<L: Ledger>(blank: Blank, share: &mut Share, by: u32, ask: &Ask) -> Told
     requires name { blank.name ≡ L.name }
     requires parts { blank.parts ≡ L.parts }
     requires any { 0 < blank.parts }
@@ -121,7 +126,8 @@ fn asked<L: Ledger>(blank: Blank, share: &mut Share, by: u32, ask: &Ask) -> Told
     told_of(answer, revision, end)
 }
 
-// What is told of an answer, or of want of memory at the end of the history. No edit and no stop is held.
+// Returns the report of an answer, or of an answer that failed to allocate at history length `end`. Edits and stops
+// are never pending.
 fn told_of(answer: Result<Answer, AllocError>, revision: u32, end: u64) -> Told
     ensures { result ≡ told_of answer revision end }
 {

@@ -81,7 +81,7 @@ changes_sound held told cs is h =
 
 -- ---- the same in a mirror of tags
 
--- tags tell under each id what held rows are after some changes
+-- under each id, the tags state the held row after some changes
 abbrev pub Follows : List (ℕ × Tree) → List Change → Library → Type 0
 Follows tags cs held = (q : ℕ) → option_and_then row_of (at q tags) ≡ unwrap_or (at q cs) (at q held)
 
@@ -110,7 +110,7 @@ follows_row tags cs held key tag row is own h q =
     put_too true = is
     put_too false = h q
 
--- where each listed tag tells a row
+-- if each listed tag states a row
 pub follows_rows : (tags : List (ℕ × Tree)) (cs : List Change) (held : Library) (n : ℕ) (listed : List Tree) → position_from is_unread n listed ≡ None
     → AllByRecursion (IsRow Items) (map (keyed Items) listed) → Follows tags cs held
     → Follows (fold put_in tags (map (keyed Items) listed)) (fold with_row cs (rows_told listed)) held
@@ -124,7 +124,7 @@ follows_rows tags cs held n (tag ∷ listed) none all h =
           (follows_row tags cs held (keyed Items tag).0 tag row is (listed_own (keyed Items tag) row all.0 is) h)
     ] refl none
 
--- a full listing starts with no tags, and leaves all that was held
+-- a full listing starts without tags, and drops every held row
 pub follows_nothing : (held : Library) → Follows [] (fold with_gone [] (keys_of held)) held
 follows_nothing held q =
     all_gone (at q held) ∙ ap (λ b. unwrap_or (cond b (Some None) None) (at q held)) (sym (has-keys_of q held))

@@ -1,4 +1,4 @@
--- Properties in the order of listings: an item that gets them one after the other, and an item that is made of its own values.
+-- Properties in the order of listings: an item that gets them one by one, and an item made of its own values.
 use Rattle.std.proofs.Common.{◌≡◌, ◌≢◌, ◌==◌, ◌&&◌, ◌+◌, ◌≤◌, ◌<◌, ◌++◌, ℕ, Bool, true, false, cond, nat_lt, nat_le, List, [], ◌∷◌, fold, Option, Some, None, refl, sym, ap, ◌∙◌, append_assoc, append-nil, arith}
 use Rattle.std.specs.List.{cons_option, filter_map}
 use Rattle.std.specs.Option.{option_map}
@@ -48,7 +48,7 @@ below_more n [] e lt h = and_from _ _ (lt-ltb _ _ lt) refl
 below_more n (d ∷ item) e lt h =
     let parts = and_parts (nat_lt (rank_of d.0) n) (below n item) h in and_from _ _ parts.0 (below_more n item e lt parts.1)
 
--- a property behind all others is put last
+-- a property after all others is put last
 put_last : (p : Property) (v : PropValue) (item : List Entry) → below (rank_of p) item ≡ true → with_value p v item ≡ item ++ (p, v) ∷ []
 put_last p v [] h = refl
 put_last p v (e ∷ item) h =
@@ -72,7 +72,7 @@ put_on tags n item (p ∷ ps) h k =
           ∙ append_assoc item ((p, v) ∷ []) (filter_map (told_entry tags) ps)
     ]
 
--- what the tags tell of all properties, put into no item, is the item that they tell
+-- putting all properties that the tags state into an empty item gives the item that they state
 pub all_put : (tags : List Tree) → put_all_told tags [] all_properties ≡ item_told tags
 all_put tags = put_on tags 0 [] all_properties all_ranks refl
 

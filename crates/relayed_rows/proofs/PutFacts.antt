@@ -1,4 +1,4 @@
--- Rows that are put under ids that are not held, taken back, and put under ids that are held.
+-- Rows that are put under ids that are not held, removed again, and put under ids that are held.
 use Rattle.std.proofs.Common.{◌≡◌, ◌+◌, ◌<◌, ℕ, zero, suc, Bool, true, false, cond, not, List, [], ◌∷◌, ◌++◌, append_assoc, append-nil, fold, take, drop, length, get_or, Option, Some, None, is_some, is_none, nat_cmp, is_eq, refl, sym, ap, ◌∙◌}
 use Rattle.std.specs.Map.{keys_of}
 use Rattle.std.specs.Option.{option_or}
@@ -19,7 +19,7 @@ pub folded_next : {A B : Type 0} (f : B → A → B) (b : B) (xs : List A) (i : 
     → fold f (f b (get_or xs i d)) (drop (i + 1) xs) ≡ fold f b (drop i xs)
 folded_next f b xs i d lt = sym (at_drop_more (fold f b) xs i d lt)
 
--- one change more was looked at
+-- one change more
 pub news_more : (held olds : Library) (c : Change) (cs : List Change) → (olds ++ new_rows held (rows_in (c ∷ []))) ++ new_rows held (rows_in cs) ≡ olds ++ new_rows held (rows_in (c ∷ cs))
 news_more held olds (id, None) cs = ap (λ (rows : Library). rows ++ new_rows held (rows_in cs)) (append-nil olds)
 news_more held olds (id, Some row) cs =
@@ -92,7 +92,7 @@ fresh_are_fresh held rows s t = record {
     none_held None found h = refl
     none_held (Some old) found h = absurd (cc)
 
--- once the fresh ones are put, the ids of all rows are held
+-- once the fresh rows are put, all ids are held
 pub all_held : (held rows : Library) → IsAscending held → IsAscending rows → AreHeld (fold put_in held (fresh_rows held rows)) rows
 all_held held rows s t =
     let fresh = fresh_are_fresh held rows s t in

@@ -67,7 +67,7 @@ module _ (held : Library) (cs : List Change) (sound : AreSound held cs) where
   pub ascending-new_rows : IsAscending (new_rows held put)
   ascending-new_rows = ascending-new held put ascending-put_rows
 
-  -- whether a change drops what was held
+  -- whether a change drops a held row
   abbrev leaves : Option Row → Option (Option Row) → Bool
   leaves was c = is_some (option_and_then (λ (x : Option Row). only_if (is_none x && is_some was) x) c)
 
@@ -81,7 +81,7 @@ module _ (held : Library) (cs : List Change) (sound : AreSound held cs) where
   at_one_id q (Some old) (Some None) own new = refl
   at_one_id q was (Some (Some row)) own new = put_or_kept q was row own (new row refl)
 
-  -- each id has what its change says, and else what was held
+  -- each id has what its change says, or else what was held
   pub at-made : (q : ℕ) → at q (made held cs) ≡ unwrap_or (at q cs) (at q held)
   at-made q =
       at-outs q (fold put_in held (new_rows held put)) (dropped_ids held cs) (ascending-puts held (new_rows held put) sound.library.ascends)
@@ -178,7 +178,7 @@ ascending-after false tags gone listed s = ascending-puts [] listed (sorted-asce
 pub ascending-mirrored : (held : Held) (l : Listing) → IsAscending held.rows → IsAscending (mirror_after held l).rows
 ascending-mirrored held l s = ascending-after l.is_delta held.rows l.gone l.rows s
 
--- the library after the changes of a listing is the one that a mirror's tags tell after it
+-- the library after the changes of a listing is that of a mirror's tags after it
 pub made_as_mirrored : (held : Held) (told : Told) → IsLibrary (library_in held.rows) → IsAscending held.rows → position_from is_unread 0 told.rows ≡ None
     → All (IsRow Items) (listing_of Items told).rows
     → made (library_in held.rows) (changes_of (library_in held.rows) told) ≡ library_in (mirror_after held (listing_of Items told)).rows
@@ -194,14 +194,14 @@ made_as_mirrored held told is s none rows =
     at-made before cs sound q ∙ sym (follows told.is_delta held (map (key_of Items) told.gone) told.rows s none all q)
     ∙ sym (at-library_in q after t))
 
--- and so is what a relay holds that held what the mirror's tags told
+-- and so is what a relay holds, if it held what the mirror's tags stated
 pub taken_as_mirrored : (before after : Library) (cs : List Change) (held : Held) (told : Told) → before ≡ library_in held.rows → IsLibrary before
     → cs ≡ changes_of before told → after ≡ made before cs → IsAscending held.rows → position_from is_unread 0 told.rows ≡ None → All (IsRow Items) (listing_of Items told).rows
     → after ≡ library_in (mirror_after held (listing_of Items told)).rows
 taken_as_mirrored before after cs held told same is are done s none rows =
     done ∙ ap (made before) are ∙ ap (λ (l : Library). made l (changes_of l told)) same ∙ made_as_mirrored held told (subst IsLibrary same is) s none rows
 
--- the place of the first unread tag, with keys beside the tags or without
+-- the index of the first unread tag, for tags with keys or without
 unread_keyed : (n : ℕ) (listed : List Tree) → position_from (λ tag. is_unread tag.1) n (map (keyed Items) listed) ≡ position_from is_unread n listed
 unread_keyed n [] = refl
 unread_keyed n (tag ∷ listed) = ap (cond (is_unread tag) (Some n)) (unread_keyed (n + 1) listed)

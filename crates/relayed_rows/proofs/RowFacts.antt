@@ -92,14 +92,14 @@ kind_back Opaque c (Words bytes) h = absurd (cc)
 abbrev told_if : Bool → Property → Tree → Option PropValue
 told_if b p tag = cond b (option_and_then (if_of_kind (property_kind p)) (value_of_kind (property_kind p) tag)) None
 
--- the tag of a value tells it again
+-- the tag of a value states that value
 told_again : (p : Property) (v : PropValue) → is_value_of p v ≡ true → value_told p (property_tag p v) ≡ Some v
 told_again p v h =
     ap (λ b. told_if b p (property_tag p v)) (code_itself (property_code p))
     ∙ ap (option_and_then (if_of_kind (property_kind p))) (kind_back (property_kind p) (property_code p) v h)
     ∙ ap (λ b. only_if b v) h
 
--- the tag of another property tells nothing
+-- the tag of another property states nothing
 untold : (p q : Property) (w : PropValue) → is_same q p ≡ false → value_told p (property_tag q w) ≡ None
 untold p q w h =
     ap (λ b. told_if b p (property_tag q w))
@@ -128,7 +128,7 @@ next_shown p q item (Some v) ps true among is fits same rest =
 next_shown p q item (Some v) ps false among is fits same rest =
     ap (λ o. option_or o (first_told p (shown item ps))) (untold p q v same) ∙ rest
 
--- of the tags that an item shows, the first one of a property tells its value
+-- of the tags that an item shows, the first of a property states its value
 first_shown : (p : Property) (item : Entries) → is_item item ≡ true → (ps : List Property) → Shows p item ps (list_any (λ q. is_same q p) ps)
 first_shown p item h [] = refl
 first_shown p item h (q ∷ ps) =
@@ -164,7 +164,7 @@ rows_are_told_apart a b ha ka hb kb = (
   λ h. subst (λ c. is_same_row a c ≡ true) h (tag_itself (projection a None All)),
 )
 
--- ---- what is told is an item with an id
+-- ---- what is read is an item with an id
 
 kept_value : (b : Bool) (v w : PropValue) → only_if b v ≡ Some w → v ≡ w
 kept_value true v w h = cc
@@ -223,13 +223,13 @@ among_own : (tags : List Tree) (row : Row) → row_among tags ≡ Some row → I
 among_own [] row h = absurd (cc)
 among_own (key ∷ members) row h = behind_own (is_id (key_of Items key)) (key_of Items key) (item_told members) row refl (item_rises members) h
 
--- a row that a tag tells stands under its own id
+-- a row that a tag states has its own id
 pub row_own : (tag : Tree) (row : Row) → row_of tag ≡ Some row → IsOwn (row.id, row)
 unfolding row_of
 row_own (leaf c value) row h = absurd (cc)
 row_own (list c members) row h = among_own (tree_list members) row h
 
--- the id of the row that a listed tag tells is the tag's key
+-- the id of the row in a listed tag is the tag's key
 key_unique : (b : Bool) (id : ℕ) (item : Entries) (row : Row) → option_map (row_with item) (only_if b id) ≡ Some row → row.id ≡ id
 key_unique true id item row h = sym (ap (λ (r : Row). r.id) (one_row (row_with item id) row h))
 key_unique false id item row h = absurd (cc)

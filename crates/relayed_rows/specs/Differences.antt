@@ -1,5 +1,5 @@
--- How one library differs from a later one, as a batch of edits: the ids that are gone are dropped, and then the rows that
--- are new or changed are put, both ascending.
+-- The difference from one library to a later one, as a batch of edits: drops of the ids that are gone, then puts of
+-- the rows that are new or changed, both ascending.
 use Rattle.std.specs.Prelude.{ℕ, List, ◌++◌, Bool, false, not, filter, map, is_none, None}
 use Rattle.std.specs.Option.{option_map_or}
 use Rattle.std.specs.Map.{keys_of}
@@ -12,11 +12,11 @@ use Rattle.item_model.specs.Projection.{projection}
 use Rattle.share_history.specs.Keyed.{at}
 use Rattle.relayed_rows.specs.Libraries.{Library}
 
--- whether a listing of all properties shows two rows as equal tags, which it does exactly where they are equal
+-- whether a listing of all properties shows two rows as equal tags, which is so exactly if they are equal
 abbrev pub is_same_row : Row → Row → Bool
 is_same_row old new = is_same_tag (projection old None All) (projection new None All)
 
--- whether the row is in a library, under its id
+-- whether the library has an equal row under the same id
 abbrev pub has_row : Library → ℕ × Row → Bool
 has_row library e = option_map_or (λ old. is_same_row old e.1) (at e.0 library) false
 

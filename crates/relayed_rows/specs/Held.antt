@@ -1,4 +1,4 @@
--- Rows that are held or not, by their ids.
+-- Rows by whether their ids are held.
 use Rattle.std.specs.Prelude.{◌≡◌, ℕ, true, None, is_some}
 use Rattle.std.specs.List.{AllByRecursion}
 use Rattle.share_history.specs.Keyed.{at, IsAscending}

@@ -1,4 +1,4 @@
--- What follows from the definitions.
+-- Laws that follow from the definitions.
 use Rattle.std.specs.Prelude.{◌≡◌, ◌↔◌, List, [], ◌∷◌, ◌++◌, true, Some, None}
 use Rattle.std.specs.List.{AllByRecursion}
 use Rattle.item_model.specs.declared.changes.Edit.{Edit}
@@ -25,7 +25,7 @@ RowsReadBack = (row : Row) → is_item row.item ≡ true → is_id row.id ≡ tr
 abbrev pub LibrariesReadBack : Type 0
 LibrariesReadBack = (l : Library) → IsLibrary l → library_in (shown_rows Items All l) ≡ l
 
--- rows are told apart exactly where they differ
+-- the test is true exactly of equal rows
 abbrev pub RowsAreToldApart : Type 0
 RowsAreToldApart =
     (a b : Row) → is_item a.item ≡ true → is_id a.id ≡ true → is_item b.item ≡ true → is_id b.id ≡ true → is_same_row a b ≡ true ↔ a ≡ b
@@ -37,12 +37,12 @@ DifferencesApply = (es : List Edit) (now : Library) → IsLibrary (library es) �
 abbrev pub DifferencesAreValid : Type 0
 DifferencesAreValid = (before now : Library) → IsLibrary before → IsLibrary now → AreValid (difference before now)
 
--- only the difference of a library to itself has no edits
+-- the difference of two libraries is empty exactly if they are equal
 abbrev pub DifferencesTell : Type 0
 DifferencesTell = (before now : Library) → IsLibrary before → IsLibrary now → difference before now ≡ [] ↔ before ≡ now
 
--- where the batches of a share are the steps from nothing through some libraries, its library at each point is one of these or
--- the empty one, and at a later point it is that one or one ahead of it
+-- if the batches of a share are the steps from an empty library through some libraries, its library at each length of
+-- the history is one of these or empty, and at a later length the same or a later one
 abbrev pub RelaysNeverGoBack : Type 0
 RelaysNeverGoBack =
     (libraries : List Library) (h front middle rest : List Entry) → AllByRecursion IsLibrary libraries → batches h ≡ steps_between [] libraries

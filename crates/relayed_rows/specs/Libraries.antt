@@ -11,7 +11,7 @@ use Rattle.relayed_rows.specs.ReadRows.{row_of}
 abbrev pub Library : Type 0
 Library = List (ℕ × Row)
 
--- an item that stands under its own id
+-- an item under its own id
 pub record IsOwn (e : ℕ × Row) : Type 0 where
   pub own : e.1.id ≡ e.0
   pub id : is_id e.0 ≡ true
@@ -21,6 +21,6 @@ pub record IsLibrary (library : Library) : Type 0 where
   pub ascends : IsAscending library
   pub rows : AllByRecursion IsOwn library
 
--- the rows that tags under keys tell; a tag that tells none is left out
+-- the rows that keyed tags state, without the tags that state none
 abbrev pub library_in : List (ℕ × Tree) → Library
 library_in tags = filter_map (λ tag. option_map (λ row. (tag.0, row)) (row_of tag.1)) tags

@@ -1,4 +1,4 @@
--- An item that gets the properties that tags tell, one after the other.
+-- An item that gets the properties in tags, one after another.
 use Rattle.std.specs.Prelude.{List, Option, Some, None, fold}
 use Rattle.dmap_tags.specs.Tree.{Tree}
 use Rattle.item_model.specs.declared.item.PropValue.{PropValue}

@@ -1,6 +1,6 @@
--- The row that a listing's `mlit` tells: an id of at least 1 comes first, and of the members behind it those that are
--- properties with a value of their kind and range make the item. Of two members of one property the first counts, and all
--- others are skipped. The code of the list itself is not looked at.
+-- The row in a listing's `mlit`: an id of at least 1 comes first; the members after it that are properties, with a
+-- value of their kind and range, make the item. Of two members of one property the first is used, and all others are
+-- skipped. The code of the list itself is not checked.
 use Rattle.std.specs.Prelude.{ℕ, List, [], ◌∷◌, filter_map, Option, Some, None, option_map, option_and_then, if◌then◌else◌}
 use Rattle.std.specs.Option.{option_or}
 use Rattle.dmap_tags.specs.Codes.{is_code}
@@ -19,7 +19,7 @@ use Rattle.item_model.specs.Valid.{is_id}
 use Rattle.share_history.specs.LastSaid.{only_if}
 use Rattle.mirror_core.specs.Reading.{key_of}
 
--- what a tag says as a value of the kind
+-- a tag's value as one of the kind
 abbrev pub value_of_kind : Kind → Tree → Option PropValue
 value_of_kind U8 (leaf c (tree.U8 n)) = Some (Number n)
 value_of_kind U16 (leaf c (tree.U16 n)) = Some (Number n)
@@ -33,7 +33,7 @@ value_of_kind kind tag = None
 abbrev pub if_of_kind : Kind → PropValue → Option PropValue
 if_of_kind kind v = only_if (is_of_kind kind v) v
 
--- what a tag says as a value of the property
+-- a tag's value as one of the property
 abbrev pub value_told : Property → Tree → Option PropValue
 value_told p tag = if is_code (tree_code tag) (property_code p) then option_and_then (if_of_kind (property_kind p)) (value_of_kind (property_kind p) tag) else None
 
@@ -41,7 +41,7 @@ abbrev pub first_told : Property → List Tree → Option PropValue
 first_told p [] = None
 first_told p (tag ∷ tags) = option_or (value_told p tag) (first_told p tags)
 
--- the properties that some tags tell, in the order of listings
+-- the properties that tags state, in the order of listings
 abbrev pub item_told : List Tree → List (Property × PropValue)
 item_told tags = filter_map (λ p. option_map (λ v. (p, v)) (first_told p tags)) all_properties
 

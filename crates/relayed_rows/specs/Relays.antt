@@ -1,5 +1,5 @@
--- What a relay holds: the library that an upstream listing told, at the revision that it told. And the libraries that one
--- listing after the other leaves, with the batches that lead from each to the next.
+-- What a relay holds: the library of an upstream listing, and its revision. The libraries after each of several
+-- listings, and the batches from each to the next.
 use Rattle.std.specs.Prelude.{◌≡◌, ℕ, List, [], ◌∷◌, ◌++◌, Bool, Option, is_none}
 use Rattle.std.specs.List.{position_from}
 use Rattle.dmap_tags.specs.Tree.{Tree}
@@ -18,21 +18,21 @@ pub record Relaying : Type 0 where
   pub revision : ℕ
   pub library : Library
 
--- what a relay holds where a mirror holds these tags
+-- what a relay holds if a mirror holds these tags
 abbrev pub relaying_at : Held → Relaying
 relaying_at held = record { revision = held.revision; library = library_in held.rows }
 
 abbrev pub is_unread : Tree → Bool
 is_unread tag = is_none (row_of tag)
 
--- the place of the first listed tag that tells no row
+-- the index of the first listed tag that states no row
 abbrev pub first_unread : Listing → Option ℕ
 first_unread l = position_from (λ tag. is_unread tag.1) 0 l.rows
 
 abbrev pub nothing_held : Held
 nothing_held = record { revision = 0; rows = [] }
 
--- the libraries that listings leave, one after each listing
+-- the libraries after each listing
 abbrev pub libraries_after : Held → List Listing → List Library
 libraries_after held [] = []
 libraries_after held (l ∷ ls) = library_in (mirror_after held l).rows ∷ libraries_after (mirror_after held l) ls
@@ -45,12 +45,12 @@ abbrev pub with_batch : List Edit → List (List Edit) → List (List Edit)
 with_batch [] batches = batches
 with_batch (e ∷ es) batches = (e ∷ es) ∷ batches
 
--- the batches that lead from a library to the next, and so on; two equal libraries have none between them
+-- the batches from a library to the next, and so on; none between two equal libraries
 abbrev pub steps_between : Library → List Library → List (List Edit)
 steps_between before [] = []
 steps_between before (now ∷ later) = with_batch (difference before now) (steps_between now later)
 
--- the library at a point of a history is one of some libraries; those behind it lie ahead
+-- the library of a history is one of some libraries; `ahead` are those after it
 pub record StandsAt (libraries : List Library) (h : List Entry) : Type 0 where
   pub passed : List Library
   pub ahead : List Library

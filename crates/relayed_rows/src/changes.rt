@@ -1,4 +1,4 @@
-//! What a listing changes, by id.
+//! The changes of a listing, by id.
 
 ghost use Rattle.std.specs.Prelude.{◌≡◌, ◌∷◌, [], ℕ, None, Some, OnOk, IfOk, fold, map, is_none, is_some};
 ghost use Rattle.std.specs.List.{position_from};
@@ -17,13 +17,13 @@ use mirror_core::{ToldRef, key_of};
 use std::alloc::{AllocError, Global};
 use std::collections::BTreeMap;
 
-/// Rows by their ids.
+/// Rows by id.
 pub(crate) type Rows = BTreeMap<u32, SharedRow>;
 
-/// By id, nothing for one that is dropped and its row for a listed one.
+/// By id: `None` for a dropped row, the row for a listed one.
 pub(crate) type Changes = BTreeMap<u32, Option<SharedRow>>;
 
-/// The changes that a listing makes to held rows.
+/// Returns the changes that a listing makes to held rows.
 pub(crate) fn changes(alloc: Global, held: &Rows, told: ToldRef<'_>) -> Result<Changes, Untaken>
     ensures made { IfOk result (λ changes. changes.entries ≡ changes_of held.now.entries (told_of told.entry)) }
     ensures read { OnOk result (position_from is_unread 0 told.entry.rows.now ≡ None) }
@@ -35,7 +35,7 @@ pub(crate) fn changes(alloc: Global, held: &Rows, told: ToldRef<'_>) -> Result<C
     Ok(changes)
 }
 
-// Leaves no row under any held id for a full listing, and under the deleted ids for a delta.
+// Drops every held id for a full listing, and the deleted ids for a delta.
 fn clear_ids(changes: &mut Changes, held: &Rows, told: ToldRef<'_>) -> Result<(), AllocError>
     ensures { OnOk result (changes.new.entries ≡ fold with_gone changes.old.entries (ids_cleared held.now.entries (told_of told.entry))) }
 {
@@ -80,7 +80,7 @@ fn put_rows(alloc: Global, changes: &mut Changes, tags: &[Tag]) -> Result<(), Un
     Ok(())
 }
 
-// Tells whether the tag has a row.
+// Adds the row of `tag`. Returns whether the tag has one.
 fn put_row(alloc: Global, changes: &mut Changes, tag: &Tag) -> Result<bool, AllocError>
     ensures put { OnOk result (changes.new.entries ≡ fold with_row changes.old.entries (rows_told (tag.now ∷ []))) }
     ensures has { IfOk result (λ has. has ≡ is_some (row_of tag.now)) }

@@ -1,4 +1,4 @@
-//! The edits that changes come to.
+//! The edits for changes.
 
 ghost use Rattle.std.specs.Prelude.{◌≡◌, ◌++◌, ◌∷◌, [], IfOk, OnOk, map};
 ghost use Rattle.item_model.specs.declared.changes.Edit.TheVariants.{PutItem, DropItem};
@@ -9,7 +9,7 @@ use crate::changes::{Changes, Rows};
 use item_model::{Edit, Edits, PROPERTIES, SharedRow, is_shown_alike};
 use std::alloc::{AllocError, Global};
 
-/// The held ids that the changes drop, ascending.
+/// Returns the held ids that the changes drop, ascending.
 pub(crate) fn dropped_ids(
     alloc: Global,
     held: &Rows,
@@ -26,7 +26,7 @@ pub(crate) fn dropped_ids(
     Ok(ids)
 }
 
-/// The rows that the changes put and that are not held as they are, ascending.
+/// Returns the rows that the changes put and that are not held unchanged, ascending.
 pub(crate) fn new_rows(
     alloc: Global,
     held: &Rows,
@@ -41,7 +41,7 @@ pub(crate) fn new_rows(
     Ok(rows)
 }
 
-// Pushes the row of a change, unless it is held as it is.
+// Pushes the row of a change, unless it is held unchanged.
 fn push_new(
     rows: &mut Vec<(u32, SharedRow)>,
     held: &Rows,
@@ -68,7 +68,7 @@ fn has_row(held: &Rows, id: u32, row: &SharedRow) -> bool
     }
 }
 
-/// Those of some rows whose ids are not held.
+/// Returns the rows whose ids are not held.
 pub(crate) fn fresh_rows(
     alloc: Global,
     held: &Rows,
@@ -85,7 +85,7 @@ pub(crate) fn fresh_rows(
     Ok(fresh)
 }
 
-/// The edits that drop some ids and then put some rows, which they share.
+/// Returns the edits that drop `ids` and then put `rows`, which they share.
 pub(crate) fn drops_and_puts(
     alloc: Global,
     ids: &[u32],

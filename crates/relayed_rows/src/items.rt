@@ -8,7 +8,7 @@ use dmap_tags::{Kind, Tag, Text, Value};
 use item_model::{Item, PROPERTIES, PropValue, Property, TEXT_BYTES};
 use std::alloc::{AllocError, Global};
 
-/// The item that some tags tell.
+/// Returns the item that the tags state.
 #[tactic(auto, using(crate::proofs::ItemFacts::all_put))]
 pub(crate) fn item_told(alloc: Global, tags: &[Tag]) -> Result<Item, AllocError>
     ensures { IfOk result (λ item. item ≡ item_told tags.now) }
@@ -27,7 +27,7 @@ fn put_all_told(item: &mut Item, properties: &[Property], tags: &[Tag]) -> Resul
     Ok(())
 }
 
-// Puts the first value that the tags tell of the property, if they tell one.
+// Puts the first value of `property` that the tags state, if any.
 fn put_told(item: &mut Item, property: Property, tags: &[Tag]) -> Result<(), AllocError>
     ensures { OnOk result (item.new ≡ put_told tags.now item.old property) }
 {
@@ -60,7 +60,8 @@ fn value_told(property: Property, tag: &Tag) -> Result<Option<PropValue>, AllocE
     value_in_range(property.kind(), tag)
 }
 
-// The value of the kind that the tag tells, if it is in range. Every number that fits a kind's width is.
+// Returns the value of the kind that `tag` states, if it is in range. Every number that fits a kind's width is in
+// range.
 fn value_in_range(kind: Kind, tag: &Tag) -> Result<Option<PropValue>, AllocError>
     ensures { IfOk result (λ value. value ≡ option_and_then (if_of_kind kind) (value_of_kind kind tag.now)) }
 {
@@ -93,7 +94,7 @@ fn value_in_range(kind: Kind, tag: &Tag) -> Result<Option<PropValue>, AllocError
     }
 }
 
-// The text, if it is neither empty nor too long. It is copied only then.
+// Returns a copy of the text if it is neither empty nor too long.
 fn text_in_range(text: &Text) -> Result<Option<PropValue>, AllocError>
     ensures { IfOk result (λ value. value ≡ if_of_kind Kind.Text (PropValue.Text text.now)) }
 {

@@ -1,5 +1,5 @@
-//! The library that a share's listings tell: rows are read back from its tags, a relay holds them, and each listing that it
-//! takes is answered with the batch of edits that leads from the library before to the one after.
+//! The library in a share's listings, read back row by row. For each listing that it takes, a relay returns the batch
+//! of edits from the library before to the one after.
 #![tactic(auto)]
 
 mod changes;

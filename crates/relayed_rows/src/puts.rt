@@ -1,4 +1,5 @@
-//! Held rows that get new ones. All memory is taken first: rows of new ids are put, and taken out again where memory ends.
+//! Putting rows into held ones. All memory is allocated first: rows of new ids are put, and removed again if
+//! allocation fails.
 
 ghost use Rattle.std.specs.Prelude.{◌≡◌, ◌∷◌, true, OnOk, OnErr, fold, is_some};
 ghost use Rattle.std.specs.List.{AllByRecursion};
@@ -47,7 +48,7 @@ fn take_back(held: &mut Rows, rows: &[(u32, SharedRow)])
     }
 }
 
-/// Puts rows under ids that are held, without memory.
+/// Puts rows under ids that are held. Does not allocate.
 pub(crate) fn put_over(held: &mut Rows, rows: Vec<(u32, SharedRow)>)
     requires { AreHeld held.old.entries rows.items }
     ensures { held.new.entries ≡ fold put_in held.old.entries rows.items }
@@ -67,7 +68,7 @@ fn put_at(held: &mut Rows, id: u32, row: SharedRow)
     }
 }
 
-/// Takes out the rows of some ids.
+/// Removes the rows of `ids`.
 pub(crate) fn take_out(held: &mut Rows, ids: &[u32])
     ensures { held.new.entries ≡ fold taken_out held.old.entries ids.now }
 {

@@ -22,8 +22,8 @@ use std::alloc::{AllocError, Global};
 use std::collections::BTreeMap;
 use std::marker::Model;
 
-/// The library that the listings of a share tell, one after the other, and the revision that the last one told. The rows are
-/// shared with the batches that put them, so that each text is held once.
+/// The library in the listings of a share, one after another, and the revision of the last one. The rows are shared
+/// with the batches that put them, so that each text is in memory once.
 #[derive(Debug, Drop)]
 pub struct Relay {
     alloc: Global,
@@ -43,10 +43,10 @@ impl Model for Relay {
     ghost invariant = { λ a. IsLibrary a.rows.entries };
 }
 
-/// What taking a listing did to a relay's library.
+/// What a listing changed in a relay's library.
 #[derive(Debug, Drop)]
 pub struct Change {
-    /// The edits that lead from the library before to the one after. None if the two are equal.
+    /// The edits from the library before to the one after. Empty if the two are equal.
     pub batch: Batch,
     /// How many of the edits put a row.
     pub puts: u32,
@@ -55,7 +55,7 @@ pub struct Change {
 }
 
 impl Relay {
-    /// A relay that holds nothing. Takes no memory.
+    /// Returns a relay that holds nothing. Does not allocate.
     pub fn new(alloc: Global) -> Relay
         ensures { result ≡ record { revision = 0; library = [] } }
     {
@@ -66,19 +66,19 @@ impl Relay {
         }
     }
 
-    /// The revision that the last listing told, 0 before the first.
+    /// Returns the revision of the last listing, 0 before the first.
     pub fn base(&self) -> u32
         ensures { result ≡ self.now.revision }
     {
         self.revision
     }
 
-    /// Takes a listing, and answers the batch of edits that leads from the library before to the one after. The cost grows with
-    /// the listing: for a delta, held rows that do not change are not visited.
+    /// Applies a listing, and returns the batch of edits from the library before to the one after. The cost grows
+    /// with the listing: a delta does not visit held rows that do not change.
     ///
     /// # Errors
     ///
-    /// Returns `Row` if a listed tag tells no row, and `Memory` if memory is refused. The relay is as before then.
+    /// Returns `Row` if a listed tag states no row, and `Memory` if allocation fails. The relay is then unchanged.
     pub fn take(&mut self, told: ToldRef<'_>) -> Result<Change, Untaken>
         ensures taken { OnOk result ((held : Held) → IsAscending held.rows → self.old ≡ relaying_at held
             → All (IsRow Target.Items) (listing_of Target.Items (told_of told.entry)).rows

@@ -9,8 +9,10 @@ use item_model::{Row, Target};
 use mirror_core::key_of;
 use std::alloc::{AllocError, Global};
 
-/// Reads a row back from the tag of a listed item. Returns `None` if the first member is not the row's id, a `miid` of 1 or more.
-/// A property that comes twice has its first value. Members of other codes, and values of another kind or range, are ignored.
+/// Reads a row back from the tag of a listed item. Returns `None` if the first member is not the row's id, a `miid`
+/// of 1 or more. Of two members of one property the first is used. Members with other codes, and values of another
+/// kind or range, are ignored.
+/// Returns `AllocError` if allocation fails.
 #[tactic(auto, unfolding(crate::specs::ReadRows::row_of))]
 pub fn row_of(alloc: Global, tag: &Tag) -> Result<Option<Row>, AllocError>
     ensures { IfOk result (λ row. row ≡ row_of tag.now) }
@@ -30,7 +32,7 @@ fn row_among(alloc: Global, members: &[Tag]) -> Result<Option<Row>, AllocError>
     }
 }
 
-// The row of the id that the key tells, with the item that the members tell.
+// Returns the row with the id in `key` and the item in `members`.
 fn row_behind(alloc: Global, key: &Tag, members: &[Tag]) -> Result<Option<Row>, AllocError>
     ensures { IfOk result (λ row. row ≡ row_among (key.now ∷ members.now)) }
 {

@@ -1,14 +1,14 @@
-//! Why a listing is not taken.
+//! Errors of a relay.
 
 ghost use Rattle.std.specs.Prelude.{◌≡◌};
 
 use std::alloc::{AllocError, AllocFailed};
 use thiserror::Error;
 
-/// Why a relay does not take a listing.
+/// Why a relay cannot apply a listing.
 #[derive(Debug, Drop, PartialEq, Eq, Error)]
 pub enum Untaken {
-    /// The listed tag of this index, counted from 0, tells no row.
+    /// The listed tag at `index`, counted from 0, states no row.
     #[error("row {index} of the listing cannot be read")]
     Row { index: u64 },
     #[error("out of memory")]

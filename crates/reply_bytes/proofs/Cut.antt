@@ -1,4 +1,4 @@
--- A write that fails behind another one.
+-- A failing write after a complete one.
 use Rattle.std.proofs.Common.{◌≡◌, ◌≤◌, ◌+◌, ◌++◌, ℕ, List, Option, Result, Ok, Err, length, sym, subst, length-append, arith}
 use Rattle.std.proofs.Math.Seq.{take-append-add}
 use Rattle.std.proofs.KnownBytes.{Appends-trans}
@@ -7,7 +7,7 @@ use Rattle.std.specs.Prelude.{take, OnErr}
 use Rattle.daap_outside.specs.Told.{AppendsPrefix}
 use Rattle.daap_outside.specs.Faults.{Failed}
 
--- a front of the second bytes is taken behind the first, all of which were
+-- the sink takes the first bytes and a prefix of the second
 pub cut_behind : (a b : List ℕ) (t0 t1 t2 : Option (List ℕ)) → Appends t0 t1 a → AppendsPrefix t1 t2 b → AppendsPrefix t0 t2 (a ++ b)
 cut_behind a b t0 t1 t2 first (n, within, cut) = (
   length a + n,

@@ -16,7 +16,7 @@ is_nothing (Allowed verb) = false
 is_nothing (Line text) = false
 is_nothing (Tagged tag) = false
 
--- the status has a reason, and there is no body beside a 204
+-- the status has a reason, and a 204 has no body
 abbrev is_fine : ℕ × Body → Bool
 is_fine told = is_some (reason_of told.0) && (not (told.0 == 204) || is_nothing told.1)
 

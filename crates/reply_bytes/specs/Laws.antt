@@ -1,4 +1,4 @@
--- What follows for all replies.
+-- Laws of all replies.
 use Rattle.std.specs.Prelude.{◌≡◌, ℕ, List, [], ◌++◌, length, codes, Bool, true, false}
 use Rattle.item_model.specs.declared.changes.Entry.{Entry}
 use Rattle.http_heads.specs.declared.refusal.HeadError.{HeadError}
@@ -9,15 +9,15 @@ use Rattle.share_replies.specs.Replies.{Reply, Replies, Allowed, Line, answer_to
 use Rattle.http_front.specs.ReplyHeads.{HasReason}
 use Rattle.reply_bytes.specs.ReplyBytes.{body_bytes, reply_bytes, failure_bytes, status_of}
 
--- each status that a share answers is one that a head can tell
+-- each status of a share's reply has a reason phrase
 abbrev pub RepliesHaveReasons : Type 0
 RepliesHaveReasons = (s : Settings) (h : List Entry) (want : Want) (reply : Reply) → answer_to s h want ≡ Replies reply → HasReason reply.status
 
--- and so is that of each refusal
+-- and so has that of each refusal
 abbrev pub RefusalsHaveReasons : Type 0
 RefusalsHaveReasons = (error : HeadError) → HasReason (status_of error)
 
--- a head of status 204 tells no length: no reply of that status has a body
+-- a head of status 204 states no length: no reply of that status has a body
 abbrev pub EmptyRepliesAreEmpty : Type 0
 EmptyRepliesAreEmpty =
     (s : Settings) (h : List Entry) (want : Want) (reply : Reply) → answer_to s h want ≡ Replies reply → reply.status ≡ 204

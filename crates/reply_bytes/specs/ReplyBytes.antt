@@ -1,5 +1,5 @@
--- A reply as the bytes of a connection: its head, whose fields the body decides, and the body (RFC 9112, section 6). The
--- last reply of a connection says in its head that it closes.
+-- A reply as the bytes of a connection: its head, whose fields depend on the body, and the body (RFC 9112, section
+-- 6). The last reply of a connection announces in its head that it closes.
 use Rattle.std.specs.Prelude.{ℕ, List, [], ◌++◌, length, Bool, true}
 use Rattle.dmap_tags.specs.Spelling.{spelling}
 use Rattle.http_heads.specs.declared.refusal.HeadError.{HeadError}
@@ -21,18 +21,18 @@ body_bytes (Allowed verb) = []
 body_bytes (Line text) = text
 body_bytes (Tagged tag) = spelling tag
 
--- a head that tells of these bytes, and the bytes
+-- a head that states the form and length of a body, and the body
 abbrev pub with_head : ℕ → BodyForm → List ℕ → Bool → List ℕ
 with_head status form body last = reply_head_text status form (length body) last ++ body
 
 abbrev pub reply_bytes : Reply → Bool → List ℕ
 reply_bytes reply last = with_head reply.status (form_of reply.body) (body_bytes reply.body) last
 
--- what a request gets for whose answer there was no memory
+-- the reply to a request whose answer could not be allocated
 abbrev pub failure_bytes : Bool → List ℕ
 failure_bytes last = with_head 500 NoBody [] last
 
--- the status by which bytes that are no request are refused
+-- the status for bytes that are not a request
 abbrev pub status_of : HeadError → ℕ
 status_of Head = 400
 status_of Length = 400
@@ -40,6 +40,6 @@ status_of BodyTooLarge = 413
 status_of HeadTooLarge = 431
 status_of Memory = 500
 
--- a refusal ends the connection
+-- the connection closes after a refusal
 abbrev pub refusal_bytes : HeadError → List ℕ
 refusal_bytes error = with_head (status_of error) NoBody [] true

@@ -1,5 +1,5 @@
-//! Replies as bytes: what a reply is on a connection, and the writing of one whose head and body are known. A replay and
-//! a link write replies by the same definition.
+//! Replies as the bytes of a connection, and writing one of which head and body are known. `share_replay` and
+//! `share_server` write replies by the same definition.
 #![tactic(auto)]
 
 pub mod laws;

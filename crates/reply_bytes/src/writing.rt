@@ -1,4 +1,4 @@
-//! The writing of replies.
+//! Writing replies.
 
 ghost use Rattle.std.specs.Prelude.{◌≡◌, ◌++◌, Err, OnOk, OnErr};
 ghost use Rattle.std.specs.Io.KnownBytes.{Appends};
@@ -19,10 +19,10 @@ use thiserror::Error;
 /// Why a reply was not written.
 #[derive(Debug, Drop, Error)]
 pub enum ReplyError {
-    /// The sink failed; what it took is a front of the reply.
+    /// The sink failed; it took a prefix of the reply.
     #[error("write failed")]
     Failed,
-    /// There was no memory for the head; nothing was written.
+    /// Allocating the head failed; nothing was written.
     #[error("memory")]
     Memory,
 }
@@ -47,7 +47,8 @@ impl From<Failed> for ReplyError {
     }
 }
 
-/// Writes a reply with the body that the plan writes. `last` says that the connection ends behind it.
+/// Writes a reply with the body of a plan. `last` says that the connection closes after it.
+/// Returns `Failed` if the sink fails, and `Memory` if allocation fails.
 pub fn write_reply<W: Sink>(
     alloc: Global,
     status: u16,
@@ -72,7 +73,8 @@ pub fn write_reply<W: Sink>(
     }
 }
 
-/// Writes what a request gets for whose answer there was no memory. It takes none.
+/// Writes the reply to a request whose answer could not be allocated. Does not allocate.
+/// Returns `Failed` if the sink fails.
 pub fn write_failure<W: Sink>(last: bool, sink: &mut W) -> Result<(), Failed>
     ensures written { OnOk result (Appends (W.taken sink.old) (W.taken sink.new) (failure_bytes last)) }
     ensures part { OnErr result (AppendsPrefix (W.taken sink.old) (W.taken sink.new) (failure_bytes last)) }
@@ -82,7 +84,8 @@ pub fn write_failure<W: Sink>(last: bool, sink: &mut W) -> Result<(), Failed>
     put_all(sink, failure_head(last).as_bytes())
 }
 
-/// Writes the refusal of bytes that are no request, behind which the connection ends.
+/// Writes the reply to bytes that are not a request, after which the connection closes.
+/// Returns `Failed` if the sink fails, and `Memory` if allocation fails.
 pub fn write_refusal<W: Sink>(
     alloc: Global,
     error: &HeadError,
@@ -105,7 +108,7 @@ pub fn write_refusal<W: Sink>(
     )
 }
 
-/// The status by which bytes that are no request are refused.
+/// Returns the status for bytes that are not a request.
 pub fn status_of(error: &HeadError) -> u16
     ensures status { result ≡ status_of error.now }
     ensures reason { HasReason result }
@@ -118,7 +121,7 @@ pub fn status_of(error: &HeadError) -> u16
     }
 }
 
-// The two parts of a reply, one behind the other.
+// Writes the two parts of a reply, one after the other.
 fn write_both<W: Sink>(head: &[u8], body: &Plan, sink: &mut W) -> Result<(), Failed>
     requires { IsWritable body.now }
     ensures written { OnOk result (Appends (W.taken sink.old) (W.taken sink.new) (head.now ++ plan_bytes body.now)) }

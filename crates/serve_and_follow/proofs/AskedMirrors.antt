@@ -1,4 +1,4 @@
--- The mirrors that the arguments of `follow` ask for.
+-- The mirrors that the arguments of `follow` select.
 use Rattle.std.proofs.Common.{◌≡◌, ℕ, List, [], Option, Some, None, sym, ap, subst}
 use Rattle.item_model.specs.declared.query.Query.{Query}
 use Rattle.item_model.specs.declared.request.Meta.{Meta}
@@ -12,7 +12,7 @@ use Rattle.mirror_core.specs.Mirrored.{Mirrored}
 use Rattle.link_commands.specs.Looks.{AsksQuery, meta_asked}
 use Rattle.serve_and_follow.specs.Laws.{AskedMirrorsCanBeAsked}
 
--- a query that was read has a text of its own, within the limits
+-- a query that was read has a text within the limits
 proper_of : (text : Option (List ℕ)) (asked : Option Query) → AsksQuery text asked → MayAsk asked
 proper_of None None asks = tt
 proper_of None (Some q) asks = absurd asks

@@ -35,7 +35,7 @@ relay_can_be_asked host host_is = record { host_is = host_is; list = tt; proper 
 library_at : List Entry → Library
 library_at h = library (all_edits h)
 
--- the libraries that listings left are those of the points at which the share answered them
+-- the libraries that listings leave are those at the history lengths at which the share answered
 libraries_at : (keep : ℕ) (points : List (List Entry)) (listings : List Listing) (h : List Entry) → IsWhole h → Rise points h → AreAnswers keep Items None All 0 points listings
     → relay_of listings ≡ map (λ point. library (all_edits point)) points
 libraries_at keep [] [] h whole rise are = refl

@@ -25,7 +25,7 @@ use Rattle.serve_and_follow.specs.Laws.{RunsMeet, StoppedRunsMeet}
 use Rattle.serve_and_follow.specs.Meetings.{MeetsCrew}
 use Rattle.serve_and_follow.proofs.AskedMirrors.{asked_mirrors_can_be_asked}
 
--- what holds of each holds of the one with a number
+-- what holds of each element holds of the one at an index
 each_at : {A : Type 0} (P : A → Type 0) (xs : List A) (n : ℕ) (x : A) → AllByRecursion P xs → slice_get xs n ≡ Some x → P x
 each_at P [] n x each is = absurd (cc)
 each_at P (y ∷ ys) zero x each is = let same : y ≡ x = cc in subst P same each.0
@@ -41,7 +41,7 @@ link_at s by role h (i ∷ inputs) (r ∷ returns) zero input returned links cam
     (links.0.0, subst (λ (x : List ℕ). ServedLink s by links.0.0 role h x returned.0) inputs_same (subst (λ (x : Returned). ServedLink s by links.0.0 role h i x.0) returns_same links.0.1))
 link_at s by role h (i ∷ inputs) (r ∷ returns) (suc n) input returned links came given = link_at s by role h inputs returns n input returned links.1 came given
 
--- the connection where they meet was served by its worker, over what this had seen by its end
+-- its worker served the connection where they meet, over the history that this had seen by its end
 module _ {settings : Settings} {opening : List Entry} (crew : List (Stint settings opening)) (link : LinkSeen) (meets : MeetsCrew crew link) where
   pub served_link : (limit : ℕ) × ServedLink settings meets.stint.pass.number limit meets.stint.role meets.stint.pass.seen meets.input meets.returned.0
   served_link =
@@ -50,7 +50,7 @@ module _ {settings : Settings} {opening : List Entry} (crew : List (Stint settin
       (workers_links_are_served stint.role (fresh stint.pass.number settings opening) stint.pass stint.to_come stint.left stint.begun stint.written stint.reports stint.served.works)
       meets.came meets.given
 
-  -- what the worker had seen begins the history
+  -- the history begins with what the worker had seen
   pub part : (history : List Entry) → AllByRecursion (IsPart history) crew → IsPart history meets.stint
   part history parts = each_at (IsPart history) crew meets.worker meets.stint parts meets.is_stint
 

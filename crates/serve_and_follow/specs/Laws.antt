@@ -1,4 +1,4 @@
--- What a run of `follow` shows of a share that a run of `serve` served.
+-- What runs of `follow` and `relay` show of a share that a run of `serve` served.
 use Rattle.std.specs.Prelude.{◌≡◌, ℕ, List, [], ◌∷◌, ◌++◌, map, Option}
 use Rattle.item_model.specs.declared.changes.Entry.{Entry}
 use Rattle.item_model.specs.declared.request.Target.{Target}
@@ -26,21 +26,21 @@ use Rattle.serve_command.specs.Runs.{HasServed, Left, first_line}
 use Rattle.serve_command.specs.Terms.{settings_of}
 use Rattle.serve_and_follow.specs.Meetings.{MeetsCrew}
 
--- how a run of `serve` ended whose workers served
+-- a run of `serve` ended whose share was served
 abbrev pub HasRun : Serving → List Entry → Told → Left → Type 0
 HasRun serving opened told left =
     HasServed serving opened (AreKept serving.file told.before.around.files told.after.around.files) (first_line serving opened) told.before.around.net told.after.around.net
     told.output_before told.output_after left
 
--- The arguments of `follow` ask for a mirror whose requests read back, if its query's text is UTF-8
+-- The arguments of `follow` select a mirror whose requests read back, if its query's text is UTF-8.
 abbrev pub AskedMirrorsCanBeAsked : Type 0
 AskedMirrorsCanBeAsked =
     (query meta : Option (List ℕ)) (target : Target) (m : Mirrored) (host : List ℕ) → AsksMirror query meta target m → IsHost host → HasListNumber target → IsText m.query
     → CanBeAsked host m
 
--- If `follow` was done over a connection to the share, then it wrote the line of each round and the rows that the query selects at
--- the revision of the last line, of the one history that `serve` left. Each listing that it applied is the share's at a length of that
--- history, and these never fall
+-- If `follow` succeeded over a connection to the share, then it wrote the line of each round and the rows that the
+-- query selects at the revision of the last line, of the one history that `serve` left. Each listing that it applied is
+-- the share's at a length of that history, and these lengths never decrease.
 abbrev pub RunsMeet : Type 0
 RunsMeet =
     (serving : Serving) (opened : List Entry) (told : Told) (left : Left) (host : List ℕ) (rounds : ℕ) (query meta : Option (List ℕ)) (target : Target) (before after : Seen) (output : List ℕ)
@@ -49,7 +49,8 @@ RunsMeet =
     → (output ≡ round_lines done.applied ++ shown_rows (rows_at served.history done.m.target done.m.query done.m.meta (last_revision done.applied)))
     × HoldsTheShare (settings_of serving) served.history done.m done.followed.followed.listings done.now
 
--- if it stopped, whatever stopped it, then its mirror holds what the share had at the last listing that it applied
+-- If `follow` stopped, for whatever reason, then its mirror holds what the share had at the last listing that it
+-- applied.
 abbrev pub StoppedRunsMeet : Type 0
 StoppedRunsMeet =
     (serving : Serving) (opened : List Entry) (told : Told) (left : Left) (host : List ℕ) (rounds : ℕ) (query meta : Option (List ℕ)) (target : Target) (before after : Seen)
@@ -58,8 +59,8 @@ StoppedRunsMeet =
     → IsHost host → HasListNumber target → IsText x.m.query
     → HoldsTheShare (settings_of serving) served.history x.m (listings_in x.stops.stops.stage) x.stops.now
 
--- If a relay read on a connection to the share, then its own library is at each point of the history that it left one that the share had,
--- or the empty one. At a later point it is that one, or one that the share had later
+-- If a relay read on a connection to the share, then its own library is at each length of the history that it left one
+-- that the share had, or the empty one. At a later length it is that one, or one that the share had later.
 abbrev pub RelaysMeet : Type 0
 RelaysMeet =
     (serving : Serving) (opened : List Entry) (told : Told) (left : Left) (relaying : Relaying) (front : List ℕ) (net net' : NetSeen) (output output' : OutputSeen) (out : Outcome)

@@ -1,4 +1,4 @@
--- A share that comes under its lock, or does not.
+-- A share that is put under its lock, or is not.
 use Rattle.std.proofs.Common.{◌≡◌, ◌⊎◌, ◌+◌, ◌++◌, ℕ, List, [], ◌∷◌, Ok, Err, Result, MatchResult, refl, sym, subst, ap, ◌∙◌, inl, inr}
 use Rattle.std.proofs.lemmas.List.Elements.{All-nil, All-cons}
 use Rattle.std.specs.Prelude.{All}
@@ -13,15 +13,15 @@ use Rattle.command_core.specs.Answers.{Tells}
 use Rattle.command_core.specs.Endings.{IsWritten, IsCut}
 use Rattle.command_core.specs.Faults.{memory_line}
 use Rattle.command_core.specs.Seen.{OutputSeen}
-use Rattle.share_crew.specs.declared.opening.Begun.{Begun}
-use Rattle.share_crew.specs.declared.opening.Room.{Room}
+use Rattle.share_crew.specs.declared.opening.LockedShare.{LockedShare}
+use Rattle.share_crew.specs.declared.opening.WorkerBuffers.{WorkerBuffers}
 use Rattle.share_crew.specs.Begun.{HasRoom, Announces}
 use Rattle.serve_command.specs.declared.terms.Serving.{Serving}
 use Rattle.serve_command.specs.Runs.{first_line, NotAnnounced}
 use Rattle.serve_command.specs.Begun.{HasBegun}
 use Rattle.serve_command.specs.Terms.{settings_of, workers_of}
 
--- the opening is of the first pass
+-- the opening is the first lock handle's
 pub opening_made : (edits : List Edit) → All (λ e. maker e ≡ 0) (opening edits)
 opening_made [] = All-nil (λ e. maker e ≡ 0)
 opening_made (e ∷ es) = All-cons (λ e. maker e ≡ 0) (Edits 0 (e ∷ es)) [] refl (All-nil (λ e. maker e ≡ 0))
@@ -31,8 +31,8 @@ opened_made [] = All-nil (λ e. maker e ≡ 0)
 opened_made (b ∷ bs) = All-cons (λ e. maker e ≡ 0) (Edits 0 b) (opened_with bs) refl (opened_made bs)
 
 module _ {D : Type 0} where
-  -- it is behind the line that tells it
-  pub begins : (serving : Serving) (output output' : OutputSeen) (share : Shared) (room : Room D) (line : List ℕ) (result : Result (Begun D) ℕ)
+  -- it is under its lock after its line was written
+  pub begins : (serving : Serving) (output output' : OutputSeen) (share : Shared) (room : WorkerBuffers D) (line : List ℕ) (result : Result (LockedShare D) ℕ)
       → share.settings ≡ settings_of serving → HasRoom (workers_of serving) room → line ≡ first_line serving share.history
       → Announces (workers_of serving + 1) share room line output output' result
       → MatchResult result (HasBegun serving share.history output output') (NotAnnounced (first_line serving share.history) output output')

@@ -1,4 +1,4 @@
--- Words and input decide how a run ends, where nothing outside fails.
+-- If nothing outside fails, arguments and input decide how a run ends.
 use Rattle.std.proofs.Common.{◌≡◌, ◌⊎◌, ◌<◌, ◌≤◌, ◌||◌, ℕ, Bool, true, false, cond, List, [], ◌∷◌, ◌++◌, length, map, Option, Ok, Some, None, IfSome, MatchBool, refl, sym, subst, ap, ◌∙◌, inl, inr, arith}
 use Rattle.std.proofs.lemmas.Bool.{false≢true}
 use Rattle.std.specs.Prelude.{nat_eq}
@@ -48,7 +48,7 @@ use Rattle.serve_command.specs.Laws.{IsOpened, IsSpent, RunsAreDecided, StandsFo
 use Rattle.serve_command.specs.Runs.{first_line, NotAnnounced, TellsFault, TellsStop, TellsEnd, NotBegun, stopped, unkept, unannounced, unopened, unbegun, served}
 use Rattle.serve_command.specs.Terms.{settings_of}
 
--- what was told whole has its status
+-- what was written whole has its status
 told_as : (wanted : ℕ) (bytes : List ℕ) (before after : OutputSeen) (status : ℕ) → ¬ (Rose before.faults after.faults) → Tells wanted bytes before after status → status ≡ wanted
 told_as wanted bytes before after status steady (inl h) = h.0
 told_as wanted bytes before after status steady (inr h) = absurd (steady h.1.rose)
@@ -61,7 +61,7 @@ wants stop before after status steady is (inl h) = memory_told (subst (λ (s : F
     memory_told (inl t) = told_as 9 memory_line before after status steady t
     memory_told (inr t) = told_as 9 memory_line before after status steady t
 
--- records that are read are not refused, nor are they for their lists where they leave few
+-- records that are read are not refused; nor are they for their lists, if they leave few
 not_refused : (before after : InputSeen) (input : List ℕ) (first : List Edit) (stop : Fault ServeFault) → before.left ≡ Some input → ReadsAs first input → (stop ≡ fault.Own TooManyLists → has_few_lists [] first ≡ true)
     → ¬ (Rose before.faults after.faults) → StopsServing ⊥ before after stop → stop ≡ fault.Memory
 not_refused before after input first (fault.Own Network) told reads few steady cause = absurd cause.0
@@ -78,17 +78,17 @@ not_refused before after input first (fault.Own TooManyLists) told reads few ste
 not_refused before after input first fault.Read told reads few steady cause = absurd (steady cause.rose)
 not_refused before after input first fault.Memory told reads few steady cause = refl
 
--- what an input reads as that is told
+-- what a known input reads as
 read_same : (before after : InputSeen) (input : List ℕ) (first edits : List Edit) → before.left ≡ Some input → ReadsAs first input → HasReadAs edits before after → edits ≡ first
 read_same before after input first edits told reads read =
     batch_same (table_of read.bytes) edits first read.of.read (subst (λ i. BatchReads (table_of i) (Ok first)) (read_whole input read.bytes before.left after.left told read.read read.end) reads.read)
 
--- bytes stand for one list of batches
+-- bytes represent at most one list of batches
 stood_once : (contents : Option Contents) (path : List ℕ) (first : List Edit) (stands : StandsForShare contents path first) (before : List (List Edit)) → StandsAt contents path before → stands.stood ≡ before
 stood_once contents path first stands before stood =
     one_list (bytes_at stands.told path) stands.stood before stands.stands (subst (λ o. IfSome o (λ c. FileStands (bytes_at c path) before)) stands.is stood)
 
--- a file that stands for a share's batches is not refused
+-- a file that represents a share's batches is not refused
 not_kept_out : (files files' : FilesSeen) (path : List ℕ) (first : List Edit) (stop : Fault FileFault) → StandsForShare files.contents path first → ¬ (Rose files.faults files'.faults)
     → StopsOpening files.contents path first stop → CountsFault files.faults files'.faults stop → stop ≡ fault.Memory
 not_kept_out files files' path first (fault.Own (file.NotEditFile at)) stands calm stops counts =
@@ -165,7 +165,7 @@ module _ {settings : Settings} {opened : List Entry} where
   some_spent [] some = absurd (cc)
   some_spent (stint ∷ stints) some = spent_at stint stints (nat_eq (end_number stint.end) 3) refl (some_spent stints) some
 
--- the status by what the ends say, where neither the net failed nor a file
+-- the status by the workers' ends, if neither the network nor a file failed
 by_ends : (ends : List WorkerEnd) (links : List (List LinkReport)) (before after : ℕ) (network file memory spent : Bool) → has_end worker.AcceptFault ends ≡ network → has_end worker.FileFault ends ≡ file
     → has_end worker.Memory ends ≡ memory → has_end worker.Spent ends ≡ spent → ¬ (Rose before after) → CountsShut before after ends → (has_end worker.FileFault ends ≡ true → ⊥)
     → (has_end worker.Spent ends ≡ true → IsSpent links)
@@ -186,7 +186,7 @@ end_said : (ended : List ℕ) (verdict : Verdict) (before after : OutputSeen) (s
 end_said ended verdict before after status steady (inl h) = inl (told_as (verdict_status verdict) _ before after status steady h)
 end_said ended verdict before after status steady (inr h) = inr (told_as (verdict_status (with_memory verdict)) _ before after status steady h)
 
--- no edit was lost where no fault of files was counted
+-- no edit was lost if no error of files was counted
 none_lost : (file : Option (List ℕ)) (before after : FilesSeen) (history : List Entry) (lost : Bool) → ¬ (Rose before.faults after.faults) → AreKept file before after history lost → lost ≡ true → ⊥
 none_lost None before after history lost calm kept is = false≢true (sym kept.1 ∙ is)
 none_lost (Some path) before after history lost calm kept is = calm (subst (λ b. MatchBool b (Rose before.faults after.faults) (after.faults ≡ before.faults)) is kept.counts)

@@ -1,4 +1,4 @@
--- A history of which one worker made all edits: the others serve players, whose requests ask for none.
+-- A history of which one worker made all edits: the others serve players, who cannot edit.
 use Rattle.std.proofs.Common.{◌≡◌, ◌⊎◌, ℕ, Bool, true, List, [], ◌∷◌, ◌++◌, get_or, sym, subst, ap, ◌∙◌, inl, inr, arith}
 use Rattle.std.specs.List.{AllByRecursion}
 use Rattle.std.specs.Prelude.{All, Contains}
@@ -25,7 +25,7 @@ module _ {settings : Settings} {opened : List Entry} where
       at (inl same) = same
       at (inr none) = let h = none.1 in absurd (omega arith)
 
-  -- where one worker edits and the others are players, its keeper has the batches of the history
+  -- if one worker edits and the others serve players, its keeper has the batches of the history
   pub editor_keeps : (history : List Entry) (players : List (Stint settings opened)) (editor : Stint settings opened) (most : ℕ) (k : Pass)
       (keeps keeps' : List (List Edit) → Type 0) (is_lost' : Bool) (faults faults' : ℕ) (loses : Bool)
       → ArePlayers players → All (λ e. maker e ≡ 0) opened → IsHistoryOf most history (players ++ editor ∷ []) [] → IsPart history editor

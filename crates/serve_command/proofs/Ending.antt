@@ -1,4 +1,4 @@
--- What success says of the workers.
+-- What status 0 says of the workers.
 use Rattle.std.proofs.Common.{◌≡◌, ℕ, List, map, refl, sym, ◌∙◌, inl, inr, arith}
 use Rattle.std.specs.List.{AllByRecursion}
 use Rattle.item_model.specs.declared.changes.Entry.{Entry}
@@ -11,7 +11,7 @@ use Rattle.share_crew.specs.Verdicts.{verdict_of, verdict_status, with_memory}
 use Rattle.share_crew.proofs.Ending.{wholes_by}
 use Rattle.serve_command.specs.Runs.{TellsEnd}
 
--- only a verdict that all was done has the status of success
+-- only the verdict `Done` has status 0
 done_by : (verdict : Verdict) → 0 ≡ verdict_status verdict → verdict ≡ Done
 done_by Done is = refl
 done_by NetworkFailed is = absurd (let e : 0 ≡ 6 = is in omega arith)

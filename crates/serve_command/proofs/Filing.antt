@@ -31,12 +31,12 @@ use Rattle.serve_command.specs.Runs.{first_line, NotAnnounced, NotBegun, TellsEn
 use Rattle.serve_command.specs.Terms.{settings_of}
 use Rattle.serve_command.proofs.Ending.{done_from}
 
--- a status that is told is the one that was wanted, or that of an output that failed
+-- the status is the intended one, or that of an output that failed
 told_status : (wanted : ℕ) (bytes : List ℕ) (before after : OutputSeen) (status : ℕ) → Tells wanted bytes before after status → (status ≡ wanted) ⊎ (status ≡ 5)
 told_status wanted bytes before after status (inl h) = inl h.0
 told_status wanted bytes before after status (inr h) = inr h.0
 
--- the statuses before a share is served are between 3 and 9, but where a file failed
+-- the statuses before a share is served are between 3 and 9, unless a file failed
 abbrev IsBetween : ℕ → Type 0
 IsBetween status = (3 ≤ status) × (status ≤ 9)
 
@@ -64,7 +64,7 @@ not_announced_between line before after status (inl t) = between_told 9 _ before
 not_announced_between line before after status (inr (inl c)) = (omega (arith, c.0), omega (arith, c.0))
 not_announced_between line before after status (inr (inr t)) = between_told 9 _ before after status between_nine t
 
--- a file that is refused has a status of at least 3, and 10 only where a fault was counted
+-- a file that is refused has a status of at least 3, and 10 only if an error was counted
 file_some : (stop : Fault FileFault) → 3 ≤ fault_status file_status stop
 file_some (fault.Own (file.NotEditFile at)) = omega arith
 file_some (fault.Own file.Failed) = omega arith
@@ -131,7 +131,7 @@ success_leaves_the_file serving path told left (served edits opened read is run)
       left_at = subst (λ b. LeavesBut b path (batches run.history) told.before.around.files.contents told.after.around.files.contents) none kept.left;
     }
 
--- only an edit that was lost has the status of a file that failed
+-- only a lost edit has the status of a file that failed
 ten_by : (verdict : Verdict) → 10 ≡ verdict_status verdict → verdict ≡ FileFailed
 ten_by Done is = absurd (let e : 10 ≡ 0 = is in omega arith)
 ten_by NetworkFailed is = absurd (let e : 10 ≡ 6 = is in omega arith)

@@ -1,4 +1,4 @@
--- A run that wanted memory before anything happened ends as `serve` means.
+-- A run that is out of memory before anything happened ends as the specification of `serve` says.
 use Rattle.std.proofs.Common.{◌≡◌, refl, sym, subst, ap, inl, inr, arith}
 use Rattle.command_core.specs.declared.fault.Fault.TheVariants as fault
 use Rattle.command_core.specs.Answers.{Tells}
@@ -9,7 +9,7 @@ use Rattle.serve_command.specs.Places.{FailsToOpen}
 use Rattle.serve_command.specs.Runs.{Left, HasNoShare, ServeEnds, unopened}
 use Rattle.share_crew.proofs.Nets.{grows_none}
 
--- no place was asked for
+-- `listen` was not called
 no_place : (serving : Serving) (net : NetSeen) → FailsToOpen serving net net fault.Memory
 no_place serving net = record {
   count = 0;

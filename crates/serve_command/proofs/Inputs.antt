@@ -14,21 +14,21 @@ use Rattle.command_core.specs.ReadRecords.{HasReadAs, IsWithin, LeavesMany, Stop
 use Rattle.serve_command.specs.declared.fault.ServeFault.TheVariants.{TooManyLists}
 use Rattle.serve_command.specs.Faults.{StopsServing, input_fault, open_fault}
 
--- an input that is no batch
+-- an input that is not a batch
 pub unread_cause : (before after : InputSeen) (stop : Fault InputFault) → StopsReading before after stop → StopsServing ⊥ before after (input_fault stop)
 unread_cause before after (Own unread.TooLong) cause = cause
 unread_cause before after (Own (unread.Records error)) cause = cause
 unread_cause before after Read cause = cause
 unread_cause before after Memory cause = cause
 
--- which is not refused for its lists
+-- .. which is not refused for its lists
 pub unread_alone : (T : Type 0) (stop : Fault InputFault) → input_fault stop ≡ Own TooManyLists → T
 unread_alone T (Own unread.TooLong) is = absurd (cc)
 unread_alone T (Own (unread.Records error)) is = absurd (cc)
 unread_alone T Read is = absurd (cc)
 unread_alone T Memory is = absurd (cc)
 
--- a batch that leaves too many lists, or for whose share there is no memory
+-- a batch that leaves too many lists, or for whose share an allocation fails
 pub open_cause : (before after : InputSeen) (edits : List Edit) (e : OpenError) → HasReadAs edits before after → (e ≡ opens.Lists → has_few_lists [] edits ≡ false) → ¬ (e ≡ opens.Edits)
     → StopsServing ⊥ before after (open_fault e)
 open_cause before after edits opens.Lists read many other = record {

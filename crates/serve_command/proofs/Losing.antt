@@ -1,4 +1,4 @@
--- What a keeper has behind all workers, of whom the last is its editor.
+-- What a keeper has after all workers have ended, of whom the last is its editor.
 use Rattle.std.proofs.Common.{◌≡◌, ◌||◌, ℕ, zero, suc, Bool, true, false, List, [], ◌∷◌, ◌++◌, drop, get_or, length, map, Option, MatchBool, refl, sym, subst, ap, ◌∙◌, arith, length-append}
 use Rattle.std.proofs.lemmas.List.{map-append}
 use Rattle.std.proofs.lemmas.List.Elements.{recursion_from_All}
@@ -28,7 +28,7 @@ use Rattle.serve_command.specs.Files.{HasKept}
 use Rattle.share_crew.proofs.Players.{ArePlayers}
 use Rattle.serve_command.proofs.Editing.{editor_keeps}
 
--- what stands before the last of a list
+-- what precedes the last of a list
 init_same : {A : Type 0} (xs ys : List A) (x y : A) → xs ++ x ∷ [] ≡ ys ++ y ∷ [] → xs ≡ ys
 init_same [] [] x y is = refl
 init_same [] (b ∷ ys) x y is = absurd (let count = ap length is in let more = length-append ys (y ∷ []) in omega (arith, count, more))
@@ -49,7 +49,7 @@ or_none true = refl
 or_none false = refl
 
 module _ {settings : Settings} {opened : List Entry} where
-  -- an edit was lost where the last lost one
+  -- an edit was lost if the last worker lost one
   last_lost : (players : List (Stint settings opened)) (editor : Stint settings opened) → AllByRecursion (λ s. is_worker_loss s.end ≡ false) players
       → has_end worker.FileFault (map (λ (s : Stint settings opened). s.end) (players ++ editor ∷ [])) ≡ is_worker_loss editor.end
   last_lost [] editor none = or_none (nat_eq (end_number editor.end) 6) ∙ loss_is editor.end
@@ -70,7 +70,7 @@ module _ {settings : Settings} {opened : List Entry} where
     no_losses (s ∷ players) [] zip none = absurd zip
     no_losses (s ∷ players) (w ∷ front) zip none = (ap is_worker_loss zip.0.end_is ∙ none.0, no_losses players front zip.1 none.1)
 
-    -- for the players, and the editor behind them
+    -- for the players, and then the editor
     keeps_as : (history : List Entry) (players : List (Stint settings opened)) (editor : Stint settings opened) (most workers editors : ℕ) (k : Pass) (w : Worker D)
         (keeps keeps' : List (List Edit) → Type 0) (is_lost' : Bool) (n n' : ℕ)
         → AllByRecursion (λ (s : Stint settings opened). is_worker_loss s.end ≡ false) players → IsOf written faults editor w

@@ -1,4 +1,4 @@
--- Places that are opened, or not.
+-- Addresses that are opened, or not.
 use Rattle.std.proofs.Common.{◌≡◌, ◌+◌, ℕ, List, ◌++◌, length, map, take, drop, Option, None, Some, Err, refl, sym, subst, ap, ◌∙◌, inl, inr, length-append}
 use Rattle.std.proofs.lemmas.List.{map-append}
 use Rattle.std.proofs.Math.Seq.{take-add}
@@ -10,7 +10,7 @@ use Rattle.serve_command.specs.Faults.{net_fault}
 use Rattle.share_crew.specs.Doors.{HaveLinks}
 use Rattle.serve_command.specs.Places.{StopsOpening}
 
--- a place that was not opened
+-- an address that was not opened
 pub stops_opening : (T : Type 0) (before after : ℕ) (e : NetError) → CountsNetFaults {T = T} before after (Err e) → StopsOpening before after (net_fault e)
 stops_opening T before after nets.Failed count = inl (refl, count)
 stops_opening T before after nets.Memory count = inr (refl, count)
@@ -18,7 +18,7 @@ stops_opening T before after nets.Memory count = inr (refl, count)
 pub stops_behind : (T : Type 0) (before mid after : ℕ) (e : NetError) → mid ≡ before → CountsNetFaults {T = T} mid after (Err e) → StopsOpening before after (net_fault e)
 stops_behind T before mid after e is count = stops_opening T before after e (subst (λ n. CountsNetFaults {T = T} n after (Err e)) is count)
 
--- the doors of two places, one behind the other, have the first links
+-- the listeners of the two addresses, in order, have the first connections
 pub have_links : {D : Type 0} (coming : D → Option (List (List ℕ))) (before mid after : Option (List (List (List ℕ)))) (listen edit : List D)
     → OpensDoors before mid (map coming listen) → OpensDoors mid after (map coming edit) → HaveLinks before (map coming (listen ++ edit))
 have_links coming None mid after listen edit first second = tt

@@ -1,4 +1,4 @@
--- Doors that were given back before anybody waited at them, and what is kept of a history.
+-- Listeners that were closed before a worker accepted at them, and what is kept of a history.
 use Rattle.std.proofs.Common.{◌≡◌, ℕ, List, [], ◌∷◌, ◌++◌, Bool, true, false, MatchBool, Option, Result, Ok, Err, refl, sym, subst, ◌∙◌, arith, length-append}
 use Rattle.std.proofs.lemmas.List.{get_or_append_left}
 use Rattle.std.specs.Prelude.{All, OnOk}
@@ -29,7 +29,7 @@ pub faultless_still : (serving : Serving) (start mid now : NetSeen) (listen edit
     → now.faults ≡ start.faults
 faultless_still serving start mid now listen edit coming opened back = back.faultless ∙ opened.faultless
 
--- what is kept may be said otherwise
+-- `kept` may be replaced by what follows from it
 pub ends_so : (serving : Serving) (opened : List Entry) (kept kept' : List Entry → Bool → Type 0) (net net' : NetSeen) (output output' : OutputSeen) (left : Left)
     → ((history : List Entry) (lost : Bool) → kept history lost → kept' history lost) → ShareEnds serving opened kept net net' output output' left → ShareEnds serving opened kept' net net' output output' left
 ends_so serving opened kept kept' net net' output output' left so (not_announced told asked faults is none) = not_announced told asked faults (so opened _ is) none
@@ -52,7 +52,7 @@ ends_so serving opened kept kept' net net' output output' left so (announced run
   whole = run.whole;
 })
 
--- a share that was opened with what was read ends as `serve` means
+-- a share that was opened with what was read ends as the specification of `serve` says
 pub run_ends : (serving : Serving) (opened : List Entry) (edits : List Edit) (before after : InputSeen) (files files' : FilesSeen) (net net' : NetSeen) (output output' : OutputSeen) (left : Left)
     → HasReadAs edits before after → IsOpening serving.file files.contents edits opened → ShareEnds serving opened (AreKept serving.file files files') net net' output output' left
     → ServeEnds serving (told_in (seen before files net) (seen after files' net') output output') left
@@ -60,7 +60,7 @@ run_ends serving opened edits before after files files' net net' output output' 
     unbegun asked faults (unannounced edits opened read is kept told) none
 run_ends serving opened edits before after files files' net net' output output' left read is (announced run) = served edits opened read is run
 
--- a fact beside the one that an answer says
+-- a further fact of a result
 pub ok_and : {T E : Type 0} (r : Result T E) (P Q : Type 0) → OnOk r P → Q → OnOk r (P × Q)
 ok_and (Ok x) P Q p q = (p, q)
 ok_and (Err e) P Q p q = tt
@@ -72,12 +72,12 @@ front_of P xs y all = λ k d less. subst P (get_or_append_left xs (y ∷ []) d k
 pub last_of_all : {A : Type 0} (P : A → Type 0) (xs : List A) (y : A) → All P (xs ++ y ∷ []) → P y
 last_of_all P xs y all = all_rest P xs (y ∷ []) all 0 y (omega arith)
 
--- the count of a disk that was given back, which had none at first
+-- the error counter after a disk was closed whose counter was 0 at first
 pub counts_back : (lost : Bool) (n n' d d' : ℕ) → d ≡ 0 → MatchBool lost (Rose d d') (d' ≡ d) → RisesWith n n' d' → MatchBool lost (Rose n n') (n' ≡ n)
 counts_back true n n' d d' is counts rises = rises.faulty (let r = counts.1 in omega (arith, is, r))
 counts_back false n n' d d' is counts rises = rises.faultless (counts ∙ is)
 
--- what a file keeps is left where its disk is given back
+-- what a file keeps is left once its disk is closed
 pub left_back : (lost : Bool) (keeps : List (List Edit) → Type 0) (bs : List (List Edit)) (path : List ℕ) (before now : Option Contents) → KeepsBut lost keeps bs
     → (lost ≡ false → (kept : List (List Edit)) → keeps kept → LeavesAt path kept before now) → (lost ≡ true → (kept : List (List Edit)) → keeps kept → LeavesOrOneMore path kept before now)
     → LeavesBut lost path bs before now

@@ -30,7 +30,7 @@ pub roles_are : {D : Type 0} (serving : Serving) (listen edit : List D) → leng
     → map (λ (d : D). role.Listen) listen ++ map (λ (d : D). role.Edit) edit ≡ roles_of serving
 roles_are {D} serving listen edit w e = λ i. sym (splat_is_map listen serving.workers role.Listen w) i ++ sym (splat_is_map edit serving.editors role.Edit e) i
 
--- as many passes were joined as there are workers
+-- one lock handle was joined for each worker
 pub history_of : (serving : Serving) (opened : List Entry) (count : ℕ) (roles : List Role) (come : List (Option (List (List ℕ)))) (kept written written' : Option (List Returned)) (faults faults' : ℕ) (k : Pass)
     (history : List Entry) (links : List (List LinkReport)) (verdict : Verdict)
     → (g : HasGathered (settings_of serving) opened (count + 1) roles come kept written written' faults faults' k links verdict)

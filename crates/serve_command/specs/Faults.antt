@@ -1,5 +1,5 @@
--- Why a share is not served: a place that is not opened, an input that is too long, records that are refused, and a batch
--- that leaves too many lists.
+-- Errors of `serve`, before its share is served: an address that is not opened, an input that is too long, records that
+-- are refused, and a batch that leaves too many lists.
 use Rattle.std.specs.Prelude.{◌≢◌, ◌<◌, ◌++◌, ◌∷◌, [], ℕ, List, length, codes}
 use Rattle.records_import.specs.declared.refusal.RecordError.TheVariants as records
 use Rattle.daap_outside.specs.declared.net.NetError.{NetError}
@@ -29,18 +29,18 @@ serve_status TooLong = 8
 serve_status (Records error) = 3
 serve_status TooManyLists = 8
 
--- by whether the net's count of faults rose
+-- `failed` says whether the network's error counter rose
 abbrev pub serve_cause : (failed : Type 0) → ServeFault → Cause
 serve_cause failed Network = OfWords failed
 serve_cause failed TooLong = OfInput (Unit {0}) (λ input. records_limit < length input)
 serve_cause failed (Records error) = OfInput (error ≢ records.Memory) (IsRefused error)
 serve_cause failed TooManyLists = OfInput (Unit {0}) LeavesMany
 
--- `serve` stops so before its share is served; memory may be wanted at any time
+-- why `serve` stops before its share is served; an allocation may fail at any time
 abbrev pub StopsServing : (failed : Type 0) → InputSeen → InputSeen → Fault ServeFault → Type 0
 StopsServing failed before after stop = StopsBy (serve_cause failed) IsWithin (Unit {0}) before after stop
 
--- the faults that refusals of places, of the input and of the share are
+-- the errors of `serve` if an address, the input or the share is refused
 abbrev pub net_fault : NetError → Fault ServeFault
 net_fault nets.Failed = fault.Own Network
 net_fault nets.Memory = fault.Memory

@@ -13,30 +13,30 @@ use Rattle.kept_library.specs.Closing.{LeavesAt, LeavesOrOneMore}
 use Rattle.kept_library.specs.Opening.{AreFew, StandsAt}
 use Rattle.command_core.specs.Seen.{FilesSeen}
 
--- the entries that a share begins with: an entry for each batch that its file stood for, where it has a file, and for the batch of
--- the input, where that has edits; they are within the limits of a share
+-- the entries that a share begins with: one for each batch that its file represented, if it has a file, and for the
+-- batch of the input, if that has edits; they are within the limits of a share
 abbrev pub IsOpening : Option (List ℕ) → Option Contents → List Edit → List Entry → Type 0
 IsOpening None contents edits opened = (opened ≡ opening edits) × (has_few_lists [] edits ≡ true)
 IsOpening (Some path) contents edits opened = (stood : List (List Edit)) × StandsAt contents path stood × (opened ≡ opened_with (stood ++ if_filled edits)) × AreFew (stood ++ if_filled edits)
 
--- All batches are left under the name. Where the last edit was lost, all before it are, and there may be one more.
+-- The bytes under the name represent all batches; if the last edit was lost, all before it, and there may be one more.
 abbrev pub LeavesBut : Bool → List ℕ → List (List Edit) → Option Contents → Option Contents → Type 0
 LeavesBut false path bs before now = LeavesAt path bs before now
 LeavesBut true path bs before now = (earlier : List (List Edit)) × (last : List Edit) × (bs ≡ earlier ++ last ∷ []) × LeavesOrOneMore path earlier before now
 
--- A file was asked for, and has the batches of this history, but for a last one that was lost. The count of files rises exactly with
--- that.
+-- A file was opened, and has the batches of this history, except for a last one that was lost. The error counter of the
+-- files rises exactly if one was lost.
 pub record IsKept (path : List ℕ) (before after : FilesSeen) (history : List Entry) (lost : Bool) : Type 0 where
   pub asked : Grows before.asked after.asked (path ∷ [])
   pub counts : MatchBool lost (Rose before.faults after.faults) (after.faults ≡ before.faults)
   pub left : LeavesBut lost path (batches history) before.contents after.contents
 
--- what a share leaves of the files; without a file of its own it leaves them alone, and loses no edit
+-- what a share leaves of the files; without a file it leaves them unchanged, and loses no edit
 abbrev pub AreKept : Option (List ℕ) → FilesSeen → FilesSeen → List Entry → Bool → Type 0
 AreKept None before after history lost = (after ≡ before) × (lost ≡ false)
 AreKept (Some path) before after history lost = IsKept path before after history lost
 
--- what a keeper keeps of a history whose opening it had, and of which one worker made all edits behind that
+-- what a keeper keeps of a history whose opening it had, if one worker made all later edits
 pub record HasKept (editors : ℕ) (keeps keeps' : List (List Edit) → Type 0) (is_lost' : Bool) (faults faults' : ℕ) (opened history : List Entry) (lost : Bool) : Type 0 where
   pub is_lost : is_lost' ≡ lost
   pub counts : MatchBool lost (Rose faults faults') (faults' ≡ faults)

@@ -1,4 +1,4 @@
--- What a file has that kept the edits of a share.
+-- The content of a file that kept the edits of a share.
 use Rattle.std.specs.Prelude.{◌≡◌, ℕ, List, Bool, MatchBool, Option}
 use Rattle.item_model.specs.declared.changes.Entry.{Entry}
 use Rattle.outside_disks.specs.Counts.{Rose}
@@ -10,7 +10,8 @@ use Rattle.edit_file.specs.Files.{HasBatches, disk_of, is_broken, place_of}
 use Rattle.edit_file.specs.declared.file.EditFile.{EditFile}
 
 module _ {D : Type 0} (g : Ghosts D) {f : faulted.Ghosts D} where
-  -- the batches of the history, in its place, but for a last one that was lost; its disk has counted a fault exactly then
+  -- it has the batches of the history, under its name, except for a last one that was lost; its disk has counted an
+  -- error exactly if one was lost
   pub record IsKeptIn (place : Option (List ℕ)) (faults : ℕ) (file : EditFile D g f) (history : List Entry) (lost : Bool) : Type 0 where
     pub is_broken_so : is_broken g file ≡ lost
     pub counts : MatchBool lost (Rose faults (f.faults (disk_of g file))) (f.faults (disk_of g file) ≡ faults)

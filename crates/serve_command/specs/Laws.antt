@@ -18,13 +18,13 @@ use Rattle.command_core.specs.ReadRecords.{ReadsAs}
 use Rattle.serve_command.specs.declared.terms.Serving.{Serving}
 use Rattle.serve_command.specs.Runs.{Left, ServeEnds}
 
--- some worker served as many links, or as many requests, as one may
+-- some worker served as many connections, or as many requests, as its limit allows
 pub record IsSpent (workers : List (List LinkReport)) : Type 0 where
   pub reports : List LinkReport
   pub stands : Contains workers reports
   pub most : (length reports ≡ 65536) ⊎ (length (all_served reports) ≡ 262144)
 
--- the bytes under a name stand for batches with which, and with the one of the input, a share begins
+-- the bytes under a name represent batches; these and then the one of the input are within the limits of a share
 pub record StandsForShare (contents : Option Contents) (path : List ℕ) (first : List Edit) : Type 0 where
   pub told : Contents
   pub is : contents ≡ Some told
@@ -33,13 +33,13 @@ pub record StandsForShare (contents : Option Contents) (path : List ℕ) (first 
   pub few_edits : length (edits (stood ++ if_filled first)) ≤ most_edits
   pub few_lists : LeaveFewLists (stood ++ if_filled first)
 
--- a share begins with the input's batch, and with its file, where it has one
+-- a share may begin with the batches of its file, if it has one, and then the input's
 abbrev pub IsOpened : Option (List ℕ) → Option Contents → List Edit → Type 0
 IsOpened None contents first = has_few_lists [] first ≡ true
 IsOpened (Some path) contents first = StandsForShare contents path first
 
--- Where nothing outside fails and the input is told, records that are the first batch of a share end with success, but for
--- want of memory and for a worker that served as much as it may
+-- If nothing outside fails and the input is known, records that are the first batch of a share end with status 0,
+-- except for out of memory and for a worker at its limit.
 abbrev pub RunsAreDecided : Type 0
 RunsAreDecided =
     (serving : Serving) (told : Told) (left : Left) (input : List ℕ) (first : List Edit) → ServeEnds serving told left
@@ -48,7 +48,8 @@ RunsAreDecided =
     → ¬ (Rose told.before.around.net.faults told.after.around.net.faults) → ¬ (Rose told.before.around.files.faults told.after.around.files.faults)
     → (left.status ≡ 0) ⊎ ((left.status ≡ 9) ⊎ ((left.status ≡ 8) × IsSpent left.links))
 
--- what success says of a file: no fault of files was counted, and the bytes under its name stand for the batches of the history
+-- what status 0 says of a file: no error of files was counted, and the bytes under its name represent the batches of
+-- the history
 pub record IsLeft (path : List ℕ) (told : Told) (left : Left) : Type 0 where
   pub faultless : told.after.around.files.faults ≡ told.before.around.files.faults
   pub history : List Entry
@@ -58,6 +59,6 @@ pub record IsLeft (path : List ℕ) (told : Told) (left : Left) : Type 0 where
 abbrev pub SuccessLeavesTheFile : Type 0
 SuccessLeavesTheFile = (serving : Serving) (path : List ℕ) (told : Told) (left : Left) → ServeEnds serving told left → left.status ≡ 0 → serving.file ≡ Some path → IsLeft path told left
 
--- a file call that failed is told where the count of files rose, and nowhere else
+-- the status of a failed file call comes only if the error counter of the files rose
 abbrev pub FileFaultsAreCounted : Type 0
 FileFaultsAreCounted = (serving : Serving) (told : Told) (left : Left) → ServeEnds serving told left → left.status ≡ 10 → Rose told.before.around.files.faults told.after.around.files.faults

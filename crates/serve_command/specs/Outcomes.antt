@@ -1,4 +1,4 @@
--- What an outcome of `serve` tells.
+-- What an outcome of `serve` says.
 use Rattle.share_crew.specs.declared.outcome.Outcome.{Outcome}
 use Rattle.serve_command.specs.Runs.{Left}
 

@@ -1,4 +1,4 @@
--- The doors of the two places, and what opening them does to a net.
+-- The listeners of the two addresses, and what opening them does to a network.
 use Rattle.std.specs.Prelude.{◌≡◌, ◌⊎◌, ◌≤◌, ℕ, List, [], take, Option}
 use Rattle.daap_outside.specs.Counts.{Rose}
 use Rattle.daap_outside.specs.Told.{Grows}
@@ -11,12 +11,12 @@ use Rattle.serve_command.specs.declared.terms.Serving.{Serving}
 use Rattle.serve_command.specs.Terms.{places_of}
 use Rattle.share_crew.specs.Doors.{HaveLinks}
 
--- the net was asked for these places, and no link was given back
+-- `listen` was called for these addresses, and no connection was closed
 pub record HasAsked (places : List (List ℕ × ℕ)) (before after : NetSeen) : Type 0 where
   pub asked : Grows before.asked after.asked places
   pub written : Grows before.written after.written []
 
--- both places were opened: as many doors at each as were asked for, with no fault
+-- both addresses were opened, each with its number of listeners, without an error
 pub record HasOpened (serving : Serving) (before after : NetSeen) (listen edit : ℕ) (coming : List (Option (List (List ℕ)))) : Type 0 where
   pub listening : listen ≡ serving.workers
   pub editing : edit ≡ serving.editors
@@ -24,19 +24,19 @@ pub record HasOpened (serving : Serving) (before after : NetSeen) (listen edit :
   pub links : HaveLinks before.door_links coming
   pub faultless : after.faults ≡ before.faults
 
--- a place was not opened: it failed, or memory was wanted
+-- an address was not opened: that failed, or an allocation did
 abbrev pub StopsOpening : ℕ → ℕ → Fault ServeFault → Type 0
 StopsOpening before after stop = ((stop ≡ fault.Own Network) × Rose before after) ⊎ ((stop ≡ fault.Memory) × (after ≡ before))
 
 pub record FailsToOpen (serving : Serving) (before after : NetSeen) (stop : Fault ServeFault) : Type 0 where
-  -- none was asked for, or the first, or both
+  -- how many calls of `listen` there were
   pub count : ℕ
   pub few : count ≤ 2
   pub some : stop ≡ fault.Own Network → 1 ≤ count
   pub asked : HasAsked (take count (places_of serving)) before after
   pub stops : StopsOpening before.faults after.faults stop
 
--- doors at which nobody waited were given back: no more is told of the net since it opened them
+-- listeners at which no worker has accepted were closed; the network is as it was after it opened them
 pub record IsGivenBack (start before after : NetSeen) : Type 0 where
   pub asked : after.asked ≡ before.asked
   pub written : Grows start.written before.written [] → Grows start.written after.written []

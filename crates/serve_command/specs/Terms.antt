@@ -1,4 +1,5 @@
--- What follows from what a share is served with: its settings, its places with their doors, and the roles of its workers.
+-- What follows from the settings of `serve`: those of the share, the addresses with their listeners, and the roles of
+-- the workers.
 use Rattle.std.specs.Prelude.{◌≡◌, ◌≤◌, IfSome, ℕ, ◌+◌, List, [], ◌∷◌, ◌++◌, length, replicate}
 use Rattle.item_model.specs.Limits.{text_limit}
 use Rattle.share_asks.specs.declared.ask.Role.{Role}
@@ -6,7 +7,7 @@ use Rattle.share_asks.specs.declared.ask.Role.TheVariants.{Listen, Edit}
 use Rattle.share_replies.specs.Settings.{Settings}
 use Rattle.serve_command.specs.declared.terms.Serving.{Serving}
 
--- the numbers of a share that may be served, and the length of its name; a file that keeps its edits has one editor
+-- the ranges of the settings; a share with a file has one editor
 pub record MayServe (serving : Serving) : Type 0 where
   pub name : length serving.name ≤ text_limit
   pub some_kept : 1 ≤ serving.keep
@@ -20,7 +21,7 @@ pub record MayServe (serving : Serving) : Type 0 where
 abbrev pub settings_of : Serving → Settings
 settings_of serving = record { name = serving.name; keep = serving.keep }
 
--- the two places, each with its number of doors
+-- the two addresses, each with its number of listeners
 abbrev pub places_of : Serving → List (List ℕ × ℕ)
 places_of serving = (serving.listen, serving.workers) ∷ (serving.edit, serving.editors) ∷ []
 

@@ -1,4 +1,4 @@
-//! What stands behind the last link: the line that tells what was served, and the status.
+//! Writes the lines after the last connection, and returns the status.
 
 ghost use Rattle.std.specs.Prelude.{◌≡◌, ◌<◌, ◌^◌, ◌++◌, MatchResult, Some};
 ghost use Rattle.command_core.specs.Seen.{output_seen};
@@ -15,8 +15,8 @@ use share_core::Share;
 use share_crew::{LinkReports, Outcome, Verdict, ended_line_of};
 use std::alloc::{AllocError, Global};
 
-/// Tells what was served, and how it ended.
-pub(crate) fn closed<W: Sink>(
+/// Writes what was served, and how it ended. Returns the outcome of the run.
+pub(crate) fn finish<W: Sink>(
     alloc: Global,
     output: &mut W,
     share: Share,
@@ -34,7 +34,7 @@ pub(crate) fn closed<W: Sink>(
         result.status }
 {
     let line = ended_line_of(alloc, share.revision(), links.as_slice());
-    let status = told(output, line, verdict);
+    let status = write_end(output, line, verdict);
     Outcome {
         status,
         history: Some(Entries::of(share.into_history())),
@@ -42,8 +42,8 @@ pub(crate) fn closed<W: Sink>(
     }
 }
 
-// Writes the line, and behind it that of the verdict.
-fn told<W: Sink>(output: &mut W, line: Result<Vec<u8>, AllocError>, verdict: Verdict) -> u8
+// Writes the line, and then that of the verdict. Returns the status.
+fn write_end<W: Sink>(output: &mut W, line: Result<Vec<u8>, AllocError>, verdict: Verdict) -> u8
     ensures { MatchResult line
         (λ bytes. Tells (verdict_status verdict) (bytes.items ++ verdict_line verdict)
         (output_seen (W.taken output.old) (W.faults output.old))
@@ -56,15 +56,15 @@ fn told<W: Sink>(output: &mut W, line: Result<Vec<u8>, AllocError>, verdict: Ver
 {
     match line {
         Ok(line) => match put_all(output, line.as_slice()) {
-            Ok(()) => ruled(output, verdict),
+            Ok(()) => write_verdict(output, verdict),
             Err(_) => 5,
         },
-        Err(AllocError) => ruled(output, verdict.with_memory()),
+        Err(AllocError) => write_verdict(output, verdict.with_memory()),
     }
 }
 
-// Writes the line of a verdict.
-fn ruled<W: Sink>(output: &mut W, verdict: Verdict) -> u8
+// Writes the line of a verdict. Returns the status.
+fn write_verdict<W: Sink>(output: &mut W, verdict: Verdict) -> u8
     ensures { Tells (verdict_status verdict) (verdict_line verdict)
         (output_seen (W.taken output.old) (W.faults output.old))
         (output_seen (W.taken output.new) (W.faults output.new))

@@ -1,4 +1,4 @@
-//! The command, whole.
+//! The command `serve`.
 
 ghost use Rattle.std.specs.Prelude.{◌≡◌, ◌+◌, ◌-◌, ◌++◌, None, map, length};
 ghost use Rattle.command_core.specs.Seen.{NetSeen, input_seen, files_seen, net_seen, output_seen, seen, told_in};
@@ -13,7 +13,7 @@ use crate::places::{Doors, opened};
 use crate::records::serve_records;
 use crate::terms::Serving;
 use crate::unserved::{turned_away, unserved};
-use command_core::{read_records, refused};
+use command_core::{read_records, write_error};
 use daap_outside::{Files, Net, Sink, Source};
 use share_crew::Outcome;
 use std::alloc::Global;
@@ -21,8 +21,8 @@ use std::sync::Wait;
 use std::thread::Threads;
 use std::time::Clock;
 
-/// Serves a share that begins with the batches of its file, where it has one, and with the records of the input, until it is
-/// stopped or no further link comes. An edit is kept in the file before it is answered.
+/// Serves a share that begins with the batches of its file, if it has one, and then the records of the input, until it
+/// is stopped or no further connection comes. Each edit is kept in the file before it is answered.
 pub fn serve<I: Source, W: Sink, F: Files, N: Net, R: Threads + Wait + Clock + Sync>(
     rt: &R,
     alloc: Global,
@@ -48,11 +48,11 @@ pub fn serve<I: Source, W: Sink, F: Files, N: Net, R: Threads + Wait + Clock + S
 {
     match opened(net, serving) {
         Ok(doors) => serve_at(rt, alloc, serving, input, output, files, net, doors),
-        Err(stop) => unserved(alloc, refused(alloc, output, &stop).status),
+        Err(stop) => unserved(alloc, write_error(alloc, output, &stop).status),
     }
 }
 
-// Serves a share at doors that are open.
+// Serves a share at listeners that are open.
 fn serve_at<I: Source, W: Sink, F: Files, N: Net, R: Threads + Wait + Clock + Sync>(
     rt: &R,
     alloc: Global,

@@ -1,4 +1,4 @@
-//! Why a share is not served.
+//! Errors of `serve`, before its share is served.
 
 ghost use Rattle.std.specs.Prelude.{◌≡◌};
 ghost use Rattle.serve_command.specs.Faults.{serve_line, serve_status, net_fault, input_fault, open_fault};
@@ -10,16 +10,17 @@ use records_import::RecordError;
 use share_core::OpenError;
 use std::alloc::{AllocError, Global};
 
-/// Why a share is not served. Want of memory, and an input that cannot be read, are none of these.
+/// Errors of `serve`, before its share is served. Out of memory is `Fault::Memory`, and a read that failed
+/// `Fault::Read`.
 #[derive(Debug, Drop)]
 pub enum ServeFault {
-    /// A place could not be listened at.
+    /// An address could not be opened.
     Network,
-    /// The input has more bytes than are read.
+    /// The input has more than 4,194,304 bytes.
     TooLong,
-    /// Its records don't read as a batch.
+    /// Its records are refused.
     Records(RecordError),
-    /// They leave more lists than a share has.
+    /// They leave more lists than a share may have.
     TooManyLists,
 }
 
@@ -46,7 +47,7 @@ impl Refusal for ServeFault {
     }
 }
 
-/// What a place that was not opened is to `serve`.
+/// Returns the error of `serve` for an address that was not opened.
 pub(crate) fn net_fault(error: NetError) -> Fault<ServeFault>
     ensures { result ≡ net_fault error }
 {
@@ -56,7 +57,7 @@ pub(crate) fn net_fault(error: NetError) -> Fault<ServeFault>
     }
 }
 
-/// What a refusal of the input is.
+/// Returns the error of `serve` for one of the input.
 pub(crate) fn input_fault(fault: Fault<InputFault>) -> Fault<ServeFault>
     ensures { result ≡ input_fault fault }
 {
@@ -68,7 +69,7 @@ pub(crate) fn input_fault(fault: Fault<InputFault>) -> Fault<ServeFault>
     }
 }
 
-/// What a share that is not opened is.
+/// Returns the error of `serve` for a share that could not be opened.
 pub(crate) fn open_fault(error: OpenError) -> Fault<ServeFault>
     ensures { result ≡ open_fault error }
 {

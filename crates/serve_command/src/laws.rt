@@ -1,19 +1,19 @@
-//! What holds of all runs. Each function does nothing; its contract is a fact that follows from the definitions.
+//! Laws of all runs. Each function has an empty body; its contract is a theorem.
 
 ghost use Rattle.serve_command.specs.Laws.{FileFaultsAreCounted, RunsAreDecided, SuccessLeavesTheFile};
 
-/// Words and input decide how a run ends where nothing outside fails, but for want of memory and for workers that served
-/// as much as they may.
+/// If nothing outside fails, arguments and input decide how a run ends, except for out of memory and for workers at
+/// their limit.
 pub fn runs_are_decided()
     ensures { RunsAreDecided }
 {}
 
-/// After success the file has the batches of the history, and no fault of files was counted.
+/// After status 0 the file has the batches of the history, and no error of files was counted.
 pub fn success_leaves_the_file()
     ensures { SuccessLeavesTheFile }
 {}
 
-/// The status of a file that failed comes only where a fault of files was counted.
+/// The status of a file that failed comes only if an error of files was counted.
 pub fn file_faults_are_counted()
     ensures { FileFaultsAreCounted }
 {}

@@ -1,5 +1,6 @@
-//! The command `serve`: a share at two places, one for its players and one for those who change it, from the records that it
-//! begins with to the history that it leaves. Every link is served by a worker in a thread of its own. A file may keep the edits.
+//! The command `serve`: shares a catalogue at two addresses, one for players and one for editors, from the records that
+//! it begins with to the history that it leaves. Workers, each in its own thread, serve the connections. A file may
+//! keep the edits.
 #![tactic(auto)]
 
 mod closing;

@@ -1,4 +1,4 @@
-//! What stands before the first link is served: the line that tells the share, and the share under its lock.
+//! Writes the first line of a share, and puts the share under its lock.
 
 ghost use Rattle.std.specs.Prelude.{◌≡◌, All, IfOk, MatchResult};
 ghost use Rattle.command_core.specs.Seen.{output_seen};
@@ -15,17 +15,21 @@ use command_core::out_of_memory;
 use daap_outside::Sink;
 use fault_lines::push_number;
 use share_core::Share;
-use share_crew::{Begun, Room, announced};
+use share_crew::{LockedShare, WorkerBuffers, announced};
 use std::alloc::{AllocError, Global};
 
-/// Puts a share under a lock once its line was written. Where that fails, the line of the fault was written, and the status is
-/// answered that the program ends with.
+/// Writes the first line of `share`, and puts it under a lock.
+///
+/// # Errors
+///
+/// Returns the status that the program ends with: 5 if the output failed, and 9 if an allocation failed and the line of
+/// that was written.
 pub(crate) fn begin<W: Sink, D: Drop>(
     alloc: Global,
     serving: &Serving,
     output: &mut W,
     share: Share,
-) -> Result<Begun<D>, u8>
+) -> Result<LockedShare<D>, u8>
     requires may { MayServe serving.now }
     requires opening { All (λ e. maker e ≡ 0) share.history }
     requires settings { share.settings ≡ settings_of serving.now }
@@ -38,28 +42,28 @@ pub(crate) fn begin<W: Sink, D: Drop>(
         (output_seen (W.taken output.new) (W.faults output.new))) }
 {
     let passes = serving.workers + serving.editors + 1;
-    match prepared(alloc, serving, &share) {
+    match prepare(alloc, serving, &share) {
         Ok((line, room)) => announced(alloc, output, line.as_slice(), share, passes, room),
         Err(AllocError) => Err(out_of_memory(output, None).status),
     }
 }
 
-// The line that tells the share, and the room for its workers.
-fn prepared<D: Drop>(
+// Returns the first line of the share, and the capacity for its workers.
+fn prepare<D: Drop>(
     alloc: Global,
     serving: &Serving,
     share: &Share,
-) -> Result<(Vec<u8>, Room<D>), AllocError>
+) -> Result<(Vec<u8>, WorkerBuffers<D>), AllocError>
     requires { MayServe serving.now }
     ensures line { IfOk result (λ r. r.0.items ≡ serving_line serving.now.name (revision (batches share.now.history))) }
     ensures room { IfOk result (λ r. HasRoom (workers_of serving.now) r.1) }
 {
     let line = first_line_of(alloc, serving, share.revision())?;
-    let room = Room::of(alloc, (serving.workers + serving.editors) as usize)?;
+    let room = WorkerBuffers::of(alloc, (serving.workers + serving.editors) as usize)?;
     Ok((line, room))
 }
 
-// The line that tells that the share is served.
+// Returns the first line of the share.
 fn first_line_of(alloc: Global, serving: &Serving, revision: u32) -> Result<Vec<u8>, AllocError>
     ensures { IfOk result (λ line. line.items ≡ serving_line serving.now.name revision) }
 {

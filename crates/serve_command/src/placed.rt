@@ -1,4 +1,4 @@
-//! A file that keeps edits under the name by which it was opened.
+//! A file that keeps edits, with the name under which it was opened.
 ghost use Rattle.std.specs.Prelude.{◌≡◌, List, ℕ, Option, None};
 ghost use Rattle.edit_file.specs.Files.{HasBatches, disk_of, is_broken, place_of};
 
@@ -9,7 +9,7 @@ use item_model::Batch;
 use std::alloc::{AllocError, Global};
 use std::marker::{Brand, PhantomData};
 
-/// The name under which a file of edits is found, where that is told.
+/// The name of an edit file, if that is known.
 pub(crate) trait Placed {
     ghost place: { Option (List ℕ) };
 }
@@ -18,7 +18,7 @@ impl Placed for Brand {
     ghost place = { None };
 }
 
-/// An edit file in its place.
+/// An edit file with its name.
 pub(crate) struct PlacedFile<D: Disk + Drop, P: Placed> {
     pub(crate) file: EditFile<D>,
     pub(crate) of: PhantomData<P>,

@@ -1,4 +1,4 @@
-//! The doors of the two places.
+//! The listeners of the two addresses.
 
 ghost use Rattle.std.specs.Prelude.{◌≡◌, ◌+◌, ◌++◌, map, length, IfOk, IfErr, OnErr};
 ghost use Rattle.command_core.specs.Seen.{net_seen};
@@ -11,15 +11,15 @@ use command_core::Fault;
 use daap_outside::Net;
 use share_crew::shut_all;
 
-/// The doors of both places, before anybody waits at them.
+/// The listeners of both addresses, before a worker accepts at them.
 #[derive(Drop)]
 pub(crate) struct Doors<D> {
     pub(crate) listen: Vec<D>,
     pub(crate) edit: Vec<D>,
 }
 
-/// Opens the place of the players and then that of those who change the share. Where the second is not opened, the doors of
-/// the first are given back.
+/// Opens the address of the players and then that of the editors. If the second is not opened, closes the listeners of
+/// the first.
 pub(crate) fn opened<N: Net>(
     net: &mut N,
     serving: &Serving,

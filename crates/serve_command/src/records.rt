@@ -1,4 +1,4 @@
-//! A share that begins with the records of the input, behind the batches of its file, if it has one.
+//! Serves a share that begins with the batches of its file, if it has one, and then the records of the input.
 
 ghost use Rattle.std.specs.Prelude.{◌≡◌, ◌≤◌, ◌+◌, ◌-◌, ◌++◌, Some, None, map, length, false, All};
 ghost use Rattle.item_model.specs.Valid.{AreValid};
@@ -35,7 +35,7 @@ use std::sync::Wait;
 use std::thread::Threads;
 use std::time::Clock;
 
-/// Serves a share that begins with a batch, behind those of its file, if it has one.
+/// Serves a share that begins with the batches of its file, if it has one, and then `first`.
 pub(crate) fn serve_records<W: Sink, F: Files, N: Net, R: Threads + Wait + Clock + Sync>(
     rt: &R,
     alloc: Global,
@@ -83,7 +83,7 @@ pub(crate) fn serve_records<W: Sink, F: Files, N: Net, R: Threads + Wait + Clock
     }
 }
 
-// Serves a share that begins with a batch, and keeps its edits nowhere.
+// Serves a share that begins with `first`, and has no file.
 fn serve_input<W: Sink, N: Net, R: Threads + Wait + Clock + Sync>(
     rt: &R,
     alloc: Global,
@@ -115,7 +115,7 @@ fn serve_input<W: Sink, N: Net, R: Threads + Wait + Clock + Sync>(
     }
 }
 
-// Serves a share that begins with the batches of a file, and then with one more, and keeps its edits there.
+// Serves a share that begins with the batches of a file and then `first`, and keeps its edits in the file.
 fn serve_file<W: Sink, F: Files, N: Net, R: Threads + Wait + Clock + Sync>(
     rt: &R,
     alloc: Global,
@@ -166,7 +166,7 @@ fn serve_file<W: Sink, F: Files, N: Net, R: Threads + Wait + Clock + Sync>(
     }
 }
 
-// Serves a share whose edits a file keeps, and gives the file back.
+// Serves a share whose edits a file keeps. Returns the file.
 fn serve_kept<P: Placed, W: Sink, N: Net, D: Disk + Drop, R: Threads + Wait + Clock + Sync>(
     rt: &R,
     alloc: Global,

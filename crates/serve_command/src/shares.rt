@@ -1,4 +1,4 @@
-//! A share from its first line to its last, at doors that are open.
+//! Serves a share from its first line to its last, at listeners that are open.
 
 ghost use Rattle.std.specs.Prelude.{◌≡◌, ◌≤◌, ◌<◌, ◌+◌, ◌-◌, ◌++◌, ◌∷◌, [], ℕ, List, map, length, vec_len, vec_capacity, false, All};
 ghost use Rattle.item_model.specs.declared.changes.Entry.{Entry};
@@ -15,7 +15,7 @@ ghost use Rattle.serve_command.specs.Places.{HasOpened};
 ghost use Rattle.serve_command.specs.Runs.{HasServed, ShareEnds};
 ghost use Rattle.serve_command.specs.Terms.{MayServe, settings_of};
 
-use crate::closing::closed;
+use crate::closing::finish;
 use crate::opening::begin;
 use crate::places::Doors;
 use crate::terms::Serving;
@@ -24,7 +24,9 @@ use daap_outside::{Net, Sink};
 use edit_keeping::Keeps;
 use share_asks::Role;
 use share_core::Share;
-use share_crew::{Begun, Gathered, Outcome, Room, gather, hire, keep_beside, share_of};
+use share_crew::{
+    Gathered, LockedShare, Outcome, WorkerBuffers, add_workers, gather, keep_beside, share_of,
+};
 use share_lock::Bell;
 use share_workers::Worker;
 use std::alloc::Global;
@@ -32,7 +34,7 @@ use std::sync::Wait;
 use std::thread::Threads;
 use std::time::Clock;
 
-/// Serves a share, with what keeps its edits, which is given back.
+/// Serves a share whose edits `keeper` keeps. Returns the keeper, too.
 pub(crate) fn serve_share<W: Sink, N: Net, K: Keeps, R: Threads + Wait + Clock + Sync>(
     rt: &R,
     alloc: Global,
@@ -69,14 +71,14 @@ pub(crate) fn serve_share<W: Sink, N: Net, K: Keeps, R: Threads + Wait + Clock +
     }
 }
 
-// Serves a share that is under its lock, to its end. The last of those who edit it works in this thread.
+// Serves a share that is under its lock, to its end. The last editor's worker works in this thread.
 fn serve_begun<W: Sink, N: Net, K: Keeps, R: Threads + Wait + Clock + Sync>(
     rt: &R,
     alloc: Global,
     output: &mut W,
     net: &mut N,
     doors: Doors<N::D>,
-    begun: Begun<N::D>,
+    begun: LockedShare<N::D>,
     keeper: K,
 ) -> (Outcome, K)
     requires ready { IsReady (lock_id begun.lock) begun.first }
@@ -99,7 +101,7 @@ fn serve_begun<W: Sink, N: Net, K: Keeps, R: Threads + Wait + Clock + Sync>(
         before (output_seen (W.taken output.new) (W.faults output.new)) (left_of result.0) }
     ensures closes { N.open_count net.new ≡ N.open_count net.old - (length doors.listen.items + length doors.edit.items) }
 {
-    let (mut begun, mut last) = staffed(rt, alloc, begun, doors);
+    let (mut begun, mut last) = assign_workers(rt, alloc, begun, doors);
     let mut keeper = keeper;
     keep_beside(
         rt,
@@ -118,16 +120,16 @@ fn serve_begun<W: Sink, N: Net, K: Keeps, R: Threads + Wait + Clock + Sync>(
         verdict,
     } = gather(net, begun);
     let share = share_of(rt, &lock, &mut first);
-    (closed(alloc, output, share, links, verdict), keeper)
+    (finish(alloc, output, share, links, verdict), keeper)
 }
 
-// Gives each door its worker, and takes out the last of them.
-fn staffed<D: Drop, R: Wait>(
+// Makes a worker for each listener. Returns the last of them by itself.
+fn assign_workers<D: Drop, R: Wait>(
     rt: &R,
     alloc: Global,
-    begun: Begun<D>,
+    begun: LockedShare<D>,
     doors: Doors<D>,
-) -> (Begun<D>, Worker<D>)
+) -> (LockedShare<D>, Worker<D>)
     requires ready { IsReady (lock_id begun.lock) begun.first }
     requires empty { begun.room.crew.items ≡ [] }
     requires room { length doors.listen.items + length doors.edit.items ≤ vec_capacity begun.room.crew }
@@ -142,13 +144,13 @@ fn staffed<D: Drop, R: Wait>(
     ensures room { vec_len result.0.room.crew < vec_capacity result.0.room.crew }
     ensures links { result.0.room.links ≡ begun.room.links }
 {
-    let Begun {
+    let LockedShare {
         lock,
         mut first,
-        room: Room { mut crew, links },
+        room: WorkerBuffers { mut crew, links },
     } = begun;
     let Doors { listen, edit } = doors;
-    hire(
+    add_workers(
         rt,
         alloc,
         &lock,
@@ -157,12 +159,12 @@ fn staffed<D: Drop, R: Wait>(
         Role::Listen,
         &mut crew,
     );
-    hire(rt, alloc, &lock, &mut first, edit, Role::Edit, &mut crew);
+    add_workers(rt, alloc, &lock, &mut first, edit, Role::Edit, &mut crew);
     let last = crew.pop().unwrap();
-    let begun = Begun {
+    let begun = LockedShare {
         lock,
         first,
-        room: Room { crew, links },
+        room: WorkerBuffers { crew, links },
     };
     (begun, last)
 }

@@ -1,22 +1,22 @@
-//! What a share is served with.
+//! The settings of `serve`.
 
 use dmap_tags::Text;
 
-/// A share to be served: where, and as what.
+/// The settings of `serve`.
 #[derive(Debug, Drop)]
 pub struct Serving {
-    /// The place that players connect to.
+    /// The address that players connect to.
     pub listen: Text,
-    /// The place that changes of the library are sent to.
+    /// The address that editors connect to.
     pub edit: Text,
     /// The name that players show.
     pub name: Text,
-    /// For how many revisions back the share answers with changes.
+    /// The delta window of the share, in revisions.
     pub keep: u32,
-    /// How many links of players are served at once.
+    /// How many connections of players are served at once.
     pub workers: u32,
-    /// How many links of those who change it: one where a file keeps the changes.
+    /// How many connections of editors are served at once: one if a file keeps the edits.
     pub editors: u32,
-    /// The name of the file that keeps the changes, if there is one.
+    /// The name of the file that keeps the edits, if there is one.
     pub file: Option<Text>,
 }

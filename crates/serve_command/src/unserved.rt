@@ -1,4 +1,4 @@
-//! Runs that end before their share is served.
+//! The end of runs whose share is not served.
 
 ghost use Rattle.std.specs.Prelude.{◌≡◌, ◌+◌, ◌-◌, length};
 ghost use Rattle.command_core.specs.Seen.{NetSeen, net_seen, output_seen};
@@ -9,12 +9,12 @@ ghost use Rattle.serve_command.specs.Runs.{HasNoShare, TellsFault};
 ghost use Rattle.serve_command.specs.Terms.{places_of};
 
 use crate::places::Doors;
-use command_core::{Fault, Refusal, refused};
+use command_core::{Fault, Refusal, write_error};
 use daap_outside::{Net, Sink};
 use share_crew::{LinkReports, Outcome, shut_all};
 use std::alloc::Global;
 
-/// The outcome where no share came under a lock.
+/// Returns the outcome if no share was put under a lock.
 pub(crate) fn unserved(alloc: Global, status: u8) -> Outcome
     ensures status { result.status ≡ status }
     ensures none { HasNoShare (left_of result) }
@@ -26,7 +26,7 @@ pub(crate) fn unserved(alloc: Global, status: u8) -> Outcome
     }
 }
 
-/// Gives back doors at which nobody waited.
+/// Closes listeners at which no worker has accepted.
 pub(crate) fn given_back<N: Net>(net: &mut N, doors: Doors<N::D>)
     ensures back { (start : NetSeen) → AreNew N.D.written N.D.faults start.written doors.listen.items → AreNew N.D.written N.D.faults start.written doors.edit.items
         → IsGivenBack start
@@ -38,7 +38,7 @@ pub(crate) fn given_back<N: Net>(net: &mut N, doors: Doors<N::D>)
     shut_all(net, doors.edit);
 }
 
-/// Writes the line of a fault by which no share is opened, and gives the doors back.
+/// Writes the line of `stop`, because of which no share is opened, and closes the listeners.
 pub(crate) fn turned_away<W: Sink, N: Net, E: Refusal>(
     alloc: Global,
     output: &mut W,
@@ -54,7 +54,7 @@ pub(crate) fn turned_away<W: Sink, N: Net, E: Refusal>(
         (net_seen (N.asked net.new) (N.written net.new) (N.door_links net.new) (N.next_input net.new) (N.faults net.new)) }
     ensures closes { N.open_count net.new ≡ N.open_count net.old - (length doors.listen.items + length doors.edit.items) }
 {
-    let status = refused(alloc, output, stop).status;
+    let status = write_error(alloc, output, stop).status;
     given_back(net, doors);
     unserved(alloc, status)
 }

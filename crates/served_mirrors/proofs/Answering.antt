@@ -1,4 +1,4 @@
--- One request that a client wrote and one reply that it read: the reply is the share's, at a point of its history.
+-- One request that a client wrote and one reply that it read: the reply is the share's, at a length of its history.
 use Rattle.std.proofs.Common.{◌≡◌, ◌≤◌, ◌+◌, ◌==◌, ℕ, List, [], ◌∷◌, ◌++◌, take, length, Bool, true, false, cond, is_some, Some, None, refl, sym, ap, ◌∙◌, subst, inl, inr, append_assoc, arith}
 use Rattle.std.specs.Prelude.{MatchBool}
 use Rattle.dmap_tags.specs.Spelling.{spelling}
@@ -37,11 +37,11 @@ open_ask role w = record { role = role; close = false; want = w }
 abbrev pub ReadsBack : Role → List ℕ → Want → Type 0
 ReadsBack role host w = IsReading role (request_text w host) (reading (open_ask role w ∷ []) [] None)
 
--- what a client reads where a share answers at a point
+-- what a client reads if a share answers on a history
 abbrev pub Says : Settings → Want → (List Entry → Reply) → Type 0
 Says s w says = (p : List Entry) (bytes rest : List ℕ) → IsWhole p → Serves s w p bytes rest → Begins bytes rest (says p)
 
--- The answer was given at a point between the length of the request before and its own, and this is left
+-- The answer was given at a length between that of the request before and its own, and this is left.
 pub record Answered (s : Settings) (by limit : ℕ) (role : Role) (h : List Entry) (all : Bool) (low n : ℕ) (says : List Entry → Reply) (answer : Reply) (input more : List ℕ) : Type 0 where
   pub point : List Entry
   pub whole : IsWhole point

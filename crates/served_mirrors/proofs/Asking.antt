@@ -105,7 +105,7 @@ update_says s session base = says_tag s (want.Update session base) (λ p. revisi
 pub logout_says : (s : Settings) (session : ℕ) → Says s (want.Logout session) (λ p. (204, []))
 logout_says s session p bytes rest whole serves = empty_served s (want.Logout session) p bytes rest serves refl
 
--- ---- the session that a login gives
+-- ---- the session of a login
 
 pub told_session : (rows : List CodeRow) (answer : Reply) (session : ℕ) (p : List Entry) → rows ≡ standard_rows → IsWhole p
     → answer ≡ (200, spelling (login_body (next_session p))) → TellsNumber (code "mlid") rows answer session → IsWord session

@@ -47,7 +47,7 @@ use Rattle.served_mirrors.specs.Mirrors.{CanBeAsked}
 use Rattle.served_mirrors.proofs.Answering.{ReadsBack, open_ask}
 use Rattle.served_mirrors.proofs.Asking.{codes_back, login_back, logout_back, rows_back}
 
--- ---- what is asked, and what the share makes of it
+-- ---- the requests, and how the share answers them
 
 abbrev after_login : ℕ → List Entry
 after_login by = entry.Login by 1 ∷ []

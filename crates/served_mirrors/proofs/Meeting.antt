@@ -44,7 +44,7 @@ written_before before (Some sent) now bytes part input nothing is first second =
     let same : sent ≡ bytes = subst (λ (o : Option (List ℕ)). Appends o (Some sent) bytes) nothing first in
     (ap (λ (bs : List ℕ). Some bs) same, subst (λ (o : Option (List ℕ)). Appends (Some sent) o part) is second ∙ ap (λ (bs : List ℕ). bs ++ part) same)
 
--- ---- what is held
+-- ---- what the mirror holds
 
 holds_last : (s : Settings) (h : List Entry) (m now : Mirrored) (ls : List Listing) (points : List (List Entry)) → now.held ≡ held_after m.held ls → Rise points h
     → AreAnswers s.keep m.target m.query m.meta 0 points ls → HoldsLast m points now

@@ -1,4 +1,4 @@
--- Points of one history that never fall, and the listings that are answered at them.
+-- Prefixes of one history, each one of the next, and the listings that are answered on them.
 use Rattle.std.proofs.Common.{◌≡◌, ◌≤◌, ℕ, zero, suc, ◌+◌, ◌-◌, List, [], ◌∷◌, ◌++◌, take, drop, length, Bool, true, false, cond, Option, refl, sym, ap, ◌∙◌, subst, append_assoc, append-nil, length-append, arith}
 use Rattle.std.proofs.lemmas.List.{length-take-le, take-append-drop, take-append-le}
 use Rattle.item_model.specs.declared.changes.Edit.{Edit}
@@ -37,11 +37,11 @@ prefix_longer (suc m) (suc n) [] less = ([], refl)
 prefix_longer (suc m) (suc n) (e ∷ h) less =
     let further = prefix_longer m n h (omega (arith, less)) in (further.0, ap (λ (x : List Entry). e ∷ x) further.1)
 
--- each point of a whole history is one
+-- each prefix of a whole history is whole
 pub prefix_whole : (p h : List Entry) → IsPrefix p h → IsWhole h → IsWhole p
 prefix_whole p h a whole = point_whole p a.0 (subst IsWhole a.1 whole)
 
--- no earlier point has a higher revision
+-- no prefix has a higher revision
 pub prefix_revision : (p q : List Entry) → IsPrefix p q → revision (batches p) ≤ revision (batches q)
 prefix_revision p q a =
     omega (
@@ -51,13 +51,13 @@ prefix_revision p q a =
       length-append (batches p) (batches a.0),
     )
 
--- ---- the history that an answer was given on
+-- ---- the history that an answer was computed from
 
 on_point : (low : ℕ) (added : Bool) (p : List Entry) → low + cond added 1 0 ≤ length p → IsPrefix (take low p) (answered_on added p) × IsPrefix (answered_on added p) p
 on_point low false p above = (prefix_taken low p, prefix_self p)
 on_point low true p above = (prefix_longer low (length p - 1) p (omega (arith, above)), prefix_taken (length p - 1) p)
 
--- it begins with what was there at the request before, and begins what is there behind the answer
+-- it begins with what was there at the request before, and is a prefix of what is there after the answer
 pub answered_between : (h : List Entry) (low at : ℕ) (added : Bool) → low + cond added 1 0 ≤ at → at ≤ length h
     → IsPrefix (take low h) (answered_on added (take at h)) × IsPrefix (answered_on added (take at h)) (take at h)
 answered_between h low at added above within =
@@ -67,7 +67,7 @@ answered_between h low at added above within =
     let on = on_point low added (take at h) (omega (arith, above, all)) in
     (subst (λ (x : List Entry). IsPrefix x (answered_on added (take at h))) (sym same) on.0, on.1)
 
--- ---- points that never fall
+-- ---- histories that never shrink
 
 -- the last one may be a later one
 pub rise_on : (points : List (List Entry)) (p q h : List Entry) → IsPrefix p q → IsPrefix q h → Rise (points ++ p ∷ []) h → Rise (points ++ q ∷ []) h
@@ -97,7 +97,7 @@ last_begins p (q ∷ points) h rise = last_begins q points h rise.1
 
 -- ---- listings at them
 
--- the revision of the last point
+-- the revision of the last history
 abbrev pub last_base : ℕ → List (List Entry) → ℕ
 last_base base [] = base
 last_base base (p ∷ points) = last_base (revision (batches p)) points

@@ -1,5 +1,6 @@
--- What a server still sends on a connection, by what it still has to read there. However the connection ends, its output begins
--- the replies to the first requests, with something behind them that grants nothing: a failure, a refusal, or nothing.
+-- What a server still sends on a connection, by what it still has to read there. However the connection ends, its
+-- output is a prefix of the replies to the first requests, followed by bytes that grant nothing: a failure, a
+-- refusal, or nothing.
 use Rattle.std.proofs.Common.{◌≡◌, ◌≢◌, ◌≤◌, ◌⊎◌, ◌+◌, ℕ, List, [], ◌∷◌, ◌++◌, length, Bool, true, false, refl, sym, ap, ◌∙◌, subst, inl, inr, append-nil, arith}
 use Rattle.std.specs.List.{AllByRecursion}
 use Rattle.item_model.specs.declared.changes.Entry.{Entry}
@@ -32,7 +33,7 @@ use Rattle.served_mirrors.specs.Links.{AnsweredAll, IsSuccess, ServedLink}
 abbrev pub IsGranted : Reply → Type 0
 IsGranted answer = (answer.0 ≡ 200) ⊎ (answer.0 ≡ 204)
 
--- whatever reply they begin with is no success
+-- if they begin with a reply, it is no success
 abbrev pub GrantsNothing : List ℕ → Type 0
 GrantsNothing bytes = (m : Message) (answer : Reply) (more : List ℕ) → IsReply m answer → bytes ≡ print_message m ++ more → IsGranted answer → ⊥
 
@@ -61,12 +62,12 @@ refusal_grants_nothing NoMemory = failure_grants_nothing
 
 -- ---- what is left to read and to send
 
--- every request was granted, and there is nothing behind the last one or its reply
+-- every request was granted, and nothing follows the last one or its reply
 abbrev pub IsComplete : (rest tail : List ℕ) → List Served → Type 0
 IsComplete rest tail served = (rest ≡ []) × (tail ≡ []) × AllByRecursion IsSuccess served
 
--- Requests that were served from a length of the history on, counted from n, and the bytes that answer them. Where `all` is true they
--- are all that come
+-- Requests that were served from history length `low`, counted from `n`, and the bytes that answer them. If `all`,
+-- there are no others.
 pub record Left (s : Settings) (by limit : ℕ) (role : Role) (h : List Entry) (all : Bool) (low n : ℕ) (input bytes : List ℕ) : Type 0 where
   pub asks : List Ask
   pub rest : List ℕ

@@ -14,7 +14,7 @@ use Rattle.share_workers.specs.Works.{LinksAt}
 use Rattle.served_mirrors.specs.Laws.{EndedLinksAreServed, WorkersLinksAreServed}
 use Rattle.served_mirrors.specs.Links.{AreServedLinks, ServedLink}
 
--- points that rise from a length rise from a lower one
+-- lengths that increase from one also do from a lower one
 rises_from : (low least high : ℕ) (served : List Served) → least ≤ low → Rises low served high → Rises least served high
 rises_from low least high [] less rises = omega (arith, less, rises)
 rises_from low least high (s ∷ served) less rises = (omega (arith, less, rises.0), rises.1)

@@ -1,4 +1,4 @@
--- What stands between a client that follows a listing and its server, in each of the client's stages.
+-- The state between a client that follows a listing and its server, in each of the client's stages.
 use Rattle.std.proofs.Common.{◌≡◌, ◌≤◌, ◌<◌, ◌^◌, ◌+◌, ◌==◌, ℕ, List, [], ◌∷◌, ◌++◌, take, length, Bool, true, false, Option, Some, refl, sym, ap, ◌∙◌, subst, inl, inr, append_assoc, arith}
 use Rattle.std.specs.Prelude.{⊤}
 use Rattle.dmap_tags.specs.Codes.{code}
@@ -54,7 +54,8 @@ module _ (host : List ℕ) (m : Mirrored) (rounds : ℕ) (s : Settings) (by limi
   Knows low (Holding k ls) = KnowsShare low k ls
   Knows low (Closed k ls) = ⊤
 
-  -- What is still to come on the connection, what the client knows, and at which points its listings were answered
+  -- What is still to come on the connection, what the client knows, and the history lengths at which its listings
+  -- were answered.
   pub record Stands (t : Stage) (input bytes : List ℕ) : Type 0 where
     pub low : ℕ
     pub n : ℕ
@@ -67,7 +68,7 @@ module _ (host : List ℕ) (m : Mirrored) (rounds : ℕ) (s : Settings) (by limi
 
   -- ---- a step further
 
-  -- an answer that brings no listing
+  -- an answer without a listing
   pub stands_on : (t u : Stage) (low n : ℕ) (says : List Entry → Reply) (answer : Reply) (input more : List ℕ) (points : List (List Entry))
       → (a : Answered s by limit role h all low n says answer input more) → Rise (points ++ take low h ∷ []) h
       → AreAnswers s.keep m.target m.query m.meta 0 points (listings_in t) → (held_after m.held (listings_in t)).revision ≡ last_base 0 points
@@ -83,7 +84,7 @@ module _ (host : List ℕ) (m : Mirrored) (rounds : ℕ) (s : Settings) (by limi
     base = ap (λ (ls : List Listing). (held_after m.held ls).revision) same ∙ base;
   }
 
-  -- what is held is none of a later point
+  -- what the mirror holds is of no later history
   still_earlier : (low : ℕ) (k : Known) (ls : List Listing) (n : ℕ) (says : List Entry → Reply) (answer : Reply) (input more : List ℕ)
       → (a : Answered s by limit role h all low n says answer input more) → KnowsShare low k ls → KnowsShare a.at k ls
   still_earlier low k ls n says answer input more a knows = record {
@@ -94,7 +95,7 @@ module _ (host : List ℕ) (m : Mirrored) (rounds : ℕ) (s : Settings) (by limi
         omega (arith, before, prefix_revision (take low h) (take a.at h) (prefix_both (take low h) a.point (take a.at h) a.above a.below));
   }
 
-  -- the revision that is held is one of 32 bits
+  -- the held revision has 32 bits
   pub base_word : IsWhole h → (low : ℕ) (k : Known) (ls : List Listing) → KnowsShare low k ls → IsWord (held_after m.held ls).revision
   base_word whole low k ls knows =
       let before = knows.earlier in omega (arith, before, small_revision (take low h) (prefix_whole (take low h) h (prefix_taken low h) whole))
@@ -123,7 +124,7 @@ module _ (host : List ℕ) (m : Mirrored) (rounds : ℕ) (s : Settings) (by limi
         st.rise st.answers st.base refl
         (record { standard = st.knows; session = told_session rows x.answer leads.0 a.point st.knows a.whole a.is leads.1; earlier = omega (arith, zero) }))
 
-    -- the listing that was applied is the share's at a point more
+    -- the listing that was applied is the share's at one more history
     from_asking : (k : Known) (ls : List Listing) (u : Stage) (x : Exchange) (input bytes more : List ℕ) → Stands (Asking k ls) (x.request ++ input) bytes → IsReply x.message x.answer
         → bytes ≡ print_message x.message ++ more → due host m rounds (Asking k ls) ≡ Some x.request → Leads m rounds (Asking k ls) x.answer u → Stands u input more
     from_asking k ls u x input bytes more st is split asked leads =

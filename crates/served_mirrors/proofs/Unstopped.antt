@@ -54,11 +54,11 @@ use Rattle.served_mirrors.proofs.Standing.{KnowsShare, Stands, base_word, walk}
 
 -- ---- the reply to the last request
 
--- the request's success has the status that is due
+-- the request's success has the expected status
 abbrev IsDue : Settings → Want → Type 0
 IsDue s w = (p : List Entry) → due_status w ≡ (success s p w).0
 
--- the bytes begin with a reply at a point of the history
+-- the bytes begin with a reply at a length of the history
 record NextBegins (h : List Entry) (low : ℕ) (says : List Entry → Reply) (bytes : List ℕ) : Type 0 where
   point : List Entry
   whole : IsWhole point
@@ -119,7 +119,7 @@ module _ (s : Settings) (by limit : ℕ) (role : Role) (h : List Entry) (low n :
             begins = tells (answered_on v.added (at_point h v)) bytes rest point_whole serves;
           }
 
-      -- the request is none of no requests
+      -- the request is not one of no requests
       none : Joins role (request_text w host ++ []) [] [] → ⊥
       none joins =
           let read = reading_of_joined role (request_text w host) [] (subst (λ (text : List ℕ). Joins role text [] []) (append-nil (request_text w host)) joins) in

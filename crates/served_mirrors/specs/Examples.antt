@@ -1,4 +1,4 @@
--- A mirror of all items that is served to its end, so that the laws of this crate speak of some mirror.
+-- A mirror of all items that is served to its end, so that the laws of this crate are about some mirror.
 use Rattle.std.specs.Prelude.{ℕ, List, [], Option, Some}
 use Rattle.item_model.specs.declared.changes.Entry.{Entry}
 use Rattle.item_model.specs.declared.query.Query.{Query}
@@ -13,11 +13,11 @@ use Rattle.mirror_client.specs.Runs.{Followed}
 use Rattle.share_history.specs.Whole.{IsWhole}
 use Rattle.served_mirrors.specs.Links.{AnsweredAll, ServedLink}
 
--- a mirror of all items that holds nothing yet
+-- A mirror of all items at revision 0, without rows.
 abbrev pub new_mirror : Option Query → Meta → Mirrored
 new_mirror query meta = record { target = Items; query = query; meta = meta; held = record { revision = 0; rows = [] } }
 
--- it followed for one round, over a connection of players that was served
+-- The mirror followed for one round, over a connection of players that was served.
 pub record IsServedOnce (host : List ℕ) (m : Mirrored) (s : Settings) (by : ℕ) : Type 0 where
   pub h : List Entry
   pub input : List ℕ

@@ -1,5 +1,6 @@
--- What a mirror holds that followed a share over a connection which that share served: the bytes that the mirror wrote are those
--- that the server read, and the bytes that the mirror had to read are those that the server wrote. The history may go on since.
+-- What a mirror holds that followed a share over a connection which that share served. The bytes that the mirror
+-- wrote are those that the server read, and the bytes that the mirror had to read are those that the server wrote.
+-- The history may have grown since.
 use Rattle.std.specs.Prelude.{◌≡◌, ◌≤◌, ◌⊎◌, ℕ, List, [], ◌++◌, Option, Some}
 use Rattle.std.specs.Io.KnownBytes.{Appends}
 use Rattle.item_model.specs.declared.changes.Entry.{Entry}
@@ -29,8 +30,8 @@ use Rattle.served_mirrors.specs.Examples.{IsServedOnce, new_mirror}
 use Rattle.served_mirrors.specs.Links.{AnsweredAll, AreServedLinks, ServedLink}
 use Rattle.served_mirrors.specs.Mirrors.{CanBeAsked, HoldsTheShare}
 
--- A mirror that began with nothing and followed to the end holds what the share had at the last listing. Its rows are those that the
--- query selects at the revision of the last round
+-- A mirror that began at revision 0 and followed to the end holds what the share had at the last listing. Its rows
+-- are those that the query selects at the revision of the last round.
 abbrev pub FollowersHoldTheShare : Type 0
 FollowersHoldTheShare =
     (host : List ℕ) (m : Mirrored) (rounds : ℕ) (p : Point) (taken : Option (List ℕ)) (applied : List Applied) (now : Mirrored)
@@ -39,7 +40,7 @@ FollowersHoldTheShare =
     → p.taken ≡ Some [] → taken ≡ Some input → p.owed ≡ Some output → ServedLink s by limit role h input output
     → HoldsTheShare s (h ++ later) m f.listings now × (now.held.rows ≡ rows_at (h ++ later) m.target m.query m.meta (last_revision applied))
 
--- one that stopped somewhere, whatever stopped it, holds what the share had at the last listing that it applied
+-- A mirror that stopped, for whatever reason, holds what the share had at the last listing that it applied.
 abbrev pub StoppedMirrorsHoldTheShare : Type 0
 StoppedMirrorsHoldTheShare =
     (host : List ℕ) (m : Mirrored) (rounds : ℕ) (p : Point) (taken : Option (List ℕ)) (e : FollowError) (now : Mirrored)
@@ -48,7 +49,7 @@ StoppedMirrorsHoldTheShare =
     → p.taken ≡ Some [] → taken ≡ Some input → p.owed ≡ Some output → ServedLink s by limit role h input output
     → HoldsTheShare s (h ++ later) m (listings_in x.stage) now
 
--- and so does one that is still at it, in any stage, and may have written a part of its next request
+-- So does a mirror in any stage, which may have written a part of its next request.
 abbrev pub WalkersHoldTheShare : Type 0
 WalkersHoldTheShare =
     (host : List ℕ) (m : Mirrored) (rounds : ℕ) (p : Point) (t : Stage) (there : Point)
@@ -57,20 +58,20 @@ WalkersHoldTheShare =
     → p.taken ≡ Some [] → there.taken ≡ Some sent → p.owed ≡ Some output → ServedLink s by limit role h (sent ++ part) output
     → HoldsTheShare s (h ++ later) m (listings_in t) (with_listings m (listings_in t))
 
--- a connection with known bytes that was served to its end is such a one
+-- A connection with known bytes that was served to its end is a `ServedLink`.
 abbrev pub EndedLinksAreServed : Type 0
 EndedLinksAreServed =
     (role : Role) (limit : ℕ) (k k' : Pass) (input output : List ℕ) (served : List Served) (end : LinkEnd)
     → LinkEnded role limit k k' (Some input) (Some []) (Some output) served end → ServedLink k.settings k.number limit role k'.seen input output
 
--- and so are those of a worker
+-- So is each connection of a worker.
 abbrev pub WorkersLinksAreServed : Type 0
 WorkersLinksAreServed =
     (role : Role) (k k' : Pass) (coming coming' : Option (List (List ℕ))) (written written' : Option (List Returned)) (reports : List LinkReport)
     → (w : Works role k k' coming coming' written written' reports) → AreServedLinks k.settings k.number role k'.seen w.inputs w.returns
 
--- A mirror whose requests were all written whole and answered with success is stopped by nothing but a failed call on its connection
--- or an allocation that failed
+-- If all requests of a mirror were written whole and answered with success, then only a failed call on its connection
+-- or a failed allocation stops it.
 abbrev pub FollowersAreNotStopped : Type 0
 FollowersAreNotStopped =
     (host : List ℕ) (m : Mirrored) (rounds : ℕ) (p : Point) (taken : Option (List ℕ)) (e : FollowError) (now : Mirrored)
@@ -78,6 +79,6 @@ FollowersAreNotStopped =
     → (x : StopsFrom host m rounds Begun p taken e now) → Appends x.there.taken taken x.request → m.held.revision ≡ 0 → CanBeAsked host m → IsWhole h
     → p.taken ≡ Some [] → taken ≡ Some input → p.owed ≡ Some output → AnsweredAll s by limit role h input output → (e ≡ LinkFault) ⊎ (e ≡ Memory)
 
--- every mirror of all items that can be asked is served to its end by some share
+-- Some share serves every mirror of all items that can be asked to its end.
 abbrev pub MirrorsAreServed : Type 0
 MirrorsAreServed = (host : List ℕ) (s : Settings) (by : ℕ) (query : Option Query) (meta : Meta) → CanBeAsked host (new_mirror query meta) → IsServedOnce host (new_mirror query meta) s by

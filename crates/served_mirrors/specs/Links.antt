@@ -14,8 +14,8 @@ use Rattle.share_server.specs.Passes.{Rises}
 use Rattle.share_server.specs.Replies.{replies}
 use Rattle.share_server.specs.Ends.{EndsInside, EndsAtEnd}
 
--- The first requests of the input were served, in order, at lengths of one history that never fall. The output has their replies,
--- as far as the end of the connection says
+-- The first requests of the input were served, in order, at lengths of one history that never decrease. The output
+-- has their replies, as far as the end of the connection says.
 pub record ServedLink (s : Settings) (by limit : ℕ) (role : Role) (h : List Entry) (input output : List ℕ) : Type 0 where
   pub asks : List Ask
   pub rest : List ℕ
@@ -26,11 +26,11 @@ pub record ServedLink (s : Settings) (by limit : ℕ) (role : Role) (h : List En
   pub rises : Rises 0 served (length h)
   pub how : EndsInside role input s limit h asks served rest output end ⊎ EndsAtEnd role input s limit h asks served rest output end
 
--- it was answered with success
+-- It was answered with success.
 abbrev pub IsSuccess : Served → Type 0
 IsSuccess v = (v.status ≡ 200) ⊎ (v.status ≡ 204)
 
--- the input is requests and nothing else, each was answered with success, and the output is all of their replies
+-- The input is requests and nothing else, each was answered with success, and the output is all of their replies.
 pub record AnsweredAll (s : Settings) (by limit : ℕ) (role : Role) (h : List Entry) (input output : List ℕ) : Type 0 where
   pub asks : List Ask
   pub served : List Served
@@ -40,7 +40,8 @@ pub record AnsweredAll (s : Settings) (by limit : ℕ) (role : Role) (h : List E
   pub granted : AllByRecursion IsSuccess served
   pub written : output ≡ replies s limit h asks served
 
--- connections of one worker, each with its input and with what its listener knows of it, whose first part is the output
+-- Connections of one worker, each with its input and with what its listener knows of it, whose first part is the
+-- output.
 abbrev pub AreServedLinks : Settings → ℕ → Role → List Entry → List (List ℕ) → List Returned → Type 0
 AreServedLinks s by role h [] [] = ⊤
 AreServedLinks s by role h [] (returned ∷ returns) = ⊥

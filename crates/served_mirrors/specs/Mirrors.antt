@@ -12,7 +12,7 @@ use Rattle.mirror_core.specs.Mirrored.{Mirrored}
 use Rattle.mirror_client.specs.Laws.{AreAnswers, last_point}
 use Rattle.followed_shares.specs.Served.{Rise}
 
--- the requests of this mirror to this host are ones that a server reads as they were meant
+-- A server reads the requests of this mirror to this host as they were meant.
 pub record CanBeAsked (host : List ℕ) (m : Mirrored) : Type 0 where
   pub host_is : IsHost host
   pub list : HasListNumber m.target
@@ -21,14 +21,14 @@ pub record CanBeAsked (host : List ℕ) (m : Mirrored) : Type 0 where
   pub short : IsWithinLimits m.query
   pub named : IsNamed m.meta
 
--- all rows that it asks for, as they were at the last of these points; without any, what it held before
+-- All rows that the mirror selects, as they were at the last of these histories; without any, what it held before.
 abbrev pub HoldsLast : Mirrored → List (List Entry) → Mirrored → Type 0
 HoldsLast m [] now = now.held ≡ m.held
 HoldsLast m (point ∷ points) now = now.held ≡ mirrored (batches (last_point point points)) m.target m.query m.meta
 
--- Each listing that the mirror applied is the share's at a point of its history, none before that of the listing before it: the change
--- since that listing exactly if its revision is a kept base, and else all rows. So the mirror holds what the share had at the last
--- of these points
+-- Each listing that the mirror applied is the share's at a length of its history, none before that of the listing
+-- before it. It is the delta since that listing exactly if its revision is inside the delta window, and otherwise all
+-- rows. So the mirror holds what the share had at the last of these lengths.
 pub record HoldsTheShare (s : Settings) (h : List Entry) (m : Mirrored) (listings : List Listing) (now : Mirrored) : Type 0 where
   pub points : List (List Entry)
   pub rise : Rise points h

@@ -1,10 +1,11 @@
-//! What holds of all mirrors and of all shares that they follow. Each function does nothing; its contract is a fact that follows
-//! from the definitions.
+//! Theorems about all mirrors and the shares that they follow. Each function has an empty body; its contract is the
+//! theorem.
 
 ghost use Rattle.served_mirrors.specs.Laws.{EndedLinksAreServed, FollowersAreNotStopped, FollowersHoldTheShare, MirrorsAreServed, StoppedMirrorsHoldTheShare, WalkersHoldTheShare, WorkersLinksAreServed};
 
-/// A mirror that followed a share to the end holds all rows that its query selects, at the revision of its last round. Each listing
-/// that it applied is the share's at a point of the one history, and these points never fall.
+/// A mirror that followed a share to the end holds all rows that its query selects, at the revision of its last
+/// round. Each listing that it applied is the share's at a length of the one history, and these lengths never
+/// decrease.
 pub fn followers_hold_the_share()
     ensures { FollowersHoldTheShare }
 {}
@@ -25,7 +26,7 @@ pub fn followers_are_not_stopped()
     ensures { FollowersAreNotStopped }
 {}
 
-/// A connection that was served to its end has the requests and the replies that these laws speak of.
+/// A connection that was served to its end has the requests and the replies that these laws are about.
 pub fn ended_links_are_served()
     ensures { EndedLinksAreServed }
 {}
@@ -35,7 +36,7 @@ pub fn workers_links_are_served()
     ensures { WorkersLinksAreServed }
 {}
 
-/// There is a share that serves a mirror of all items to its end, whatever it asks for.
+/// There is a share that serves a mirror of all items to its end, whatever the mirror requests.
 pub fn mirrors_are_served()
     ensures { MirrorsAreServed }
 {}

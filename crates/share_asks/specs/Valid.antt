@@ -1,5 +1,5 @@
--- Valid wants: those that the bytes of a request may give. Queries are proper, edits are ones that records may
--- give, and no error is want of memory, which is no answer to a request.
+-- Valid operations: those that may be read from bytes. Queries are proper, edits are ones that records may give,
+-- and no error is an allocation failure, which is not an answer to a request.
 use Rattle.std.specs.Prelude.{◌≢◌, ⊤, Option, Some, None, Ok, Err}
 use Rattle.item_model.specs.Proper.{IsProper}
 use Rattle.item_model.specs.Valid.{AreValid}
@@ -24,7 +24,7 @@ IsValidFault (fault.Method allow) = Unit {0}
 IsValidFault (fault.Parameter name) = Unit {0}
 IsValidFault (fault.Query error) = error ≢ query.Memory
 
--- why a cell is refused: the refusal of its query is not want of memory
+-- why a cell is refused: not because a query ran out of memory
 abbrev pub IsValidReason : RecordWhy → Type 0
 IsValidReason (why.Query error) = error ≢ query.Memory
 IsValidReason other = ⊤

@@ -1,15 +1,15 @@
-//! Asks and what is wanted by them.
+//! Parsed requests and their operations.
 
 use dmap_tags::Text;
 use item_model::{Batch, Browse, Look, Query, QueryError, Target};
 use records_import::RecordError;
 
-/// What a connection may ask for, by the place that it came to.
+/// What a connection may request, by the address at which it arrived.
 #[derive(Clone, Copy, Debug, PartialEq, Eq)]
 pub enum Role {
-    /// Everything that a player asks.
+    /// Everything that a player requests.
     Listen,
-    /// The same, and edits and the stop besides.
+    /// The same, and edits and the stop.
     Edit,
 }
 
@@ -20,20 +20,21 @@ pub enum Verb {
     Post,
 }
 
-/// What is wrong with a request that was read whole.
+/// The error of a complete request.
 #[derive(Debug, Drop)]
 pub enum AskError {
-    /// The path names no request of the role.
+    /// The path is not one of the role.
     Path,
-    /// The path names a request that has this method and no other.
+    /// The path has another method, `allow`, and no other.
     Method { allow: Verb },
-    /// The first parameter that is refused, save a query.
+    /// The first refused parameter, which is not a query.
     Parameter { name: Text },
-    /// The first parameter that is refused is a query.
+    /// The first refused parameter, which is a query.
     Query { error: QueryError },
 }
 
-/// What is wanted. Sessions are ids of logins and 0 where none was given; a revision is 0 where none was given.
+/// The operation of a request. A session is the id of a login, or 0 if the request has none; a revision is 0 if the
+/// request has none.
 #[derive(Debug, Drop)]
 pub enum Want {
     ServerInfo,
@@ -43,7 +44,7 @@ pub enum Want {
     Logout {
         session: u32,
     },
-    /// The revision, as soon as it is another than the one given.
+    /// The revision, as soon as it differs from `revision`.
     Update {
         session: u32,
         revision: u32,
@@ -61,27 +62,27 @@ pub enum Want {
     Lists {
         session: u32,
     },
-    /// The values of a property of the items that are asked for.
+    /// The values of a property of the matching items.
     Values {
         session: u32,
         browse: Browse,
         query: Option<Query>,
     },
-    /// Edits, as the records of the body read.
+    /// Edits, as the records of the body are read.
     Edit {
         body: Result<Batch, RecordError>,
     },
     Stop,
-    /// The request is answered with what is wrong with it.
+    /// A request whose reply reports this error.
     Bad(AskError),
 }
 
-/// A request that was read whole.
+/// A complete request.
 #[derive(Debug, Drop)]
 pub struct Ask {
-    /// The role of the reader.
+    /// The role of the reader that made it.
     pub role: Role,
-    /// The connection ends after the reply.
+    /// Whether the connection closes after the reply.
     pub close: bool,
     pub want: Want,
 }

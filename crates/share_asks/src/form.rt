@@ -2,7 +2,7 @@
 
 use crate::ask::Verb;
 
-/// What kind of body a reply has, and what else its head tells for it.
+/// The kind of a reply's body, with what the head states besides the length.
 #[derive(Clone, Copy, Debug, PartialEq, Eq)]
 pub enum BodyForm {
     NoBody,
@@ -10,6 +10,6 @@ pub enum BodyForm {
     Dmap,
     /// A line (`text/plain`).
     Plain,
-    /// No body; the head tells the method that is allowed.
+    /// No body; the head states the allowed method.
     Allow(Verb),
 }

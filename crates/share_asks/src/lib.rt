@@ -1,5 +1,5 @@
-//! What a request asks of a share, once it was read whole, and the forms that the body of a reply has. A reader of
-//! requests makes asks, and a share answers them; neither needs to know the other.
+//! A complete request as a value, and the forms of a reply's body. The reader of requests makes an `Ask`, and the
+//! share answers it; neither depends on the other.
 #![tactic(auto)]
 
 mod ask;

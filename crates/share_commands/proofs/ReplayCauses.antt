@@ -1,4 +1,4 @@
--- Why nothing is replayed.
+-- Why `replay` stops before it opens a share.
 use Rattle.std.proofs.Common.{◌≡◌, ◌+◌, ◌<◌, ◌≤◌, ℕ, List, Global, Vec, length, IfSome, Err, refl}
 use Rattle.std.specs.Io.KnownBytes.{Consumes, IsAtEnd}
 use Rattle.daap_outside.specs.Reading.{ConsumesUpTo, CountsReadFaults}
@@ -27,7 +27,7 @@ unread before after reads.TooLong failed some long count = record {
 }
 unread before after reads.Memory failed some long count = tt
 
--- the input is no script
+-- the input is not a script
 pub no_script : (before after : InputSeen) (bytes : List ℕ) (line : ℕ) → Consumes before.left after.left bytes → IsAtEnd after.left → length bytes ≤ script_limit
     → after.faults ≡ before.faults → script_of bytes ≡ Err line → StopsBy replay_cause ReplayReadsOn (Unit {0}) before after (Own (Line line))
 no_script before after bytes line read end within faultless bad = record {

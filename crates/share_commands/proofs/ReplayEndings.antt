@@ -29,7 +29,7 @@ begun keep name before after history lines h t t' read is broken = record {
   opened = ap shared is ∙ ap share_with broken.part.history;
 }
 
--- a share to which the script of the input was played leaves a run that the command means
+-- a run that played the script of the input to a share ends as the specification says
 pub answered_by : (keep : ℕ) (name : List ℕ) (around : Around) (before after : InputSeen) (sink sink' : OutputSeen) (outcome : Outcome) (lines : List Delivery) (h : List Entry)
     → IsRead lines before after → outcome.history ≡ Some h → EndsPlay (settings_of keep name) lines sink sink' outcome.status h
     → IsAnswered (replay_meaning keep name) (told_beside around before after sink sink') outcome
@@ -72,7 +72,7 @@ Leaves s input input' sink sink' outcome history =
     MatchOption history ((fault : Fault ReplayFault) × TellsFault replay_line replay_status fault sink sink' outcome)
     (λ h. IsOfOneMoment s input input' sink sink' outcome.status h)
 
--- where no share was opened, only the line of a fault was written
+-- if no share was opened, only the line of an error was written
 pub unplayed : (s : Settings) (input input' : InputSeen) (sink sink' : OutputSeen) (outcome : Outcome) (fault : Fault ReplayFault)
     → TellsFault replay_line replay_status fault sink sink' outcome → Leaves s input input' sink sink' outcome outcome.history
 unplayed s input input' sink sink' outcome fault tells =

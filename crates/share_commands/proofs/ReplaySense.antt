@@ -1,4 +1,4 @@
--- What the meaning of `replay` owes: an input says one status, and no fault where the command is done.
+-- The specification of `replay` is sensible: an input has one status, and no error if the command succeeds.
 use Rattle.std.proofs.Common.{◌≡◌, ℕ, List, inl, refl, sym, subst, arith}
 use Rattle.std.specs.Prelude.{Result, Ok, Err}
 use Rattle.command_core.specs.declared.fault.Fault.{Fault}

@@ -1,5 +1,5 @@
--- What the meanings of the commands on a share owe: words and an input say one status, and no fault where the command is
--- done.
+-- The specifications of the commands on a share are sensible: arguments and input have one status, and no error if the
+-- command succeeds.
 use Rattle.std.proofs.Common.{◌≡◌, ◌≢◌, ◌<◌, ◌≤◌, ◌*◌, ℕ, List, [], Option, Some, None, length, true, false, inl, refl, sym, subst, ap, ◌∙◌, arith}
 use Rattle.std.proofs.lemmas.Bool.{false≢true}
 use Rattle.item_model.specs.declared.changes.Edit.{Edit}
@@ -37,14 +37,14 @@ read_or_refused None asked error cause reads refused = refused
 read_or_refused (Some text) None error cause reads refused = reads
 read_or_refused (Some text) (Some asked) error cause reads refused = answers_once text asked error cause reads refused
 
--- where both texts are read, neither is refused
+-- if both texts are read, neither is refused
 query_is_read : (query meta : Option (List ℕ)) (error : QueryError) → IsAsked query meta → error ≢ query_error.Memory → HasRefusal query error → ⊥
 query_is_read query meta error asked cause refused = read_or_refused query asked.0.query error cause asked.1.query refused
 
 meta_is_read : (query meta : Option (List ℕ)) → IsAsked query meta → IsMetaRefused query meta → ⊥
 meta_is_read query meta asked refused = let read = asked.1.meta in let many = refused.many in absurd (cc)
 
--- an input that is too long has no other fault
+-- an input that is too long has no other error
 long_only : (query meta : Option (List ℕ)) (target : Target) (input : List ℕ) (own : ListFault) → IsAsked query meta → records_limit < length input
     → Says (list_cause query meta target own) input → list_status own ≡ 8
 long_only query meta target input (query_fault error) asked long says = absurd (query_is_read query meta error asked says.0 says.1)
@@ -88,7 +88,7 @@ no_list_fault query meta target input NoList says listable =
     let lacks = says.1 in
     false≢true (sym lacks.lacks ∙ ap (λ es. is_there es target) (batch_same (table_of input) lacks.edits listable.edits lacks.reads.read listable.of.reads.read) ∙ listable.of.there)
 
--- what another fault leaves of a share, want of memory may leave
+-- what another error leaves of a share, out of memory may leave too
 leaves_less : (target : Target) (before after : Seen) (fault : Fault ListFault) (share : ShareSeen) → ListLeaves target before after fault share → ListLeaves target before after Memory share
 leaves_less target before after (Own own) share h = inl h
 leaves_less target before after Read share h = inl h
@@ -125,7 +125,7 @@ list_sense query meta target = record {
 
 -- ---- rehearse
 
--- whatever ends it, nothing was read
+-- however it ends, nothing was read
 untouched : (number batches size keep : ℕ) (before after : Seen) (fault : Fault RehearseFault)
     → IsCause (rehearse_meaning number batches size keep) before after fault → IsUnread before.input after.input
 untouched number batches size keep before after (Own TooMany) cause = cause.1
@@ -138,7 +138,7 @@ one_rehearse_status TooMany TooMany = refl
 few_or_many : (batches size : ℕ) (input : List ℕ) (own : RehearseFault) → Says (rehearse_cause batches size own) input → batches * size ≤ most_edits → ⊥
 few_or_many batches size input TooMany says within = omega (arith, within, says)
 
--- what another fault leaves of a share, want of memory may leave
+-- what another error leaves of a share, out of memory may leave too
 begun_less : (number batches size : ℕ) (before after : Seen) (fault : Fault RehearseFault) (share : ShareSeen) → RehearseLeaves number batches size before after fault share
     → RehearseLeaves number batches size before after Memory share
 begun_less number batches size before after (Own own) share h = inl h

@@ -1,4 +1,4 @@
--- The causes of `list` where its input is no batch, or the share of the batch is not listed.
+-- The causes of `list` if its input is not a batch, or if the share of the batch is not listed.
 use Rattle.std.proofs.Common.{◌≡◌, ℕ, Bool, true, false, cond, List, [], Option, None, Some, unwrap_or, refl, sym, subst, ap}
 use Rattle.item_model.specs.declared.changes.Edit.{Edit}
 use Rattle.item_model.specs.declared.request.Target.{Target}
@@ -20,11 +20,11 @@ use Rattle.share_commands.specs.ListShare.{LacksTarget, IsShare, list_cause, Lis
 some_once : {A : Type 0} {x y : A} → Some x ≡ Some y → x ≡ y
 some_once {x = x} h = ap (λ o. unwrap_or o x) h
 
--- where the words are read, there was cause to read on
+-- once the arguments are read, the command reads the input
 asked_on : (query meta : Option (List ℕ)) (before after : InputSeen) → IsAsked query meta → HasReadOn IsWithin before after → HasReadOn (ListReadsOn query meta) before after
 asked_on query meta before after asked on = record { front = on.front; last = on.last; read = on.read; short = on.short; on = (asked, on.on) }
 
--- an input that is no batch
+-- an input that is not a batch
 pub unread_cause : (target : Target) (before after : InputSeen) (stop : Fault InputFault) → StopsReading before after stop → StopsOpening target before after (input_fault stop)
 unread_cause target before after (Own unread.TooLong) cause = λ query meta asked. record {
   words = asked;

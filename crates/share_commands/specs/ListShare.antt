@@ -1,6 +1,6 @@
--- The command `list`: the full listing of a target of the share that is opened with the batch of the input, or the first
--- fault of the words and the input: the query's, that of the names, the input's length, its records, that they leave too
--- many lists, and that the container is not there.
+-- The command `list`: writes the full listing of a target of the share that is opened with the batch of the input; or
+-- reports the first error of: the query, the names, the input's length, its records, how many lists they leave, and the
+-- container.
 use Rattle.std.specs.Prelude.{◌≡◌, ◌≢◌, ◌<◌, ◌≤◌, ◌⊎◌, ◌++◌, ◌∷◌, [], ℕ, List, length, Option, None, Some, true, false, codes, if◌then◌else◌}
 use Rattle.std.specs.Io.KnownBytes.{Consumes, IsAtEnd}
 use Rattle.dmap_tags.specs.Spelling.{spelling}
@@ -30,24 +30,24 @@ use Rattle.command_core.specs.declared.records.InputFault.TheVariants as unread
 use Rattle.command_core.specs.ReadRecords.{records_limit, ReadsAs, IsRefused, LeavesMany}
 use Rattle.share_commands.specs.Looks.{AsksLook, IsAsked, HasRefusal, IsMetaRefused}
 
--- the listing of a share that is opened with the edits
+-- the listing of a share that is opened with `edits`
 abbrev pub listing_bytes : List Edit → Target → Look → List ℕ
 listing_bytes edits target look = spelling (full_body (opening edits) target look)
 
--- they leave no such container
+-- the records leave no such container
 pub record LacksTarget (target : Target) (input : List ℕ) : Type 0 where
   pub edits : List Edit
   pub reads : ReadsAs edits input
   pub few : has_few_lists [] edits ≡ true
   pub lacks : is_there edits target ≡ false
 
--- they are the batch of a share that has the target
+-- the records are the batch of a share that has the target
 pub record IsShare (edits : List Edit) (target : Target) (input : List ℕ) : Type 0 where
   pub reads : ReadsAs edits input
   pub few : has_few_lists [] edits ≡ true
   pub there : is_there edits target ≡ true
 
--- the input was read to its end, without a fault, as the batch with which the share was opened
+-- the input was read to its end, without an error, as the batch with which the share was opened
 pub record IsOpened (edits : List Edit) (target : Target) (before after : InputSeen) (share : ShareSeen) : Type 0 where
   pub bytes : List ℕ
   pub read : Consumes before.left after.left bytes
@@ -56,7 +56,7 @@ pub record IsOpened (edits : List Edit) (target : Target) (before after : InputS
   pub of : IsShare edits target bytes
   pub opened : share ≡ share_with (opening edits)
 
--- and the output is the listing of what is asked for
+-- .. and the output is the listing for the texts
 pub record IsListed (query meta : Option (List ℕ)) (target : Target) (before after : InputSeen) (share : ShareSeen) (output : List ℕ) : Type 0 where
   pub look : Look
   pub edits : List Edit
@@ -64,12 +64,12 @@ pub record IsListed (query meta : Option (List ℕ)) (target : Target) (before a
   pub opened : IsOpened edits target before after share
   pub written : output ≡ listing_bytes edits target look
 
--- what is told of a share that was opened: its listing was written, or the line of want of memory, and the outcome has its history
+-- how `list` ends once a share is open: it writes the listing or the line of out of memory; the outcome has the history
 abbrev pub TellsListed : (history : List Entry) → (listing : List ℕ) → OutputSeen → OutputSeen → Outcome → Type 0
 TellsListed history listing before after outcome =
     TellsDone (Some history) listing before after outcome ⊎ TellsMemory (Some history) before after outcome
 
--- a fault leaves no share; where memory is wanted for the listing, the share may have been opened
+-- an error leaves no share; if an allocation fails for the listing, the share may be open
 abbrev pub ListLeaves : Target → Seen → Seen → Fault ListFault → ShareSeen → Type 0
 ListLeaves target before after (fault.Own own) share = share ≡ no_share
 ListLeaves target before after fault.Read share = share ≡ no_share
@@ -99,11 +99,11 @@ list_cause query meta target (Records error) = OfInput (IsAsked query meta × (e
 list_cause query meta target TooManyLists = OfInput (IsAsked query meta) LeavesMany
 list_cause query meta target NoList = OfInput (IsAsked query meta) (LacksTarget target)
 
--- the words are read, and the bytes are within the limit
+-- the arguments are read, and the bytes are within the limit
 abbrev pub ListReadsOn : (query meta : Option (List ℕ)) → List ℕ → Type 0
 ListReadsOn query meta bytes = IsAsked query meta × (length bytes ≤ records_limit)
 
--- words and input that are listed
+-- arguments and input with which `list` succeeds
 pub record IsListable (query meta : Option (List ℕ)) (target : Target) (input : List ℕ) : Type 0 where
   pub asked : IsAsked query meta
   pub edits : List Edit
@@ -126,22 +126,22 @@ list_meaning query meta target = record {
   leaves_net = true;
 }
 
--- `list` stops so before it opened a share; memory may be wanted at any time
+-- why `list` stops before it opens a share; an allocation may fail at any time
 abbrev pub StopsListing : (query meta : Option (List ℕ)) → Target → InputSeen → InputSeen → Fault ListFault → Type 0
 StopsListing query meta target before after stop = StopsBy (list_cause query meta target) (ListReadsOn query meta) (Unit {0}) before after stop
 
--- and so once its words are read
+-- .. once its arguments are read
 abbrev pub StopsOpening : Target → InputSeen → InputSeen → Fault ListFault → Type 0
 StopsOpening target before after stop = (query meta : Option (List ℕ)) → IsAsked query meta → StopsListing query meta target before after stop
 
--- what a refusal of the input is to `list`
+-- the error of `list` for one of the input
 abbrev pub input_fault : Fault InputFault → Fault ListFault
 input_fault (fault.Own unread.TooLong) = fault.Own TooLong
 input_fault (fault.Own (unread.Records error)) = fault.Own (Records error)
 input_fault fault.Read = fault.Read
 input_fault fault.Memory = fault.Memory
 
--- why a batch is not listed that reads
+-- why the share of a batch is not listed
 abbrev pub library_fault : List Edit → Target → Option ListFault
 library_fault edits target =
     if has_few_lists [] edits then (if is_there edits target then None else Some NoList) else Some TooManyLists

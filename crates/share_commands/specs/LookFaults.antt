@@ -1,4 +1,4 @@
--- The faults of the texts that say what `list` is to show, each text by itself.
+-- The errors of the texts that say what `list` shows, each text by itself.
 use Rattle.std.specs.Prelude.{◌≡◌, ℕ, List, Option, None}
 use Rattle.item_model.specs.declared.names.MetaError.{MetaError}
 use Rattle.item_model.specs.declared.names.MetaError.TheVariants as meta
@@ -30,7 +30,7 @@ IsMetaFault text (Own NoList) = ⊥
 IsMetaFault text Read = ⊥
 IsMetaFault text Memory = Unit {0}
 
--- the faults that refusals of the texts are
+-- the errors of `list` if the texts are refused
 abbrev pub query_fault : QueryError → Fault ListFault
 query_fault query.TooLong = Own (Query query.TooLong)
 query_fault (query.TooDeep place) = Own (Query (query.TooDeep place))

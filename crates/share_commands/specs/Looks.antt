@@ -1,4 +1,4 @@
--- What `list` is asked to show, by the texts of its words.
+-- What `list` shows, by the texts of its arguments.
 use Rattle.std.specs.Prelude.{◌≡◌, ◌≢◌, ℕ, List, Option, Some, None, Ok, Err}
 use Rattle.item_model.specs.Names.{meta_of}
 use Rattle.item_model.specs.declared.query.Query.{Query}
@@ -10,19 +10,19 @@ use Rattle.item_model.specs.declared.request.Meta.TheVariants.{Default}
 use Rattle.item_model.specs.declared.request.Range.TheVariants.{All}
 use Rattle.song_query.specs.Answers.{Answers}
 
--- the query that a text asks for; without a text, none
+-- the query of a text; without a text, none
 abbrev pub AsksQuery : Option (List ℕ) → Option Query → Type 0
 AsksQuery None None = Unit {0}
 AsksQuery None (Some query) = ⊥
 AsksQuery (Some text) None = ⊥
 AsksQuery (Some text) (Some query) = Answers text (Ok query)
 
--- the properties that a text asks for; without a text, those that are shown by default
+-- the properties that a text names; without a text, the default ones
 abbrev pub meta_asked : Option (List ℕ) → Option Meta
 meta_asked None = Some Default
 meta_asked (Some text) = meta_of text
 
--- the texts ask for this look, at all rows
+-- the texts are read as this look, at all rows
 pub record AsksLook (query_text meta_text : Option (List ℕ)) (look : Look) : Type 0 where
   pub query : AsksQuery query_text look.query
   pub meta : meta_asked meta_text ≡ Some look.meta
@@ -37,7 +37,7 @@ abbrev pub HasRefusal : Option (List ℕ) → QueryError → Type 0
 HasRefusal None error = ⊥
 HasRefusal (Some text) error = Answers text (Err error)
 
--- the query's text is refused for this
+-- the query's text is refused with `error`
 pub record IsQueryRefused (query : Option (List ℕ)) (error : QueryError) : Type 0 where
   pub cause : error ≢ Memory
   pub refused : HasRefusal query error

@@ -1,4 +1,4 @@
--- What a run of `replay` leaves that opened a share: the history, how many requests were answered, and what the output took are
+-- What `replay` leaves once it opened a share: the history, the count of answered requests and what the output took are
 -- of one moment of the replay.
 use Rattle.std.specs.Prelude.{◌≡◌, ◌⊎◌, ℕ, List, []}
 use Rattle.daap_outside.specs.Told.{AppendsPrefix}
@@ -13,7 +13,7 @@ use Rattle.command_core.specs.Faults.{memory_line}
 use Rattle.command_core.specs.Seen.{InputSeen, OutputSeen}
 use Rattle.share_commands.specs.ReplayShare.{IsRead}
 
--- the whole script was played, and the output took all that it is answered
+-- the whole script was played, and the output took all that the share answered
 pub record EndsWhole (s : Settings) (lines : List Delivery) (before after : OutputSeen) (status : ℕ) (history : List Entry) : Type 0 where
   pub done : status ≡ 0
   pub left : history ≡ script_history s [] lines
@@ -25,7 +25,7 @@ pub record EndsCut (s : Settings) (lines : List Delivery) (before after : Output
   pub moment : IsBrokenOff s [] lines history before.taken after.taken
   pub cut : IsCut before after (script_bytes s [] lines)
 
--- an allocation failed at one moment, and the line of that is after what the output took by then
+-- an allocation failed at one moment; the line of that follows what the output took by then
 pub record EndsWanting (s : Settings) (lines : List Delivery) (before after : OutputSeen) (status : ℕ) (history : List Entry) : Type 0 where
   pub mid : OutputSeen
   pub moment : IsBrokenOff s [] lines history before.taken mid.taken

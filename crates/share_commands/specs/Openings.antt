@@ -1,4 +1,4 @@
--- A share that was opened with a batch: its history, and stores that tell what is true of it.
+-- A share that was opened with a batch: its history, and stores that represent it.
 use Rattle.std.specs.Prelude.{◌≡◌, List}
 use Rattle.item_model.specs.declared.changes.Edit.{Edit}
 use Rattle.share_history.specs.Histories.{opening, batches}

@@ -1,4 +1,4 @@
--- The command `rehearse`: a share that made-up batches edit while mirrors follow it, and the summary of what they held.
+-- The command `rehearse`: made-up batches edit a share while mirrors follow it, and a summary is written.
 use Rattle.std.specs.Prelude.{◌≡◌, ◌<◌, ◌≤◌, ◌*◌, ◌⊎◌, ◌++◌, ◌∷◌, [], ℕ, List, true, codes}
 use Rattle.item_model.specs.declared.changes.Entry.{Entry}
 use Rattle.share_history.specs.Numbers.{most_edits}
@@ -13,8 +13,8 @@ use Rattle.command_core.specs.Meanings.{Meaning, writes_nothing_before, may_not_
 use Rattle.share_commands.specs.declared.rehearse.RehearseFault.{RehearseFault}
 use Rattle.share_commands.specs.declared.rehearse.RehearseFault.TheVariants.{TooMany}
 
--- the numbers of a rehearsal: what its batches begin with, how many there are of how many edits, and how many revisions
--- the share keeps back
+-- the ranges of a rehearsal's numbers: the one that its batches are made from, the count of batches, the edits of each,
+-- and the delta window of the share
 pub record MayRehearse (number batches size keep : ℕ) : Type 0 where
   pub begins : number ≤ 2147483647
   pub some_batches : 1 ≤ batches
@@ -24,7 +24,7 @@ pub record MayRehearse (number batches size keep : ℕ) : Type 0 where
   pub some_kept : 1 ≤ keep
   pub few_kept : keep ≤ 65536
 
--- the input was left as it was, there are not too many edits, the history of the share has the batches, and the output is
+-- the input is unchanged, there are not too many edits, the history of the share has the batches, and the output is
 -- their summary
 pub record IsRehearsed (number batches size keep : ℕ) (before after : InputSeen) (share : ShareSeen) (output : List ℕ) : Type 0 where
   pub unread : IsUnread before after
@@ -39,12 +39,12 @@ pub record HasBegun (number batches size : ℕ) (share : ShareSeen) : Type 0 whe
   pub opened : share ≡ share_with history
   pub has : HasFirst (rehearsed number batches size) history
 
--- a share is opened in every run, unless there are too many edits
+-- every run opens a share, unless there are too many edits
 pub record OpensWithin (number batches size : ℕ) (share : ShareSeen) : Type 0 where
   pub few : batches * size ≤ most_edits → HasBegun number batches size share
   pub many : most_edits < batches * size → share ≡ no_share
 
--- a fault leaves no share; where an allocation fails, the share may have been opened
+-- an error leaves no share; if an allocation fails, the share may be open
 abbrev pub RehearseLeaves : (number batches size : ℕ) → Seen → Seen → Fault RehearseFault → ShareSeen → Type 0
 RehearseLeaves number batches size before after (fault.Own own) share = share ≡ no_share
 RehearseLeaves number batches size before after fault.Read share = share ≡ no_share

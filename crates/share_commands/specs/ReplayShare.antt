@@ -1,5 +1,5 @@
--- The command `replay`: a script is played to a new share, and what it is answered is written; or the first fault of the
--- input: its length, or its first bad line.
+-- The command `replay`: plays a script to a new share and writes what the share answers; or reports the first error of
+-- the input: its length, or its first bad line.
 use Rattle.std.specs.Prelude.{◌≡◌, ◌<◌, ◌≤◌, ◌⊎◌, ◌++◌, ◌∷◌, [], ℕ, List, length, take, Ok, Err, true, codes, decimal}
 use Rattle.std.specs.Io.KnownBytes.{Consumes, IsAtEnd}
 use Rattle.share_replies.specs.Settings.{Settings}
@@ -15,7 +15,7 @@ use Rattle.command_core.specs.Meanings.{Meaning, may_read}
 use Rattle.share_commands.specs.declared.replay.ReplayFault.{ReplayFault}
 use Rattle.share_commands.specs.declared.replay.ReplayFault.TheVariants.{TooLong, Line}
 
--- as many bytes of a script are read: 64 MiB
+-- the input may have at most 64 MiB
 abbrev pub script_limit : ℕ
 script_limit = 67108864
 
@@ -27,12 +27,12 @@ pub record ReadsAs (lines : List Delivery) (input : List ℕ) : Type 0 where
   pub within : length input ≤ script_limit
   pub read : script_of input ≡ Ok lines
 
--- the input is within its limit, and this is its first line that is none of a script's
+-- the input is within its limit, and `line` is its first that is not a line of a script
 pub record IsBad (line : ℕ) (input : List ℕ) : Type 0 where
   pub within : length input ≤ script_limit
   pub bad : script_of input ≡ Err line
 
--- the input was read to its end, without a fault, as this script
+-- the input was read to its end, without an error, as this script
 pub record IsRead (lines : List Delivery) (before after : InputSeen) : Type 0 where
   pub bytes : List ℕ
   pub read : Consumes before.left after.left bytes
@@ -40,34 +40,34 @@ pub record IsRead (lines : List Delivery) (before after : InputSeen) : Type 0 wh
   pub faultless : after.faults ≡ before.faults
   pub script : ReadsAs lines bytes
 
--- the script was played to a new share, whose history this is, and the output is what it was answered
+-- the script was played to a new share, which has this history, and the output is what the share answered
 pub record IsPlayed (keep : ℕ) (name : List ℕ) (before after : InputSeen) (share : ShareSeen) (output : List ℕ) : Type 0 where
   pub lines : List Delivery
   pub read : IsRead lines before after
   pub opened : share ≡ share_with (script_history (settings_of keep name) [] lines)
   pub written : output ≡ script_bytes (settings_of keep name) [] lines
 
--- it was played so far: the share has the history of the machine after some of its answers
+-- it was played in part: the share has the history of the replay after some of its answers
 pub record IsBegun (keep : ℕ) (name : List ℕ) (lines : List Delivery) (before after : InputSeen) (share : ShareSeen) : Type 0 where
   pub read : IsRead lines before after
   pub line : ℕ
   pub answered : ℕ
   pub opened : share ≡ share_with (broken_at (settings_of keep name) [] lines line answered).history
 
--- when the output failed, this was to be written
+-- the output that was to be written if the output failed
 pub record IsWriting (keep : ℕ) (name : List ℕ) (before after : InputSeen) (share : ShareSeen) (output : List ℕ) : Type 0 where
   pub lines : List Delivery
   pub begun : IsBegun keep name lines before after share
   pub written : output ≡ script_bytes (settings_of keep name) [] lines
 
--- a front of what the script is answered
+-- a prefix of what the share answers to the script
 pub record IsFront (keep : ℕ) (name : List ℕ) (before after : InputSeen) (front : List ℕ) : Type 0 where
   pub lines : List Delivery
   pub read : IsRead lines before after
   pub count : ℕ
   pub written : front ≡ take count (script_bytes (settings_of keep name) [] lines)
 
--- only want of memory comes once the share is opened
+-- once the share is open, only an allocation may fail
 abbrev pub ReplayLeaves : (keep : ℕ) → (name : List ℕ) → Seen → Seen → Fault ReplayFault → ShareSeen → Type 0
 ReplayLeaves keep name before after (fault.Own own) share = share ≡ no_share
 ReplayLeaves keep name before after fault.Read share = share ≡ no_share

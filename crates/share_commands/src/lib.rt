@@ -1,6 +1,6 @@
-//! The commands on a share that no one else reaches: `list` opens one with a batch of records and lists it, `rehearse`
-//! one that made-up batches edit, and `replay` a new one to which a script of what comes over many connections is played.
-//! Each has its meaning in a file of `specs/`, and its function ends as that says.
+//! The commands on a share that no other process reaches: `list` opens one with a batch of records and lists it,
+//! `rehearse` edits one with made-up batches, and `replay` plays to a new one a script of what comes over many
+//! connections. Each has its specification in a file of `specs/`, and its function ends as that says.
 #![tactic(auto)]
 
 mod list;

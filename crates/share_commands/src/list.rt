@@ -11,7 +11,7 @@ ghost use Rattle.share_commands.specs.Openings.{HasOpened};
 
 use crate::look::look_of;
 use crate::opening::{Opened, open};
-use command_core::{Fault, InputFault, Outcome, Refusal, out_of_memory, read_records, refused};
+use command_core::{Fault, InputFault, Outcome, Refusal, out_of_memory, read_records, write_error};
 use daap_outside::{Failed, Sink, Source};
 use dmap_tags::Text;
 use fault_lines::{query_line, records_line};
@@ -22,18 +22,18 @@ use share_history::MAX_LISTS;
 use share_listings::{full_target, is_there};
 use std::alloc::{AllocError, Global};
 
-/// Why nothing is listed. Want of memory is none of these.
+/// Errors of `list`. Out of memory is `Fault::Memory`.
 #[derive(Debug, Drop)]
 pub enum ListFault {
-    /// The text of `--query` is refused.
+    /// The query of `--query` is refused.
     Query(QueryError),
-    /// The text of `--meta` has too many names.
+    /// The list of `--meta` has too many names.
     Meta,
-    /// The input has more bytes than are read.
+    /// The input has more than 4,194,304 bytes.
     TooLong,
-    /// Its records don't read as a batch.
+    /// Its records are refused.
     Records(RecordError),
-    /// They leave more lists than a share has.
+    /// They leave more lists than a share may have.
     TooManyLists,
     /// They leave no such container.
     NoList,
@@ -63,7 +63,8 @@ impl Refusal for ListFault {
     }
 }
 
-/// Does `list`: opens a share with the records of the input, and writes the listing of the target that the texts ask for.
+/// Runs `list`: opens a share with the records of the input, and writes the listing of `target`. `query` selects its
+/// rows, and `meta` the properties that they show.
 pub fn list_share<I: Source, W: Sink>(
     alloc: Global,
     query: Option<&Text>,
@@ -82,15 +83,15 @@ pub fn list_share<I: Source, W: Sink>(
 {
     let look = match look_of(alloc, query, meta) {
         Ok(look) => look,
-        Err(fault) => return refused(alloc, output, &fault),
+        Err(fault) => return write_error(alloc, output, &fault),
     };
     match opened(alloc, target, input) {
         Ok(opened) => listed(alloc, opened, target, look, output),
-        Err(fault) => refused(alloc, output, &fault),
+        Err(fault) => write_error(alloc, output, &fault),
     }
 }
 
-/// Opens a share with the batch that the input's records are, where it has the target.
+/// Opens a share with the batch of the input's records, if it has the target.
 fn opened<I: Source>(
     alloc: Global,
     target: Target,
@@ -115,7 +116,7 @@ fn opened<I: Source>(
     }
 }
 
-/// Why the share is not listed: it has too many lists, or not the target.
+/// Returns why the share is not listed: it has too many lists, or no such target.
 fn library_fault(opened: &Opened, target: Target) -> Option<ListFault>
     ensures { (edits : List Edit) → HasOpened edits opened.now → result ≡ library_fault edits target }
 {
@@ -128,7 +129,7 @@ fn library_fault(opened: &Opened, target: Target) -> Option<ListFault>
     Some(ListFault::NoList)
 }
 
-/// What a refusal of the input is to `list`.
+/// Returns the error of `list` for one of the input.
 fn input_fault(fault: Fault<InputFault>) -> Fault<ListFault>
     ensures { result ≡ input_fault fault }
 {
@@ -140,7 +141,7 @@ fn input_fault(fault: Fault<InputFault>) -> Fault<ListFault>
     }
 }
 
-/// Lists a share that was opened. Whatever ends it, the outcome has the share's history.
+/// Writes the listing of an open share. However that ends, the outcome has the share's history.
 fn listed<W: Sink>(
     alloc: Global,
     opened: Opened,
@@ -156,12 +157,12 @@ fn listed<W: Sink>(
         result }
 {
     match planned(alloc, &opened, target, look) {
-        Ok(listing) => written(output, &listing, opened.history),
+        Ok(listing) => write_listing(output, &listing, opened.history),
         Err(AllocError) => out_of_memory(output, Some(opened.history)),
     }
 }
 
-/// The listing of the target that a look asks for.
+/// Plans the listing of `target` for `look`.
 fn planned(alloc: Global, opened: &Opened, target: Target, look: Look) -> Result<Plan, AllocError>
     requires { (edits : List Edit) × HasOpened edits opened.now × (length edits ≤ 65536) }
     ensures listing { IfOk result (λ plan. (edits : List Edit) → HasOpened edits opened.now → plan_bytes plan ≡ listing_bytes edits target look) }
@@ -170,8 +171,8 @@ fn planned(alloc: Global, opened: &Opened, target: Target, look: Look) -> Result
     full_target(alloc, &opened.items, &opened.lists, target, look)
 }
 
-/// Writes the listing of a share.
-fn written<W: Sink>(output: &mut W, listing: &Plan, history: Entries) -> Outcome
+/// Writes `listing`.
+fn write_listing<W: Sink>(output: &mut W, listing: &Plan, history: Entries) -> Outcome
     requires { IsWritable listing.now }
     ensures { TellsDone (Some history) (plan_bytes listing.now)
         (output_seen (W.taken output.old) (W.faults output.old))

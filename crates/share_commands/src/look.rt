@@ -1,4 +1,4 @@
-//! What `list` is asked to show.
+//! Reads the arguments of `list` that say what it shows.
 
 ghost use Rattle.std.specs.Prelude.{◌≡◌, Some, option_copied, IfOk, IfErr};
 ghost use Rattle.command_core.specs.Seen.{InputSeen};
@@ -14,7 +14,7 @@ use item_model::{Look, Meta, MetaError, Query, QueryError, Range};
 use song_query::read;
 use std::alloc::Global;
 
-/// Reads the texts of `--query` and `--meta`, where they are given: a look at all rows.
+/// Reads the texts of `--query` and `--meta`, if there are any. Returns a look at all rows.
 pub fn look_of(
     alloc: Global,
     query: Option<&Text>,

@@ -1,4 +1,4 @@
-//! A share that is opened with one batch.
+//! Opens a share with one batch.
 
 ghost use Rattle.std.specs.Prelude.{◌≡◌, ◌<◌, IfOk};
 ghost use Rattle.item_model.specs.Valid.{AreValid};
@@ -17,10 +17,10 @@ use std::alloc::{AllocError, Global};
 use std::marker::Brand;
 use std::sync::ledger::{Blank, Ledger};
 
-/// For how many revisions the stores of a share that is listed once keep what changed. They take one at least.
+/// The delta window of the stores, in revisions: the least that they allow, because the share is listed once.
 const KEEP: u32 = 1;
 
-/// An open share: its history, and the items and lists that this leaves.
+/// An open share: its history, and the items and lists after it.
 #[derive(Debug, Drop)]
 pub struct Opened {
     pub history: Entries,
@@ -28,7 +28,7 @@ pub struct Opened {
     pub lists: PlaylistStore,
 }
 
-/// Opens a share with a batch. An empty one is no entry of its history.
+/// Opens a share with `batch`. An empty batch is not an entry of its history.
 pub fn open(alloc: Global, batch: Batch) -> Result<Opened, AllocError>
     requires { AreValid batch }
     ensures { IfOk result (HasOpened batch) }
@@ -43,7 +43,7 @@ pub fn open(alloc: Global, batch: Batch) -> Result<Opened, AllocError>
     })
 }
 
-/// The items of a share that is opened with the edits.
+/// Returns the items of a share that is opened with `edits`.
 fn items_of(alloc: Global, edits: &[Edit]) -> Result<ItemStore, AllocError>
     requires { AreValid edits.now }
     ensures stands { IfOk result (λ store. StandsFor (batches (opening edits.now)) store) }
@@ -56,7 +56,7 @@ fn items_of(alloc: Global, edits: &[Edit]) -> Result<ItemStore, AllocError>
     Ok(store)
 }
 
-/// Its lists. How often a rule was looked at is told to nobody.
+/// Returns its lists. The count of query evaluations is dropped.
 fn lists_of(alloc: Global, edits: &[Edit], items: &ItemStore) -> Result<PlaylistStore, AllocError>
     requires valid { AreValid edits.now }
     requires items { StandsFor (batches (opening edits.now)) items.now }
@@ -89,7 +89,7 @@ fn lists_by<L: Ledger>(
     Ok(store)
 }
 
-/// The history of a share that is opened with a batch.
+/// Returns the history of a share that is opened with `batch`.
 fn history_of(alloc: Global, batch: Batch) -> Result<Entries, AllocError>
     ensures { IfOk result (λ history. history ≡ opening batch) }
 {

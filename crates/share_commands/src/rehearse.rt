@@ -1,17 +1,17 @@
-//! The command `rehearse`: a share that made-up batches edit while mirrors follow it, and the summary of what they held.
+//! The command `rehearse`: edits a share with made-up batches while mirrors follow it, and writes a summary.
 
 ghost use Rattle.std.specs.Prelude.{◌≡◌, ◌≤◌};
 ghost use Rattle.command_core.specs.Seen.{Around, InputSeen, output_seen, told_beside};
 ghost use Rattle.command_core.specs.Endings.{IsAnswered, share_of};
 ghost use Rattle.share_commands.specs.RehearseShare.{rehearse_line, rehearse_status, MayRehearse, OpensWithin, rehearse_meaning};
 
-use command_core::{Fault, Outcome, Refusal, done, out_of_memory, refused};
+use command_core::{Fault, Outcome, Refusal, out_of_memory, write_error, write_output};
 use daap_outside::Sink;
 use rehearsal::{Rehearsal, rehearse};
 use share_history::MAX_EDITS;
 use std::alloc::{AllocError, Global};
 
-/// Why nothing is rehearsed.
+/// Errors of `rehearse`.
 #[derive(Debug, Drop)]
 pub enum RehearseFault {
     /// There are more edits than a share's history may have.
@@ -32,8 +32,8 @@ impl Refusal for RehearseFault {
     }
 }
 
-/// Does `rehearse`: batches of so many edits, made up from a number, of a share that keeps so many revisions back. It
-/// reads nothing.
+/// Runs `rehearse`: makes up `batches` batches of `size` edits each, from `number`, and applies them to a share with a
+/// delta window of `keep` revisions. Reads no input.
 pub fn rehearse_share<W: Sink>(
     alloc: Global,
     number: u32,
@@ -51,7 +51,7 @@ pub fn rehearse_share<W: Sink>(
     ensures opened { OpensWithin number batches size (share_of result) }
 {
     if MAX_EDITS < batches as usize * size as usize {
-        return refused(alloc, output, &Fault::Own(RehearseFault::TooMany));
+        return write_error(alloc, output, &Fault::Own(RehearseFault::TooMany));
     }
     let plan = Rehearsal {
         number,
@@ -62,7 +62,7 @@ pub fn rehearse_share<W: Sink>(
     match rehearse(alloc, &plan) {
         Ok(rehearsed) => {
             let summary = rehearsed.summary;
-            done(output, summary.as_slice(), Some(rehearsed.history))
+            write_output(output, summary.as_slice(), Some(rehearsed.history))
         }
         Err(broken) => out_of_memory(output, Some(broken.history)),
     }

@@ -1,4 +1,4 @@
-//! The command `replay`: a script is played to a new share, and what it is answered is written.
+//! The command `replay`: plays a script to a new share, and writes what the share answers.
 
 ghost use Rattle.std.specs.Prelude.{◌≡◌, ◌≤◌, ◌++◌, ◌∷◌, [], List, Some, length, codes, decimal, IfOk, IfErr, MatchOption};
 ghost use Rattle.item_model.specs.Limits.{text_limit};
@@ -12,7 +12,7 @@ ghost use Rattle.share_commands.specs.declared.replay.ReplayFault.{ReplayFault};
 ghost use Rattle.share_commands.specs.Moments.{EndsPlay, IsOfOneMoment};
 ghost use Rattle.share_commands.specs.ReplayShare.{IsRead, ReplayReadsOn, replay_cause, replay_line, replay_meaning, replay_status, settings_of};
 
-use command_core::{Fault, Outcome, Refusal, out_of_memory, read_fault, refused};
+use command_core::{Fault, Outcome, Refusal, out_of_memory, read_fault, write_error};
 use daap_outside::{Sink, Source, read_within};
 use item_model::{Batch, Edits, Entries};
 use itoa::Buffer;
@@ -20,15 +20,15 @@ use share_core::{OpenError, Share};
 use share_replay::{ReplayError, Script, ScriptError, replay};
 use std::alloc::{AllocError, Global};
 
-/// The most bytes of a script that the input may have.
+/// The input may have at most this many bytes.
 const SCRIPT_LIMIT: u64 = 67_108_864;
 
-/// Why nothing is replayed. Want of memory is none of these.
+/// Errors of `replay`. Out of memory is `Fault::Memory`.
 #[derive(Debug, Drop)]
 pub enum ReplayFault {
-    /// The input has more bytes than are read.
+    /// The input has more than `SCRIPT_LIMIT` bytes.
     TooLong,
-    /// The first line, counted from 1, that is none of a script's.
+    /// Line number `line`, counted from 1, is the first that is not a line of a script.
     Line { line: u64 },
 }
 
@@ -62,8 +62,8 @@ fn bad_line(alloc: Global, line: u64) -> Result<Vec<u8>, AllocError>
     Ok(text)
 }
 
-/// Does `replay`: plays the script of the input to a share of that name, which answers with changes for so many revisions
-/// back, and writes what it is answered.
+/// Runs `replay`: plays the script of the input to a new share, named `name` and with a delta window of `keep`
+/// revisions, and writes what the share answers.
 pub fn replay_script<I: Source, W: Sink>(
     alloc: Global,
     keep: u32,
@@ -82,7 +82,7 @@ pub fn replay_script<I: Source, W: Sink>(
         (output_seen (W.taken output.new) (W.faults output.new)))
         result }
 
-    // Where no share was opened, the line of a fault is all that is written.
+    // If no share was opened, only the line of an error is written.
     ensures played { MatchOption result.history
         ((fault : Fault ReplayFault) × TellsFault replay_line replay_status fault
         (output_seen (W.taken output.old) (W.faults output.old))
@@ -97,7 +97,7 @@ pub fn replay_script<I: Source, W: Sink>(
 {
     let script = match script_of(alloc, input) {
         Ok(script) => script,
-        Err(fault) => return refused(alloc, output, &fault),
+        Err(fault) => return write_error(alloc, output, &fault),
     };
     match opened(alloc, keep, name) {
         Ok(share) => played(alloc, &script, share, output),
@@ -105,7 +105,7 @@ pub fn replay_script<I: Source, W: Sink>(
     }
 }
 
-/// The script that the input is.
+/// Reads the input to its end. Returns its script.
 fn script_of<I: Source>(alloc: Global, input: &mut I) -> Result<Script, Fault<ReplayFault>>
     ensures read { IfOk result (λ script. IsRead script (input_seen (I.left input.old) (I.faults input.old)) (input_seen (I.left input.new) (I.faults input.new))) }
     ensures cause { IfErr result (λ fault. StopsBy replay_cause ReplayReadsOn (Unit {0})
@@ -124,7 +124,7 @@ fn script_of<I: Source>(alloc: Global, input: &mut I) -> Result<Script, Fault<Re
     }
 }
 
-/// A share whose history is empty.
+/// Opens a share with an empty history.
 fn opened(alloc: Global, keep: u32, name: &str) -> Result<Share, AllocError>
     requires some { 1 ≤ keep }
     requires window { keep ≤ 65536 }
@@ -140,7 +140,7 @@ fn opened(alloc: Global, keep: u32, name: &str) -> Result<Share, AllocError>
     }
 }
 
-/// Plays the script, and answers the status and what the share is left with.
+/// Plays the script. Returns the status and the history of the share.
 fn played<W: Sink>(alloc: Global, script: &Script, mut share: Share, output: &mut W) -> Outcome
     requires { share.history ≡ [] }
     ensures { (history : List Entry) × (result.history ≡ Some history)

@@ -1,4 +1,4 @@
--- A reply, and the entry that it adds, are the whole answer.
+-- A reply and the entry that it adds are the whole answer.
 use Rattle.std.proofs.Common.{◌≡◌, ◌<◌, ◌≤◌, ℕ, eq-eqb, arith, Bool, true, false, cond, not, ◌&&◌, ◌==◌, List, [], ◌∷◌, ◌++◌, length, refl, sym, ap, ◌∙◌, subst, append-nil, true≢false, ne_eqb, Option, Some, None, is_some, unwrap_or, Ok, Err}
 use Rattle.std.specs.Option.{option_or, option_map_or, option_to_list}
 use Rattle.item_model.specs.declared.changes.Edit.{Edit}
@@ -28,7 +28,7 @@ use Rattle.share_core.specs.Told.{IsReply, IsTold, IsAnswer}
 use Rattle.share_core.specs.Steps.{reply_of, IsRead, HasGrown, IsBetween}
 use Rattle.share_core.specs.Wants.{is_read}
 
--- a reply that adds nothing is the answer where the share replies so and adds nothing
+-- a reply that adds nothing is the answer if the share replies this and adds nothing
 pub read_answer : (old new : Shared) (by : ℕ) (want : Want) (said : ℕ × Body) (id : ℕ) (r : Reply)
     → answer_to old.settings old.history want ≡ Replies (reply_of said id) → adds old.history by want ≡ None → IsRead said id old new r
     → IsAnswer old new by want (answer.Reply r)
@@ -55,7 +55,7 @@ grown_answer old new by want said id e r is some grown =
           grown.share ∙ (λ i. record { settings = old.settings; history = same i; marks = marks_after (same i) id old.marks }) ∙ ap (left old by want) (sym is);
     }
 
--- a want that is held leaves everything
+-- a pending operation changes nothing
 pub held_answer : (old : Shared) (by : ℕ) (want : Want) (now point : ℕ) → answer_to old.settings old.history want ≡ Holds
     → now ≡ revision (batches old.history) → point ≡ length old.history → IsAnswer old old by want (answer.Wait now point)
 held_answer old by want now point is at_revision at_end = record {
@@ -181,7 +181,7 @@ live_on h id lacks = by_case (is_live h id) lacks
     by_case true h = refl
     by_case false h = absurd (true≢false h)
 
--- the session of a reply is the one that the want needs
+-- the session of a reply is the one that the operation needs
 read_session : (h : List Entry) (want : Want) → is_read want ≡ true → is_stopped h ≡ false → lacks_session h want ≡ false → session_of h want ≡ unwrap_or (needed want) 0
 read_session h ServerInfo read going lacks = refl
 read_session h Codes read going lacks = refl

@@ -1,4 +1,4 @@
--- What an answer adds keeps a whole history whole: a login, or a batch, is added only where no limit stands against it.
+-- What an answer adds keeps a whole history whole: a login or a batch is added only within all limits.
 use Rattle.std.proofs.Common.{◌≡◌, ℕ, Bool, true, false, cond, not, List, [], ◌∷◌, ◌++◌, Option, Some, None, is_some, Ok, Err, refl, sym, subst, append-nil, append_assoc, true≢false}
 use Rattle.std.specs.Option.{option_or, option_to_list}
 use Rattle.item_model.specs.declared.changes.Entry.{Entry}

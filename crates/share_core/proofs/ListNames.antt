@@ -142,7 +142,7 @@ entries_by es (id ∷ ids) =
 pub entries_are : (es : List Edit) → filter_map (entry_at es) (keys_of (lists es)) ≡ map (list_tag es) (lists es)
 entries_are es = entries_by es (ascending (named_lists es))
 
--- what is told of a list that is there is its entry
+-- the entry of a list that exists
 pub entry_told : (es : List Edit) (id : ℕ) (head : ListHead) (count : ℕ) (found : Option Playlist) → list_at es id ≡ found → Some head ≡ option_map head_of found
     → (is_some (list_at es id) ≡ true → count ≡ length (rows es (Container id) None)) → Some (entry_with id head count) ≡ entry_at es id
 entry_told es id head count None is told counted = absurd (cc)
@@ -161,7 +161,7 @@ pub no_entry : (es : List Edit) (id : ℕ) (found : Option Playlist) → list_at
 no_entry es id None is told = ap (option_map (λ list. list_tag es (id, list))) is
 no_entry es id (Some found) is told = absurd (none-some (head_of found) told)
 
--- ---- container 1 is no list
+-- ---- container 1 is not a list
 
 not_one : (n : ℕ) (b : Bool) → (n == 1) ≡ b → is_list_id n ≡ true → b ≡ false
 not_one n true is id = absurd (omega (arith, eqb-true n 1 is, leb-true 2 n (and_parts _ _ id).0))
@@ -188,7 +188,7 @@ base_is_no_list es id valid is =
 
 -- ---- how many rows a list has
 
--- as many as members are told, and no more than edits
+-- a list has at most as many members as there are edits
 pub members_counted : {X : Type 0} (items : X → List Member) (es : List Edit) (id : ℕ) (found : Option X) (o : Option Playlist)
     → option_map (λ members. map pair_of (items members)) found ≡ option_map (λ _. map (λ row. (row.0, row.1.id)) (rows es (Container id) None)) o
     → option_map_or (λ members. length (items members)) found 0 ≤ length es

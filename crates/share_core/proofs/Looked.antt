@@ -1,4 +1,4 @@
--- What is said to a want that changes nothing, where the share goes on and the session that is needed is live.
+-- The reply to an operation that changes nothing, if the share is not stopped and the needed session is live.
 use Rattle.std.proofs.Common.{◌≡◌, ℕ, Bool, true, false, cond, not, List, refl, sym, ap, ◌∙◌, subst, Option, Some, None, unwrap_or, Result, IfOk}
 use Rattle.std.specs.Option.{option_or}
 use Rattle.code_table.specs.Standard.{standard_rows}
@@ -28,7 +28,7 @@ use Rattle.share_core.specs.Said.{IsSaid}
 abbrev pub said_to : Settings → List Entry → Want → ℕ × Body
 said_to s h want = unwrap_or (refusal h want) (success s h want)
 
--- what is said is what the want is to be told
+-- the reply is the one to the operation
 said_as : {E : Type 0} (s : Settings) (h : List Entry) (want : Want) (told : ℕ × Body) (r : Result Said E) → said_to s h want ≡ told
     → IfOk r (λ said. IsSaid told said) → IfOk r (λ said. IsSaid (unwrap_or (refusal h want) (success s h want)) said)
 said_as s h want told r is ok = subst (λ (t : ℕ × Body). IfOk r (λ said. IsSaid t said)) (sym is) ok

@@ -108,7 +108,7 @@ many_until done b rest all are refused = (
       (leb-false _ _ refused),
 )
 
--- ---- one batch, where it has edits
+-- ---- one batch, if it has edits
 
 pub few_of_one : (es : List Edit) → LeaveFewLists (if_filled es) → has_few_lists [] es ≡ true
 few_of_one [] few = refl

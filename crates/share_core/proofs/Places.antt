@@ -1,4 +1,4 @@
--- Each place of a history is a login's or a batch's.
+-- Each entry below the entry limit is a login or a batch.
 use Rattle.std.proofs.Common.{◌≡◌, ℕ, ◌+◌, List, [], ◌∷◌, length, cond, refl, arith}
 use Rattle.std.specs.Prelude.{count_by}
 use Rattle.std.proofs.lemmas.List.Sums.{sum_by-cons}

@@ -18,7 +18,7 @@ use Rattle.share_core.specs.Held.{StandFor, AreHeld, IsSound}
 pub sound_on : (s : Settings) (h h' : List Entry) (stores : Stores) → h' ≡ h → IsSound s h stores → IsSound s h' stores
 sound_on s h h' stores same sound = subst (λ (l : List Entry). IsSound s l stores) (sym same) sound
 
--- the stores are asked about batches alone
+-- the stores depend only on batches
 held_by : (h h' : List Entry) (stores : Stores) → batches h' ≡ batches h → AreHeld h stores → AreHeld h' stores
 held_by h h' stores same held = record {
   stand = subst (λ (bs : List (List Edit)). StandFor bs stores) (sym same) held.stand;
@@ -51,7 +51,7 @@ held_more h h' batch stores stores' longer takes stand =
       few_lists = subst (λ (es : List Edit). length (rows.lists es) ≤ 1024) (sym all) (leb-true (length (rows.lists (all_edits h ++ batch))) 1024 both.1);
     }
 
--- a batch that no limit stands against
+-- a batch within all limits
 pub sound_edit : (s : Settings) (h h' : List Entry) (by : ℕ) (batch : List Edit) (stores stores' : Stores) → h' ≡ h ++ Edits by batch ∷ [] → takes_batch h batch ≡ true
     → AreWhole batch → StandFor (batches h ++ batch ∷ []) stores' → stores'.items.keep ≡ stores.items.keep → stores'.lists.keep ≡ stores.lists.keep
     → IsSound s h stores → IsSound s h' stores'
@@ -63,7 +63,7 @@ sound_edit s h h' by batch stores stores' longer takes brought stand items lists
   short_name = sound.short_name;
 }
 
--- stores that took nothing in stand as before
+-- stores that applied nothing represent the same as before
 pub sound_left : (s : Settings) (h : List Entry) (stores stores' : Stores) → ((bs : List (List Edit)) → StandFor bs stores → StandFor bs stores')
     → stores'.items.keep ≡ stores.items.keep → stores'.lists.keep ≡ stores.lists.keep → IsSound s h stores → IsSound s h stores'
 sound_left s h stores stores' left items lists sound = record {
@@ -85,16 +85,16 @@ sound_empty s h stores none stand items_keep lists_keep short = sound_on s [] h 
   short_name = short;
 })
 
--- a batch is taken where no limit is met
+-- a batch within all limits is taken
 pub taken : (h : List Entry) (batch : List Edit) → has_place h ≡ true → has_room_for h (length batch) ≡ true → has_few_lists h batch ≡ true → takes_batch h batch ≡ true
 taken h batch place room few = and_from (has_place h) (has_room_for h (length batch) && has_few_lists h batch) place (and_from (has_room_for h (length batch)) (has_few_lists h batch) room few)
 
--- the lists that are counted behind the edits of a batch are those that it leaves
+-- the lists that are counted after the edits of a batch are those that it leaves
 pub few_lists_by : (h : List Entry) (batch es : List Edit) (count : ℕ) → es ≡ batch → count ≡ length (rows.lists (edits (batches h) ++ es)) → count ≤ 1024 → has_few_lists h batch ≡ true
 few_lists_by h batch es count same counted few =
     le-leb _ _ (let now = counted ∙ ap (λ l. length (rows.lists (all_edits h ++ l))) same in omega (arith, now, few))
 
--- a history that has a place left has few revisions
+-- a history below the entry limit has few revisions
 pub few_next_at : (h : List Entry) → has_place h ≡ true → revision (batches h) + 1 < 4294967296
 few_next_at h place = omega (arith, few_batches h, ltb-true _ _ place)
 

@@ -1,4 +1,4 @@
--- Tags of few bytes can be spelled, and so can a listing of short entries.
+-- Tags of few bytes can be encoded, and so can a listing of short entries.
 use Rattle.std.proofs.Common.{◌≡◌, ◌≤◌, ◌+◌, ◌*◌, ◌++◌, ℕ, true, false, List, [], ◌∷◌, length, refl, ap, subst, sym, length-append, arith}
 use Rattle.std.specs.List.{AllByRecursion}
 use Rattle.dmap_tags.specs.Codes.{Four, code}
@@ -34,7 +34,7 @@ whole_length of entries_of revision total listed entries =
       framed_length entries_of (spellings (trees_of entries)),
     )
 
--- a listing of as many short entries as there may be can be spelled
+-- a listing of at most `entries_limit` short entries can be encoded
 pub whole_spellable : (of entries_of : Four) (revision total listed : ℕ) (entries tags : List Tree) → tags ≡ start_tags false revision total listed ++ list entries_of (trees_of entries) ∷ []
     → AreShort entries → length entries ≤ 262145 → is_spellable (list of (trees_of tags)) ≡ true
 whole_spellable of entries_of revision total listed entries tags is short few =
@@ -42,7 +42,7 @@ whole_spellable of entries_of revision total listed entries tags is short few =
     (short_spellable (list of (trees_of (start_tags false revision total listed ++ list entries_of (trees_of entries) ∷ [])))
     (omega (arith, whole_length of entries_of revision total listed entries, entries_length entries short, few)))
 
--- what stands before the name, and behind it
+-- the tags before the name, and after it
 abbrev before_name : List Tree
 before_name = leaf (code "mstt") (U32 200) ∷ leaf (code "mpro") (Version 131072) ∷ leaf (code "apro") (Version 196608) ∷ []
 

@@ -1,4 +1,4 @@
--- What the stores of a share stand for before and after each call.
+-- What the stores of a share represent before and after each call.
 use Rattle.std.proofs.Common.{◌≡◌, ◌≤◌, ◌+◌, ℕ, true, false, List, [], ◌∷◌, ◌++◌, length, map, Option, Some, None, refl, sym, ap, ◌∙◌, subst, arith}
 use Rattle.std.specs.List.{AllByRecursion, list_any}
 use Rattle.std.specs.BTreeMap.{is_at}
@@ -54,7 +54,7 @@ short_follows bs batch changes are all before =
 
 -- ---- ids to start from
 
--- a store has one item under each id, whatever batches it stands for
+-- a store has one item under each id, whatever batches it represents
 same_item : (bs cs : List (List Edit)) (s : Store) → item_store.StandsFor bs s → item_store.StandsFor cs s → (id : ℕ) → item_at (edits bs) id ≡ item_at (edits cs) id
 same_item bs cs s at_bs at_cs id = sym (newest_now at_bs id) ∙ newest_now at_cs id
 

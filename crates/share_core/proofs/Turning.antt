@@ -1,4 +1,4 @@
--- Changes of items, taken in one after the other, lead from the library of some edits to that of more.
+-- Changes of items, applied one after the other, lead from the library of some edits to that of more.
 use Rattle.std.proofs.Common.{◌≡◌, ℕ, Bool, true, false, cond, ◌==◌, ◌||◌, List, [], ◌∷◌, ◌++◌, map, filter, Option, Some, None, IfSome, refl, sym, ap, ◌∙◌, subst, nat_cmp, is_eq, Less, true≢false}
 use Rattle.std.specs.List.{list_any, AllByRecursion}
 use Rattle.std.specs.List.Sorted.{IsStrictlySortedBy}
@@ -149,7 +149,7 @@ short_among es now (id ∷ ids) q all here = by_case (is_eq (nat_cmp q id)) refl
     by_case true e rest = subst (λ n. IfSome (item_at now n) HasShortTexts) (sym (same_key q id e)) all.0
     by_case false e rest = rest (sym (ap (λ b. b || has q ids) e) ∙ here)
 
--- items have short texts where those of the changed ones are short
+-- items have short texts if those of the changed ones are short
 pub short_after : (es now batch : List Edit) → now ≡ es ++ batch → AllByRecursion IsShortChange (changes_of es now (ascending (named_items batch)))
     → ((id : ℕ) (row : Row) → item_at es id ≡ Some row → HasShortTexts row) → (id : ℕ) (row : Row) → item_at now id ≡ Some row → HasShortTexts row
 short_after es now batch is all before id row found = by_case (has id ids) refl

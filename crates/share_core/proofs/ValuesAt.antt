@@ -1,4 +1,5 @@
--- The values of the items that are asked for: how a loop finds them, that they are those of the rows, and that they are short.
+-- The values of the items that match: how a loop finds them, that they are those of the rows, and that they are
+-- short.
 use Rattle.std.proofs.Common.{◌≡◌, ◌≤◌, ◌<◌, ◌+◌, ℕ, Bool, true, false, cond, List, [], ◌∷◌, length, get_or, drop, map, fold, filter, Option, Some, None, is_some, refl, sym, ap, ◌∙◌, subst, Less, Equal, Greater, nat_cmp, arith}
 use Rattle.std.specs.List.{AllByRecursion, cons_option, list_any}
 use Rattle.std.specs.Option.{option_map, option_and_then}

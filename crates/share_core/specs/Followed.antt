@@ -1,4 +1,4 @@
--- The stores of a share while a batch is taken in: the items are ahead of the lists and of the index.
+-- The stores of a share while they apply a batch: the items are one batch ahead of the lists and the index.
 use Rattle.std.specs.Prelude.{◌≡◌, ℕ, List, [], ◌∷◌, ◌++◌, Option, Some, map}
 use Rattle.item_model.specs.declared.item.Row.{Row}
 use Rattle.item_model.specs.declared.changes.Edit.{Edit}
@@ -12,12 +12,12 @@ use Rattle.prop_index.specs.Index as prop_index
 use Rattle.share_core.specs.Short.{HasShortTexts}
 use Rattle.share_core.specs.declared.stores.Stores.{Stores}
 
--- the lists and the index stand for the batches
+-- The lists and the index represent the batches `bs`.
 pub record IsAsBefore (bs : List (List Edit)) (stores : Stores) : Type 0 where
   pub lists : playlist_store.StandsFor bs stores.lists
   pub index : prop_index.StandsFor (rows.library (edits bs)) stores.index
 
--- and the items for one more, whose items were these rows before it
+-- The items also represent `batch`. `before` are the rows that they had before it.
 pub record CanFollow (bs : List (List Edit)) (batch : List Edit) (before : List (ℕ × Option Row)) (stores : Stores) : Type 0 where
   pub items : item_store.StandsFor (bs ++ batch ∷ []) stores.items
   pub others : IsAsBefore bs stores

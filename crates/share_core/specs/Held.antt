@@ -1,4 +1,4 @@
--- For which history the stores of a share stand, and what else of a share is always so.
+-- Which history the stores of a share represent, and the other invariants of a share.
 use Rattle.std.specs.Prelude.{◌≡◌, ◌≤◌, ℕ, List, Some, length}
 use Rattle.item_model.specs.declared.item.Row.{Row}
 use Rattle.item_model.specs.declared.changes.Edit.{Edit}
@@ -20,16 +20,16 @@ pub record StandFor (bs : List (List Edit)) (stores : Stores) : Type 0 where
   pub items : item_store.StandsFor bs stores.items
   pub lists : playlist_store.StandsFor bs stores.lists
   pub index : prop_index.StandsFor (rows.library (edits bs)) stores.index
-  -- as the type of an item has it
+  -- the type of an item bounds its texts
   pub short : (id : ℕ) (row : Row) → item_at (edits bs) id ≡ Some row → HasShortTexts row
 
--- the stores stand for a history that has not too much
+-- The stores represent the history `h`, which keeps the limits of edits and lists.
 pub record AreHeld (h : List Entry) (stores : Stores) : Type 0 where
   pub stand : StandFor (batches h) stores
   pub few_edits : length (all_edits h) ≤ most_edits
   pub few_lists : length (rows.lists (all_edits h)) ≤ most_lists
 
--- what a share keeps fits its history and its settings
+-- The invariant of a share.
 pub record IsSound (settings : Settings) (h : List Entry) (stores : Stores) : Type 0 where
   pub held : AreHeld h stores
   pub whole : IsWhole h

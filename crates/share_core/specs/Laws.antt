@@ -1,5 +1,5 @@
--- What an answer leaves of a share, whatever is asked: the settings as they were, and the history with entries of the pass that
--- asked behind it, if with any. Behind a whole history it is whole.
+-- What an answer leaves of a share, whatever the request: the same settings, and the history with at most entries of
+-- the handle that asked appended. A whole history stays whole.
 use Rattle.std.specs.Prelude.{◌≡◌, ⊤, ℕ, List, [], ◌∷◌, ◌++◌, Some, Ok, All}
 use Rattle.item_model.specs.declared.changes.Entry.{Entry}
 use Rattle.share_asks.specs.declared.ask.Want.{Want}
@@ -17,23 +17,23 @@ Grows old by new = (new.settings ≡ old.settings) × (more : List Entry) × (ne
 abbrev pub AnswersGrow : Type 0
 AnswersGrow = (old new : Shared) (by : ℕ) (want : Want) (answer : Answer) → IsAnswer old new by want answer → Grows old by new
 
--- the batch that a want has, if it has one, is whole
+-- If the operation has a batch, the batch is whole.
 abbrev pub BringsWhole : Want → Type 0
 BringsWhole (Change (Ok batch)) = AreWhole batch
 BringsWhole want = ⊤
 
--- the entry is what some want adds
+-- `e` is the entry that some operation adds to `h`.
 pub record IsAdded (h : List Entry) (e : Entry) : Type 0 where
   pub by : ℕ
   pub want : Want
   pub whole : BringsWhole want
   pub added : adds h by want ≡ Some e
 
--- each entry is added behind those before it
+-- Each entry is added to the history that the earlier ones left.
 abbrev pub AreAdded : List Entry → List Entry → Type 0
 AreAdded h [] = ⊤
 AreAdded h (e ∷ es) = IsAdded h e × AreAdded (h ++ e ∷ []) es
 
--- whatever is asked, a whole history stays whole
+-- A whole history stays whole whatever clients request.
 abbrev pub AnswersKeepWhole : Type 0
 AnswersKeepWhole = (h later : List Entry) → IsWhole h → AreAdded h later → IsWhole (h ++ later)

@@ -1,4 +1,4 @@
--- What is said to a look: that the target is not there, or its listing.
+-- The response to a `Look`: 404 if the target does not exist, otherwise its listing.
 use Rattle.std.specs.Prelude.{ℕ, List, if◌then◌else◌}
 use Rattle.item_model.specs.declared.changes.Entry.{Entry}
 use Rattle.item_model.specs.declared.request.Look.{Look}

@@ -1,5 +1,5 @@
--- When what the program says is what a share replies: the status, and the body as a form, which the head tells, and a plan, which
--- writes it. A body that is a tag may be planned as the tag or as the rows of a listing.
+-- When a status, a form and a plan of the program are the response that a share makes. The form decides the head, the
+-- plan writes the body. A tag may be planned as a tag or as the rows of a listing.
 use Rattle.std.specs.Prelude.{◌≡◌, ℕ, List, Option, Some, None}
 use Rattle.dmap_tags.specs.Tree.{Tree}
 use Rattle.share_history.specs.Bodies.{body_tree}
@@ -11,7 +11,7 @@ use Rattle.share_asks.specs.declared.form.BodyForm.TheVariants as form
 use Rattle.share_replies.specs.Replies.{Body, Nothing, Allowed, Line, Tagged}
 use Rattle.share_core.specs.declared.answer.Said.{Said}
 
--- the tag that a plan writes
+-- The tag that a plan writes.
 abbrev pub tree_of : Plan → Option Tree
 tree_of plan.Empty = None
 tree_of (plan.Plain bytes) = None
@@ -24,6 +24,6 @@ IsBody (Allowed verb) told written = (told ≡ form.Allow verb) × (written ≡ 
 IsBody (Line text) told written = (told ≡ form.Plain) × (written ≡ plan.Plain text)
 IsBody (Tagged tag) told written = (told ≡ form.Dmap) × ((tree_of written ≡ Some tag) × IsWritable written)
 
--- a status with a body
+-- The status is `told.0`, and form and plan are the body `told.1`.
 abbrev pub IsSaid : ℕ × Body → Said → Type 0
 IsSaid told said = (said.status ≡ told.0) × IsBody told.1 said.form said.plan

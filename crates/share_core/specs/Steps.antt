@@ -1,4 +1,4 @@
--- A reply that adds nothing, and where the mark that a reply tells can lie.
+-- A reply that adds no entry, one that adds an entry, and the bounds of the last-answered length in a reply.
 use Rattle.std.specs.Prelude.{◌≡◌, ◌≤◌, ◌++◌, ◌∷◌, [], ℕ, List, true, false, length}
 use Rattle.item_model.specs.declared.changes.Entry.{Entry}
 use Rattle.share_history.specs.Marks.{marks_after, until_login}
@@ -11,21 +11,21 @@ use Rattle.share_core.specs.declared.answer.Answer.TheVariants as answer
 use Rattle.share_core.specs.declared.answer.Reply.{Reply}
 use Rattle.share_core.specs.Told.{IsReply}
 
--- a status with a body, to a session
+-- A status and a body as the response to session `id`.
 abbrev pub reply_of : ℕ × Body → ℕ → replies.Reply
 reply_of said id = record { status = said.0; body = said.1; session = id }
 
--- it is given at the end of the history, and moves the mark of its session
+-- The reply is given at the end of the history. It sets the last-answered length of its session.
 pub record IsRead (told : ℕ × Body) (id : ℕ) (old new : Shared) (r : Reply) : Type 0 where
   pub reply : IsReply (reply_of told id) (length old.history) (mark_of old.marks id) false r
   pub share : new ≡ record { settings = old.settings; history = old.history; marks = marks_after old.history id old.marks }
 
--- a reply behind the entry that it added
+-- The reply is given after the entry that it added.
 pub record HasGrown (told : ℕ × Body) (id : ℕ) (e : Entry) (old new : Shared) (r : Reply) : Type 0 where
   pub reply : IsReply (reply_of told id) (length (old.history ++ e ∷ [])) (mark_of old.marks id) true r
   pub share : new ≡ record { settings = old.settings; history = old.history ++ e ∷ []; marks = marks_after (old.history ++ e ∷ []) id old.marks }
 
--- the mark of a session that was live lies behind its login, and no mark lies behind the history
+-- The last-answered length of a live session is at or after its login, and never exceeds the history length.
 pub record IsBetween (h : List Entry) (r : Reply) : Type 0 where
   pub until : r.seen ≤ length h
   pub since : is_live h r.session ≡ true → length (until_login r.session h) ≤ r.seen

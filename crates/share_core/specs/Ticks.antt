@@ -1,4 +1,4 @@
--- How often an answer has queries and rules looked at: `matches` ticks once at each look.
+-- How many evaluations of queries and rules an answer makes. Each call of `matches` increases the counter by one.
 use Rattle.std.specs.Prelude.{ℕ, List, [], ◌∷◌, ◌++◌, Option, Some, None, Ok, Err, length}
 use Rattle.item_model.specs.declared.query.Query.{Query}
 use Rattle.item_model.specs.declared.changes.Edit.{Edit}
@@ -15,16 +15,16 @@ use Rattle.share_listings.specs.Answers.{most_ticks, looked_at}
 use Rattle.share_asks.specs.declared.ask.Want.{Want}
 use Rattle.share_asks.specs.declared.ask.Want.TheVariants.{ServerInfo, Codes, Login, Logout, Update, Databases, Rows, Lists, Values, Edit as Change, Stop, Bad}
 
--- the candidates that a query has
+-- The candidates of a query.
 abbrev pub starts : List Edit → Option Query → Option (List ℕ)
 starts es None = None
 starts es (Some query) = candidates_in (tree_of query) (library es)
 
--- a listing: four for each touched key since a kept base, and else one for each row or candidate
+-- A listing: four for each touched key if the base is in the window; otherwise one for each row or candidate.
 abbrev pub row_ticks : ℕ → List Entry → Target → Look → ℕ
 row_ticks keep h target look = most_ticks keep (batches h) target look.base (starts (all_edits h) look.query)
 
--- values: one for each item or candidate, and none where no query is asked
+-- Values: one for each item or candidate, and 0 without a query.
 abbrev pub value_ticks : List Edit → Option Query → ℕ
 value_ticks es None = 0
 value_ticks es (Some query) = looked_at es Items (starts es (Some query))
@@ -39,7 +39,8 @@ want_ticks keep h (Databases session) = 0
 want_ticks keep h (Rows session target look) = row_ticks keep h target look
 want_ticks keep h (Lists session) = 0
 want_ticks keep h (Values session browse query) = value_ticks (all_edits h) query
--- an edit: for each rule list one for each edit of an item, and one for each item of the library where it puts the rule
+-- An edit, for each list with a rule: one for each item of the library if the batch names the list, otherwise one for
+-- each item that the batch names.
 want_ticks keep h (Change (Ok batch)) = tests_of (all_edits h ++ batch) batch
 want_ticks keep h (Change (Err error)) = 0
 want_ticks keep h Stop = 0

@@ -1,4 +1,5 @@
--- When an answer of the program is what a share tells, and the share that it leaves the one that is left.
+-- When an answer of the program is the response that a share makes, and the share is the one that the response
+-- leaves.
 use Rattle.std.specs.Prelude.{◌≡◌, ℕ, Bool}
 use Rattle.share_asks.specs.declared.ask.Want.{Want}
 use Rattle.share_replies.specs.Replies as replies
@@ -21,7 +22,7 @@ IsTold (Replied told at mark adds) (answer.Wait now point) = ⊥
 IsTold (Waiting revision at) (answer.Reply reply) = ⊥
 IsTold (Waiting revision at) (answer.Wait now point) = (now ≡ revision) × (point ≡ at)
 
--- the answer to a want that the pass of a number has
+-- The answer to the operation `want` of handle `by`.
 pub record IsAnswer (old new : Shared) (by : ℕ) (want : Want) (answer : Answer) : Type 0 where
   pub told : IsTold (told_by old by want) answer
   pub share : new ≡ share_after old by want

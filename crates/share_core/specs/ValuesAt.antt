@@ -1,4 +1,4 @@
--- The texts of the items of ids that are there and asked for, in the order of the ids.
+-- The texts of the items `ids` that exist and match the query, in the order of `ids`.
 use Rattle.std.specs.Prelude.{ℕ, List, Some, map}
 use Rattle.item_model.specs.declared.query.Query.{Query}
 use Rattle.item_model.specs.declared.changes.Edit.{Edit}

@@ -1,9 +1,9 @@
--- Kinds of wants.
+-- Kinds of operations.
 use Rattle.std.specs.Prelude.{Bool, true, false}
 use Rattle.share_asks.specs.declared.ask.Want.{Want}
 use Rattle.share_asks.specs.declared.ask.Want.TheVariants.{ServerInfo, Codes, Login, Logout, Update, Databases, Rows, Lists, Values, Edit, Stop, Bad}
 
--- those that are granted without memory: a logout and the stop
+-- Those that never fail to allocate: a logout and the stop.
 abbrev pub is_free : Want → Bool
 is_free ServerInfo = false
 is_free Codes = false
@@ -18,7 +18,7 @@ is_free (Edit body) = false
 is_free Stop = true
 is_free (Bad fault) = false
 
--- those that are answered at once and change nothing
+-- Those that are answered at once and change nothing.
 abbrev pub is_read : Want → Bool
 is_read ServerInfo = true
 is_read Codes = true

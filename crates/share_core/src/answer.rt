@@ -1,27 +1,27 @@
-//! What a share answers.
+//! The answers of a share.
 
 use listing_plan::Plan;
 use share_asks::BodyForm;
 
-/// The answer to an ask.
+/// The answer to a parsed request.
 #[derive(Debug, Drop)]
 pub enum Answer {
     Reply(Reply),
-    /// The update that was asked for is yet to come. The share is at this revision, and its history has so many entries.
+    /// The update is pending: the share is at this `revision`, and `point` is the length of its history.
     Wait { revision: u32, point: u64 },
 }
 
-/// A reply, given at one point of the share's history.
+/// A reply, given at one length of the share's history.
 #[derive(Debug, Drop)]
 pub struct Reply {
     pub said: Said,
-    /// How many entries the history has after the reply.
+    /// The history length after the reply.
     pub point: u64,
-    /// The session whose answer this is, 0 where it is no session's.
+    /// The session that this answers, 0 if none.
     pub session: u32,
-    /// The point of the session's answer before this one, 0 where there was none.
+    /// The session's last-answered length before this reply, 0 if it had none.
     pub seen: u64,
-    /// An entry was added.
+    /// Whether the reply added an entry.
     pub added: bool,
 }
 
@@ -30,6 +30,6 @@ pub struct Reply {
 pub struct Said {
     pub status: u16,
     pub form: BodyForm,
-    /// It can be written, and knows its length, at any later time.
+    /// Can be written at any later time, and knows its length.
     pub plan: Plan,
 }

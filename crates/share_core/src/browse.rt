@@ -1,5 +1,5 @@
-//! Browse listings: the values of a property. The index tells those of the library; those of the items that a query asks
-//! for are found in their rows.
+//! Browse listings: the values of a property. The index has those of the whole library. With a query, they are read
+//! from the rows of the items that match.
 
 ghost use Rattle.std.specs.Prelude.{◌≡◌, ◌≤◌, ◌+◌, ◌∷◌, [], ℕ, List, Option, Some, None, map, fold, filter, length, option_copied, option_map, IfOk, IfSome, OnOk};
 ghost use Rattle.std.specs.Ordering.{nat_cmp};
@@ -33,7 +33,8 @@ use std::alloc::{AllocError, Global};
 use std::collections::BTreeSet;
 use std::sync::ledger::Ledger;
 
-/// The values of a property of the items that are asked for.
+/// Returns the listing of the values that a property has in the items that match `query`; without a query, in all
+/// items.
 pub(crate) fn browse<L: Ledger>(
     alloc: Global,
     stores: &Stores,
@@ -118,7 +119,7 @@ fn set_tags(alloc: Global, texts: &BTreeSet<&str>) -> Result<Tags, AllocError>
     Ok(tags)
 }
 
-// The candidates, and where there are none all items.
+// Returns the candidates of the query if the index has some; otherwise the ids of all items.
 fn ids_to_look_at(stores: &Stores, query: &Query) -> Result<Vec<u32>, AllocError>
     ensures start { IfOk result (λ ids. (h : List Entry) → AreHeld h stores.now → AreCandidates (all_edits h) (Some query.now) ids.items) }
     ensures few { IfOk result (λ ids. (h : List Entry) → AreHeld h stores.now → length ids.items ≡ value_ticks (all_edits h) (Some query.now)) }
@@ -129,7 +130,7 @@ fn ids_to_look_at(stores: &Stores, query: &Query) -> Result<Vec<u32>, AllocError
     }
 }
 
-// The texts of the items of ids that are there and asked for.
+// Returns the texts of the items `ids` that exist and match the query.
 #[tactic(auto, using(crate::proofs::ValuesAt::values_left))]
 fn asked_texts<'a, L: Ledger>(
     alloc: Global,
@@ -168,7 +169,7 @@ fn put_asked<'a, L: Ledger>(
     }
 }
 
-// Puts a text that is not empty into its place, unless it is there.
+// Adds a text unless it is empty or already in the set.
 fn put_text<'a>(texts: &mut BTreeSet<&'a str>, text: &'a str) -> Result<(), AllocError>
     ensures { OnOk result (map text_at texts.new.keys ≡ fold (insert_key (slice_cmp nat_cmp)) (map text_at texts.old.keys) (filter is_filled (text.now ∷ []))) }
 {

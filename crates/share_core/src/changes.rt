@@ -1,4 +1,4 @@
-//! What a batch makes of items, as the index takes it in.
+//! The changes of items by a batch, as the index applies them.
 
 ghost use Rattle.std.specs.Prelude.{◌≡◌, ◌++◌, ◌∷◌, [], List, map, fold, IfOk, IfSome, OnOk};
 ghost use Rattle.std.specs.Ordering.{nat_cmp};
@@ -26,7 +26,7 @@ fn put(ids: &mut BTreeSet<u32>, id: u32) -> Result<(), AllocError>
     Ok(())
 }
 
-// Puts the id of the item that an edit puts or drops.
+// Adds the id of the item that the edit puts or drops, if any.
 fn put_named(ids: &mut BTreeSet<u32>, edit: &Edit) -> Result<(), AllocError>
     ensures { OnOk result (ids.new.keys ≡ fold (insert_key nat_cmp) ids.old.keys (items_in edit.now)) }
 {
@@ -48,7 +48,7 @@ fn named_ids(alloc: Global, batch: &[Edit]) -> Result<BTreeSet<u32>, AllocError>
     Ok(ids)
 }
 
-/// The items that a batch puts or drops, as they are before it.
+/// Returns the rows before the batch of all items that it puts or drops, by ascending id.
 pub(crate) fn rows_before(
     alloc: Global,
     items: &ItemStore,
@@ -97,7 +97,7 @@ fn short(row: Option<SharedRow>) -> Option<SharedRow>
     }
 }
 
-/// What became of these items.
+/// Returns the change of each item in `before` to its present row in `items`.
 #[tactic(auto, using(share_history::proofs::FoldFacts::shown_next))]
 pub(crate) fn changes_to(
     alloc: Global,

@@ -26,7 +26,7 @@ use playlist_store::{ListHead, Member};
 use share_history::BASE_LIST;
 use std::alloc::{AllocError, Global};
 
-/// The listing of the only database.
+/// Returns the listing of the only database.
 pub(crate) fn databases(alloc: Global, name: &Text, stores: &Stores) -> Result<Said, AllocError>
     requires name { length name.now ≤ text_limit }
     requires held { (h : List Entry) × AreHeld h stores.now }
@@ -57,7 +57,7 @@ fn database_entry(
     Ok(list(Code(*b"mlit"), tags))
 }
 
-/// The listing of the containers.
+/// Returns the listing of the containers.
 pub(crate) fn containers(alloc: Global, name: &Text, stores: &Stores) -> Result<Said, AllocError>
     requires name { length name.now ≤ text_limit }
     requires held { (h : List Entry) × AreHeld h stores.now }
@@ -82,7 +82,7 @@ fn entries(alloc: Global, name: &Text, stores: &Stores) -> Result<Tags, AllocErr
     Ok(tags)
 }
 
-// Container 1 has all items.
+// The entry of container 1, which has all items.
 fn base_entry(alloc: Global, name: &Text, stores: &Stores) -> Result<Tag, AllocError>
     ensures { IfOk result (λ tag. (h : List Entry) → AreHeld h stores.now → tag ≡ container_tag base_list name.now (leaf (code "abpl") (U8 1) ∷ []) (all_edits h)) }
 {
@@ -91,7 +91,7 @@ fn base_entry(alloc: Global, name: &Text, stores: &Stores) -> Result<Tag, AllocE
     entry(alloc, BASE_LIST, name, mark, count)
 }
 
-// Adds the entry of a list, if it is there.
+// Appends the entry of list `id`, if it exists.
 fn push_list(tags: &mut Tags, alloc: Global, stores: &Stores, id: u32) -> Result<(), AllocError>
     requires held { (h : List Entry) × AreHeld h stores.now }
     ensures { OnOk result ((h : List Entry) → AreHeld h stores.now → tags.new ≡ tags.old ++ option_to_list (entry_at (all_edits h) id)) }
@@ -114,7 +114,7 @@ fn list_entry(alloc: Global, id: u32, head: &ListHead, count: u32) -> Result<Tag
     entry(alloc, id, &head.name, mark_of(head), count)
 }
 
-// The mark of a list that has a rule.
+// Returns the tag that a list with a rule has.
 fn mark_of(head: &ListHead) -> Option<Tag>
     ensures { result ≡ option_map (λ _. leaf (code "aeSP") (U8 1)) head.now.rule }
 {
@@ -133,7 +133,7 @@ fn push_mark(tags: &mut Tags, mark: Option<Tag>) -> Result<(), AllocError>
     }
 }
 
-// A container with the mark of its kind, if it has one, and the number of its rows.
+// Returns the entry of a container: id, name, the tag `mark` if any, and the number of its rows.
 fn entry(
     alloc: Global,
     id: u32,
@@ -151,7 +151,7 @@ fn entry(
     Ok(list(Code(*b"mlit"), tags))
 }
 
-// How many rows the listing of a list has.
+// Returns the number of rows in the listing of list `id`.
 fn member_count(stores: &Stores, id: u32) -> Result<u32, AllocError>
     requires other { (id == base_list) ≡ false }
     requires held { (h : List Entry) × AreHeld h stores.now }

@@ -1,4 +1,4 @@
-//! Replies that tell what is wrong with a request.
+//! Replies that state what is wrong with a request.
 
 ghost use Rattle.std.specs.Prelude.{◌≡◌, IfOk};
 ghost use Rattle.fault_lines.specs.Records.{records_line};
@@ -12,7 +12,7 @@ use records_import::RecordError;
 use share_asks::AskError;
 use std::alloc::{AllocError, Global};
 
-/// What is wrong with the request itself.
+/// Returns the reply to a malformed or unsupported request.
 pub(crate) fn fault(alloc: Global, error: &AskError) -> Result<Said, AllocError>
     ensures { IfOk result (λ said. IsSaid (fault_reply error.now) said) }
 {
@@ -24,7 +24,7 @@ pub(crate) fn fault(alloc: Global, error: &AskError) -> Result<Said, AllocError>
     }
 }
 
-/// What is wrong with the records of an edit.
+/// Returns the reply to an edit with malformed records: 400 and a line.
 pub(crate) fn records(alloc: Global, error: &RecordError) -> Result<Said, AllocError>
     ensures { IfOk result (λ said. IsSaid (400, Line (records_line error.now)) said) }
 {

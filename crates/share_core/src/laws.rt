@@ -1,13 +1,13 @@
-//! What holds of all answers. Each function does nothing; its contract is a fact that follows from the definitions.
+//! Theorems about all answers. Each function has an empty body; its contract is the theorem.
 
 ghost use Rattle.share_core.specs.Laws.{AnswersGrow, AnswersKeepWhole};
 
-/// An answer leaves the settings, and adds to the history only entries of the pass that asked.
+/// An answer leaves the settings unchanged, and appends only entries of the handle that asked.
 pub fn answers_grow()
     ensures { AnswersGrow }
 {}
 
-/// A whole history stays whole with the entries that answers add: no limit is passed.
+/// A whole history stays whole with the entries that answers append: within all limits.
 pub fn answers_keep_whole()
     ensures { AnswersKeepWhole }
 {}

@@ -1,5 +1,5 @@
-//! A share: what it answers is a function of its settings, of its history and of what is asked, and so is what it adds to the
-//! history. Nothing that is asked walks the history: stores of items and of lists, an index and counts stand beside it.
+//! A share: settings and history decide its answer to a request, and the entry that the answer appends. No request
+//! walks the history: stores of items and of lists, an index and counts represent it.
 #![tactic(auto)]
 
 mod answer;

@@ -27,7 +27,7 @@ use song_query::Steps;
 use std::alloc::{AllocError, Global};
 use std::sync::ledger::Ledger;
 
-/// The ids of the items that may meet a query, where the index tells them.
+/// Returns the ids of the items that may match the query, if the index can narrow them.
 pub(crate) fn candidates(
     stores: &Stores,
     query: Option<&Query>,
@@ -50,7 +50,7 @@ fn slice_of(ids: &Option<Vec<u32>>) -> Option<&[u32]>
     }
 }
 
-/// The rows of a target that a look asks for, if the target is there.
+/// Returns the rows of `target` that `look` selects, or 404 if the target does not exist.
 pub(crate) fn rows<L: Ledger>(
     alloc: Global,
     stores: &Stores,
@@ -66,7 +66,7 @@ pub(crate) fn rows<L: Ledger>(
     if !is_there(&stores.lists, target) {
         return Ok(nothing(404));
     }
-    let plan = planned(alloc, stores, target, look, steps)?;
+    let plan = plan_listing(alloc, stores, target, look, steps)?;
     Ok(Said {
         status: 200,
         form: BodyForm::Dmap,
@@ -74,7 +74,7 @@ pub(crate) fn rows<L: Ledger>(
     })
 }
 
-fn planned<L: Ledger>(
+fn plan_listing<L: Ledger>(
     alloc: Global,
     stores: &Stores,
     target: Target,

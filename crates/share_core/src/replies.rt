@@ -1,4 +1,4 @@
-//! Replies at a point of the history, and the marks that they move.
+//! Replies at a length of the history, and the last-answered lengths that they set.
 
 ghost use Rattle.std.specs.Prelude.{◌≡◌, ◌≤◌, ◌+◌, ◌++◌, ◌∷◌, [], true, false, length, IfOk, OnOk, OnErr};
 ghost use Rattle.item_model.specs.declared.changes.Entry.TheVariants as entry;
@@ -14,7 +14,7 @@ use share_history::FIRST_REVISION;
 use share_register::Register;
 use std::alloc::AllocError;
 
-/// The mark of a session, 0 where it has none.
+/// Returns the last-answered length of the session, 0 if it has none.
 fn mark_of(register: &Register, session: u32) -> u64
     ensures mark { result ≡ mark_of register.now.marks session }
     ensures until { result ≤ length register.now.history }
@@ -26,7 +26,7 @@ fn mark_of(register: &Register, session: u32) -> u64
     }
 }
 
-/// A reply that adds nothing. It moves the mark of its session.
+/// Returns a reply that adds no entry. Sets the last-answered length of its session.
 pub(crate) fn read(register: &mut Register, said: Said, session: u32) -> Reply
     ensures history { register.new.history ≡ register.old.history }
     ensures marks { register.new.marks ≡ marks_after register.old.history session register.old.marks }
@@ -44,8 +44,8 @@ pub(crate) fn read(register: &mut Register, said: Said, session: u32) -> Reply
     }
 }
 
-/// A reply behind the entry that it added, with the mark of its session from before.
-fn grown(register: &Register, said: Said, session: u32, seen: u64) -> Reply
+/// Returns a reply after the entry that it added. `seen` is the session's last-answered length before.
+fn reply_with_entry(register: &Register, said: Said, session: u32, seen: u64) -> Reply
     ensures { result ≡ record { said = said; point = length register.now.history; session = session; seen = seen; added = true } }
 {
     Reply {
@@ -57,7 +57,8 @@ fn grown(register: &Register, said: Said, session: u32, seen: u64) -> Reply
     }
 }
 
-/// The id of the next login: logins are the places that no batch takes, and each batch made a revision.
+/// Returns the id of the next login: one more than the number of logins. `places` counts batches and logins, and the
+/// revision counts the batches.
 #[tactic(auto, using(crate::proofs::Places::places_are))]
 pub(crate) fn next_session(register: &Register) -> u32
     requires { has_place register.now.history ≡ true }
@@ -67,7 +68,7 @@ pub(crate) fn next_session(register: &Register) -> u32
     register.places() - batches + 1
 }
 
-/// Logs a session in, whose id is given, and says so.
+/// Appends the login of session `id`, and returns the reply.
 pub(crate) fn log_in(
     register: &mut Register,
     by: u32,
@@ -86,10 +87,10 @@ pub(crate) fn log_in(
 {
     let seen = mark_of(register, id);
     register.login(by)?;
-    Ok(grown(register, said, id, seen))
+    Ok(reply_with_entry(register, said, id, seen))
 }
 
-/// Logs a live session out, without memory.
+/// Appends the logout of a live session, and returns the reply. Does not allocate.
 pub(crate) fn log_out(register: &mut Register, by: u32, id: u32, said: Said) -> Reply
     requires going { is_stopped register.old.history ≡ false }
     requires live { is_live register.old.history id ≡ true }
@@ -100,10 +101,10 @@ pub(crate) fn log_out(register: &mut Register, by: u32, id: u32, said: Said) -> 
 {
     let seen = mark_of(register, id);
     register.logout(by, id);
-    grown(register, said, id, seen)
+    reply_with_entry(register, said, id, seen)
 }
 
-/// Stops the share, without memory.
+/// Appends the stop, and returns the reply. Does not allocate.
 pub(crate) fn end(register: &mut Register, by: u32, said: Said) -> Reply
     requires going { is_stopped register.old.history ≡ false }
     ensures history { register.new.history ≡ register.old.history ++ entry.Stop by ∷ [] }
@@ -114,10 +115,10 @@ pub(crate) fn end(register: &mut Register, by: u32, said: Said) -> Reply
     let seen = mark_of(register, 0);
     register.stop(by);
     register.touch(0);
-    grown(register, said, 0, seen)
+    reply_with_entry(register, said, 0, seen)
 }
 
-/// Adds a batch, in the room that was made.
+/// Appends a batch in capacity that the caller reserved, and returns the reply.
 pub(crate) fn enter(register: &mut Register, by: u32, batch: Batch, said: Said) -> Reply
     requires going { is_stopped register.old.history ≡ false }
     requires place { has_place register.old.history ≡ true }
@@ -131,5 +132,5 @@ pub(crate) fn enter(register: &mut Register, by: u32, batch: Batch, said: Said) 
     let seen = mark_of(register, 0);
     register.edit(by, batch);
     register.touch(0);
-    grown(register, said, 0, seen)
+    reply_with_entry(register, said, 0, seen)
 }

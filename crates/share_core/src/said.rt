@@ -10,7 +10,7 @@ use dmap_tags::{Bytes, Tag};
 use listing_plan::Plan;
 use share_asks::{BodyForm, Verb};
 
-/// A status alone.
+/// A status without a body.
 pub(crate) fn nothing(status: u16) -> Said
     ensures { IsSaid (status, Nothing) result }
 {
@@ -21,7 +21,7 @@ pub(crate) fn nothing(status: u16) -> Said
     }
 }
 
-/// That another method is allowed.
+/// 405 with the one method that is allowed.
 pub(crate) fn allowed(verb: Verb) -> Said
     ensures { IsSaid (405, Allowed verb) result }
 {
@@ -32,7 +32,7 @@ pub(crate) fn allowed(verb: Verb) -> Said
     }
 }
 
-/// A line that tells what is wrong.
+/// 400 with a line that states what is wrong.
 pub(crate) fn line(text: Vec<u8>) -> Said
     ensures { IsSaid (400, Line text.items) result }
 {
@@ -43,7 +43,7 @@ pub(crate) fn line(text: Vec<u8>) -> Said
     }
 }
 
-/// A tag.
+/// 200 with a tag as the body.
 pub(crate) fn tagged(tag: Tag) -> Said
     requires { is_spellable tag ≡ true }
     ensures { IsSaid (200, Tagged tag) result }

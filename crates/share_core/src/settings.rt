@@ -5,7 +5,8 @@ ghost use Rattle.std.specs.Prelude.{◌≡◌};
 use dmap_tags::Text;
 use std::marker::Model;
 
-/// What a share is opened with, and never changes: its name, and for how many revisions back it answers with changes.
+/// The settings that a share is opened with and never changes: its name, and `keep`, the number of revisions in its
+/// delta window.
 #[derive(Debug, Drop)]
 pub struct Settings {
     name: Text,

@@ -31,7 +31,7 @@ use crate::listings::rows;
 use crate::replies::{end, enter, log_in, log_out, next_session, read};
 use crate::said::nothing;
 use crate::settings::Settings;
-use crate::small::{codes, logged_in, revised, server_info};
+use crate::small::{codes, login_reply, revision_reply, server_info};
 use crate::stores::Stores;
 use crate::whole::rows_are_whole;
 use dmap_tags::Text;
@@ -47,13 +47,13 @@ use std::marker::{Brand, Model};
 use std::sync::ledger::{Blank, Ledger};
 use thiserror::Error;
 
-/// Why a share is not opened.
+/// The errors of `open` and `open_batches`.
 #[derive(Debug, Drop, PartialEq, Eq, Error)]
 pub enum OpenError {
     /// The batches have more than 262,144 edits.
     #[error("too many edits")]
     Edits,
-    /// One of the batches leaves more than 1,024 lists beside container 1.
+    /// One of the batches leaves more than 1,024 lists besides container 1.
     #[error("too many lists")]
     Lists,
     #[error("memory")]
@@ -70,7 +70,7 @@ impl From<AllocError> for OpenError {
     }
 }
 
-/// A share of items and lists, with its history. Its name and how far back it answers with changes never change.
+/// A share of items and lists, with its history. Its settings never change.
 #[derive(Drop)]
 pub struct Share {
     alloc: Global,
@@ -95,8 +95,8 @@ impl Model for Share {
 }
 
 impl Share {
-    /// Opens a share whose history begins with the batch `first`, if it has edits. The share answers with changes for
-    /// `keep` revisions back.
+    /// Opens a share whose history begins with the batch `first`, if it has edits. `keep` is the number of revisions
+    /// in the delta window.
     ///
     /// # Errors
     ///
@@ -120,8 +120,8 @@ impl Share {
     ///
     /// # Errors
     ///
-    /// Returns `Edits` if the batches have more than 262,144 edits, which is found before anything else; `Lists` if one of
-    /// them leaves more than 1,024 lists; `Memory` if an allocation fails.
+    /// Returns `Edits` if the batches have more than 262,144 edits, which is checked first; `Lists` if one of them
+    /// leaves more than 1,024 lists; `Memory` if an allocation fails.
     pub fn open_batches(
         alloc: Global,
         name: &str,
@@ -145,7 +145,7 @@ impl Share {
         begun::<Brand>(Blank::new(1), share, batches)
     }
 
-    // A share that no batch has changed yet.
+    // Returns a share without history.
     fn empty(alloc: Global, name: &str, keep: u32) -> Result<Share, AllocError>
         requires name { length name.now ≤ text_limit }
         requires some { 1 ≤ keep }
@@ -164,8 +164,13 @@ impl Share {
         })
     }
 
-    /// Answers an ask of the pass of a number, and adds at most one entry. Everything that wants memory comes before the
-    /// first change: an `Err` leaves the share as it was. Each look of a query at an item, and of a rule, is a step.
+    /// Answers `ask` for handle `by`, and appends at most one entry. Increases `steps` by one for each evaluation of
+    /// a query or a rule at an item.
+    ///
+    /// # Errors
+    ///
+    /// Returns `AllocError` if an allocation fails. The share is then unchanged: all allocations precede the first
+    /// change.
     pub fn answer<L: Ledger>(
         &mut self,
         by: u32,
@@ -175,7 +180,7 @@ impl Share {
         requires valid { IsValidWant ask.now.want }
         ensures answered { IfOk result (IsAnswer self.old self.new by ask.now.want) }
         ensures unchanged { OnErr result (self.new ≡ self.old) }
-        // A logout and the stop always have room.
+        // A logout and the stop always have capacity.
         ensures free { is_stopped self.old.history ≡ false → is_free ask.now.want ≡ true → IsOk result }
         ensures marked { IfOk result (IsMarked self.old.history) }
         ensures cost { steps.new ≤ steps.old + want_ticks self.old.settings.keep self.old.history ask.now.want }
@@ -189,35 +194,35 @@ impl Share {
         self.serve(by, &ask.want, steps)
     }
 
-    /// What the share was opened with.
+    /// Returns what the share was opened with.
     pub fn settings(&self) -> &Settings
         ensures { result.now ≡ self.now.settings }
     {
         &self.settings
     }
 
-    /// How many entries the history has.
+    /// Returns the history length.
     pub fn len(&self) -> u64
         ensures { result ≡ length self.now.history }
     {
         self.register.len()
     }
 
-    /// The entry of a number, counted from 0.
+    /// Returns entry `n` of the history, counted from 0.
     pub fn entry(&self, n: u64) -> Option<&Entry>
         ensures { option_copied result ≡ slice_get self.now.history n }
     {
         self.register.entry(n)
     }
 
-    /// The revision of the library.
+    /// Returns the revision of the library.
     pub fn revision(&self) -> u32
         ensures { result ≡ revision (batches self.now.history) }
     {
         self.register.revision()
     }
 
-    /// The mark of a session, where it is live: how many entries the history had after its last answer.
+    /// Returns the last-answered length of session `id`, if it is live.
     pub fn seen(&self, id: u32) -> Option<u64>
         ensures mark { result ≡ at id self.now.marks }
         ensures live { is_some result ≡ is_live self.now.history id }
@@ -227,14 +232,14 @@ impl Share {
         self.register.seen(id)
     }
 
-    /// Whether the share was stopped.
+    /// Returns whether the share was stopped.
     pub fn stopped(&self) -> bool
         ensures { result ≡ is_stopped self.now.history }
     {
         self.register.stopped()
     }
 
-    /// The entries, oldest first, without memory. No limit on entries and edits is passed, and their rows are whole.
+    /// Returns the entries, oldest first. Does not allocate. The history keeps all limits, and its rows are whole.
     pub fn into_history(self) -> Vec<Entry>
         ensures history { result.items ≡ self.history }
         ensures whole { IsWhole result.items }
@@ -242,7 +247,7 @@ impl Share {
         self.register.into_history()
     }
 
-    // A reply that adds nothing.
+    // Returns a reply that adds no entry.
     fn read(&mut self, said: Said, session: u32) -> Reply
         ensures read { (told : ℕ × Body) → IsSaid told said → IsRead told session self.old self.new result }
         ensures marked { IsBetween self.old.history result }
@@ -250,7 +255,7 @@ impl Share {
         read(&mut self.register, said, session)
     }
 
-    // Whether a want needs a session that is not live.
+    // Returns whether the operation needs a session that is not live.
     fn lacks_session(&self, want: &Want) -> bool
         ensures { result ≡ lacks_session self.now.history want.now }
     {
@@ -296,7 +301,7 @@ impl Share {
             return Ok(Answer::Reply(self.read(nothing(507), 0)));
         }
         let id = next_session(&self.register);
-        let said = logged_in(self.alloc, id)?;
+        let said = login_reply(self.alloc, id)?;
         let reply = log_in(&mut self.register, by, said, id)?;
         Ok(Answer::Reply(reply))
     }
@@ -322,7 +327,7 @@ impl Share {
             let point = self.register.len();
             return Ok(Answer::Wait { revision, point });
         }
-        let said = revised(self.alloc, revision)?;
+        let said = revision_reply(self.alloc, revision)?;
         Ok(Answer::Reply(self.read(said, session)))
     }
 
@@ -367,12 +372,12 @@ impl Share {
         }
         let revision = self.register.revision();
         let next = revision + 1;
-        let said = revised(self.alloc, next)?;
+        let said = revision_reply(self.alloc, next)?;
         let reply = self.add(by, batch, said, steps)?;
         Ok(Answer::Reply(reply))
     }
 
-    // Whether no limit is met by a batch that has edits.
+    // Returns whether a batch with edits keeps all limits.
     fn takes(&self, batch: &Batch) -> Result<bool, AllocError>
         ensures { IfOk result (λ takes. takes ≡ takes_batch self.now.history batch.now) }
     {
@@ -386,7 +391,7 @@ impl Share {
         Ok(self.stores.lists.count_after(edits)? <= MAX_LISTS)
     }
 
-    // Adds a batch that the share is opened with.
+    // Appends a batch that the share is opened with.
     fn begin<L: Ledger>(&mut self, batch: Batch, steps: &mut Steps<L>) -> Result<(), OpenError>
         requires going { is_stopped self.old.history ≡ false }
         requires valid { AreValid batch }
@@ -409,7 +414,7 @@ impl Share {
         Ok(())
     }
 
-    // Adds a batch that no limit stands against. All room is made first; a refusal leaves the share as it was.
+    // Appends a batch that keeps all limits. Capacity is reserved first, so an `Err` leaves the share unchanged.
     fn add<L: Ledger>(
         &mut self,
         by: u32,
@@ -453,7 +458,7 @@ impl Share {
         Ok(Answer::Reply(self.read(said, session)))
     }
 
-    // What is said to a want that changes nothing.
+    // Returns the reply to an operation that changes nothing.
     fn said<L: Ledger>(&self, want: &Want, steps: &mut Steps<L>) -> Result<Said, AllocError>
         requires read { is_read want.now ≡ true }
         requires going { is_stopped self.now.history ≡ false }
@@ -487,7 +492,7 @@ fn count_of(batch: &Batch) -> usize
     batch.edits.as_slice().len()
 }
 
-// The session that a want needs.
+// Returns the session that the operation needs.
 fn session_in(want: &Want) -> Option<u32>
     ensures { result ≡ needed want.now }
 {
@@ -502,7 +507,7 @@ fn session_in(want: &Want) -> Option<u32>
     }
 }
 
-// The batch, if it has edits.
+// Returns the batch, if it has edits.
 fn if_filled(alloc: Global, batch: Batch) -> Result<Vec<Batch>, AllocError>
     ensures { IfOk result (λ batches. batches.items ≡ if_filled batch) }
 {
@@ -513,7 +518,7 @@ fn if_filled(alloc: Global, batch: Batch) -> Result<Vec<Batch>, AllocError>
     Ok(batches)
 }
 
-// Whether the batches have no more edits than a share takes.
+// Returns whether the batches have at most as many edits as a share takes.
 #[tactic(auto, using(crate::proofs::Opening::edits_left))]
 fn have_few_edits(batches: &[Batch]) -> bool
     ensures { result ≡ nat_le (length (edits batches.now)) most_edits }
@@ -529,7 +534,7 @@ fn have_few_edits(batches: &[Batch]) -> bool
     true
 }
 
-// The share with the batches that it is opened with.
+// Returns the share `empty` with `batches` appended.
 fn begun<L: Ledger>(blank: Blank, empty: Share, batches: Vec<Batch>) -> Result<Share, OpenError>
     requires name { blank.name ≡ L.name }
     requires parts { blank.parts ≡ L.parts }

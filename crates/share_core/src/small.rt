@@ -1,4 +1,4 @@
-//! Replies that tell of no row.
+//! Replies without rows.
 
 ghost use Rattle.std.specs.Prelude.{◌≡◌, ◌≤◌, length, IfOk};
 ghost use Rattle.dmap_tags.specs.Codes.{code};
@@ -26,7 +26,7 @@ fn version(of: Code, n: u32) -> Tag
     }
 }
 
-/// What the share tells of itself.
+/// Returns the reply that describes the share.
 #[tactic(auto, using(crate::proofs::Spellable::server_info_spellable))]
 pub(crate) fn server_info(alloc: Global, name: &Text) -> Result<Said, AllocError>
     requires { length name.now ≤ text_limit }
@@ -48,7 +48,7 @@ pub(crate) fn server_info(alloc: Global, name: &Text) -> Result<Said, AllocError
     Ok(tagged(list(Code(*b"msrv"), tags)))
 }
 
-/// The table of content codes.
+/// Returns the reply with the table of content codes.
 pub(crate) fn codes(alloc: Global) -> Result<Said, AllocError>
     ensures { IfOk result (λ said. IsSaid (200, Tagged (table_reply standard_rows)) said) }
 {
@@ -56,8 +56,8 @@ pub(crate) fn codes(alloc: Global) -> Result<Said, AllocError>
     Ok(tagged(table.reply()?))
 }
 
-/// A new session's id.
-pub(crate) fn logged_in(alloc: Global, session: u32) -> Result<Said, AllocError>
+/// Returns the reply to a login, with the id of the new session.
+pub(crate) fn login_reply(alloc: Global, session: u32) -> Result<Said, AllocError>
     ensures { IfOk result (λ said. IsSaid (200, Tagged (login_body session)) said) }
 {
     let mut tags = Tags::new(alloc);
@@ -66,8 +66,8 @@ pub(crate) fn logged_in(alloc: Global, session: u32) -> Result<Said, AllocError>
     Ok(tagged(list(Code(*b"mlog"), tags)))
 }
 
-/// A revision.
-pub(crate) fn revised(alloc: Global, revision: u32) -> Result<Said, AllocError>
+/// Returns the reply to an update, with a revision.
+pub(crate) fn revision_reply(alloc: Global, revision: u32) -> Result<Said, AllocError>
     ensures { IfOk result (λ said. IsSaid (200, Tagged (revision_body revision)) said) }
 {
     let mut tags = Tags::new(alloc);

@@ -23,7 +23,7 @@ use song_query::Steps;
 use std::alloc::{AllocError, Global};
 use std::sync::ledger::Ledger;
 
-/// What answers are made from.
+/// The stores that answers are computed from.
 #[derive(Drop)]
 pub(crate) struct Stores {
     pub items: ItemStore,
@@ -35,7 +35,7 @@ impl Stores {
     ghost use Rattle.share_core.specs.Held.{StandFor};
     ghost use Rattle.share_core.specs.Followed.{IsAsBefore, CanFollow};
 
-    /// Stores that no batch has changed yet, without memory.
+    /// Returns empty stores. Does not allocate.
     pub(crate) fn open(alloc: Global, keep: u32) -> Stores
         requires some { 1 ≤ keep }
         requires few { keep ≤ 65536 }
@@ -50,7 +50,7 @@ impl Stores {
         }
     }
 
-    /// Takes in a batch, which makes the next revision. After an `Err` the stores stand for what they stood for.
+    /// Applies a batch, which makes revision `next`. On `Err` the stores represent the same batches as before.
     pub(crate) fn apply<L: Ledger>(
         &mut self,
         alloc: Global,
@@ -77,8 +77,8 @@ impl Stores {
         }
     }
 
-    // Lets the lists and the index follow the items, which have taken a batch in. The rows of the items that it names are
-    // given as they were before.
+    // Applies `batch` to the lists and the index, after the items have applied it. `before` are the rows of the items
+    // that the batch names, as they were before it.
     fn follow<L: Ledger>(
         &mut self,
         alloc: Global,

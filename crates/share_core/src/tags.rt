@@ -61,7 +61,7 @@ fn start(alloc: Global, revision: u32, count: u32) -> Result<Tags, AllocError>
     Ok(tags)
 }
 
-/// The reply that lists all the entries.
+/// Returns the reply that lists all the entries.
 pub(crate) fn whole(
     alloc: Global,
     of: Code,

@@ -37,7 +37,7 @@ pub(crate) fn is_filled(text: &str) -> bool
     !text.is_empty()
 }
 
-/// The text of an item, empty where it has none.
+/// Returns the text of an item, empty if it has none.
 #[tactic(auto, using(crate::proofs::ItemTexts::short_value))]
 pub(crate) fn text_of(row: &Row, browse: Browse) -> &str
     ensures text { result.now ≡ browse_text browse row.now }
@@ -49,7 +49,7 @@ pub(crate) fn text_of(row: &Row, browse: Browse) -> &str
     }
 }
 
-/// No item has a long text, as its type has it.
+/// States that the texts of an item are short, as its type guarantees. The call changes nothing.
 pub(crate) fn texts_are_short(row: &Row)
     ensures { HasShortTexts row.now }
 {

@@ -1,4 +1,4 @@
-//! That rows of a batch are such as their type has them.
+//! The rows of a batch are whole because their type guarantees it.
 
 ghost use Rattle.std.specs.List.{AllByRecursion};
 ghost use Rattle.share_history.specs.Whole.{PutsWhole};
@@ -13,7 +13,7 @@ fn row_is_whole(edit: &Edit)
     }
 }
 
-/// Each row that the edits put is whole, as the type of an item has it. The call changes nothing.
+/// States that each row that the edits put is whole. The call changes nothing.
 pub(crate) fn rows_are_whole(edits: &[Edit])
     ensures { AllByRecursion PutsWhole edits.now }
 {

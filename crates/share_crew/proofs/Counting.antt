@@ -1,4 +1,4 @@
--- How many links and requests there are: no more than can be counted.
+-- The numbers of connections and requests fit 64 bits.
 use Rattle.std.proofs.Common.{◌≡◌, ◌+◌, ◌*◌, ◌<◌, ◌≤◌, ◌^◌, ℕ, List, [], ◌∷◌, length, map, Option, sym, subst, ap, ◌∙◌, arith, length-append}
 use Rattle.std.proofs.lemmas.Grind.{flat_map-append}
 use Rattle.std.specs.List.{AllZip, flat_map}
@@ -9,7 +9,7 @@ use Rattle.share_workers.specs.Works.{all_served}
 use Rattle.share_crew.specs.Lines.{links_in, requests_in}
 use Rattle.share_crew.specs.Crews.{HasEnded}
 
--- the requests of one worker, and of those behind it
+-- the requests of one worker, and of those after it
 pub requests_more : (links : List LinkReport) (workers : List (List LinkReport)) → requests_in (links ∷ workers) ≡ length (all_served links) + requests_in workers
 requests_more links workers =
     ap length (flat_map-append (λ (report : LinkReport). report.served) links (flat_map (λ (l : List LinkReport). l) workers))

@@ -1,4 +1,4 @@
--- What it says of workers that all was done.
+-- What the verdict `Done` says of workers.
 use Rattle.std.proofs.Common.{◌≡◌, ◌||◌, ℕ, Bool, true, false, cond, List, [], ◌∷◌, ◌++◌, length, map, Option, None, Some, refl, sym, ap, ◌∙◌, inl, inr, arith, append-nil, length-append}
 use Rattle.std.proofs.lemmas.List.Folds.{list_any-append}
 use Rattle.std.specs.List.{AllByRecursion, list_any}
@@ -14,7 +14,7 @@ use Rattle.share_crew.specs.declared.verdict.Verdict.TheVariants.{Done, NetworkF
 use Rattle.share_crew.specs.Stints.{Stint, IsPart, IsWhole, AreAll}
 use Rattle.share_crew.specs.Verdicts.{end_number, has_end, verdict_of}
 
--- then no worker ended for want of the net, of memory or of numbers
+-- then no worker ended because its listener failed, an allocation failed, or it reached a limit
 pub record NoneFailed (ends : List WorkerEnd) : Type 0 where
   pub network : has_end worker.AcceptFault ends ≡ false
   pub file : has_end worker.FileFault ends ≡ false
@@ -83,7 +83,7 @@ module _ {settings : Settings} {opening : List Entry} where
             (record { network = rest worker.AcceptFault none.network; file = rest worker.FileFault none.file; memory = rest worker.Memory none.memory; spent = rest worker.Spent none.spent }),
       )
 
-  -- where all was done, each worker served what came, or until the stop
+  -- if the verdict is `Done`, each worker served what came, or until the stop
   pub wholes_by : (history : List Entry) (stints : List (Stint settings opening)) → AllByRecursion (IsPart history) stints → verdict_of (map (λ (s : Stint settings opening). s.end) stints) ≡ Done
       → AllByRecursion (IsWhole history) stints
   wholes_by history stints parts done =

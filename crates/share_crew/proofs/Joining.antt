@@ -1,4 +1,4 @@
--- Workers whose passes are joined and whose doors are given back, one after another.
+-- Workers whose lock handles are joined and whose listeners are closed, one after another.
 use Rattle.std.proofs.Common.{◌≡◌, ℕ, suc, Bool, true, false, ◌||◌, List, [], ◌∷◌, ◌++◌, map, Option, MatchBool, refl, sym, subst, ap, ◌∙◌, arith, append_assoc, append-nil}
 use Rattle.std.proofs.lemmas.List.{map-append}
 use Rattle.std.proofs.lemmas.List.Elements.{Contains-append_left, Contains-append_right}
@@ -71,7 +71,7 @@ count_stays : (failed : Bool) (before mid after : ℕ) → MatchBool failed (Ros
 count_stays true before mid after was is = subst (Rose before) (sym is) was
 count_stays false before mid after was is = is ∙ was
 
--- the count of one door more
+-- the counter after one more listener
 count_more : (failed : Bool) (end : WorkerEnd) (before mid after given : ℕ) → MatchBool failed (Rose before mid) (mid ≡ before) → CountsAccepts 0 given end → RisesWith mid after given
     → MatchBool (failed || has_end AcceptFault (end ∷ [])) (Rose before after) (after ≡ before)
 count_more failed AcceptFault before mid after given was counts rises =
@@ -93,7 +93,7 @@ own_number k none = ap (λ l. k.number ∷ l) none
 numbers_push : (passes : List Pass) (k : Pass) → numbers_of_all (passes ++ k ∷ []) ≡ numbers_of_all passes ++ k.number ∷ []
 numbers_push passes k = map-append (λ (p : Pass). p.number) passes (k ∷ [])
 
--- what went on from each goes on further, by no entries of theirs
+-- a history that continues what each has seen continues further, by no entries of theirs
 pub further : (ns : List ℕ) (seen seen' : List Entry) (passes : List Pass) → Continues maker ns seen seen' → ((n : ℕ) → Contains (numbers_of_all passes) n → Contains ns n)
     → AllByRecursion (GoesOn seen) passes → AllByRecursion (GoesOn seen') passes
 further ns seen seen' [] on among all = tt
@@ -114,7 +114,7 @@ none_joined k = record {
   differ = λ none. ((λ has. let h = has.1 in absurd (omega arith)), tt);
 }
 
--- one more pass was joined
+-- one more handle was joined
 pub join_more : (k k' k'' other : Pass) (passes : List Pass) → HasJoined k k' passes → other.taken_in ≡ []
     → k'' ≡ after_join k' other → Continues maker (numbers_of k') k'.seen k''.seen → Continues maker (numbers_of other) other.seen k''.seen → AreApart (numbers_of k') (numbers_of other)
     → HasJoined k k'' (passes ++ other ∷ [])
@@ -140,11 +140,11 @@ join_more k k' k'' other passes h alone after first second apart =
     }
 
 module _ {settings : Settings} {opening : List Entry} where
-  -- the pass of a worker took no other in
+  -- no handle was joined to a worker's
   pub took_none : (stint : Stint settings opening) → stint.pass.taken_in ≡ []
   took_none stint = ap (λ (k : Pass). k.taken_in) stint.served.works.serves.stays
 
-  -- that of one more worker was joined
+  -- the handle of one more worker was joined
   pub joined_one : (k k' k'' other : Pass) (stints : List (Stint settings opening)) (stint : Stint settings opening) → HasJoined k k' (passes_in stints) → stint.pass ≡ other
       → k'' ≡ after_join k' other → Continues maker (numbers_of k') k'.seen k''.seen → Continues maker (numbers_of other) other.seen k''.seen → AreApart (numbers_of k') (numbers_of other)
       → HasJoined k k'' (passes_in (stints ++ stint ∷ []))
@@ -152,7 +152,7 @@ module _ {settings : Settings} {opening : List Entry} where
       subst (HasJoined k k'') (sym (map-append (λ (s : Stint settings opening). s.pass) stints (stint ∷ []) ∙ ap (λ (p : Pass). passes_in stints ++ p ∷ []) is))
       (join_more k k' k'' other (passes_in stints) h (ap (λ (p : Pass). p.taken_in) (sym is) ∙ took_none stint) after first second apart)
 
-  -- ---- doors
+  -- ---- listeners
 
   pub none_shut : (written : Option (List Returned)) (faults : ℕ) → HasShut {settings = settings} {opening = opening} written written faults faults []
   none_shut written faults = record {

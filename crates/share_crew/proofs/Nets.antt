@@ -1,4 +1,4 @@
--- Lists that a net tells, and its count of faults, call by call.
+-- The known lists of a network and its error counter, call by call.
 use Rattle.std.proofs.Common.{◌≡◌, ◌≤◌, ℕ, List, [], ◌++◌, Option, None, Some, sym, subst, ap, ◌∙◌, arith, append_assoc, append-nil}
 use Rattle.daap_outside.specs.Counts.{Rose}
 use Rattle.daap_outside.specs.Told.{BeginsEmpty, Grows, GrowsByTold}
@@ -21,7 +21,7 @@ module _ {A : Type 0} where
   grows_then (Some a) (Some b) None xs ys g h = tt
   grows_then (Some a) (Some b) (Some c) xs ys g h = h ∙ (ap (λ l. l ++ ys) g ∙ append_assoc a xs ys)
 
-  -- a list that began empty, and what it grew by, behind the list that keeps it
+  -- a list that began empty and grew, appended to the list that keeps it
   pub grows_told : (kept begun told w w' : Option (List A)) (front more : List A) → BeginsEmpty kept begun → Grows begun told more → Grows kept w front → GrowsByTold w w' told
       → Grows kept w' (front ++ more)
   grows_told None begun told None w' front more b g h k = stays told w' k
@@ -40,7 +40,7 @@ module _ {A : Type 0} where
       added None w (Some now) g h k = absurd (cc)
       added (Some t) w w' g h k = grows_then (Some kept) w w' front more h (subst (Grows w w') g k)
 
--- a count that rose or stands rose before it stood, or stood
+-- a counter that rose and did not fall has risen; so has one that stayed and then rose
 pub rose_then : (a b c : ℕ) → Rose a b → b ≤ c → Rose a c
 rose_then a b c r more = (omega (arith, r.0, more), omega (arith, r.1, more))
 

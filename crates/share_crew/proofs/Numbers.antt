@@ -1,4 +1,4 @@
--- Numbers of which none stands twice: as many as there are below a bound are all of them.
+-- Different numbers below a bound: if there are as many as the bound allows, they are all of them.
 use Rattle.std.proofs.Common.{◌≡◌, ◌⊎◌, ◌<◌, ◌==◌, ◌||◌, ℕ, zero, suc, Bool, true, false, List, [], ◌∷◌, ◌++◌, length, refl, sym, subst, ap, ◌∙◌, inl, inr, arith, eq-eqb, ne_eqb}
 use Rattle.std.proofs.lemmas.Bool.{eqb-true}
 use Rattle.std.proofs.lemmas.List.Elements.{Contains-append_right, Contains-push_cases}
@@ -17,7 +17,7 @@ found_at : (q x : ℕ) (xs : List ℕ) (b : Bool) → (q == x) ≡ b → (list_a
 found_at q x xs true is rest found = subst (λ y. Contains (x ∷ xs) y) (sym (eqb-true q x is)) (contains_head x xs)
 found_at q x xs false is rest found = contains_tail q x xs (rest found)
 
--- what a test finds stands there
+-- what a test finds is in the list
 any_contains : (q : ℕ) (xs : List ℕ) → list_any (λ x. q == x) xs ≡ true → Contains xs q
 any_contains q [] found = absurd (cc)
 any_contains q (x ∷ xs) found = found_at q x xs (q == x) refl (any_contains q xs) found
@@ -34,7 +34,7 @@ stands_at : (q x : ℕ) (xs : List ℕ) → (Contains xs q → list_any (λ y. q
 stands_at q x xs rest (inl is) = ap (λ (b : Bool). b || list_any (λ y. q == y) xs) (eq-eqb q x is)
 stands_at q x xs rest (inr has) = ap (λ (b : Bool). (q == x) || b) (rest has) ∙ or_true (q == x)
 
--- and what stands there a test finds
+-- a test finds what is in the list
 contains_any : (q : ℕ) (xs : List ℕ) → Contains xs q → list_any (λ x. q == x) xs ≡ true
 contains_any q [] has = let h = has.1 in absurd (omega arith)
 contains_any q (x ∷ xs) has = stands_at q x xs (contains_any q xs) (head_or_tail q x xs has)
@@ -78,6 +78,6 @@ found_or_not : (n : ℕ) (xs : List ℕ) (q : ℕ) → (¬ (Contains xs q) → �
 found_or_not n xs q other true found = any_contains q xs found
 found_or_not n xs q other false none = absurd (other (λ has. absurd (let f : true ≡ false = sym (contains_any q xs has) ∙ none in cc)))
 
--- as many different numbers below a bound are all of them
+-- as many different numbers as there are below a bound are all of them
 pub each_stands : (n : ℕ) (xs : List ℕ) → Differ xs → AllByRecursion (λ x. x < n) xs → length xs ≡ n → (q : ℕ) → q < n → Contains xs q
 each_stands n xs differ below count q less = found_or_not n xs q (no_other n xs differ below count q less) (list_any (λ x. q == x) xs) refl

@@ -38,7 +38,7 @@ all_split : {A : Type 0} (P : A → Type 0) (xs ys : List A) → AllByRecursion 
 all_split P [] ys all = (tt, all)
 all_split P (x ∷ xs) ys all = let rest = all_split P xs ys all.1 in ((all.0, rest.0), rest.1)
 
--- what goes on from another pass has its part
+-- a history that continues what another handle has seen has its part
 others_in : (history : List Entry) (others : List Pass) → AllByRecursion (GoesOn history) others → AllByRecursion (IsOther history) others
 others_in history [] on = tt
 others_in history (k ∷ others) on = (
@@ -47,7 +47,7 @@ others_in history (k ∷ others) on = (
 )
 
 module _ {settings : Settings} {opening : List Entry} where
-  -- what goes on from a worker's pass has its part
+  -- a history that continues what a worker's handle has seen has its part
   part : (history : List Entry) (stint : Stint settings opening) → 1 ≤ stint.pass.number → All (λ e. maker e ≡ 0) opening
       → Continues maker (numbers_of stint.pass) stint.pass.seen history → IsPart history stint
   part history stint some opened on =

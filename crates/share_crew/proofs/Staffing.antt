@@ -1,4 +1,4 @@
--- Workers that are hired, door by door, and their stints once they have ended.
+-- Workers that are made, one for each listener, and their stints once they have ended.
 use Rattle.std.proofs.Common.{◌≡◌, ◌<◌, ◌≤◌, ℕ, List, [], ◌∷◌, ◌++◌, map, Option, refl, sym, subst, ap, ◌∙◌, arith, append_assoc, append-nil}
 use Rattle.std.proofs.lemmas.List.{map-append}
 use Rattle.std.proofs.lemmas.List.Elements.{All-append, All-push}
@@ -44,7 +44,7 @@ module _ {D : Type 0} where
     running = running;
   }
 
-  -- those of one place, and behind them those of the other
+  -- those of one address, and then those of the other
   pub staff : (id : LockId) (k : Pass) (one other : Role) (listen edit : List D) (mid crew : List (Worker D)) → HasHired id k one listen [] mid → HasHired id k other edit mid crew
       → IsStaff id k (map (λ door. one) listen ++ map (λ door. other) edit) (listen ++ edit) crew
   staff id k one other listen edit mid crew h g =
@@ -54,7 +54,7 @@ module _ {D : Type 0} where
         roles_are = ap (map (λ (w : Worker D). w.role)) all ∙ (map-append (λ (w : Worker D). w.role) h.added g.added ∙ (λ i. h.roles_are i ++ g.roles_are i));
       }
 
--- the stints of workers, from what they were hired as to what they left
+-- the stints of workers, from before they begin to what they leave
 pub record HasStints {D : Type 0} (settings : Settings) (opening : List Entry) (passes : ℕ) (coming : D → Option (List (List ℕ))) (written : D → Option (List Returned)) (faults : D → ℕ) (kept : Option (List Returned)) (before after : List (Worker D)) : Type 0 where
   pub stints : List (Stint settings opening)
   pub are : AllZip (IsOf written faults) stints after

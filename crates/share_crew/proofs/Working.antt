@@ -1,4 +1,4 @@
--- All workers, from what they were hired as to what they leave.
+-- All workers, from before they begin to what they leave.
 use Rattle.std.proofs.Common.{◌≡◌, ℕ, List, [], ◌∷◌, map, Option, refl, sym, subst, ap, ◌∙◌}
 use Rattle.std.proofs.lemmas.List.Elements.{recursion_from_All}
 use Rattle.std.specs.List.{AllByRecursion, AllZip}
@@ -20,7 +20,7 @@ use Rattle.share_crew.specs.Gathered.{HasGathered}
 use Rattle.share_crew.proofs.Staffing.{stints_of}
 
 module _ {D : Type 0} where
-  -- what holds of the doors of workers
+  -- what holds of the listeners of workers
   of_doors : (P : D → Type 0) (workers : List (Worker D)) → AllByRecursion P (map (λ (w : Worker D). w.door) workers) → AllByRecursion (λ (w : Worker D). P w.door) workers
   of_doors P [] all = tt
   of_doors P (w ∷ workers) all = (all.0, of_doors P workers all.1)

@@ -1,9 +1,9 @@
--- A share that came under its lock, with room for its workers.
+-- A share under its lock, with capacity for its workers.
 use Rattle.std.specs.Prelude.{◌≡◌, ◌⊎◌, ◌≤◌, ℕ, ◌++◌, List, [], vec_capacity, Result, MatchResult}
 use Rattle.share_lock.specs.Known.{fresh}
 use Rattle.share_lock.specs.Passes.{lock_id, passes_of, known, IsReady}
-use Rattle.share_crew.specs.declared.opening.Begun.{Begun}
-use Rattle.share_crew.specs.declared.opening.Room.{Room}
+use Rattle.share_crew.specs.declared.opening.LockedShare.{LockedShare}
+use Rattle.share_crew.specs.declared.opening.WorkerBuffers.{WorkerBuffers}
 use Rattle.command_core.specs.Answers.{Tells}
 use Rattle.command_core.specs.Endings.{IsWritten, IsCut}
 use Rattle.command_core.specs.Faults.{memory_line}
@@ -11,29 +11,29 @@ use Rattle.command_core.specs.Seen.{OutputSeen}
 use Rattle.share_replies.specs.Answers.{Shared}
 
 module _ {D : Type 0} where
-  -- no worker yet, and place for so many
-  pub record HasRoom (workers : ℕ) (room : Room D) : Type 0 where
+  -- no worker yet, and capacity for `workers`
+  pub record HasRoom (workers : ℕ) (room : WorkerBuffers D) : Type 0 where
     pub no_crew : room.crew.items ≡ []
     pub no_links : room.links.items ≡ []
     pub crew : workers ≤ vec_capacity room.crew
     pub links : workers ≤ vec_capacity room.links
 
-  -- it is under a lock for so many passes, the first of which has seen its opening
-  pub record IsBegun (passes : ℕ) (share : Shared) (room : Room D) (begun : Begun D) : Type 0 where
+  -- the share is under a lock for `passes` handles, the first of which has seen its opening
+  pub record IsBegun (passes : ℕ) (share : Shared) (room : WorkerBuffers D) (begun : LockedShare D) : Type 0 where
     pub passes_are : passes_of begun.lock ≡ passes
     pub ready : IsReady (lock_id begun.lock) begun.first
     pub pass : known begun.first ≡ fresh 0 share.settings share.history
     pub room_is : begun.room ≡ room
 
-  -- the share came under its lock, or memory was wanted behind a front
-  abbrev pub Locks : (passes : ℕ) → Shared → Room D → (front : List ℕ) → OutputSeen → OutputSeen → Result (Begun D) ℕ → Type 0
+  -- the share is under its lock, or an allocation failed after `front` was written
+  abbrev pub Locks : (passes : ℕ) → Shared → WorkerBuffers D → (front : List ℕ) → OutputSeen → OutputSeen → Result (LockedShare D) ℕ → Type 0
   Locks passes share room front start after result =
       MatchResult result
       (λ begun. IsBegun passes share room begun × IsWritten start after front)
       (λ status. Tells 9 (front ++ memory_line) start after status)
 
-  -- so it was behind its line, or the output failed in that
-  abbrev pub Announces : (passes : ℕ) → Shared → Room D → (line : List ℕ) → OutputSeen → OutputSeen → Result (Begun D) ℕ → Type 0
+  -- .. after its line was written, or the output failed in that line
+  abbrev pub Announces : (passes : ℕ) → Shared → WorkerBuffers D → (line : List ℕ) → OutputSeen → OutputSeen → Result (LockedShare D) ℕ → Type 0
   Announces passes share room line before after result =
       MatchResult result
       (λ begun. IsBegun passes share room begun × IsWritten before after line)

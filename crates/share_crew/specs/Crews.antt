@@ -1,5 +1,5 @@
--- Workers before they begin and after they have ended, and what is known once their passes were joined and their doors given
--- back.
+-- Workers before they begin and after they have ended, and what is known once their lock handles were joined and their
+-- listeners closed.
 use Rattle.std.specs.Prelude.{◌≡◌, ◌<◌, ◌≤◌, ℕ, List, [], ◌∷◌, ◌++◌, map, All, Option}
 use Rattle.std.specs.List.{flat_map, AllByRecursion}
 use Rattle.item_model.specs.declared.changes.Entry.{Entry}
@@ -19,7 +19,7 @@ use Rattle.share_crew.specs.Doors.{CountsShut}
 use Rattle.share_crew.specs.Stints.{Stint, Differ, numbers_of_all, returns_of}
 
 module _ {D : Type 0} where
-  -- a worker that has not begun, with a new pass that has seen what another pass has
+  -- a worker that has not begun, with a new lock handle that has seen what another has
   pub record IsHired (id : LockId) (k : Pass) (worker : Worker D) : Type 0 where
     pub ready : IsReady id worker.pass
     pub pass : known worker.pass ≡ fresh (known worker.pass).number k.settings k.seen
@@ -28,7 +28,7 @@ module _ {D : Type 0} where
     pub unreported : worker.reports.items ≡ []
     pub running : worker.end ≡ Running
 
-  -- a worker for each door was put behind the others
+  -- a worker for each listener was appended
   pub record HasHired (id : LockId) (k : Pass) (role : Role) (doors : List D) (before after : List (Worker D)) : Type 0 where
     pub added : List (Worker D)
     pub are : after ≡ before ++ added
@@ -36,13 +36,13 @@ module _ {D : Type 0} where
     pub doors_are : map (λ worker. worker.door) added ≡ doors
     pub roles_are : map (λ worker. worker.role) added ≡ map (λ door. role) doors
 
-  -- all workers of a share, for these doors and roles
+  -- all workers of a share, for these listeners and roles
   pub record IsStaff (id : LockId) (k : Pass) (roles : List Role) (doors : List D) (crew : List (Worker D)) : Type 0 where
     pub hired : All (IsHired id k) crew
     pub doors_are : map (λ worker. worker.door) crew ≡ doors
     pub roles_are : map (λ worker. worker.role) crew ≡ roles
 
-  -- an old worker and what it left
+  -- a worker before and after its work
   abbrev pub HasEnded : (D → Option (List (List ℕ))) → (D → Option (List Returned)) → (D → ℕ) → Worker D → Worker D → Type 0
   HasEnded coming written faults old new =
       WorkerServed old.role (known old.pass) (known new.pass) (coming old.door) (coming new.door) (written old.door) (written new.door) (faults old.door) (faults new.door) new.reports.items new.end
@@ -56,11 +56,11 @@ module _ {D : Type 0} where
     pub reports_are : stint.reports ≡ worker.reports.items
     pub end_is : stint.end ≡ worker.end
 
--- it took no pass in, and a history goes on from what it had seen
+-- no handle was joined to it, and the history continues what it had seen
 abbrev pub GoesOn : List Entry → Pass → Type 0
 GoesOn history pass = (pass.taken_in ≡ []) × Continues maker (numbers_of pass) pass.seen history
 
--- some passes were joined to a pass
+-- some handles were joined to a handle
 pub record HasJoined (k k' : Pass) (passes : List Pass) : Type 0 where
   pub number : k'.number ≡ k.number
   pub settings_stay : k'.settings ≡ k.settings
@@ -70,7 +70,7 @@ pub record HasJoined (k k' : Pass) (passes : List Pass) : Type 0 where
   pub differ : k.taken_in ≡ [] → Differ (k.number ∷ numbers_of_all passes)
 
 module _ {settings : Settings} {opening : List Entry} where
-  -- the doors of some stints were given back
+  -- the listeners of some stints were closed
   pub record HasShut (written written' : Option (List Returned)) (faults faults' : ℕ) (stints : List (Stint settings opening)) : Type 0 where
     pub written_grows : (kept : Option (List Returned)) (more : List Returned) → AllByRecursion (λ stint. BeginsEmpty kept stint.begun) stints → Grows kept written more
         → Grows kept written' (more ++ flat_map returns_of stints)

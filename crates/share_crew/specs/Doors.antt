@@ -1,4 +1,4 @@
--- The doors of workers, and what giving them back does to a net.
+-- The listeners of workers, and what closing them does to a network.
 use Rattle.std.specs.Prelude.{◌≡◌, ℕ, List, length, map, take, All, MatchBool, Option, Some, IfSome}
 use Rattle.daap_outside.specs.Counts.{Rose}
 use Rattle.daap_outside.specs.Places.{Returned}
@@ -8,7 +8,7 @@ use Rattle.share_workers.specs.declared.worker.WorkerEnd.TheVariants.{AcceptFaul
 use Rattle.share_crew.specs.Verdicts.{has_end}
 
 module _ {D : Type 0} where
-  -- nobody waited at a door yet, which tells the links given back where the net does
+  -- nobody has accepted at the listener; its list of closed connections is known if the network's is
   pub record IsNew (written : D → Option (List Returned)) (faults : D → ℕ) (kept : Option (List Returned)) (door : D) : Type 0 where
     pub faultless : faults door ≡ 0
     pub unwritten : BeginsEmpty kept (written door)
@@ -16,10 +16,10 @@ module _ {D : Type 0} where
   abbrev pub AreNew : (D → Option (List Returned)) → (D → ℕ) → Option (List Returned) → List D → Type 0
   AreNew written faults kept doors = All (IsNew written faults kept) doors
 
--- the count of a net rises exactly where a door failed, of a worker that ended so
+-- the error counter of a network rises exactly if a worker ended because its listener failed
 abbrev pub CountsShut : ℕ → ℕ → List WorkerEnd → Type 0
 CountsShut before after ends = MatchBool (has_end AcceptFault ends) (Rose before after) (after ≡ before)
 
--- the doors of a net have the links that it told of them
+-- the listeners have the connections that the network's list has for them
 abbrev pub HaveLinks : Option (List (List (List ℕ))) → List (Option (List (List ℕ))) → Type 0
 HaveLinks links coming = IfSome links (λ inputs. coming ≡ map (λ i. Some i) (take (length coming) inputs))

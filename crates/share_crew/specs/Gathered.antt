@@ -15,8 +15,8 @@ use Rattle.share_crew.specs.Doors.{CountsShut}
 use Rattle.share_crew.specs.Stints.{Stint, IsNumbered, passes_in, returns_of}
 use Rattle.share_crew.specs.Crews.{HasJoined}
 
--- Their passes were joined and their doors given back: from workers of these roles at doors with these links, under a lock for
--- so many passes, to a pass and the reports that they leave
+-- their lock handles were joined and their listeners closed: from workers of these roles at listeners with these
+-- connections, under a lock for `passes` handles, to one handle and the reports of the workers
 pub record HasGathered (settings : Settings) (opening : List Entry) (passes : ℕ) (roles : List Role) (coming : List (Option (List (List ℕ)))) (kept written written' : Option (List Returned)) (faults faults' : ℕ) (k : Pass) (links : List (List LinkReport)) (verdict : Verdict) : Type 0 where
   pub crew : List (Stint settings opening)
   pub roles_are : map (λ stint. stint.role) crew ≡ roles

@@ -1,10 +1,10 @@
--- The line of workers that have ended.
+-- The line that is written after all workers have ended.
 use Rattle.std.specs.Prelude.{ℕ, List, [], ◌∷◌, ◌++◌, length, codes, decimal}
 use Rattle.std.specs.List.{flat_map}
 use Rattle.share_server.specs.declared.report.LinkReport.{LinkReport}
 use Rattle.share_workers.specs.Works.{all_served}
 
--- the links of all workers, and the requests that were served on them
+-- the numbers of all connections of the workers, and of the requests that were served on them
 abbrev pub links_in : List (List LinkReport) → ℕ
 links_in workers = length (flat_map (λ links. links) workers)
 

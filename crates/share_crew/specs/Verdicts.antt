@@ -1,4 +1,4 @@
--- What is said of workers by how they ended.
+-- The verdict on workers, by how they ended.
 use Rattle.std.specs.Prelude.{ℕ, nat_eq, Bool, List, [], ◌∷◌, ◌++◌, codes, if◌then◌else◌}
 use Rattle.std.specs.List.{list_any}
 use Rattle.share_workers.specs.declared.worker.WorkerEnd.{WorkerEnd}
@@ -19,8 +19,7 @@ end_number worker.FileFault = 6
 abbrev pub has_end : WorkerEnd → List WorkerEnd → Bool
 has_end end ends = list_any (λ e. nat_eq (end_number e) (end_number end)) ends
 
--- a door that failed counts before a file that failed, this before want of memory, and this before a worker that served as much
--- as it may
+-- a listener that failed counts before a file that failed, then out of memory, then a worker that reached its limit
 abbrev pub verdict_of : List WorkerEnd → Verdict
 verdict_of ends =
     if has_end worker.AcceptFault ends then NetworkFailed
@@ -29,7 +28,7 @@ verdict_of ends =
     else if has_end worker.Spent ends then Exhausted
     else Done
 
--- where memory is wanted besides
+-- .. if an allocation failed besides
 abbrev pub with_memory : Verdict → Verdict
 with_memory Done = OutOfMemory
 with_memory NetworkFailed = NetworkFailed

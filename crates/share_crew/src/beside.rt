@@ -1,4 +1,4 @@
-//! Workers at work, beside a partner.
+//! Workers at work, concurrently with a partner.
 ghost use Rattle.std.specs.Prelude.{◌≡◌, ◌<◌, ◌≤◌, ◌-◌, ◌^◌, false, [], List, Option, map, length, All, vec_len, vec_capacity};
 ghost use Rattle.std.specs.List.{AllZip};
 ghost use Rattle.std.specs.Thread.{IsSync};
@@ -15,7 +15,7 @@ ghost use Rattle.share_crew.specs.Lines.{links_in, requests_in};
 ghost use Rattle.share_crew.specs.Gathered.{HasGathered};
 
 use crate::gathering::{Gathered, gather};
-use crate::opening::Begun;
+use crate::opening::LockedShare;
 use crate::partner::Partner;
 use daap_outside::{Door, Net};
 use edit_keeping::Keeps;
@@ -27,7 +27,8 @@ use std::sync::Wait;
 use std::thread::{Threads, join_mut};
 use std::time::Clock;
 
-/// Lets each worker serve its links in a thread of its own, and the partner work beside them. It returns when all have ended.
+/// Lets each worker serve its connections in its own thread, and `partner` work in this one. Returns when all have
+/// ended.
 pub fn work_beside<D: Door + Drop + Send, P: Partner, R: Threads + Wait + Clock + Sync>(
     rt: &R,
     alloc: Global,
@@ -54,8 +55,8 @@ pub fn work_beside<D: Door + Drop + Send, P: Partner, R: Threads + Wait + Clock 
     join_mut(rt, &mut all, &mut || partner.work(rt, alloc, lock, bell));
 }
 
-/// Lets each worker serve its links in a thread of its own, and beside them, in this thread, one more whose edits are kept. It
-/// returns when all have ended.
+/// Lets each worker of `crew` serve its connections in its own thread, and in this one `worker`, whose edits `keeper`
+/// keeps. Returns when all have ended.
 pub fn keep_beside<D: Door + Drop + Send, F: Keeps, R: Threads + Wait + Clock + Sync>(
     rt: &R,
     alloc: Global,
@@ -93,12 +94,12 @@ pub fn keep_beside<D: Door + Drop + Send, F: Keeps, R: Threads + Wait + Clock + 
     join_mut(rt, &mut all, &mut kept);
 }
 
-/// Lets all workers and the partner work to their ends, and gathers the workers.
-pub fn worked<N: Net, P: Partner, R: Threads + Wait + Clock + Sync>(
+/// Lets all workers and `partner` work to their ends. Returns what the workers leave, gathered.
+pub fn run_workers<N: Net, P: Partner, R: Threads + Wait + Clock + Sync>(
     rt: &R,
     alloc: Global,
     net: &mut N,
-    mut begun: Begun<N::D>,
+    mut begun: LockedShare<N::D>,
     partner: &mut P,
 ) -> Gathered
     requires ready { IsReady (lock_id begun.lock) begun.first }

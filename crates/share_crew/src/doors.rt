@@ -1,4 +1,4 @@
-//! Doors that are given back before anybody waited at them.
+//! Closes listeners before a worker has accepted at them.
 
 ghost use Rattle.std.specs.Prelude.{◌≡◌, ◌-◌, [], List, Option, length};
 ghost use Rattle.daap_outside.specs.Places.{Returned};
@@ -7,7 +7,7 @@ ghost use Rattle.share_crew.specs.Doors.{AreNew};
 
 use daap_outside::Net;
 
-/// Gives doors back at which nobody waited.
+/// Closes `doors`, listeners at which no worker has accepted.
 pub fn shut_all<N: Net>(net: &mut N, doors: Vec<N::D>)
     ensures asked { N.asked net.new ≡ N.asked net.old }
     ensures written { (kept : Option (List Returned)) → AreNew N.D.written N.D.faults kept doors.items

@@ -1,4 +1,4 @@
-//! Workers that have ended, come together again.
+//! Gathers workers that have ended.
 
 ghost use Rattle.std.specs.Prelude.{◌≡◌, ◌<◌, ◌≤◌, ◌+◌, ◌-◌, ◌^◌, ◌++◌, [], List, Option, map, length, All, vec_len, vec_capacity};
 ghost use Rattle.std.specs.List.{AllByRecursion, AllZip};
@@ -16,7 +16,7 @@ ghost use Rattle.share_crew.specs.Lines.{links_in, requests_in};
 ghost use Rattle.share_crew.specs.Stints.{Stint, IsHistoryOf, IsNumbered, passes_in};
 ghost use Rattle.share_crew.specs.Gathered.{HasGathered};
 
-use crate::opening::{Begun, Room};
+use crate::opening::{LockedShare, WorkerBuffers};
 use crate::outcome::LinkReports;
 use crate::verdict::{Verdict, verdict_of};
 use daap_outside::Net;
@@ -26,8 +26,8 @@ use share_server::LinkReport;
 use share_workers::Worker;
 use std::sync::Wait;
 
-/// What workers that have ended leave: the share under its lock, the pass that took theirs in, what is told of their links, and
-/// how they ended.
+/// What workers that have ended leave: the share under its lock, the lock handle that theirs were joined to, the
+/// reports of their connections, and how they ended.
 pub struct Gathered {
     pub lock: ShareLock<Share>,
     pub first: Pass<Share>,
@@ -35,9 +35,9 @@ pub struct Gathered {
     pub verdict: Verdict,
 }
 
-/// Gathers workers that have ended: joins their passes, gives their doors back and keeps what is told of their links, in the
-/// order of the workers.
-pub fn gather<N: Net>(net: &mut N, begun: Begun<N::D>) -> Gathered
+/// Gathers workers that have ended, in their order: joins their lock handles, closes their listeners and keeps the
+/// reports of their connections.
+pub fn gather<N: Net>(net: &mut N, begun: LockedShare<N::D>) -> Gathered
     requires ready { IsReady (lock_id begun.lock) begun.first }
     requires crew { All (λ w. IsReady (lock_id begun.lock) w.pass) begun.room.crew.items }
     requires empty { begun.room.links.items ≡ [] }
@@ -59,10 +59,10 @@ pub fn gather<N: Net>(net: &mut N, begun: Begun<N::D>) -> Gathered
     ensures requests { (before : List (Member N.D)) → AllZip (HasEnded N.D.coming N.D.written N.D.faults) before begun.room.crew.items
         → length before ≤ 72 → requests_in result.links < 2 ^ 64 }
 {
-    let Begun {
+    let LockedShare {
         lock,
         mut first,
-        room: Room { crew, mut links },
+        room: WorkerBuffers { crew, mut links },
     } = begun;
     let verdict = verdict_of(crew.as_slice());
     join_each(&lock, net, &mut first, crew, &mut links);
@@ -74,7 +74,7 @@ pub fn gather<N: Net>(net: &mut N, begun: Begun<N::D>) -> Gathered
     }
 }
 
-// Joins the passes of all workers, gives their doors back and keeps what is told of their links. There is room for all of it.
+// Joins the lock handles of all workers, closes their listeners and keeps their reports, in capacity reserved before.
 fn join_each<N: Net>(
     lock: &ShareLock<Share>,
     net: &mut N,
@@ -109,7 +109,7 @@ fn join_each<N: Net>(
     }
 }
 
-/// Takes the share out of its lock, by a last turn of the pass that took all others in.
+/// Takes the share out of its lock, in a last turn of the handle to which all others were joined.
 pub fn share_of<R: Wait>(rt: &R, lock: &ShareLock<Share>, first: &mut Pass<Share>) -> Share
     requires ready { IsReady (lock_id lock.now) first.old }
     ensures { (settings : Settings) (opening : List Entry) (stints : List (Stint settings opening)) (others : List Seen)

@@ -1,4 +1,4 @@
-//! Workers that are hired.
+//! Makes workers for listeners.
 
 ghost use Rattle.std.specs.Prelude.{◌≡◌, ◌<◌, ◌≤◌, ◌+◌, [], vec_len, vec_capacity};
 ghost use Rattle.share_lock.specs.Known.{fresh};
@@ -12,8 +12,8 @@ use share_workers::{Worker, WorkerEnd};
 use std::alloc::Global;
 use std::sync::Wait;
 
-/// Adds a worker for each door, with a pass of its own. There is room for all of them.
-pub fn hire<D: Drop, R: Wait>(
+/// Appends a worker for each listener, with its own lock handle. `crew` has the capacity for all of them.
+pub fn add_workers<D: Drop, R: Wait>(
     rt: &R,
     alloc: Global,
     lock: &ShareLock<Share>,
@@ -31,13 +31,13 @@ pub fn hire<D: Drop, R: Wait>(
     ensures room { vec_capacity crew.new ≡ vec_capacity crew.old }
 {
     for door in doors {
-        let pass = drawn(rt, lock, first);
-        crew.push_reserved(hired(alloc, pass, door, role));
+        let pass = new_pass(rt, lock, first);
+        crew.push_reserved(new_worker(alloc, pass, door, role));
     }
 }
 
-// A pass of its own, for a worker that has not begun.
-fn drawn<R: Wait>(rt: &R, lock: &ShareLock<Share>, first: &mut Pass<Share>) -> Pass<Share>
+// Returns a new lock handle, for a worker that has not begun.
+fn new_pass<R: Wait>(rt: &R, lock: &ShareLock<Share>, first: &mut Pass<Share>) -> Pass<Share>
     requires ready { IsReady (lock_id lock.now) first.old }
     ensures first { IsReady (lock_id lock.now) first.new }
     ensures same { known first.new ≡ known first.old }
@@ -49,8 +49,8 @@ fn drawn<R: Wait>(rt: &R, lock: &ShareLock<Share>, first: &mut Pass<Share>) -> P
     lock.split(rt, first).unwrap()
 }
 
-// A worker that has not begun.
-fn hired<D>(alloc: Global, pass: Pass<Share>, door: D, role: Role) -> Worker<D>
+// Returns a worker that has not begun.
+fn new_worker<D>(alloc: Global, pass: Pass<Share>, door: D, role: Role) -> Worker<D>
     ensures pass { result.pass ≡ pass }
     ensures door { result.door ≡ door }
     ensures role { result.role ≡ role }

@@ -1,5 +1,5 @@
-//! The workers of a share that is under its lock: one is hired for each door, all serve to their ends beside a partner, and
-//! behind them their passes are joined, their doors given back, and what they served is told as one history.
+//! The workers of a share that is under its lock. There is one for each listener. All serve to their ends, concurrently
+//! with a partner; then their lock handles are joined, their listeners closed, and one history has what they served.
 #![tactic(auto)]
 
 mod beside;
@@ -12,12 +12,12 @@ mod outcome;
 mod partner;
 mod verdict;
 
-pub use beside::{keep_beside, work_beside, worked};
+pub use beside::{keep_beside, run_workers, work_beside};
 pub use doors::shut_all;
 pub use gathering::{Gathered, gather, share_of};
-pub use hiring::hire;
+pub use hiring::add_workers;
 pub use lines::ended_line_of;
-pub use opening::{Begun, Room, announced};
+pub use opening::{LockedShare, WorkerBuffers, announced};
 pub use outcome::{LinkReports, Outcome};
 pub use partner::Partner;
 pub use verdict::{Verdict, verdict_of};

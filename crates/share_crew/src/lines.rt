@@ -1,4 +1,4 @@
-//! The line that tells how much was served.
+//! The last line of a share, with the numbers of connections and requests.
 
 ghost use Rattle.std.specs.Prelude.{◌≡◌, ◌<◌, ◌^◌, map, length, IfOk};
 ghost use Rattle.share_workers.specs.Works.{all_served};
@@ -8,7 +8,7 @@ use fault_lines::push_number;
 use share_server::LinkReport;
 use std::alloc::{AllocError, Global};
 
-/// The line that tells that all workers have ended.
+/// Returns the line that is written after all workers have ended.
 ///
 /// # Errors
 ///
@@ -30,7 +30,7 @@ pub fn ended_line_of(
     Ok(line)
 }
 
-// How many links all workers served.
+// Returns how many connections all workers served.
 fn links_in(workers: &[Vec<LinkReport>]) -> u64
     requires { links_in (map (λ l. l.items) workers.now) < 2 ^ 64 }
     ensures { result ≡ links_in (map (λ l. l.items) workers.now) }
@@ -42,7 +42,7 @@ fn links_in(workers: &[Vec<LinkReport>]) -> u64
     count
 }
 
-// How many requests were served on all links.
+// Returns how many requests were served on all connections.
 fn requests_in(workers: &[Vec<LinkReport>]) -> u64
     requires { requests_in (map (λ l. l.items) workers.now) < 2 ^ 64 }
     ensures { result ≡ requests_in (map (λ l. l.items) workers.now) }
@@ -54,7 +54,7 @@ fn requests_in(workers: &[Vec<LinkReport>]) -> u64
     count
 }
 
-// How many requests were served on the links of a worker.
+// Returns how many requests were served on the connections of a worker.
 fn requests_of(links: &[LinkReport]) -> u64
     requires { length (all_served links.now) < 2 ^ 64 }
     ensures { result ≡ length (all_served links.now) }

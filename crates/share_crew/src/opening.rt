@@ -1,4 +1,4 @@
-//! A share that comes under its lock, behind the line that tells it.
+//! Writes the first line of a share, and puts the share under its lock.
 
 ghost use Rattle.std.specs.Prelude.{◌≡◌, ◌≤◌, ℕ, List, All, IfOk};
 ghost use Rattle.command_core.specs.Seen.{OutputSeen, output_seen};
@@ -14,45 +14,49 @@ use share_server::LinkReport;
 use share_workers::Worker;
 use std::alloc::{AllocError, Global};
 
-/// A share under its lock, and the room for its workers and for what is told of their links.
-pub struct Begun<D> {
+/// A share under its lock, the first lock handle, and the capacity for workers and reports.
+pub struct LockedShare<D> {
     pub lock: ShareLock<Share>,
     pub first: Pass<Share>,
-    pub room: Room<D>,
+    pub room: WorkerBuffers<D>,
 }
 
-/// The room for so many workers, and for what is told of their links.
+/// Lists of workers and of the reports of their connections, with the capacity that they need.
 #[derive(Drop)]
-pub struct Room<D> {
+pub struct WorkerBuffers<D> {
     pub crew: Vec<Worker<D>>,
     pub links: Vec<Vec<LinkReport>>,
 }
 
-impl<D: Drop> Room<D> {
-    /// Room for `workers` of them, of which there is none yet.
+impl<D: Drop> WorkerBuffers<D> {
+    /// Returns empty lists with capacity for `workers` workers.
     ///
     /// # Errors
     ///
     /// Returns `AllocError` if an allocation fails.
-    pub fn of(alloc: Global, workers: usize) -> Result<Room<D>, AllocError>
+    pub fn of(alloc: Global, workers: usize) -> Result<WorkerBuffers<D>, AllocError>
         ensures { IfOk result (HasRoom workers) }
     {
         let crew = Vec::with_capacity(alloc, workers)?;
         let links = Vec::with_capacity(alloc, workers)?;
-        Ok(Room { crew, links })
+        Ok(WorkerBuffers { crew, links })
     }
 }
 
-/// Writes the line of a share, and puts the share under a lock for so many passes. Where that fails, the line of the fault was
-/// written, and the status is answered that the program ends with.
+/// Writes `line`, and puts the share under a lock for `passes` handles.
+///
+/// # Errors
+///
+/// Returns the status that the program ends with: 5 if the output failed, and 9 if an allocation failed and the line of
+/// that was written.
 pub fn announced<W: Sink, D: Drop>(
     alloc: Global,
     output: &mut W,
     line: &[u8],
     share: Share,
     passes: u32,
-    room: Room<D>,
-) -> Result<Begun<D>, u8>
+    room: WorkerBuffers<D>,
+) -> Result<LockedShare<D>, u8>
     requires passes { 1 ≤ passes }
     requires opening { All (λ e. maker e ≡ 0) share.history }
     ensures { Announces passes share room line.now
@@ -61,19 +65,19 @@ pub fn announced<W: Sink, D: Drop>(
         result }
 {
     match put_all(output, line) {
-        Ok(()) => locked(alloc, output, share, passes, room),
+        Ok(()) => lock_share(alloc, output, share, passes, room),
         Err(_) => Err(5),
     }
 }
 
-// Puts the share under a lock for so many passes.
-fn locked<W: Sink, D: Drop>(
+// Puts the share under a lock for `passes` handles.
+fn lock_share<W: Sink, D: Drop>(
     alloc: Global,
     output: &mut W,
     share: Share,
     passes: u32,
-    room: Room<D>,
-) -> Result<Begun<D>, u8>
+    room: WorkerBuffers<D>,
+) -> Result<LockedShare<D>, u8>
     requires passes { 1 ≤ passes }
     requires opening { All (λ e. maker e ≡ 0) share.history }
     ensures { (start : OutputSeen) (front : List ℕ)
@@ -81,7 +85,7 @@ fn locked<W: Sink, D: Drop>(
         → Locks passes share room front start (output_seen (W.taken output.new) (W.faults output.new)) result }
 {
     match ShareLock::open(alloc, share, passes) {
-        Ok((lock, first)) => Ok(Begun { lock, first, room }),
+        Ok((lock, first)) => Ok(LockedShare { lock, first, room }),
         Err(AllocError) => Err(out_of_memory(output, None).status),
     }
 }

@@ -1,4 +1,4 @@
-//! What a served share leaves.
+//! What a share that was served leaves.
 
 ghost use Rattle.std.specs.Prelude.{◌≡◌, [], map};
 
@@ -7,7 +7,7 @@ use share_server::LinkReport;
 use std::alloc::Global;
 use std::marker::Model;
 
-/// The status of the program, the history of the share, where it came under its lock, and what is told of each link.
+/// The status of the program, the history of the share, if it was put under its lock, and a report of each connection.
 #[derive(Debug, Drop)]
 pub struct Outcome {
     pub status: u8,
@@ -15,7 +15,7 @@ pub struct Outcome {
     pub links: LinkReports,
 }
 
-/// What is told of links, worker by worker, and for each worker in the order in which it accepted them.
+/// The reports of connections, worker by worker, for each worker in the order in which it accepted them.
 #[derive(Debug, Drop)]
 pub struct LinkReports {
     workers: Vec<Vec<LinkReport>>,
@@ -31,7 +31,7 @@ impl Model for LinkReports {
 }
 
 impl LinkReports {
-    /// No worker, and no link. It takes no memory.
+    /// Returns reports of no worker. Does not allocate.
     pub fn none(alloc: Global) -> LinkReports
         ensures { result ≡ [] }
     {
@@ -40,7 +40,7 @@ impl LinkReports {
         }
     }
 
-    /// The links of each worker.
+    /// Returns the reports of `workers`.
     pub fn of(workers: Vec<Vec<LinkReport>>) -> LinkReports
         ensures { result ≡ map (λ links. links.items) workers.items }
     {

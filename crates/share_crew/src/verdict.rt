@@ -1,27 +1,27 @@
-//! What is said of workers that have ended.
+//! How the workers of a share ended, as a line and a status.
 
 ghost use Rattle.std.specs.Prelude.{◌≡◌, map};
 ghost use Rattle.share_crew.specs.Verdicts.{end_number, has_end, verdict_of, verdict_line, verdict_status, with_memory};
 
 use share_workers::{Worker, WorkerEnd};
 
-/// How all workers ended, by the one that counts most.
+/// How all workers ended, by the end that counts most.
 #[derive(Clone, Copy, Debug, PartialEq, Eq)]
 pub enum Verdict {
-    /// Each served what came, or until the share was stopped.
+    /// Each served all connections that came, or until the share was stopped.
     Done,
-    /// A door could not wait for a link.
+    /// A listener failed to accept.
     NetworkFailed,
     /// An edit could not be kept.
     FileFailed,
-    /// There was no memory for what is told of a link.
+    /// An allocation for a report failed.
     OutOfMemory,
-    /// A worker served as much as it may.
+    /// A worker reached its limit.
     Exhausted,
 }
 
 impl Verdict {
-    /// The line that the user sees; none where all was done.
+    /// Returns the line that the user sees, which is empty for `Done`.
     pub fn line(self) -> &'static [u8]
         ensures { result.now ≡ verdict_line self }
     {
@@ -34,7 +34,7 @@ impl Verdict {
         }
     }
 
-    /// The status that the program ends with.
+    /// Returns the status that the program ends with.
     pub fn status(self) -> u8
         ensures { result ≡ verdict_status self }
     {
@@ -47,7 +47,7 @@ impl Verdict {
         }
     }
 
-    /// The verdict where memory is wanted besides.
+    /// Returns the verdict if an allocation failed besides.
     pub fn with_memory(self) -> Verdict
         ensures { result ≡ with_memory self }
     {
@@ -59,7 +59,7 @@ impl Verdict {
     }
 }
 
-/// The verdict on workers that have ended.
+/// Returns the verdict on workers that have ended.
 pub fn verdict_of<D>(crew: &[Worker<D>]) -> Verdict
     ensures { result ≡ verdict_of (map (λ w. w.end) crew.now) }
 {
@@ -78,7 +78,7 @@ pub fn verdict_of<D>(crew: &[Worker<D>]) -> Verdict
     Verdict::Done
 }
 
-// Whether a worker ended so.
+// Returns whether a worker ended by `end`.
 fn has_end<D>(crew: &[Worker<D>], end: WorkerEnd) -> bool
     ensures { result ≡ has_end end (map (λ w. w.end) crew.now) }
 {
@@ -91,7 +91,7 @@ fn has_end<D>(crew: &[Worker<D>], end: WorkerEnd) -> bool
     false
 }
 
-// Each end has a number of its own.
+// Returns the number of an end; numbers of different ends differ.
 fn end_number(end: WorkerEnd) -> u8
     ensures { result ≡ end_number end }
 {

@@ -30,14 +30,14 @@ use Rattle.share_history.proofs.MirrorFacts.{shown_at, at-shown, ascending-after
 
 -- ---- every listing
 
--- tells the revision
+-- has the revision
 pub listing_revision : (keep : ℕ) (bs : List (List Edit)) (t : Target) (look : Look) → (listing keep bs t look).revision ≡ revision bs
 listing_revision keep bs t look =
     cond_both (is_kept keep bs t look.base) (delta_listing bs t look look.base) (full_listing bs t look) (λ l. l.revision ≡ revision bs) (λ _. refl) (λ _. refl)
 
 -- ---- under one key
 
--- nothing is shown where nothing is
+-- what is shown of nothing is nothing
 pub none_shown : {A B : Type 0} (show : A → B) (found : Option A) → is_none (option_map show found) ≡ is_none found
 none_shown show None = refl
 none_shown show (Some x) = refl
@@ -46,7 +46,7 @@ none_shown show (Some x) = refl
 pub at-shown_rows : (es : List Edit) (t : Target) (q : Option Query) (meta : Meta) (k : ℕ) → at k (shown_rows t meta (rows es t q)) ≡ option_map (shown_at t meta k) (row_at es t q k)
 at-shown_rows es t q meta k = at-shown t meta k (rows es t q) ∙ ap (option_map (shown_at t meta k)) (at-rows es t q k)
 
--- no edit after a kept base puts or drops the list
+-- no edit after a base in the delta window puts or drops the list
 pub kept_left : (keep : ℕ) (bs : List (List Edit)) (t : Target) (base : ℕ) → is_kept keep bs t base ≡ true → is_left t (later bs base) ≡ true
 kept_left keep bs t base h =
     let near : Bool = nat_le (revision bs) (base + keep) in
@@ -54,7 +54,7 @@ kept_left keep bs t base h =
     let past : Bool = nat_le base (revision bs) in
     (and_parts near left (and_parts past (near && left) (and_parts (nat_le first_revision base) (past && (near && left)) h).1).1).1
 
--- the row under a key that was not touched since a base is the row of then, where the list was left alone
+-- if no edit puts or drops the list, an untouched key has the row that it had at the base
 pub row_as_then : (bs : List (List Edit)) (t : Target) (q : Option Query) (base k : ℕ) → is_left t (later bs base) ≡ true → touches (edits bs) t (later bs base) k ≡ false
     → row_at (edits bs) t q k ≡ row_at (edits (up_to bs base)) t q k
 row_as_then bs t q base k left h =

@@ -24,7 +24,7 @@ module _ {X : Type 0} (p : ℕ × X → Bool) where
       ap (λ w. cond (p e) (Some e.1) w) (none refl) ∙ ap (λ k. only_if (p (k, e.1)) e.1) (sym (same_key q e.0 h))
   first_passing false q e rest h none = cond_both (p e) rest rest (λ w. w ≡ rest) (λ _. refl) (λ _. refl)
 
-  -- a filter of ascending pairs keeps under each key what passes there
+  -- a filter of ascending pairs keeps under each key the value that passes
   pub at-passing : (q : ℕ) (es : List (ℕ × X)) → IsAscending es → at q (filter p es) ≡ option_and_then (passing q) (at q es)
   at-passing q [] s = refl
   at-passing q (e ∷ es) s =

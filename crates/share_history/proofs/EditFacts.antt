@@ -194,7 +194,7 @@ pub edits-opening : (es : List Edit) → edits (batches (opening es)) ≡ es
 edits-opening [] = refl
 edits-opening (e ∷ es) = append-nil (e ∷ es)
 
--- the items that are left of a list are the next and those behind it
+-- the items from position `i` on are the one at `i` and those after it
 pub drop_more : {A : Type 0} (xs : List A) (i : ℕ) (x : A) → i < length xs → x ≡ get_or xs i x → drop i xs ≡ x ∷ drop (i + 1) xs
 drop_more xs i x lt is = drop-cons xs i x lt ∙ ap (λ y. y ∷ drop (suc i) xs) (sym is) ∙ ap (λ n. x ∷ drop n xs) (sym (add-one i))
 
@@ -231,14 +231,14 @@ pub up_to-revision : (bs cs : List (List Edit)) → up_to (bs ++ cs) (revision b
 up_to-revision bs cs =
     let e : length bs + first_revision - first_revision ≡ length bs = omega arith in ap (λ n. take n (bs ++ cs)) e ∙ take-append_seam bs cs
 
--- the batches up to a revision that they do not pass are all of them
+-- the batches up to a revision at or above the present one are all batches
 pub up_to-all : (bs : List (List Edit)) (v : ℕ) → revision bs ≤ v → up_to bs v ≡ bs
 up_to-all bs v h = take_all (v - first_revision) bs (omega (arith, h))
 
 pub up_to-now : (bs : List (List Edit)) → up_to bs (revision bs) ≡ bs
 up_to-now bs = up_to-all bs (revision bs) (omega arith)
 
--- and batches behind it leave those up to a revision as they are
+-- later batches do not change those up to a revision
 pub up_to-same : (bs cs : List (List Edit)) (v : ℕ) → v ≤ revision bs → up_to (bs ++ cs) v ≡ up_to bs v
 up_to-same bs cs v h = take-append-le (v - first_revision) bs cs (omega (arith, h))
 

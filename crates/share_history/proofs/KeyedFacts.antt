@@ -23,7 +23,7 @@ not_None v e = true≢false (ap is_some e)
 
 -- ---- any order of the keys
 
--- two tests of which one excludes the other may change places
+-- two tests of which one excludes the other may be swapped
 tests_swapped : {X : Type 0} (a b : Bool) (x y z : X) → (b ≡ true → a ≡ false) → cond a x (cond b y z) ≡ cond b y (cond a x z)
 tests_swapped true true x y z h = absurd (true≢false (h refl))
 tests_swapped true false x y z h = refl
@@ -47,7 +47,7 @@ all_weaker P Q h [] all = tt
 all_weaker P Q h (k ∷ ks) all = (h k all.0, all_weaker P Q h ks all.1)
 
 module _ {K : Type 0} (R : K → K → Ordering) (o : IsTotalOrder R) where
-  -- a key that compares as another does is in its place
+  -- which keys a set has after an insertion
   pub member-insert_key : (q k : K) (ks : List K) → list_any (is_at (R q)) (insert_key R ks k) ≡ (is_eq (R q k) || list_any (is_at (R q)) ks)
   member-insert_key q k [] = refl
   member-insert_key q k (x ∷ xs) =
@@ -216,7 +216,7 @@ module _ {X : Type 0} where
   put_or true x found old h = ap (λ f. option_or f (Some x)) (h refl)
   put_or false x found old h = refl
 
-  -- rows put one after the other take the place of those with their keys
+  -- rows put one after the other replace those with their keys
   pub at-puts : (q : ℕ) (es rs : List (ℕ × X)) → IsAscending rs → at q (fold put_in es rs) ≡ option_or (at q rs) (at q es)
   at-puts q es [] s = refl
   at-puts q es (r ∷ rs) s =
@@ -384,7 +384,7 @@ all_both : {P Q R : ℕ → Type 0} → ((k : ℕ) → P k → Q k → R k) → 
 all_both h [] p q = tt
 all_both h (k ∷ ks) p q = (h k p.0 q.0, all_both h ks p.1 q.1)
 
--- ascending keys between two numbers are no more than there are numbers
+-- ascending keys in a range are at most as many as its numbers
 few_keys_between : (low high : ℕ) (ks : List ℕ) → low ≤ high → AreAscending ks → AllByRecursion (λ k. (low ≤ k) × (k < high)) ks → length ks + low ≤ high
 unfolding IsStrictlySortedBy
 few_keys_between low high [] le s all = omega (arith, le)

@@ -126,7 +126,7 @@ bases_are_past keep bs t base (inr h) =
     and_second_false (nat_le first_revision base) (nat_le base (revision bs) && (nat_le (revision bs) (base + keep) && is_left t (later bs base)))
     (ap (λ b. b && (nat_le (revision bs) (base + keep) && is_left t (later bs base))) (not_le base (revision bs) h))
 
--- a list that is named after the base is not kept, and one that is not stands as it did
+-- a base before a put or drop of its list is outside the delta window; without one the list is as at the base
 new_list : (keep : ℕ) (bs cs : List (List Edit)) (c : ℕ) (named : Bool) → (c == base_list) ≡ false → list_any (names_list c) (later (bs ++ cs) (revision bs)) ≡ named
     → is_some (list_at (edits bs) c) ≡ false → is_some (list_at (edits (bs ++ cs)) c) ≡ true → is_kept keep (bs ++ cs) (Container c) (revision bs) ≡ false
 new_list keep bs cs c true other named gone there =

@@ -1,4 +1,4 @@
--- Rows that stand under their own ids.
+-- Rows under their own ids.
 use Rattle.std.proofs.Common.{◌≡◌, ◌==◌, ℕ, List, [], ◌∷◌, Bool, true, false, Option, Some, None, unwrap_or, All, eqb-true, refl, subst, arith}
 use Rattle.std.specs.List.{cons_option}
 use Rattle.std.specs.Option.{option_map, option_or, option_and_then}
@@ -64,7 +64,7 @@ asked_some q (Some other) row is = kept (is_asked q other) is
     kept true is = is
     kept false is = absurd (cc)
 
--- each row of the items stands under its own id; in a container the keys are others
+-- each row of the items is under its own id; in a container this says nothing
 abbrev pub IsOwn : Target → ℕ × Row → Type 0
 IsOwn Items row = row.1.id ≡ row.0
 IsOwn (Container c) row = Unit {0}

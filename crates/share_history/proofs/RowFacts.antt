@@ -36,7 +36,7 @@ target_unnamed es Items k h = item_unnamed es k h
 target_unnamed es (Container c) k h =
     cond_both (c == base_list) (item_at es k) (in_list (list_at es c) es c k) (λ w. w ≡ None) (λ _. item_unnamed es k h) (λ _. list_row_unnamed (list_at es c) es c k h)
 
--- under a key that no edit names there is no row
+-- a key that no edit names has no row
 pub row_unnamed : (es : List Edit) (t : Target) (q : Option Query) (k : ℕ) → has k (named_keys es) ≡ false → row_at es t q k ≡ None
 row_unnamed es t q k h = ap (option_and_then (if_asked q)) (target_unnamed es t k h)
 
@@ -90,7 +90,7 @@ asked_among es q (k ∷ ks) =
 pub rows_asked : (es : List Edit) (q : Option Query) → rows es Items q ≡ filter (λ row. is_asked q row.1) (library es)
 rows_asked es q = asked_among es q (ascending (named_keys es))
 
--- the library after one more edit: a put takes the place of the item's row, a drop takes it out
+-- the library after one edit more: a put replaces the item's row, a drop removes it
 abbrev pub with_edit : List (ℕ × Row) → Edit → List (ℕ × Row)
 with_edit rs (PutItem row) = put_in rs (row.id, row)
 with_edit rs (DropItem id) = taken_out rs id

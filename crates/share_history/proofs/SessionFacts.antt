@@ -1,4 +1,4 @@
--- The places that batches and logins take, the order of logins, and marks.
+-- The entries that count for the limit, the order of logins, and last-answered lengths.
 use Rattle.std.proofs.Common.{◌≡◌, ◌≤◌, true, nat_lt, arith, ℕ, suc, Bool, false, inl, inr, None, ◌+◌, ◌++◌, ◌==◌, eq-eqb, eqb-true, refl, [], ◌∷◌, sym, ◌∙◌, length, cond, count_by, List, ap, Some}
 use Rattle.std.proofs.lemmas.Bool.{and_from, and_parts, cases_Bool}
 use Rattle.std.proofs.lemmas.List.Sums.{sum_by-cons}
@@ -12,7 +12,7 @@ use Rattle.share_history.specs.Marks.{Marks, is_orderly}
 use Rattle.share_history.specs.Sessions.{is_login, is_live}
 use Rattle.share_history.proofs.KeyedFacts.{at-filter, at-put, is_eq-cmp}
 
--- each batch takes a place
+-- each batch counts
 pub few_batches : (h : List Entry) → length (batches h) ≤ count_by takes_place h
 few_batches [] = omega arith
 few_batches (Edits by batch ∷ h) = omega (arith, few_batches h, sum_by-cons (λ x. cond (takes_place x) 1 0) (Edits by batch) h)
@@ -28,7 +28,7 @@ few_logins (Login by id ∷ h) = omega (arith, few_logins h, sum_by-cons (λ e. 
 few_logins (Logout by id ∷ h) = omega (arith, few_logins h, sum_by-cons (λ e. cond (takes_place e) 1 0) (Logout by id) h, sum_by-cons (λ e. cond (is_login e) 1 0) (Logout by id) h)
 few_logins (Stop by ∷ h) = omega (arith, few_logins h, sum_by-cons (λ e. cond (takes_place e) 1 0) (Stop by) h, sum_by-cons (λ e. cond (is_login e) 1 0) (Stop by) h)
 
--- a login with the id behind those of the history keeps their order
+-- a login with the next id keeps the ids in order
 orderly_login : (next by id : ℕ) (h : List Entry) → id ≡ count_by is_login h + next → is_orderly next h ≡ true → is_orderly next (h ++ Login by id ∷ []) ≡ true
 orderly_login next by id [] e o = and_from _ _ (eq-eqb id next (omega arith)) refl
 orderly_login next by id (Edits p batch ∷ h) e o = orderly_login next by id h (omega (arith, sum_by-cons (λ x. cond (is_login x) 1 0) (Edits p batch) h)) o
@@ -43,7 +43,7 @@ orderly_login next by id (Stop p ∷ h) e o = orderly_login next by id h (omega 
 pub logins_stay_orderly : LoginsStayOrderly
 logins_stay_orderly h by o = orderly_login 1 by (count_by is_login h + 1) h refl o
 
--- the marks after an answer, by whether the session is live
+-- the last-answered lengths after a response, by whether the session is live
 answered_mark : (h : List Entry) (session id : ℕ) (marks : Marks) (live : Bool) → is_live h session ≡ live
     → cond (is_live h id) (at id (cond live (put_in marks (session, length h)) marks)) None ≡ cond (is_live h id) (cond (session == id) (Some (length h)) (at id marks)) None
 answered_mark h session id marks true e =

@@ -6,7 +6,7 @@ use Rattle.std.specs.BTreeSet.{insert_key}
 use Rattle.share_history.specs.BrowseListings.{is_filled}
 use Rattle.share_history.specs.RowSeen.{text_at}
 
--- what a key stands for goes to the place of the key
+-- inserting a reference into a set inserts its text
 pub insert_key-text : (k : Bor (List ℕ)) (ks : List (Bor (List ℕ))) → map text_at (insert_key (λ x y. slice_cmp nat_cmp x.now y.now) ks k) ≡ insert_key (slice_cmp nat_cmp) (map text_at ks) k.now
 insert_key-text k [] = refl
 insert_key-text k (x ∷ xs) =
@@ -23,7 +23,7 @@ pub text_put : (k : Bor (List ℕ)) (old new : List (Bor (List ℕ))) (b : Bool)
 text_put k old new b n h e =
     ap (map text_at) e ∙ insert_key-text k old ∙ sym (ap (λ t. fold (insert_key (slice_cmp nat_cmp)) (map text_at old) (cond t (k.now ∷ []) [])) (sym h ∙ n))
 
--- of some texts that are put in where they pass a test, the first comes before the others
+-- an insertion of texts that pass a test begins with the first
 pub filtered_cons : (put : List (List ℕ) → List ℕ → List (List ℕ)) (p : List ℕ → Bool) (set : List (List ℕ)) (t : List ℕ) (ts : List (List ℕ))
     → fold put (fold put set (filter p (t ∷ []))) (filter p ts) ≡ fold put set (filter p (t ∷ ts))
 filtered_cons put p set t ts = elim (p t) as (λ b. fold put (fold put set (cond b (t ∷ []) [])) (filter p ts) ≡ fold put set (cond b (t ∷ filter p ts) (filter p ts))) [

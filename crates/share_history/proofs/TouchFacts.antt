@@ -46,7 +46,7 @@ target_stays : (es ds : List Edit) (t : Target) (k : ℕ) → is_left t ds ≡ t
 target_stays es ds Items k l h = item_stays es ds k h
 target_stays es ds (Container c) k l h = container_row_stays (c == base_list) es ds c k l h
 
--- the row under a key that some edits don't touch is as it was before them, where they leave the list
+-- if some edits neither touch a key nor put or drop its list, its row stays as before them
 pub row_stays : (es ds : List Edit) (t : Target) (q : Option Query) (k : ℕ) → is_left t ds ≡ true → touches (es ++ ds) t ds k ≡ false
     → row_at (es ++ ds) t q k ≡ row_at es t q k
 row_stays es ds t q k l h = ap (option_and_then (if_asked q)) (target_stays es ds t k l h)

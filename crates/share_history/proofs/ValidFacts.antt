@@ -23,14 +23,14 @@ valid_front es ds v = subst AreValid (take-append_seam es ds) (All-take IsValid 
 
 -- ---- keys that pass a test
 
--- a number that fails a test is no key that passes it
+-- a number that fails the test is not among keys that pass
 module _ (p : ℕ → Bool) where
   other : (q k : ℕ) → p k ≡ true → p q ≡ false → has q (k ∷ []) ≡ false
   other q k good bad =
       or-false (is_eq (nat_cmp q k))
       ∙ ⊎_elim (λ b. absurd (true≢false (sym good ∙ ap p (sym (same_key q k b)) ∙ bad))) (λ b. b) (cases_Bool (is_eq (nat_cmp q k)))
 
-  -- so no edit names it, where each names keys that pass
+  -- so no edit names it, if each edit's keys pass
   unnamed : (keys : Edit → List ℕ) → ((q : ℕ) (e : Edit) → IsValid e → p q ≡ false → has q (keys e) ≡ false)
       → (q : ℕ) (es : List Edit) → AreValid es → p q ≡ false → has q (flat_map keys es) ≡ false
   unnamed keys each q [] v bad = refl
@@ -39,7 +39,7 @@ module _ (p : ℕ → Bool) where
       ∙ both_false (has q (keys e)) (has q (flat_map keys es)) (each q e (v 0 e (omega arith)) bad)
       (unnamed keys each q es (λ k d lt. v (suc k) d (omega (arith, lt))) bad)
 
-  -- and what is there only under named keys is there only under such as pass
+  -- a value that exists only for named keys has a key that passes
   passes : {A : Type 0} (found : Option A) (q : ℕ) → (p q ≡ false → found ≡ None) → is_some found ≡ true → p q ≡ true
   passes found q none there = ⊎_elim (λ b. b) (λ b. absurd (true≢false (sym there ∙ ap is_some (none b)))) (cases_Bool (p q))
 
@@ -57,7 +57,7 @@ no_key_in q (DropList list) v bad = refl
 no_key_in q (PutMember list member item) v bad = other is_id q member (middle (is_list_id list) (is_id member) (is_id item) v) bad
 no_key_in q (DropMember list member) v bad = other is_id q member (and_parts (is_list_id list) (is_id member) v).1 bad
 
--- what is no id is no key of an item or of a member
+-- a number that is not an id is not a key of an item or a member
 pub keys_are_ids : (q : ℕ) (es : List Edit) → AreValid es → is_id q ≡ false → has q (named_keys es) ≡ false
 keys_are_ids q es v bad = unnamed is_id keys_in no_key_in q es v bad
 

@@ -1,4 +1,5 @@
--- Whole histories: a history stays whole with an entry that passes no limit, and each point of a whole one is whole.
+-- Whole histories: a history stays whole with an entry within the limits, and each prefix of a whole history is
+-- whole.
 use Rattle.std.proofs.Common.{◌≡◌, ◌≤◌, ◌+◌, ◌&&◌, ℕ, List, [], ◌∷◌, ◌++◌, Bool, true, length, count_by, cond, refl, sym, ap, subst, arith, length-append}
 use Rattle.std.specs.List.{AllByRecursion}
 use Rattle.std.proofs.lemmas.Bool.{and_parts, leb-true, ltb-true}
@@ -61,7 +62,7 @@ whole_stop h by whole =
     let places = whole.few_entries in
     whole_more h (Stop by) whole tt (omega (arith, few)) (omega (arith, places))
 
--- a batch that no limit stands against
+-- a batch within all limits
 pub whole_batch : (h : List Entry) (by : ℕ) (batch : List Edit) → takes_batch h batch ≡ true → AreWhole batch → IsWhole h → IsWhole (h ++ Edits by batch ∷ [])
 whole_batch h by batch takes brought whole =
     let parts = and_parts (has_place h) (has_room_for h (length batch) && has_few_lists h batch) takes in
@@ -69,9 +70,9 @@ whole_batch h by batch takes brought whole =
     let places = ltb-true (count_by takes_place h) 1048576 parts.0 in
     whole_more h (Edits by batch) whole brought (leb-true (length (all_edits h) + length batch) 262144 room.0) (omega (arith, places))
 
--- ---- points
+-- ---- prefixes
 
--- each point of a whole history is one
+-- each prefix of a whole history is whole
 pub point_whole : (h later : List Entry) → IsWhole (h ++ later) → IsWhole h
 point_whole h later whole =
     let all = all_edits-append h later in

@@ -1,5 +1,5 @@
--- The body of a listing, as DAAP sends it: the status, whether it is a delta, the revision, how many rows there are and how
--- many are listed, the rows, and behind them the deleted keys of a delta.
+-- The body of a listing as DAAP sends it: status, kind of update, revision, number of rows, number of listed
+-- rows, the rows, and in a delta the deleted keys.
 use Rattle.std.specs.Prelude.{ℕ, List, [], ◌∷◌, ◌++◌, Bool, length, map, if◌then◌else◌}
 use Rattle.dmap_tags.specs.Codes.{Four, code}
 use Rattle.dmap_tags.specs.Tree.{Tree, leaf, list, trees_of, U8, U32}
@@ -10,7 +10,7 @@ use Rattle.item_model.specs.declared.request.Target.TheVariants.{Items, Containe
 use Rattle.share_history.specs.Histories.{batches}
 use Rattle.share_history.specs.Listings.{Listing, full_listing, delta_listing, listing}
 
--- what every listing begins with
+-- the tags at the start of every listing
 abbrev pub start_tags : (is_delta : Bool) (revision total listed : ℕ) → List Tree
 start_tags is_delta revision total listed =
     leaf (code "mstt") (U32 200) ∷ leaf (code "muty") (U8 (if is_delta then 1 else 0)) ∷ leaf (code "musr") (U32 revision)
@@ -24,7 +24,7 @@ abbrev pub key_code : Target → Four
 key_code Items = code "miid"
 key_code (Container c) = code "mcti"
 
--- the keys that a delta deletes; a full listing deletes none by name
+-- the keys that a delta deletes; a full listing has no such tag
 abbrev pub gone_tags : Target → Bool → List ℕ → List Tree
 gone_tags target is_delta gone =
     if is_delta then list (code "mudl") (trees_of (map (λ key. leaf (key_code target) (U32 key)) gone)) ∷ [] else []
@@ -36,7 +36,7 @@ body_tree target l =
     (start_tags l.is_delta l.revision l.total (length l.rows)
     ++ list (code "mlcl") (trees_of (map (λ row. row.1) l.rows)) ∷ gone_tags target l.is_delta l.gone))
 
--- the bodies over a history: whole, as the change since a base, and as the base decides
+-- the bodies over a history: the full one, the delta since a base, and the one for the base of the look
 abbrev pub full_body : List Entry → Target → Look → Tree
 full_body h target look = body_tree target (full_listing (batches h) target look)
 

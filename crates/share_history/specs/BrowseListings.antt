@@ -1,5 +1,5 @@
--- The values of a property by which a library is browsed: the texts that the items that are asked for have there,
--- spelled as they are, each once, in the order of their bytes, and none empty. The listing is always full.
+-- The values by which a library is browsed: the texts that the matching items have of a property. Each exact text
+-- comes once, in the order of the bytes, and no empty one. The listing is always full.
 use Rattle.std.specs.Prelude.{ℕ, List, [], ◌∷◌, Bool, true, false, map, fold, filter, Option, Some, None}
 use Rattle.std.specs.Ordering.{nat_cmp}
 use Rattle.std.specs.Cmp.Lexicographic.{slice_cmp}
@@ -34,7 +34,7 @@ browse_code Albums = code "abal"
 browse_code Genres = code "abgn"
 browse_code Composers = code "abcp"
 
--- the bytes of a text; a number, and a value that is not there, have none
+-- the bytes of a text; empty for a number or a missing value
 abbrev pub text_in : Option PropValue → List ℕ
 text_in None = []
 text_in (Some (Number n)) = []

@@ -1,5 +1,5 @@
--- The listings of databases and of containers, as DAAP sends them. There is one database, 1. Container 1 comes first
--- and has the share's name; the lists that are there follow in ascending order. Both are always full.
+-- The listings of databases and of containers as DAAP sends them. There is one database, 1. Container 1 comes first
+-- and has the share's name; the existing lists follow by ascending id. Both listings are always full.
 use Rattle.std.specs.Prelude.{ℕ, ◌+◌, List, [], ◌∷◌, ◌++◌, false, length, map, None}
 use Rattle.dmap_tags.specs.Codes.{Four, code}
 use Rattle.dmap_tags.specs.Tree.{Tree, leaf, list, trees_of, U8, U32, Text}
@@ -20,7 +20,7 @@ whole_body body_code list_code revision entries =
 abbrev pub entry_tag : List Tree → Tree
 entry_tag tags = list (code "mlit") (trees_of tags)
 
--- the database, with its numbers of items and of containers
+-- the database, with the number of its items and of its containers
 abbrev pub database_tag : List ℕ → List Edit → Tree
 database_tag name es =
     entry_tag
@@ -30,7 +30,7 @@ database_tag name es =
 abbrev pub databases_body : List ℕ → List Entry → Tree
 databases_body name h = whole_body (code "avdb") (code "mlcl") (revision (batches h)) (database_tag name (edits (batches h)) ∷ [])
 
--- a container: its id, its name, a mark of its kind and the number of its rows
+-- a container: its id, its name, a tag for its kind and the number of its rows
 abbrev pub container_tag : ℕ → List ℕ → List Tree → List Edit → Tree
 container_tag id name mark es =
     entry_tag

@@ -1,4 +1,4 @@
--- Which revisions a listing may be told from as its base, and which keys edits after the base touched.
+-- The delta window of a listing, and the keys that edits after a base touch.
 use Rattle.std.specs.Prelude.{ℕ, ◌+◌, List, ◌==◌, Bool, true, false, ◌&&◌, ◌||◌, not, nat_le, Option, Some, None, filter, if◌then◌else◌}
 use Rattle.std.specs.List.{list_any}
 use Rattle.item_model.specs.declared.changes.Edit.{Edit}
@@ -15,19 +15,19 @@ abbrev pub is_left : Target → List Edit → Bool
 is_left Items es = true
 is_left (Container c) es = (c == base_list) || not (list_any (names_list c) es)
 
--- a base is kept from the first revision to the present one, as far back as the share keeps, and not across a put
--- or a drop of its list
+-- whether a base is in the delta window: from the first revision to the present one, at most `keep` revisions old,
+-- and with no later put or drop of its list
 abbrev pub is_kept : ℕ → List (List Edit) → Target → ℕ → Bool
 is_kept keep bs target base =
     nat_le first_revision base && (nat_le base (revision bs) && (nat_le (revision bs) (base + keep) && is_left target (later bs base)))
 
--- some of the edits names the item that a member has
+-- some edit names the item of a member
 abbrev pub names_its_item : Option ℕ → List Edit → Bool
 names_its_item None es = false
 names_its_item (Some item) es = list_any (names_item item) es
 
--- whether some edits touch a key of a list, where `all` are the edits up to now, which say what its members are: a key of
--- a plain list is touched by edits of the member and of its item, one of a rule list by edits of the item
+-- whether `es` touch a key of a list: in a playlist they name the member or its item, in a smart playlist the item.
+-- `all` are the edits up to the present, by which members have their items
 abbrev pub touches_in : Option Playlist → List Edit → ℕ → List Edit → ℕ → Bool
 touches_in None all c es key = false
 touches_in (Some (Plain name)) all c es key = list_any (names_member c key) es || names_its_item (member_at all c key) es
@@ -38,6 +38,6 @@ touches all Items es key = list_any (names_item key) es
 touches all (Container c) es key =
     if c == base_list then list_any (names_item key) es else touches_in (list_at all c) all c es key
 
--- the keys that were touched after a base, ascending
+-- the keys touched after a base, ascending
 abbrev pub touched : List (List Edit) → Target → ℕ → List ℕ
 touched bs target base = filter (touches (edits bs) target (later bs base)) (ascending (named_keys (edits bs)))

@@ -1,4 +1,4 @@
--- Values by their keys, as listings and mirrors have them: pairs in ascending order of the key, each key once.
+-- Values by keys, as listings and mirrors hold them: pairs by ascending key, each key once.
 use Rattle.std.specs.Prelude.{ℕ, List, [], Option, fold, filter_map, option_map}
 use Rattle.std.specs.Ordering.{nat_cmp}
 use Rattle.std.specs.List.Sorted.{IsStrictlySortedBy}
@@ -10,11 +10,11 @@ use Rattle.std.specs.BTreeSet.{insert_key}
 abbrev pub at : {A : Type 0} → ℕ → List (ℕ × A) → Option A
 at key pairs = lookup (is_at (nat_cmp key)) pairs
 
--- the pairs with one more, which takes the place of one with its key
+-- the pairs with `pair` added; it replaces one with its key
 abbrev pub put_in : {A : Type 0} → List (ℕ × A) → ℕ × A → List (ℕ × A)
 put_in pairs pair = insert_entry nat_cmp pairs pair.0 pair.1
 
--- the pairs without the one of a key
+-- the pairs without the one at `key`
 abbrev pub taken_out : {A : Type 0} → List (ℕ × A) → ℕ → List (ℕ × A)
 taken_out pairs key = remove_entry (is_at (nat_cmp key)) pairs
 
@@ -29,6 +29,6 @@ AreAscending keys = IsStrictlySortedBy nat_cmp keys
 abbrev pub ascending : List ℕ → List ℕ
 ascending keys = fold (insert_key nat_cmp) [] keys
 
--- the keys that have a value, each with it
+-- the keys that have a value, each paired with it
 abbrev pub pairs_at : {A : Type 0} → (ℕ → Option A) → List ℕ → List (ℕ × A)
 pairs_at value keys = filter_map (λ key. option_map (λ x. (key, x)) (value key)) keys

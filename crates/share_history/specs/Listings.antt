@@ -1,5 +1,5 @@
--- What a listing of items says. A full one has all rows that the query selects, cut to the range. A delta, for a kept base,
--- has the rows that were not shown at the base, or were shown otherwise, and the keys of rows that are no longer shown.
+-- What a listing of items says. A full listing has the rows that the query selects, cut to the range. A delta has the
+-- rows that are new or shown differently since its base, and the keys of rows that are no longer shown.
 use Rattle.std.specs.Prelude.{ℕ, List, [], Bool, true, false, length, map, Option, Some, None, if◌then◌else◌}
 use Rattle.dmap_tags.specs.Tree.{Tree}
 use Rattle.item_model.specs.declared.item.Row.{Row}
@@ -18,14 +18,14 @@ use Rattle.share_history.specs.Differences.{new_tags, gone_keys}
 pub record Listing : Type 0 where
   pub is_delta : Bool
   pub revision : ℕ
-  -- how many rows there are before the range
+  -- the number of rows before the range
   pub total : ℕ
   -- the listed rows with their keys, ascending
   pub rows : List (ℕ × Tree)
   -- the keys that a delta deletes, ascending
   pub gone : List ℕ
 
--- in a container the row of an item tells its key as a member
+-- in a container the row of an item also states its key, the member's id
 abbrev pub member_of : Target → ℕ → Option ℕ
 member_of Items key = None
 member_of (Container c) key = Some key
@@ -36,7 +36,7 @@ shown target meta row = (row.0, projection row.1 (member_of target row.0) meta)
 abbrev pub shown_rows : Target → Meta → List (ℕ × Row) → List (ℕ × Tree)
 shown_rows target meta all = map (shown target meta) all
 
--- the full listing that has these rows before the range
+-- the full listing of these rows, which are those before the range
 abbrev pub full_of : ℕ → Target → Look → List (ℕ × Row) → Listing
 full_of revision target look all =
     record { is_delta = false; revision = revision; total = length all; rows = shown_rows target look.meta (in_range look.range all); gone = [] }
@@ -45,7 +45,7 @@ full_of revision target look all =
 abbrev pub delta_with : ℕ → List (ℕ × Tree) → List ℕ → Listing
 delta_with revision listed gone = record { is_delta = true; revision = revision; total = length listed; rows = listed; gone = gone }
 
--- the delta from the rows that were shown at the base to those that are shown now, whatever the range
+-- the delta from the rows shown at the base to the rows shown at present; the range has no effect
 abbrev pub delta_of : ℕ → List (ℕ × Tree) → List (ℕ × Tree) → Listing
 delta_of revision before now = delta_with revision (new_tags before now) (gone_keys before now)
 
@@ -59,7 +59,7 @@ full_listing bs target look = full_of (revision bs) target look (rows (edits bs)
 abbrev pub delta_listing : List (List Edit) → Target → Look → ℕ → Listing
 delta_listing bs target look base = delta_of (revision bs) (shown_after (up_to bs base) target look) (shown_after bs target look)
 
--- a kept base is answered by a delta, and every other one by a full listing
+-- a delta if the base is in the delta window, else a full listing
 abbrev pub listing : ℕ → List (List Edit) → Target → Look → Listing
 listing keep bs target look =
     if is_kept keep bs target look.base then delta_listing bs target look look.base else full_listing bs target look

@@ -1,5 +1,5 @@
--- What a mirror holds: a revision, and rows by their keys. A full listing takes the place of its rows; a delta deletes
--- keys and then puts rows. The revision becomes the listing's.
+-- What a mirror holds: a revision, and rows by their keys. A full listing replaces its rows; a delta deletes keys and
+-- then puts rows. The revision becomes the listing's.
 use Rattle.std.specs.Prelude.{ℕ, List, [], Option, fold, if◌then◌else◌}
 use Rattle.dmap_tags.specs.Tree.{Tree}
 use Rattle.item_model.specs.declared.changes.Edit.{Edit}
@@ -25,10 +25,10 @@ mirror_after held l =
       rows = fold put_in (if l.is_delta then fold taken_out held.rows l.gone else []) l.rows;
     }
 
--- what a mirror of a listing has to hold: all rows that are asked for, at the present revision
+-- what a mirror of a listing should hold: all matching rows, at the present revision
 abbrev pub mirrored : List (List Edit) → Target → Option Query → Meta → Held
 mirrored bs target query meta = record { revision = revision bs; rows = shown_rows target meta (rows (edits bs) target query) }
 
--- what a mirror asks with: the whole listing, with the revision that it holds as the base
+-- the request of a mirror: the whole listing, with the mirror's revision as the base
 abbrev pub mirror_look : Option Query → Meta → ℕ → Look
 mirror_look query meta base = record { query = query; meta = meta; base = base; range = All }

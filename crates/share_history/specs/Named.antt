@@ -30,7 +30,7 @@ names_member c m (DropList list) = false
 names_member c m (PutMember list member item) = (list == c) && (member == m)
 names_member c m (DropMember list member) = (list == c) && (member == m)
 
--- the keys that an edit may give a row: ids of items and of members
+-- the keys of rows that an edit may change: ids of items and of members
 abbrev pub keys_in : Edit → List ℕ
 keys_in (PutItem row) = row.id ∷ []
 keys_in (DropItem id) = id ∷ []

@@ -1,4 +1,5 @@
--- The part of a full listing that its `index` parameter asks for, counted from 0, as far as there are rows.
+-- The part of a full listing that the `index` parameter selects. Rows are counted from 0, and rows past the last are
+-- left out.
 use Rattle.std.specs.Prelude.{◌+◌, ◌-◌, List, take, drop, length}
 use Rattle.item_model.specs.declared.request.Range.{Range}
 use Rattle.item_model.specs.declared.request.Range.TheVariants.{All, One, From, Span, Last}

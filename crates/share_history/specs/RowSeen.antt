@@ -1,4 +1,4 @@
--- The text that a look-up of the program found.
+-- The text behind the reference that a look-up of the program returns.
 use Rattle.std.specs.Prelude.{ℕ, List}
 use denote.Ref.{Bor}
 

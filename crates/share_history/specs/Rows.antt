@@ -1,6 +1,5 @@
--- The rows of a listing, each an item under a key. The items of the library, and container 1, which has
--- all of them, stand under their ids, and so do those of which the rule of a list holds; the members of a plain
--- list under the members' ids. A query keeps the rows of which it holds.
+-- The rows of a listing, each an item under a key. In the library, in container 1 and in a smart playlist the key is
+-- the item's id; in a playlist it is the member's. A query keeps the rows that it matches.
 use Rattle.std.specs.Prelude.{ℕ, List, ◌==◌, Bool, true, Option, Some, None, is_some, option_and_then, if◌then◌else◌}
 use Rattle.item_model.specs.declared.item.Row.{Row}
 use Rattle.item_model.specs.declared.query.Query.{Query}
@@ -14,16 +13,16 @@ use Rattle.share_history.specs.Keyed.{ascending, pairs_at}
 use Rattle.share_history.specs.LastSaid.{Playlist, Plain, Ruled, item_at, list_at, member_at, only_if}
 use Rattle.share_history.specs.Named.{named_keys, named_lists}
 
--- a query that is not there holds of every item
+-- whether a row matches the query; without a query every row does
 abbrev pub is_asked : Option Query → Row → Bool
 is_asked None row = true
 is_asked (Some query) row = holds (tree_of query) row
 
--- the row, if it is asked for
+-- the row, if it matches
 abbrev pub if_asked : Option Query → Row → Option Row
 if_asked query row = only_if (is_asked query row) row
 
--- the item under a key of a list: of a plain list, the item of the member, if the library has it
+-- the row under a key of a list: in a playlist, the member's item, if the library has it
 abbrev pub in_list : Option Playlist → List Edit → ℕ → ℕ → Option Row
 in_list None es c key = None
 in_list (Some (Plain name)) es c key = option_and_then (item_at es) (member_at es c key)
@@ -41,15 +40,15 @@ row_at es target query key = option_and_then (if_asked query) (in_target es targ
 abbrev pub rows : List Edit → Target → Option Query → List (ℕ × Row)
 rows es target query = pairs_at (row_at es target query) (ascending (named_keys es))
 
--- the items that are there, ascending by id
+-- the existing items, ascending by id
 abbrev pub library : List Edit → List (ℕ × Row)
 library es = rows es Items None
 
--- the lists that are there beside container 1, ascending by id
+-- the existing lists besides container 1, ascending by id
 abbrev pub lists : List Edit → List (ℕ × Playlist)
 lists es = pairs_at (list_at es) (ascending (named_lists es))
 
--- whether a listing's target is there
+-- whether a listing's target exists
 abbrev pub is_there : List Edit → Target → Bool
 is_there es Items = true
 is_there es (Container c) = if c == base_list then true else is_some (list_at es c)

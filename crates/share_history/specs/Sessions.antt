@@ -1,5 +1,5 @@
--- Sessions. A login gives the next id, counted from 1. A session is live from its login on, until a logout of
--- it, and until as many logins as a share keeps sessions came after its own.
+-- Sessions. A login gets the next id, counted from 1. A session is live from its login until a logout of it or until
+-- `live_sessions` later logins.
 use Rattle.std.specs.Prelude.{ℕ, ◌+◌, List, [], ◌∷◌, ◌==◌, Bool, true, false, ◌&&◌, not, nat_lt, Option, Some, None, count_by, if◌then◌else◌}
 use Rattle.std.specs.Option.{option_map_or}
 use Rattle.std.specs.List.{list_any}
@@ -31,7 +31,7 @@ is_login_of id (Login by other) = other == id
 is_login_of id (Logout by other) = false
 is_login_of id (Stop by) = false
 
--- what came after the login of a session, if it logged in
+-- the entries after the login of a session, if it logged in
 abbrev pub after_login : ℕ → List Entry → Option (List Entry)
 after_login id [] = None
 after_login id (e ∷ h) = if is_login_of id e then Some h else after_login id h

@@ -1,4 +1,4 @@
--- Histories as a share has them: values are such as a program has, and no limit is passed.
+-- Histories as a share has them: values that a program can hold, within all limits.
 use Rattle.std.specs.Prelude.{◌≡◌, ◌≤◌, List, true, length, count_by}
 use Rattle.std.specs.List.{AllByRecursion}
 use Rattle.item_model.specs.declared.changes.Edit.{Edit}

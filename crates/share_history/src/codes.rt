@@ -6,7 +6,7 @@ ghost use Rattle.share_history.specs.Bodies.{body_code, key_code};
 use dmap_tags::Code;
 use item_model::Target;
 
-/// The code of a listing's body.
+/// Returns the code of a listing's body.
 pub fn body_code(target: Target) -> Code
     ensures { result ≡ body_code target }
 {
@@ -16,7 +16,7 @@ pub fn body_code(target: Target) -> Code
     }
 }
 
-/// The code of the keys under which a listing's rows stand.
+/// Returns the code of the keys of a listing's rows.
 pub fn key_code(target: Target) -> Code
     ensures { result ≡ key_code target }
 {

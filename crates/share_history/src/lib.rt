@@ -1,6 +1,6 @@
-//! What is true at a point of a share's history: its items and lists, the rows of a listing, which bases of a
-//! listing are kept and what a mirror of it has to hold. The definitions stand in `specs/`, and the laws of them in
-//! `laws`; the code is the numbers of a share, the codes of its listings and how a revision follows another.
+//! Definitions of what is true at a revision of a share: its items and lists, the rows of a listing, the delta
+//! window, and what a mirror of a listing should hold. The definitions are in `specs/`, their laws in `laws`. The
+//! code is the numbers of a share, the codes of its listings and `revision_after`.
 #![tactic(auto)]
 
 mod codes;

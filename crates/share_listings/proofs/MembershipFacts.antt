@@ -1,11 +1,9 @@
 -- What the stores tell of the members of a target.
 use Rattle.std.proofs.Common.{◌≡◌, ◌≤◌, ◌+◌, ◌-◌, [], ◌==◌, ◌&&◌, ◌||◌, ℕ, List, Bool, true, false, cond, not, nat_le, Option, Some, None, length, refl, sym, subst, ap, ◌∙◌, arith}
 use Rattle.std.specs.Option.{option_and_then}
-use Rattle.std.specs.Map.{keys_of}
 use Rattle.std.specs.List.{list_any}
 use Rattle.std.proofs.lemmas.Bool.{eqb-true, and_parts, and_from, leb-true, le-leb}
 use Rattle.std.proofs.Math.ListN.{drop_of_length-le}
-use Rattle.std.proofs.lemmas.List.{length-map}
 use Rattle.item_model.specs.declared.changes.Edit.{Edit}
 use Rattle.item_model.specs.declared.item.Row.{Row}
 use Rattle.item_model.specs.declared.query.Query.{Query}
@@ -16,7 +14,7 @@ use Rattle.share_history.specs.Kept.{is_kept, is_left, touched}
 use Rattle.share_history.specs.LastSaid.{Playlist, Plain, Ruled, only_if, item_at, list_at}
 use Rattle.share_history.specs.Named.{names_list}
 use Rattle.share_history.specs.Numbers.{first_revision, base_list}
-use Rattle.share_history.specs.Rows.{is_asked, if_asked, in_list, in_target, row_at, rows, library}
+use Rattle.share_history.specs.Rows.{is_asked, if_asked, in_list, in_target, row_at}
 use Rattle.share_history.proofs.EditFacts.{edits-split, list_stays, up_to-now}
 use Rattle.share_history.proofs.DeltaFacts.{kept_left}
 use Rattle.item_store.specs.Stands.{floor_of}
@@ -125,12 +123,6 @@ now_standing keep bs list key v told now h =
     h (subst (λ n. is_kept keep bs (Container list) n ≡ true) (sym now) (kept_now keep bs (Container list)))
     ∙ ap (λ n. standing (list_at (edits bs) list) (edits (up_to bs n)) list key) now
     ∙ ap (λ front. standing (list_at (edits bs) list) (edits front) list key) (up_to-now bs)
-
--- there are as many ids of items as rows of a target that has all items
-pub library_count : (es : List Edit) (t : Target) (ids : List ℕ) → is_library t ≡ true → ids ≡ keys_of (library es) → length ids ≡ length (rows es t None)
-library_count es t ids h all =
-    let count : length ids ≡ length (library es) = ap length all ∙ length-map (library es) (λ row. row.0) in
-    library_case (λ t. length ids ≡ length (rows es t None)) t h count count
 
 pub beside : (keep : ℕ) (bs : List (List Edit)) (t : Target) (m : Membership) → IsMembership keep bs t m → IsBeside m
 beside keep bs t Library h = tt

@@ -42,7 +42,7 @@ sorted-drop zero ks h = h
 sorted-drop (suc n) [] h = tt
 sorted-drop (suc n) (k ∷ ks) h = sorted-drop n ks h.1
 
-sorted-in_range : (r : Range) (ks : List ℕ) → AreAscending ks → AreAscending (in_range r ks)
+pub sorted-in_range : (r : Range) (ks : List ℕ) → AreAscending ks → AreAscending (in_range r ks)
 sorted-in_range whole_range ks h = h
 sorted-in_range (One place) ks h = sorted-take 1 (drop place ks) (sorted-drop place ks h)
 sorted-in_range (From place) ks h = sorted-drop place ks h

@@ -1,4 +1,4 @@
--- What the stores of a share are asked about, from which ids, and what an answer costs.
+-- What listings need of the stores and of candidates, and what a listing costs.
 use Rattle.std.specs.Prelude.{◌≡◌, ◌≤◌, ◌*◌, ◌==◌, ℕ, Bool, true, List, length, false, Option, Some, None, if◌then◌else◌}
 use Rattle.std.specs.BTreeMap.{is_at}
 use Rattle.std.specs.List.{list_any}
@@ -18,17 +18,17 @@ use Rattle.playlist_store.specs.Stands as lists_stand
 use Rattle.playlist_store.specs.Store as lists_kept
 use Rattle.listing_plan.specs.Limits.{rows_limit}
 
--- the store stands for batches of at most so many edits
+-- the store represents batches with at most `most` edits
 pub record HasEdits (most : ℕ) (store : items_kept.Store) : Type 0 where
   pub bs : List (List Edit)
   pub stands : items_stand.StandsFor bs store
   pub few : length (edits bs) ≤ most
 
--- no more of them than a listing may have rows
+-- with no more edits than a listing may have rows
 abbrev pub HasFew : items_kept.Store → Type 0
 HasFew store = HasEdits rows_limit store
 
--- both stores stand for the same batches, of at most so many edits, and keep as many revisions
+-- both stores represent the same batches, with at most `most` edits, and keep as many revisions
 pub record HaveEdits (most : ℕ) (items : items_kept.Store) (lists : lists_kept.Store) : Type 0 where
   pub bs : List (List Edit)
   pub of_items : items_stand.StandsFor bs items
@@ -44,7 +44,7 @@ abbrev pub is_library : Target → Bool
 is_library Items = true
 is_library (Container c) = c == base_list
 
--- a full listing of items may start from these ids: they ascend, and no other id has a row that is asked for
+-- a full listing of items may start from these ids: they ascend, and no other id has a row that the query selects
 pub record AreCandidates (es : List Edit) (query : Option Query) (ids : List ℕ) : Type 0 where
   pub ascending : AreAscending ids
   pub others : (id : ℕ) → list_any (is_at (nat_cmp id)) ids ≡ false → row_at es Items query id ≡ None
@@ -53,12 +53,12 @@ abbrev pub StartFrom : List Edit → Option Query → Option (List ℕ) → Type
 StartFrom es query None = Unit {0}
 StartFrom es query (Some ids) = AreCandidates es query ids
 
--- how many items a full listing looks at: those of the target, and of all items the candidates, where there are some
+-- how many items a full listing evaluates: the candidates, if there are some of all items, or else all of the target
 abbrev pub looked_at : List Edit → Target → Option (List ℕ) → ℕ
 looked_at es target None = length (rows es target None)
 looked_at es target (Some ids) = if is_library target then length ids else length (rows es target None)
 
--- the most ticks of an answer: four for each touched key since a kept base, and else one for each item that is looked at
+-- the most steps of an answer: four for each touched key since a kept base, or else one for each item that is evaluated
 abbrev pub most_ticks : ℕ → List (List Edit) → Target → ℕ → Option (List ℕ) → ℕ
 most_ticks keep bs target base candidates =
     if is_kept keep bs target base then 4 * length (touched bs target base) else looked_at (edits bs) target candidates

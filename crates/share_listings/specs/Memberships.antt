@@ -18,7 +18,7 @@ use Rattle.share_listings.specs.Answers.{is_library}
 use Rattle.share_listings.specs.declared.membership.Membership.{Membership}
 use Rattle.share_listings.specs.declared.membership.Membership.TheVariants.{Library, Members}
 
--- a store of lists tells the members of the target
+-- a store of lists has the members of the target
 pub record TellsMembers (keep : ℕ) (bs : List (List Edit)) (target : Target) (lists : lists_kept.Store) (list : ℕ) : Type 0 where
   pub container : target ≡ Container list
   pub beside : (list == base_list) ≡ false
@@ -30,18 +30,18 @@ abbrev pub IsMembership : ℕ → List (List Edit) → Target → Membership →
 IsMembership keep bs target Library = is_library target ≡ true
 IsMembership keep bs target (Members lists list) = TellsMembers keep bs target lists.now list
 
--- so many batches are told of the target
+-- the stores represent these batches, and the membership is that of the target
 pub record Tells (bs : List (List Edit)) (items : Store) (target : Target) (membership : Membership) : Type 0 where
   pub stands : items_stand.StandsFor bs items
   pub members : IsMembership items.keep bs target membership
 
--- of no more edits than a listing may have rows
+-- the same for batches with no more edits than a listing may have rows
 pub record TellsFew (items : Store) (target : Target) (membership : Membership) : Type 0 where
   pub bs : List (List Edit)
   pub tells : Tells bs items target membership
   pub few : length (edits bs) ≤ rows_limit
 
--- container 1 is no list: its members are all items
+-- container 1 is not a list: its members are all items
 abbrev pub IsBeside : Membership → Type 0
 IsBeside Library = Unit {0}
 IsBeside (Members lists list) = (list == base_list) ≡ false

@@ -1,4 +1,4 @@
-//! What the stores of a share answer to a look.
+//! Plans the answers to looks.
 
 ghost use Rattle.std.specs.Prelude.{◌≡◌, ◌≤◌, ◌+◌, ◌*◌, List, true, length, option_copied, IfOk};
 ghost use Rattle.item_model.specs.declared.changes.Edit.{Edit};
@@ -22,8 +22,8 @@ use song_query::Steps;
 use std::alloc::{AllocError, Global};
 use std::sync::ledger::Ledger;
 
-/// The listing of a target that answers a look: the change since its base where the stores tell it, else the whole. The
-/// whole of all items, which container 1 has too, may start from candidates. A container that is not there has no rows.
+/// Plans the listing of a target that answers a look: the change since its base if the stores have it, or else all rows.
+/// All rows of the library, which container 1 has too, may start from candidates. A container that does not exist has no rows.
 pub fn listing<L: Ledger>(
     alloc: Global,
     items: &ItemStore,
@@ -44,7 +44,7 @@ pub fn listing<L: Ledger>(
     answer(alloc, items, membership, target, look, candidates, steps)
 }
 
-/// All rows of a target that a look asks for, cut to its range. Those of all items may start from candidates.
+/// Plans all rows of a target that a look selects, cut to its range. For all items it may start from candidates.
 pub fn full_listing<L: Ledger>(
     alloc: Global,
     items: &ItemStore,
@@ -65,7 +65,7 @@ pub fn full_listing<L: Ledger>(
     full(alloc, items, membership, target, look, candidates, steps)
 }
 
-/// The listing of a target with these members.
+/// Plans the listing of a target with these members.
 pub(crate) fn answer<L: Ledger>(
     alloc: Global,
     items: &ItemStore,
@@ -89,7 +89,7 @@ pub(crate) fn answer<L: Ledger>(
     }
 }
 
-/// What changed since the base of the look, which is kept.
+/// Plans what changed since the base of the look, which is kept.
 fn delta<L: Ledger>(
     alloc: Global,
     items: &ItemStore,

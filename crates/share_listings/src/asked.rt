@@ -1,4 +1,4 @@
-//! The rows that a look selects, and what trying its query costs.
+//! The rows that a look selects, with each evaluation of its query counted.
 
 ghost use Rattle.std.specs.Prelude.{◌≡◌, ◌≤◌, ◌+◌, ◌++◌, ◌∷◌, [], List, All as AllOf, length, map, option_copied, unwrap_or, if◌then◌else◌, IfOk, OnOk};
 ghost use Rattle.item_model.specs.declared.changes.Edit.{Edit};
@@ -21,7 +21,7 @@ use song_query::{Steps, matches};
 use std::alloc::{AllocError, Global};
 use std::sync::ledger::Ledger;
 
-/// The rows under keys that are there and asked for.
+/// Returns the rows under those keys that exist and are selected.
 pub(crate) fn rows_at<L: Ledger>(
     alloc: Global,
     items: &ItemStore,
@@ -44,7 +44,7 @@ pub(crate) fn rows_at<L: Ledger>(
     Ok(rows)
 }
 
-/// The rows of members that are there and asked for.
+/// Returns the rows of those members that exist and are selected.
 pub(crate) fn rows_of<L: Ledger>(
     alloc: Global,
     items: &ItemStore,
@@ -65,7 +65,7 @@ pub(crate) fn rows_of<L: Ledger>(
     Ok(rows)
 }
 
-/// Adds the row under a key, if it is there and asked for.
+/// Adds the row under a key, if it exists and is selected.
 fn push_key<L: Ledger>(
     rows: &mut Vec<PlanRow>,
     items: &ItemStore,
@@ -87,7 +87,7 @@ fn push_key<L: Ledger>(
     }
 }
 
-/// Adds the item of a member under its key, if it is there and asked for.
+/// Adds the item of a member under its key, if it exists and is selected.
 fn push_member<L: Ledger>(
     rows: &mut Vec<PlanRow>,
     items: &ItemStore,
@@ -108,7 +108,7 @@ fn push_member<L: Ledger>(
     }
 }
 
-/// Adds a row, if it is asked for.
+/// Adds a row, if it is selected.
 fn push_asked<L: Ledger>(
     rows: &mut Vec<PlanRow>,
     member: Option<u32>,
@@ -128,7 +128,7 @@ fn push_asked<L: Ledger>(
     Ok(())
 }
 
-/// The key that a row tells: in a container its own as a member.
+/// Returns the member key that a listing states of a row: only in a container.
 pub(crate) fn member_of(target: Target, key: u32) -> Option<u32>
     ensures { result ≡ member_of target key }
 {
@@ -138,7 +138,7 @@ pub(crate) fn member_of(target: Target, key: u32) -> Option<u32>
     }
 }
 
-/// Whether a look with that query asks for the row.
+/// Returns whether a look with this query selects the row.
 pub(crate) fn is_asked<L: Ledger>(query: Option<&Query>, row: &Row, steps: &mut Steps<L>) -> bool
     ensures asked { result ≡ is_asked (option_copied query.entry) row.now }
     ensures cost { steps.new ≤ steps.old + 1 }

@@ -25,7 +25,7 @@ use song_query::Steps;
 use std::alloc::{AllocError, Global};
 use std::sync::ledger::Ledger;
 
-/// The rows that a delta lists and the keys that it deletes, ascending.
+/// The rows that a delta lists and the keys that it deletes, in ascending order.
 #[derive(Drop)]
 pub(crate) struct Changed {
     pub rows: Vec<PlanRow>,
@@ -35,15 +35,15 @@ pub(crate) struct Changed {
 /// What became of a key since a base.
 #[derive(Clone, Copy)]
 pub(crate) enum Change<'a> {
-    /// Nothing is shown, as before, or an equal tag.
+    /// Nothing is shown, as before, or the same tag.
     Unchanged,
     /// The row is new, or is shown as another tag.
     Listed(&'a Row),
-    /// There was a row, and there is none.
+    /// There was a row, and now there is none.
     Gone,
 }
 
-/// The changes of keys since the base of a look. Tries the query at most twice for each key.
+/// Returns what became of keys since the base of a look. It evaluates the query at most twice for each key.
 pub(crate) fn changed_at<L: Ledger>(
     alloc: Global,
     items: &ItemStore,
@@ -74,7 +74,7 @@ pub(crate) fn changed_at<L: Ledger>(
     Ok(Changed { rows, gone })
 }
 
-/// The change of one key, where the look shows these properties.
+/// Returns what became of one key if the look shows these properties.
 fn change_at<'a, L: Ledger>(
     items: &'a ItemStore,
     membership: Membership<'_>,
@@ -97,7 +97,7 @@ fn change_at<'a, L: Ledger>(
     change_between(was, is, shown)
 }
 
-/// What leads from the row of then to the row of now.
+/// Returns the change from the row at the base to the row now.
 fn change_between<'a>(was: Option<&Row>, is: Option<&'a Row>, shown: &[Property]) -> Change<'a>
     ensures listed { (member : Option ℕ) → listed_in result ≡ option_and_then (unless_shown member shown.now (option_copied was.entry)) (option_copied is.entry) }
     ensures deleted { is_deletion result ≡ (is_none (option_copied is.entry) && is_some (option_copied was.entry)) }
@@ -115,7 +115,7 @@ fn change_between<'a>(was: Option<&Row>, is: Option<&'a Row>, shown: &[Property]
     }
 }
 
-/// The row under a key now, if the query selects it.
+/// Returns the row under a key now, if the query selects it.
 fn row_now<'a, L: Ledger>(
     items: &'a ItemStore,
     membership: Membership<'_>,
@@ -132,7 +132,7 @@ fn row_now<'a, L: Ledger>(
     if_asked(query, items.get(id), steps)
 }
 
-/// The row under a key at a kept base, if the query selects it.
+/// Returns the row under a key at a kept base, if the query selects it.
 fn row_then<'a, L: Ledger>(
     items: &'a ItemStore,
     membership: Membership<'_>,

@@ -1,13 +1,15 @@
-//! The listings of a share that its stores answer looks with: the change since a kept base, and else the whole, cut to
-//! the range that is asked for. What they cost is told in the steps of a caller.
+//! Plans the listings with which a share answers looks: the change since a kept base, or else all rows, cut to the range
+//! of the look. Each evaluation of a query is counted in the steps of the caller.
 #![tactic(auto)]
 
 mod answers;
 mod asked;
 mod changed;
+mod library;
 mod membership;
 mod plans;
 mod ranges;
+mod sheets;
 mod targets;
 mod uncounted;
 mod whole;

@@ -22,7 +22,7 @@ use playlist_store::PlaylistStore;
 use share_history::BASE_LIST;
 use std::alloc::AllocError;
 
-/// What the members of a target are, and what tells them.
+/// What the members of a target are, and which store has them.
 #[derive(Clone, Copy)]
 pub(crate) enum Membership<'a> {
     /// All items of the library, each under its id.
@@ -31,7 +31,7 @@ pub(crate) enum Membership<'a> {
     Members { lists: &'a PlaylistStore, list: u32 },
 }
 
-/// The membership of a target.
+/// Returns the membership of a target.
 pub(crate) fn membership_of(target: Target, lists: &PlaylistStore) -> Membership<'_>
     ensures { (bs : List (List Edit)) → StandsFor bs lists.now → IsMembership lists.now.keep bs target result }
 {
@@ -41,7 +41,7 @@ pub(crate) fn membership_of(target: Target, lists: &PlaylistStore) -> Membership
     }
 }
 
-/// The item that a key has.
+/// Returns the id of the item that a key has.
 pub(crate) fn item_under(items: &ItemStore, membership: Membership<'_>, key: u32) -> Option<u32>
     requires { IsBeside membership }
     ensures { (bs : List (List Edit)) (target : Target) → Tells bs items.now target membership.entry
@@ -53,7 +53,7 @@ pub(crate) fn item_under(items: &ItemStore, membership: Membership<'_>, key: u32
     }
 }
 
-/// The item that a key had at a kept base.
+/// Returns the id of the item that a key had at a kept base.
 pub(crate) fn item_then(membership: Membership<'_>, key: u32, base: u32) -> Option<u32>
     requires { IsBeside membership }
     ensures { (bs : List (List Edit)) (items : Store) (target : Target) → TellsSince bs items target membership.entry base
@@ -65,7 +65,7 @@ pub(crate) fn item_then(membership: Membership<'_>, key: u32, base: u32) -> Opti
     }
 }
 
-/// Whether the change since a base is told.
+/// Returns whether the stores have what changed since a base.
 pub(crate) fn is_kept(items: &ItemStore, membership: Membership<'_>, base: u32) -> bool
     requires few { (target : Target) × TellsFew items.now target membership }
     ensures kept { (bs : List (List Edit)) (target : Target) → Tells bs items.now target membership.entry → result ≡ is_kept items.now.keep bs target base }
@@ -78,7 +78,7 @@ pub(crate) fn is_kept(items: &ItemStore, membership: Membership<'_>, base: u32) 
     }
 }
 
-/// Whether the change of items since a base is told.
+/// Returns whether the store has what changed of the items since a base.
 fn is_in_window(items: &ItemStore, base: u32) -> bool
     ensures kept { (bs : List (List Edit)) → item_stands.StandsFor bs items.now → result ≡ is_kept items.now.keep bs Items base }
     ensures from { result ≡ true → floor_of items.now.keep items.now.revision ≤ base }
@@ -87,7 +87,7 @@ fn is_in_window(items: &ItemStore, base: u32) -> bool
     items.floor() <= base && base <= items.revision()
 }
 
-/// The keys that batches after a base touched, ascending.
+/// Returns the keys that batches after a base touched, in ascending order.
 pub(crate) fn touched_keys(
     items: &ItemStore,
     membership: Membership<'_>,

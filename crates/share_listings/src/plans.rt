@@ -1,4 +1,4 @@
-//! The plan that the rows of a full listing make.
+//! Plans a full listing from its rows.
 
 ghost use Rattle.std.specs.Prelude.{◌≡◌};
 ghost use Rattle.listing_plan.specs.Plans.{AreRowsOf, keyed};
@@ -9,7 +9,7 @@ use crate::ranges::in_range;
 use item_model::{Look, Target};
 use listing_plan::{Plan, PlanRow};
 
-/// The full listing that has these rows before the range.
+/// Plans the full listing that has these rows before the range.
 pub(crate) fn full_plan(target: Target, revision: u32, look: Look, rows: Vec<PlanRow>) -> Plan
     requires { AreRowsOf target rows.items }
     ensures { result ≡ Rows (record { target = target; listing = full_of revision target look (keyed rows.items) }) }

@@ -1,4 +1,4 @@
-//! Which targets there are.
+//! Which targets exist.
 
 ghost use Rattle.std.specs.Prelude.{◌≡◌, List};
 ghost use Rattle.item_model.specs.declared.changes.Edit.{Edit};
@@ -10,7 +10,7 @@ use item_model::Target;
 use playlist_store::PlaylistStore;
 use share_history::BASE_LIST;
 
-/// Whether the target of a listing is there.
+/// Returns whether the target of a listing exists.
 pub fn is_there(lists: &PlaylistStore, target: Target) -> bool
     ensures { (bs : List (List Edit)) → StandsFor bs lists.now → result ≡ is_there (edits bs) target }
 {

@@ -1,4 +1,4 @@
-//! Answers whose steps are told to nobody.
+//! The same listings for callers that count no steps.
 
 ghost use Rattle.std.specs.Prelude.{◌≡◌, ◌<◌, List, IfOk};
 ghost use Rattle.item_model.specs.declared.changes.Edit.{Edit};
@@ -21,7 +21,7 @@ use std::alloc::{AllocError, Global};
 use std::marker::Brand;
 use std::sync::ledger::{Blank, Ledger};
 
-/// The listing of items that answers a look: the change since its base where the store tells it, else the whole.
+/// Plans the listing of items that answers a look: the change since its base if the store has it, or else all rows.
 pub fn items_listing(alloc: Global, store: &ItemStore, look: Look) -> Result<Plan, AllocError>
     requires few { HasFew store.now }
     ensures { IfOk result (λ plan. (bs : List (List Edit)) → StandsFor bs store.now
@@ -55,7 +55,7 @@ fn items_by<L: Ledger>(
     )
 }
 
-/// All items that a look asks for, cut to its range.
+/// Plans all items that a look selects, cut to its range.
 pub fn full_items(alloc: Global, store: &ItemStore, look: Look) -> Result<Plan, AllocError>
     requires few { HasFew store.now }
     ensures { IfOk result (λ plan. (bs : List (List Edit)) → StandsFor bs store.now
@@ -89,7 +89,7 @@ fn full_by<L: Ledger>(
     )
 }
 
-/// All rows of a target that a look asks for, cut to its range. A container that is not there has none.
+/// Plans all rows of a target that a look selects, cut to its range. A container that does not exist has none.
 pub fn full_target(
     alloc: Global,
     items: &ItemStore,

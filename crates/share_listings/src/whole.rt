@@ -1,4 +1,4 @@
-//! All rows of a target that a look asks for.
+//! Plans the full listings of targets.
 
 ghost use Rattle.std.specs.Prelude.{◌≡◌, ◌≤◌, ◌+◌, ◌==◌, List, None, true, false, length, map, option_copied, IfOk};
 ghost use Rattle.item_model.specs.declared.changes.Edit.{Edit};
@@ -15,6 +15,7 @@ ghost use Rattle.share_listings.specs.Answers.{HasFew, HaveFew, AreCandidates, S
 ghost use Rattle.share_listings.specs.Memberships.{Tells, TellsFew};
 
 use crate::asked::{rows_at, rows_of};
+use crate::library::full_of_all;
 use crate::membership::Membership;
 use crate::plans::full_plan;
 use item_model::{Look, Target};
@@ -25,7 +26,7 @@ use song_query::Steps;
 use std::alloc::{AllocError, Global};
 use std::sync::ledger::Ledger;
 
-/// All rows that a look asks for, cut to its range. Those of all items may start from candidates.
+/// Plans all rows that a look selects, cut to its range. For all items it may start from candidates.
 pub(crate) fn full<L: Ledger>(
     alloc: Global,
     items: &ItemStore,
@@ -50,24 +51,7 @@ pub(crate) fn full<L: Ledger>(
     }
 }
 
-fn full_of_all<L: Ledger>(
-    alloc: Global,
-    items: &ItemStore,
-    target: Target,
-    look: Look,
-    steps: &mut Steps<L>,
-) -> Result<Plan, AllocError>
-    requires few { HasFew items.now }
-    requires all { is_library target ≡ true }
-    ensures listing { IfOk result (λ plan. (bs : List (List Edit)) → StandsFor bs items.now
-        → plan ≡ Rows (record { target = target; listing = full_listing bs target look })) }
-    ensures cost { (bs : List (List Edit)) → StandsFor bs items.now → steps.new ≤ steps.old + looked_at (edits bs) target None }
-{
-    let ids = items.ids()?;
-    full_from(alloc, items, target, look, ids.as_slice(), steps)
-}
-
-/// Those of the candidates that a look asks for, cut to its range.
+/// Plans those of the candidates that a look selects, cut to its range.
 fn full_from<L: Ledger>(
     alloc: Global,
     items: &ItemStore,
@@ -88,7 +72,7 @@ fn full_from<L: Ledger>(
     Ok(full_plan(target, items.revision(), look, rows))
 }
 
-/// The members of a list that a look asks for, cut to its range.
+/// Plans the members of a list that a look selects, cut to its range.
 fn full_of_list<L: Ledger>(
     alloc: Global,
     items: &ItemStore,
@@ -117,7 +101,7 @@ fn full_of_list<L: Ledger>(
     Ok(full_plan(target, items.revision(), look, rows))
 }
 
-/// The members of a list whose items are there. A list that is not there has none.
+/// Returns the members of a list whose items exist. A list that does not exist has none.
 fn members_of(
     alloc: Global,
     items: &ItemStore,

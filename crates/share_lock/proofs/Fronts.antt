@@ -21,7 +21,7 @@ module _ {E : Type 0} where
       let len = length-append xs ys in
       subst P (get_or-append-add xs ys k d) (all (length xs + k) d (omega arith))
 
-  -- of two fronts of one list the shorter is a front of the longer
+  -- of two prefixes of one list the shorter is a prefix of the longer
   pub shorter_begins : (xs m ys t : List E) → xs ++ m ≡ ys ++ t → length xs ≤ length ys → (u : List E) × (ys ≡ xs ++ u) × (m ≡ u ++ t)
   shorter_begins [] m ys t same short = (ys, refl, same)
   shorter_begins (x ∷ xs) m [] t same short = absurd (omega arith)
@@ -50,13 +50,13 @@ module _ {E : Type 0} (by : E → ℕ) where
       ap (λ b. cond b (e ∷ filter (λ x. by x == n) es) (filter (λ x. by x == n) es)) (eq-eqb (by e) n (all 0 e (omega arith)))
       ∙ ap (λ l. e ∷ l) (all_filtered n es (λ k d less. all (suc k) d (omega arith)))
 
-  -- what was added under a number stands behind the entries of that number
+  -- what was added under a number follows the entries of that number
   pub adds_own : (n : ℕ) (before after : List E) → Adds by n before after → AddsOwn by n before after
   adds_own n before after added more is =
       let same : added.0 ≡ more = append_cancel_left before added.0 more (sym added.1 ∙ is) in
       ap (entries_of by n) is ∙ (filter-append (λ e. by e == n) before more ∙ ap (λ l. entries_of by n before ++ l) (all_filtered n more (subst (All (λ e. by e ≡ n)) same added.2)))
 
-  -- a history that goes on by entries of other numbers
+  -- a history that continues with entries of other numbers
   pub continues : (numbers : List ℕ) (seen history more : List E) → history ≡ seen ++ more → NoneOf by numbers more → Continues by numbers seen history
   continues numbers seen history more begins later = record {
     more = more;
@@ -67,7 +67,7 @@ module _ {E : Type 0} (by : E → ℕ) where
         ap (entries_of by n) begins ∙ (filter-append (λ e. by e == n) seen more ∙ (ap (λ l. entries_of by n seen ++ l) (none_filtered n more none) ∙ append-nil (entries_of by n seen)));
   }
 
-  -- any history goes on from nothing, as far as no number is looked at
+  -- any history continues the empty one, if there are no numbers
   pub continues_none : (seen history more : List E) → history ≡ seen ++ more → Continues by [] seen history
   continues_none seen history more begins = continues [] seen history more begins (λ k d less has. absurd (let h = has.1 in omega arith))
 
@@ -86,7 +86,7 @@ module _ {E : Type 0} (by : E → ℕ) where
   pub continues_front : (numbers : List ℕ) (xs ys : List E) → Continues by numbers xs ys → IsPrefix xs ys
   continues_front numbers xs ys a = (a.more, sym a.begins)
 
-  -- what goes on from a front goes on from it within each longer front, and from that
+  -- if a history continues a prefix, each longer prefix continues it too, and the history continues that
   parted : (numbers : List ℕ) (xs ys h : List E) → Continues by numbers xs h → IsPrefix ys h → length xs ≤ length ys → Continues by numbers xs ys × Continues by numbers ys h
   parted numbers xs ys h a front short =
       let u = shorter_begins xs a.more ys front.0 (sym a.begins ∙ sym front.1) short in
@@ -101,7 +101,8 @@ module _ {E : Type 0} (by : E → ℕ) where
       let first : NoneOf by ns b.more = subst (NoneOf by ns) (append_cancel_left ys a.more b.more (sym a.begins ∙ b.begins)) a.later in
       continues (ns ++ ms) ys h b.more b.begins (λ k d less has. ⊎_elim (first k d less) (b.later k d less) (Contains-append_cases ns ms (by (get_or b.more k d)) has))
 
-  -- The longer of two fronts, each with no later entry of its numbers: it goes on from both, and the history from it
+  -- The longer of two prefixes, each with no later entry of its numbers: it continues both, and the history continues
+  -- it.
   pub record Joins (ns ms : List ℕ) (xs ys zs h : List E) : Type 0 where
     pub first : Continues by ns xs zs
     pub second : Continues by ms ys zs

@@ -70,7 +70,7 @@ module _ {E T : Type 0} where
       ⊎_elim (λ (t : get_elem? vs j ≡ some u). differ i j v u n s t has also) (λ (t : w ≡ u). absurd (none n (subst (λ z. Has z n) (sym t) also))) (at_snoc vs w u j there))
       (λ (s : w ≡ v). absurd (none n (subst (λ z. Has z n) (sym s) has))) (at_snoc vs w v i here)
 
-  -- what a view had is no other's
+  -- what a view had belongs to no other
   pub still_free : (Has : View E T → ℕ → Type 0) (vs : List (View E T)) (id : ℕ) (v : View E T) → Differ Has vs → get_elem? vs id ≡ some v → IsFree Has vs id v
   still_free Has vs id v differ at n j u has other there also = other (differ j id u v n there at also has)
 
@@ -109,7 +109,7 @@ module _ {S E T : Type 0} (entries : S → List E) (by : E → ℕ) (settings : 
     home = home;
   }
 
-  -- it is the turn of the served ticket alone
+  -- only the handle of the served ticket is in its turn
   one_inside : (z : Stand E T) (s : Table) (k : Rule z s) (id : ℕ) (v : W) → get_elem? s.views id ≡ some v → v.ticket ≡ Some z.serving → (j : ℕ) (u : W) → j ≢ id → get_elem? s.views j ≡ some u → u.inside ≡ true → ⊥
   one_inside z s k id v at mine j u other there in_turn = other (k.once j id u v z.serving there at ((k.each j u there).inside in_turn).0 mine)
 
@@ -118,7 +118,7 @@ module _ {S E T : Type 0} (entries : S → List E) (by : E → ℕ) (settings : 
       (λ same. subst (λ (x : W). x.inside ≡ false) (some-injective v u (sym at ∙ (ap (get_elem? s.views) (sym same) ∙ there))) out)
       (λ other. either_way u.inside (one_inside z s k id v at mine j u other there))
 
-  -- the view changes in nothing that the rule looks at but what is given
+  -- of what the rule reads, the view changes only in what is given
   pub draw_at : (z : Stand E T) (s : Table) (k : Rule z s) (id : ℕ) (v : W) → get_elem? s.views id ≡ some v → z.ticket + 1 < 2 ^ 64 → v.inside ≡ false
       → Rule (record z { ticket = z.ticket + 1 }) record { words = words_of (record z { ticket = z.ticket + 1 }); homes = s.homes; views = set s.views id (record v { ticket = Some z.ticket }) }
   draw_at z s k id v at small out =

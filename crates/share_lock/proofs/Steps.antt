@@ -1,4 +1,4 @@
--- Each step of a pass keeps the lock's rule, and tells what it is to tell.
+-- Each step of a handle keeps the lock's rule, and reports what it must.
 use Rattle.std.proofs.Common.{◌≡◌, ◌≢◌, ℕ, zero, suc, ◌+◌, ◌%◌, ◌^◌, ◌<◌, ◌≤◌, ◌==◌, eqb, Bool, true, false, List, [], ◌∷◌, ◌++◌, length, get_or, set, sym, refl, ap, ◌∙◌, subst, inl, inr, ⊎_elim, arith, Option, Some, None, unwrap_or, eq-eqb, ne_eqb, mod-eq_of_lt}
 use Rattle.std.specs.Prelude.{All, Contains, MatchBool}
 use mathlib.Core.Logic.{dite}
@@ -46,7 +46,7 @@ module _ {S E T : Type 0} (entries : S → List E) (by : E → ℕ) (settings : 
   abbrev Rule : Table → Type 0
   Rule = Holds entries by settings passes
 
-  -- the words of the table are those that it stands at
+  -- the words of the table are those of its state
   placed : (s : Table) (h : Rule s) → Rule record { words = words_of h.stand; homes = s.homes; views = s.views }
   placed s h = subst (λ ws. Rule record { words = ws; homes = s.homes; views = s.views }) h.kept.words h
 
@@ -203,7 +203,7 @@ module _ {S E T : Type 0} (entries : S → List E) (by : E → ℕ) (settings : 
       ) in
       subst G (sym k.words) go
 
-  -- the same at any count of slots that is one, and any list of slots that has the state alone
+  -- the same with the number of slots as an equation, and a list of slots with only the state
   pub stores_at : (slots id : ℕ) (me : At S E T) (x : S) (number n : ℕ) → slots ≡ 1 → me.1 ≡ (0, Some x) ∷ [] → me.0.inside ≡ true → me.0.number ≡ Some number → Adds by number me.0.noted (entries x) → n ≡ length (entries x)
       → Allows Rule slots id me 2 (λ _. n) (λ _. stored entries (step slots 2 n 0 none) me n)
   stores_at slots id me x number n one has in_turn named added long =

@@ -1,4 +1,4 @@
--- What a pass knows once the number that a step found is known.
+-- What a handle knows once the number that a step found is known.
 use Rattle.std.proofs.Common.{◌≡◌, ◌≢◌, ℕ, ◌<◌, ◌≤◌, List, [], ◌∷◌, ◌++◌, sym, refl, ap, ◌∙◌, subst, Option, Some, None, unwrap_or, eq-eqb, ne_eqb}
 use Rattle.std.specs.Prelude.{All, IsSome, MatchBool, option_to_list}
 use Rattle.atomic_table.specs.Table.{Step, rest}
@@ -8,7 +8,7 @@ use Rattle.share_lock.specs.Plays.{At, holding, Finds, entered}
 use Rattle.share_lock.specs.Rule.{own_numbers}
 
 module _ {S : Type 0} where
-  -- what is in the slot that a pass has in its hands
+  -- the slot's content that a handle holds
   abbrev pub in_hands : List (ℕ × Option S) → Option S
   in_hands [] = None
   in_hands (c ∷ cs) = c.1
@@ -17,7 +17,7 @@ module _ {S : Type 0} where
   pub alone : (has : List (ℕ × Option S)) (o : Option S) → has ≡ (0, o) ∷ [] → has ≡ (0, o) ∷ rest has
   alone has o is = is ∙ ap (λ l. (0, o) ∷ l) (sym (ap rest is))
 
--- the numbers of a pass that has one
+-- the numbers of a handle that has one
 pub numbers_are : {E T : Type 0} (v : View E T) (n : ℕ) → v.number ≡ Some n → own_numbers v ≡ n ∷ v.taken
 numbers_are v n named = ap (λ (o : Option ℕ). option_to_list o ++ v.taken) named
 

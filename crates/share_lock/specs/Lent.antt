@@ -7,6 +7,6 @@ use Rattle.share_lock.specs.declared.pass.Turn.{Turn}
 use Rattle.share_lock.specs.declared.recorded.Recorded.{Ghosts}
 use Rattle.share_lock.specs.contracts.pass.Turn.{the_row}
 
--- the turn ends with the state that is left behind the reference
+-- The turn ends with the last value of the reference as its state.
 abbrev pub LendsState : (R R' R'' : RattleType) (G : Ghosts R.Denot R'.Denot R''.Denot) → MutBor (Turn R.Denot R'.Denot R''.Denot G) → MutBor R.Denot → Fml
 LendsState R R' R'' G s r = Lends (the_row (record { mir = named 1; lft = [] }) R R' R'' G) R s r (λ w. record s.now { state = w })

@@ -1,4 +1,4 @@
--- Which lock a pass is of, what is known of it, and when it may take a turn or give one back.
+-- Which lock a handle belongs to, what is known of it, and when it may begin or end a turn.
 use Rattle.std.specs.Prelude.{◌≡◌, ℕ, true, false, List, [], ◌∷◌, None}
 use Rattle.atomic_table.specs.Seated.{TableId}
 use Rattle.share_lock.specs.declared.pass.Pass.{Pass}
@@ -6,7 +6,7 @@ use Rattle.share_lock.specs.declared.pass.ShareLock.{ShareLock}
 use Rattle.share_lock.specs.declared.recorded.Recorded.{Ghosts}
 use Rattle.share_lock.specs.Known.{Known}
 
--- a lock: no other has its table, and it was opened for so many passes
+-- A lock: its table, which no other lock has, and the number of handles that it was opened for.
 abbrev pub LockId : Type 0
 LockId = TableId × ℕ
 
@@ -24,11 +24,11 @@ module _ {S E T : Type 0} {G : Ghosts S E T} where
   abbrev pub known : Pass S E T G → Known E T
   known pass = record { settings = pass.seat.me.0.settings; number = pass.number; taken_in = pass.seat.me.0.taken; seen = pass.seat.me.0.seen; looks = pass.seat.me.0.looks; is_over = pass.is_over }
 
-  -- the history that its turn found
+  -- The history that its turn found.
   abbrev pub found_of : Pass S E T G → List E
   found_of pass = pass.seat.me.0.noted
 
-  -- it is of this lock, and no turn of it is out or took the state for good
+  -- It belongs to this lock, no turn of it is in progress, and none took the state out for good.
   pub record IsReady (id : LockId) (pass : Pass S E T G) : Type 0 where
     pub lock : lock_of pass ≡ id
     pub going : pass.is_over ≡ false
@@ -36,7 +36,7 @@ module _ {S E T : Type 0} {G : Ghosts S E T} where
     pub outside : pass.seat.me.0.inside ≡ false
     pub free : pass.seat.me.1 ≡ []
 
-  -- it is of this lock, and its turn is out
+  -- It belongs to this lock, and its turn is in progress.
   pub record IsInside (id : LockId) (pass : Pass S E T G) : Type 0 where
     pub lock : lock_of pass ≡ id
     pub going : pass.is_over ≡ false

@@ -1,31 +1,31 @@
--- What each step tells the pass that makes it.
+-- What each step reports to the handle that makes it.
 use Rattle.std.specs.Prelude.{◌≡◌, ℕ, ◌<◌, ◌≤◌, ◌==◌, true, false, List, [], ◌∷◌, ◌++◌, All, Contains, MatchBool, length, Option, Some, None}
 use Rattle.atomic_table.specs.Table.{Me, Step}
 use Rattle.share_lock.specs.declared.view.View.{View}
 use Rattle.share_lock.specs.Histories.{Continues}
 use Rattle.share_lock.specs.Rule.{own_numbers, nothing, IsJoint}
 
--- a pass at the table: what it knows, and the state in its hands
+-- A handle at the table: what it knows, and the state that it holds.
 abbrev pub At : Type 0 → Type 0 → Type 0 → Type 0
 At S E T = Me (Option S) (View E T)
 
--- it has seen all that it noted
+-- It has seen all that it noted.
 abbrev pub having_seen : {E T : Type 0} → View E T → View E T
 having_seen v = record v { ticket = None; inside = false; seen = v.noted; looks = v.looks ++ length v.noted ∷ []; one = nothing; two = nothing }
 
 module _ {S E T : Type 0} where
-  -- the ticket is its own where it was not lost to another
+  -- The ticket is its own unless another handle drew it.
   abbrev pub drawn : Step (Option S) → At S E T → ℕ → At S E T → Type 0
   drawn st m found m' = MatchBool (found == st.first) (m' ≡ (record m.0 { ticket = Some found }, m.1)) (m' ≡ m)
 
-  -- the number is its own where it was not lost to another, and no number of the pass that it was split from
+  -- The number is its own unless another handle drew it. It is not a number of the handle that it was split from.
   abbrev pub numbered : Step (Option S) → At S E T → ℕ → At S E T → Type 0
   numbered st m found m' = MatchBool (found == st.first) ((m' ≡ (record m.0 { number = Some found }, m.1)) × (1 ≤ found) × ¬ (Contains m.0.avoid found)) (m' ≡ m)
 
   abbrev pub left : Step (Option S) → At S E T → ℕ → At S E T → Type 0
   left st m found m' = m' ≡ (having_seen m.0, [])
 
--- its turn has come, and it notes the history
+-- Its turn has come, and it notes the history.
 abbrev pub holding : {E T : Type 0} → View E T → List E → View E T
 holding v history = record v { inside = true; noted = history }
 

@@ -1,16 +1,16 @@
-//! Where passes wait for a turn, asleep. No clause rests on it: a turn is had by its ticket, and who comes through the
-//! gate finds its ticket served.
+//! Where handles sleep until their turn. No clause depends on it: a ticket decides whose turn it is, and a handle
+//! that passes the gate finds its ticket served.
 use std::sync::Wait;
 use std::sync::atomic::{AtomicU64, Ordering};
 
-// What the word says: nobody is through, somebody is, and others may sleep.
+// The values of the word: nobody is inside; one is; one is, and others may sleep.
 const OPEN: u64 = 0;
 
 const SHUT: u64 = 1;
 
 const WAITED: u64 = 2;
 
-/// Lets one through at a time.
+/// Lets one thread inside at a time.
 #[derive(Drop)]
 pub struct Gate {
     word: AtomicU64,
@@ -23,7 +23,7 @@ impl Gate {
         }
     }
 
-    /// Goes through, and shuts the gate behind.
+    /// Enters, and shuts the gate.
     pub(crate) fn enter<R: Wait>(&self, rt: &R) {
         let word = &self.word;
         if word
@@ -40,7 +40,7 @@ impl Gate {
         }
     }
 
-    /// Opens the gate, and wakes one that sleeps.
+    /// Opens the gate, and wakes one thread that sleeps.
     pub(crate) fn leave(&self) {
         if self.word.swap(OPEN, Ordering::SeqCst) == WAITED {
             self.word.wake_one();

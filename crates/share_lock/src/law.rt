@@ -1,20 +1,20 @@
-//! The lock's rule, and what each of its steps tells.
+//! The lock's rule, and what each of its steps reports.
 use crate::recorded::Recorded;
 use crate::view::View;
 use atomic_table::{Join, Play, Split, TableRule};
 use std::marker::PhantomData;
 use std::snapshot::Snapshot;
 
-/// What is fixed when a lock is opened.
+/// The constants of an opened lock.
 #[derive(Drop)]
 pub struct Key<S> {
     pub passes: u64,
     pub opening: Snapshot<S>,
 }
 
-pub struct Law;
+pub struct LockRule;
 
-impl<S: Recorded> TableRule<Option<S>, View<S::Entry, S::Settings>, Key<S>> for Law {
+impl<S: Recorded> TableRule<Option<S>, View<S::Entry, S::Settings>, Key<S>> for LockRule {
     ghost use Rattle.share_lock.specs.Rule.{Holds, first_view};
 
     ghost holds = { λ key. Holds S.entries S.by S.settings key.passes };
@@ -22,7 +22,7 @@ impl<S: Recorded> TableRule<Option<S>, View<S::Entry, S::Settings>, Key<S>> for 
     ghost first = { λ key. first_view key.passes (S.settings key.opening.value) (S.entries key.opening.value) };
 }
 
-/// A ticket is drawn.
+/// Draws a ticket.
 pub struct Draw;
 
 impl<S: Recorded> Play<Option<S>, View<S::Entry, S::Settings>> for Draw {
@@ -31,7 +31,7 @@ impl<S: Recorded> Play<Option<S>, View<S::Entry, S::Settings>> for Draw {
     ghost then = { drawn };
 }
 
-/// The turn begins where the ticket is served: the state is taken.
+/// Begins the turn of the ticket that is served: takes the state.
 pub struct Enter;
 
 impl<S: Recorded> Play<Option<S>, View<S::Entry, S::Settings>> for Enter {
@@ -40,7 +40,7 @@ impl<S: Recorded> Play<Option<S>, View<S::Entry, S::Settings>> for Enter {
     ghost then = { entered S.entries S.by S.settings };
 }
 
-/// The length of the new history is stored.
+/// Stores the length of the new history.
 pub struct Store;
 
 impl<S: Recorded> Play<Option<S>, View<S::Entry, S::Settings>> for Store {
@@ -49,7 +49,7 @@ impl<S: Recorded> Play<Option<S>, View<S::Entry, S::Settings>> for Store {
     ghost then = { stored S.entries };
 }
 
-/// The next ticket is served: the turn is over.
+/// Serves the next ticket, which ends the turn.
 pub struct Leave;
 
 impl<S: Recorded> Play<Option<S>, View<S::Entry, S::Settings>> for Leave {
@@ -58,28 +58,28 @@ impl<S: Recorded> Play<Option<S>, View<S::Entry, S::Settings>> for Leave {
     ghost then = { left };
 }
 
-/// A number is drawn.
-pub struct Name;
+/// Draws a number.
+pub struct DrawNumber;
 
-impl<S: Recorded> Play<Option<S>, View<S::Entry, S::Settings>> for Name {
+impl<S: Recorded> Play<Option<S>, View<S::Entry, S::Settings>> for DrawNumber {
     ghost use Rattle.share_lock.specs.Plays.{numbered};
 
     ghost then = { numbered };
 }
 
-/// What the rule says of two passes that were joined.
-pub struct Tell;
+/// Reports what the rule says of two handles that were joined.
+pub struct LearnJoin;
 
-impl<S: Recorded> Play<Option<S>, View<S::Entry, S::Settings>> for Tell {
+impl<S: Recorded> Play<Option<S>, View<S::Entry, S::Settings>> for LearnJoin {
     ghost use Rattle.share_lock.specs.Plays.{told};
 
     ghost then = { told S.by };
 }
 
-/// A new pass, which has no number yet.
-pub struct Cut;
+/// Makes a new handle, which has no number yet.
+pub struct SplitPass;
 
-impl<E, T> Split<View<E, T>> for Cut {
+impl<E, T> Split<View<E, T>> for SplitPass {
     ghost use Rattle.share_lock.specs.Rule.{newcomer};
 
     ghost left = { λ v. v };
@@ -87,7 +87,7 @@ impl<E, T> Split<View<E, T>> for Cut {
     ghost right = { newcomer };
 }
 
-/// Two passes made one.
+/// Joins two handles.
 pub struct Merge<S> {
     state: PhantomData<S>,
 }

@@ -1,5 +1,6 @@
-//! One state for many threads, a turn at a time. The state has a history that only grows. Who takes a turn finds a
-//! history that begins with all that its pass has seen, and the entries of its own number there are those it made.
+//! One state for many threads, which take turns at it. The state has a history that only grows. In a turn a thread
+//! finds a history that begins with all that its handle has seen, and the entries of its own number there are those
+//! that it made.
 #![tactic(auto)]
 
 mod bell;

@@ -1,7 +1,7 @@
-//! What a state is for a lock: a history, and settings that stay.
+//! What a lock needs of a state: a history, and settings that never change.
 ghost use Rattle.std.specs.Prelude.{◌≡◌, ℕ, List, length};
 
-/// A state that a lock keeps.
+/// A state that a lock can hold.
 pub trait Recorded {
     type Entry;
 
@@ -10,16 +10,16 @@ pub trait Recorded {
     /// The history, oldest entry first.
     ghost entries: { Self → List Self.Entry };
 
-    /// The number of the pass that made an entry.
+    /// The number of the handle that made an entry.
     ghost by: { Self.Entry → ℕ };
 
     /// What no turn changes.
     ghost settings: { Self → Self.Settings };
 
-    /// Any settings: what proofs have in the place of those of a pass that was joined to another.
+    /// Any settings: proofs use them for a handle that was joined to another.
     ghost unset: { Self.Settings };
 
-    /// The length of the history.
+    /// Returns the length of the history.
     fn recorded(&self) -> u64
         ensures { result ≡ length (entries self.now) };
 }

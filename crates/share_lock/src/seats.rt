@@ -1,10 +1,10 @@
-//! The steps of a pass at the lock's table.
+//! The steps of a handle at the lock's table.
 ghost use Rattle.std.specs.Prelude.{◌≡◌, ℕ, ◌+◌, ◌<◌, ◌≤◌, true, false, [], ◌∷◌, All, Contains, length};
 ghost use Rattle.share_lock.specs.Histories.{Adds, Continues};
 ghost use Rattle.share_lock.specs.Plays.{having_seen, holding};
 ghost use Rattle.share_lock.specs.Rule.{own_numbers};
 
-use crate::law::{Draw, Enter, Key, Law, Leave, Name, Store};
+use crate::law::{Draw, DrawNumber, Enter, Key, Leave, LockRule, Store};
 use crate::recorded::Recorded;
 use crate::view::View;
 use atomic_table::{Seat, Shared};
@@ -20,17 +20,17 @@ const LENGTH: usize = 2;
 
 const NAMED: usize = 3;
 
-/// The words at the start, for a history of this length.
+/// Returns the words at the start, for a history of this length.
 pub(crate) fn words(length: u64) -> [u64; 4]
     ensures { result ≡ 0 ∷ 0 ∷ length ∷ 1 ∷ [] }
 {
     [0, 0, length, 1]
 }
 
-/// Draws a ticket. Where none is left it waits for ever.
+/// Draws a ticket. Waits forever if none is left.
 pub(crate) fn draw<S: Recorded, R: Wait>(
     rt: &R,
-    table: &Shared<Option<S>, View<S::Entry, S::Settings>, Key<S>, Law>,
+    table: &Shared<Option<S>, View<S::Entry, S::Settings>, Key<S>, LockRule>,
     seat: &mut Seat<Option<S>, View<S::Entry, S::Settings>>,
 ) -> u64
     requires table { (table.now.table_id.words ≡ 4) × (seat.old.table_id ≡ table.now.table_id) }
@@ -49,10 +49,10 @@ pub(crate) fn draw<S: Recorded, R: Wait>(
     unreachable!()
 }
 
-/// Waits until the ticket is served, and takes the state.
+/// Waits until `ticket` is served, and takes the state.
 pub(crate) fn enter<S: Recorded, R: Wait>(
     rt: &R,
-    table: &Shared<Option<S>, View<S::Entry, S::Settings>, Key<S>, Law>,
+    table: &Shared<Option<S>, View<S::Entry, S::Settings>, Key<S>, LockRule>,
     seat: &mut Seat<Option<S>, View<S::Entry, S::Settings>>,
     ticket: u64,
 ) -> S
@@ -69,7 +69,7 @@ pub(crate) fn enter<S: Recorded, R: Wait>(
         if table.load::<Enter>(seat, SERVING) == ticket {
             return table.exchange(seat, 0, None).unwrap();
         }
-        // Who draws a ticket is through the gate alone, so this is not reached.
+        // Only the thread inside the gate draws a ticket, so this is not reached.
         thread::yield_now();
     }
     unreachable!()
@@ -77,7 +77,7 @@ pub(crate) fn enter<S: Recorded, R: Wait>(
 
 /// Puts the state back, and serves the next ticket.
 pub(crate) fn leave<S: Recorded>(
-    table: &Shared<Option<S>, View<S::Entry, S::Settings>, Key<S>, Law>,
+    table: &Shared<Option<S>, View<S::Entry, S::Settings>, Key<S>, LockRule>,
     seat: &mut Seat<Option<S>, View<S::Entry, S::Settings>>,
     state: S,
     recorded: u64,
@@ -97,10 +97,10 @@ pub(crate) fn leave<S: Recorded>(
     table.fetch_add::<Leave>(seat, SERVING, 1);
 }
 
-/// Draws a number. Where all are drawn it waits for ever.
+/// Draws a number. Waits forever if all are drawn.
 pub(crate) fn name<S: Recorded, R: Wait>(
     rt: &R,
-    table: &Shared<Option<S>, View<S::Entry, S::Settings>, Key<S>, Law>,
+    table: &Shared<Option<S>, View<S::Entry, S::Settings>, Key<S>, LockRule>,
     seat: &mut Seat<Option<S>, View<S::Entry, S::Settings>>,
     passes: u32,
 ) -> u32
@@ -115,7 +115,7 @@ pub(crate) fn name<S: Recorded, R: Wait>(
         let number = table.peek(NAMED);
         if number >= passes as u64 {
             table.park(rt, NAMED, passes);
-        } else if table.compare_exchange::<Name>(seat, NAMED, number, number + 1) == number {
+        } else if table.compare_exchange::<DrawNumber>(seat, NAMED, number, number + 1) == number {
             return number as u32;
         }
     }

@@ -7,7 +7,7 @@ use crate::pass::Turn;
 use crate::recorded::Recorded;
 
 impl<S: Recorded> Turn<'_, S> {
-    /// The state. What is written to it is what is given back.
+    /// Returns the state. `give` returns what was written to it.
     pub fn state(&mut self) -> &mut S
         ensures* lent { sem 𝓛 (LendsState S.row S.Entry.row S.Settings.row ⟦<S as Recorded>⟧ self.entry result) }
         ensures value { result.now ≡ self.old.state }

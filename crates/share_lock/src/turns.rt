@@ -1,11 +1,11 @@
-//! Opening, splitting, turns and joins.
+//! Opens, splits, joins, and takes turns.
 ghost use Rattle.std.specs.Prelude.{◌≡◌, ◌≤◌, ◌<◌, ◌++◌, true, false, [], ◌∷◌, length, All, Contains, IfOk, IsOk};
 ghost use Rattle.share_lock.specs.Histories.{entries_of, Adds, AddsOwn, AreApart, Continues};
 ghost use Rattle.share_lock.specs.Known.{numbers_of, fresh, after_turn, after_join};
 ghost use Rattle.share_lock.specs.Passes.{lock_id, passes_of, known, found_of, IsReady, IsInside};
 
 use crate::gate::Gate;
-use crate::law::{Cut, Key, Merge, Tell};
+use crate::law::{Key, LearnJoin, Merge, SplitPass};
 use crate::pass::{Pass, ShareLock, Turn};
 use crate::recorded::Recorded;
 use crate::seats::{draw, enter, leave, name, words};
@@ -15,7 +15,8 @@ use std::snapshot::Snapshot;
 use std::sync::Wait;
 
 impl<S: Recorded + Drop> ShareLock<S> {
-    /// Puts the state under a lock, for so many passes, the first of which is given. The state is dropped where there is no memory.
+    /// Puts the state under a lock for `passes` handles, and returns the first one. Drops the state if an allocation
+    /// fails.
     pub fn open(alloc: Global, state: S, passes: u32) -> Result<(ShareLock<S>, Pass<S>), AllocError>
         requires passes { 1 ≤ passes }
         requires opening { All (λ e. S.by e ≡ 0) (S.entries state) }
@@ -49,7 +50,8 @@ impl<S: Recorded + Drop> ShareLock<S> {
 }
 
 impl<S: Recorded> ShareLock<S> {
-    /// A pass with a number of its own, that has seen what this one has. Where all numbers were drawn it waits for ever.
+    /// Returns a handle with its own number, which has seen what this one has. Waits forever if all numbers were
+    /// drawn.
     pub fn split<R: Wait>(&self, rt: &R, pass: &mut Pass<S>) -> Result<Pass<S>, AllocError>
         requires ready { IsReady (lock_id self.now) pass.old }
         ensures same { IsReady (lock_id self.now) pass.new × (known pass.new ≡ known pass.old) }
@@ -60,7 +62,7 @@ impl<S: Recorded> ShareLock<S> {
         ensures another { IfOk result (λ p. ¬ (Contains (numbers_of (known pass.old)) (known p).number)) }
     {
         let table = &self.table.shared;
-        let mut seat = table.split_seat::<Cut>(&mut pass.seat);
+        let mut seat = table.split_seat::<SplitPass>(&mut pass.seat);
         let number = name(rt, table, &mut seat, self.passes);
         Ok(Pass {
             number,
@@ -71,7 +73,7 @@ impl<S: Recorded> ShareLock<S> {
     }
 
     #[tactic(auto, using(crate::proofs::Moves::in_front))]
-    /// Waits for a turn, asleep, and gives the state. After `end` it waits for ever.
+    /// Waits asleep for a turn, and returns the state. Waits forever after `end`.
     pub fn take<'a, R: Wait>(&self, rt: &R, pass: &'a mut Pass<S>) -> Turn<'a, S>
         requires ready { IsReady (lock_id self.now) pass.old }
         ensures same { result.pass.ghost_name ≡ pass.entry.ghost_name }
@@ -91,7 +93,7 @@ impl<S: Recorded> ShareLock<S> {
     }
 
     #[tactic(auto, using(crate::proofs::Fronts::adds_own))]
-    /// Gives the state back. The pass has then seen its whole history.
+    /// Ends a turn: returns the state to the lock. The handle has then seen its whole history.
     pub fn give(&self, turn: Turn<'_, S>)
         requires inside { IsInside (lock_id self.now) turn.pass.now }
         requires settings { S.settings turn.state ≡ (known turn.pass.now).settings }
@@ -118,7 +120,7 @@ impl<S: Recorded> ShareLock<S> {
         state
     }
 
-    /// Takes in another pass of the lock.
+    /// Joins `other`, another handle of the lock, to `pass`.
     pub fn join(&self, pass: &mut Pass<S>, other: Pass<S>)
         requires ready { IsReady (lock_id self.now) pass.old }
         requires other { IsReady (lock_id self.now) other }
@@ -136,20 +138,20 @@ impl<S: Recorded> ShareLock<S> {
         } = other;
         let table = &self.table.shared;
         table.join_seat::<Merge<S>>(&mut pass.seat, seat);
-        table.load::<Tell>(&mut pass.seat, 0);
+        table.load::<LearnJoin>(&mut pass.seat, 0);
         pass.seen = seen.max(pass.seen);
     }
 }
 
 impl<S: Recorded> Pass<S> {
-    /// The number that its entries are made under.
+    /// Returns the number under which its entries are made.
     pub fn number(&self) -> u32
         ensures { result ≡ (known self.now).number }
     {
         self.number
     }
 
-    /// The length of the history that it has seen.
+    /// Returns the length of the history that it has seen.
     pub fn seen(&self) -> u64
         ensures { result ≡ length (known self.now).seen }
     {

@@ -42,7 +42,7 @@ placed_by true n id other h rest same first after later =
     (omega arith, omega arith)
 placed_by false n id other h rest same first after later = let l = later after in let a = l.0 in let b = l.1 in (omega arith, omega arith)
 
--- how many logins came after that of a session tells its id, where ids are given in order
+-- the number of logins after that of a session determines its id, if ids are given in order
 pub placed : (n id : ℕ) (h rest : List Entry) → is_orderly n h ≡ true → after_login id h ≡ Some rest → (n ≤ id) × (logins rest + id + 1 ≡ n + logins h)
 placed n id [] rest orderly after = absurd (none-some rest after)
 placed n id (Edits p batch ∷ h) rest orderly after = let l = placed n id h rest orderly after in let a = l.0 in let b = l.1 in
@@ -61,7 +61,7 @@ none_or : (o : Option (List Entry)) → ((rest : List Entry) → o ≡ Some rest
 none_or None never = refl
 none_or (Some rest) never = absurd (never rest refl)
 
--- an id that was not given has no login
+-- an id above the number of logins has no login
 pub not_yet : (id : ℕ) (h : List Entry) → is_orderly 1 h ≡ true → logins h < id → after_login id h ≡ None
 not_yet id h orderly above = none_or (after_login id h) (λ rest is. let l = (placed 1 id h rest orderly is).1 in omega arith)
 
@@ -116,7 +116,7 @@ and_not false true false = refl
 and_not false false true = refl
 and_not false false false = refl
 
--- a logout ends its session alone
+-- a logout ends only its session
 pub live_out : (h : List Entry) (p x id : ℕ) → is_live (h ++ Logout p x ∷ []) id ≡ (is_live h id && not (x == id))
 live_out h p x id = live_more h (Logout p x) id
     ∙ (ap (λ a. a && not (list_any (logs_out id) h || (x == id))) (few_same (after_login id h) (Logout p x) refl)

@@ -1,4 +1,4 @@
--- Marks of live sessions, after one entry more or none.
+-- Last-answered lengths of live sessions, after one entry more or none.
 use Rattle.std.proofs.Common.{◌≡◌, ℕ, suc, ◌+◌, ◌-◌, ◌<◌, ◌≤◌, ◌==◌, nat_lt, Bool, true, false, cond, not, ◌&&◌, List, [], ◌∷◌, ◌++◌, length, sym, refl, ap, ◌∙◌, subst, Option, Some, None, unwrap_or, arith, eq-eqb, ne_eqb, eqb-true, length-append}
 use Rattle.std.proofs.lemmas.Bool.{and_parts, and_from}
 use Rattle.std.proofs.lemmas.Option.{none-some}
@@ -21,7 +21,7 @@ until_by : (b : Bool) (id : ℕ) (e : Entry) (h more rest : List Entry) → cond
 until_by true id e h more rest after same = refl
 until_by false id e h more rest after same = ap (λ l. e ∷ l) (same after)
 
--- a session that logged in has its login where it was, whatever follows
+-- later entries do not move the login of a session
 until_same : (id : ℕ) (h more rest : List Entry) → after_login id h ≡ Some rest → until_login id (h ++ more) ≡ until_login id h
 until_same id [] more rest after = absurd (none-some rest after)
 until_same id (e ∷ h) more rest after = until_by (is_login_of id e) id e h more rest after (until_same id h more rest)
@@ -59,7 +59,7 @@ ascending_by false e marks asc = asc
 pub ascending_after : (h : List Entry) (session : ℕ) (marks : Marks) → IsAscending marks → IsAscending (marks_after h session marks)
 ascending_after h session marks asc = ascending-filter (λ m. is_live h m.0) (cond (is_live h session) (put_in marks (session, length h)) marks) (ascending_by (is_live h session) (session, length h) marks asc)
 
--- the marks after an answer fit the history after it, where no other session became live
+-- the last-answered lengths after a response fit the history, if no other session became live
 pub marked : (h more : List Entry) (session : ℕ) (marks : Marks) → AreMarks h marks → is_orderly 1 (h ++ more) ≡ true
     → ((id : ℕ) → is_live (h ++ more) id ≡ true → (session == id) ≡ false → is_live h id ≡ true) → AreMarks (h ++ more) (marks_after (h ++ more) session marks)
 marked h more session marks m orderly stays = record {
@@ -77,7 +77,7 @@ marked h more session marks m orderly stays = record {
       (λ live other old. let low = m.until id p old in let len = length-append h more in omega arith);
 }
 
--- where the sessions stay as they are, so do their marks
+-- if the same sessions are live, then their last-answered lengths stay
 pub unmarked : (h more : List Entry) (marks : Marks) → AreMarks h marks → is_orderly 1 (h ++ more) ≡ true → ((id : ℕ) → is_live (h ++ more) id ≡ is_live h id) → AreMarks (h ++ more) marks
 unmarked h more marks m orderly same = record {
   orderly = orderly;
@@ -97,7 +97,7 @@ at_parts : (q k x len : ℕ) (marks : Marks) → IsAscending marks → at q (tak
 at_parts q k x len marks asc = at-out q k (put_in marks (x, len)) (ascending-put (x, len) marks asc)
     ∙ (λ i. cond (is_eq-cmp q k i) None ((at-put q (x, len) marks ∙ ap (λ b. cond b (Some len) (at q marks)) (is_eq-cmp q x)) i))
 
--- a login marks its session, and takes the mark of the one that it ends
+-- a login adds the length of its session and removes that of the one that it ends
 pub login_marks : (h : List Entry) (p x : ℕ) (marks : Marks) → AreMarks h marks → x ≡ logins h + 1 → taken_out (put_in marks (x, length h + 1)) (x - 64) ≡ marks_after (h ++ Login p x ∷ []) x marks
 login_marks h p x marks m next =
     let h' = h ++ Login p x ∷ [] in
@@ -121,7 +121,7 @@ out_by true false len o is = refl
 out_by false true len o is = refl
 out_by false false len o is = some_there o false is
 
--- a logout takes the mark of its session
+-- a logout removes the length of its session
 pub logout_marks : (h : List Entry) (p x : ℕ) (marks : Marks) → AreMarks h marks → taken_out marks x ≡ marks_after (h ++ Logout p x ∷ []) x marks
 logout_marks h p x marks m =
     let h' = h ++ Logout p x ∷ [] in
@@ -140,7 +140,7 @@ no_mark true true len o is own = absurd (let no = own refl in cc)
 no_mark true false len o is own = some_there o false is
 no_mark false l len o is own = some_there o l is
 
--- an answer to a live session moves its mark to the point
+-- a response to a live session sets its length to the history's
 pub touch_marks : (h : List Entry) (x : ℕ) (marks : Marks) → AreMarks h marks → is_live h x ≡ true → put_in marks (x, length h) ≡ marks_after h x marks
 touch_marks h x marks m live =
     same_pairs _ _ (ascending-put (x, length h) marks m.ascending) (ascending_after h x marks m.ascending)
@@ -166,6 +166,6 @@ orderly_more n (Login p other ∷ h) e o last =
     let parts = and_parts (other == n) (is_orderly (suc n) h) o in
     and_from _ _ parts.0 (orderly_more (suc n) h e parts.1 (subst (λ k. is_orderly k (e ∷ []) ≡ true) (let z : n + logins (Login p other ∷ h) ≡ suc n + logins h = omega (arith, sum_by-cons (λ x. cond (is_login x) 1 0) (Login p other) h) in z) last))
 
--- a live session has an id that was given
+-- the id of a live session is at most the number of logins
 pub live_below : (h : List Entry) (id : ℕ) → is_orderly 1 h ≡ true → is_live h id ≡ true → id < 1 + logins h
 live_below h id orderly live = let l = live_login h id live in let b = (placed 1 id h l.0 orderly l.1).1 in omega arith

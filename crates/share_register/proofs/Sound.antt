@@ -56,7 +56,7 @@ counts_more h e places edits logins places' edits' logins' stopped stopped' c p 
   few_edits = few_d;
 }
 
--- a place is left
+-- another entry is within the limit
 pub place_left : (h : List Entry) (places : ℕ) → places ≡ count_by takes_place h → has_place h ≡ true → places < most_entries
 place_left h places is left = let l = ltb-true (count_by takes_place h) most_entries left in omega arith
 

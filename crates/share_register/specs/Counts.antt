@@ -1,4 +1,4 @@
--- The counts that a register keeps of its history.
+-- The counts that a register keeps of its history, and the capacity that it keeps reserved.
 use Rattle.std.specs.Prelude.{◌≡◌, ℕ, ◌≤◌, List, Bool, length, count_by}
 use Rattle.item_model.specs.declared.changes.Entry.{Entry}
 use Rattle.share_history.specs.Histories.{all_edits}
@@ -16,7 +16,7 @@ pub record AreCounts (h : List Entry) (places edits logins : ℕ) (stopped : Boo
   pub few_places : places ≤ most_entries
   pub few_edits : edits ≤ most_edits
 
--- what a register keeps fits its history
+-- the invariant: counts, last-answered lengths and spare capacity fit the history
 pub record IsSound (h : List Entry) (places edits logins : ℕ) (stopped : Bool) (marks : Marks) (spare : ℕ) : Type 0 where
   pub counts : AreCounts h places edits logins stopped
   pub marks_are : AreMarks h marks

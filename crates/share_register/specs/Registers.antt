@@ -1,4 +1,5 @@
--- What contracts see of a register: the history of a share, the marks of its live sessions, and for how many entries more there is room.
+-- A register as contracts see it: the history of a share, the last-answered lengths of its live sessions, and the
+-- spare capacity for entries.
 use Rattle.std.specs.Prelude.{◌≡◌, ℕ, ◌+◌, ◌≤◌, List, true, false, Some, is_some, length}
 use Rattle.item_model.specs.declared.changes.Entry.{Entry}
 use Rattle.share_history.specs.Keyed.{IsAscending, at}
@@ -10,7 +11,8 @@ pub record Register : Type 0 where
   pub marks : Marks
   pub spare : ℕ
 
--- There is a mark for exactly the live sessions. It is a point of the history from the session's login on
+-- exactly the live sessions have a last-answered length, which lies between the length at the session's login and the
+-- history's
 pub record AreMarks (h : List Entry) (marks : Marks) : Type 0 where
   pub orderly : is_orderly 1 h ≡ true
   pub ascending : IsAscending marks
@@ -18,6 +20,6 @@ pub record AreMarks (h : List Entry) (marks : Marks) : Type 0 where
   pub since : (id p : ℕ) → at id marks ≡ Some p → length (until_login id h) ≤ p
   pub until : (id p : ℕ) → at id marks ≡ Some p → p ≤ length h
 
--- there is room for a logout of each live session and for the stop
+-- there is capacity for a logout of each live session and for the stop
 abbrev pub HasRoom : List Entry → Marks → ℕ → Type 0
 HasRoom h marks spare = is_stopped h ≡ false → length marks + 1 ≤ spare

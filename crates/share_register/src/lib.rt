@@ -1,5 +1,5 @@
-//! The history of a share beside what every answer asks of it: the marks of the live sessions, and counts. No call looks
-//! through the history. A logout, and the stop, of a history that is not stopped take no memory.
+//! The history of a share with what every answer needs of it: the last-answered lengths of the live sessions, and
+//! counts. No call searches the history. Before the stop, a logout and the stop do not allocate.
 #![tactic(auto)]
 
 mod register;

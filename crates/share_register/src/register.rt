@@ -1,5 +1,3 @@
-//! The register.
-
 ghost use Rattle.std.specs.Prelude.{◌≡◌, ◌≤◌, ◌<◌, ◌+◌, ◌++◌, ◌∷◌, [], ℕ, true, false, length, count_by, is_some, IfOk, IfSome, IfErr, OnOk, OnErr, IsOk, slice_get, option_copied};
 ghost use Rattle.share_history.specs.Histories.{all_edits, batches, opening, revision};
 ghost use Rattle.share_history.specs.Keyed.{at};
@@ -15,7 +13,7 @@ use std::alloc::{AllocError, Global};
 use std::collections::BTreeMap;
 use std::marker::Model;
 
-// Begins a log with a batch, where it has edits, and answers how many places it takes.
+// Appends `first` to an empty log, unless it has no edits. Returns how many entries count for the limit, 0 or 1.
 fn begin(log: &mut EditLog, first: Batch) -> u32
     requires empty { log.old.entries ≡ [] }
     requires room { 2 ≤ log.old.spare }
@@ -33,7 +31,7 @@ fn begin(log: &mut EditLog, first: Batch) -> u32
     1
 }
 
-/// The history of a share, the marks of its live sessions, and counts.
+/// The history of a share, the last-answered lengths of its live sessions, and counts.
 #[derive(Drop)]
 pub struct Register {
     log: EditLog,
@@ -60,7 +58,8 @@ impl Model for Register {
 }
 
 impl Register {
-    /// A register whose history begins with a batch of pass 0, where it has edits, without marks.
+    /// Returns a register whose history is `first` by handle 0, or empty if `first` has no edits.
+    /// Returns `AllocError` if allocation fails.
     pub fn open(alloc: Global, first: Batch) -> Result<Register, AllocError>
         requires few { length first ≤ most_edits }
         ensures history { IfOk result (λ r. r.history ≡ opening first) }
@@ -80,7 +79,8 @@ impl Register {
         })
     }
 
-    /// Makes room for one entry of edits beside those of the logouts and the stop.
+    /// Reserves capacity for one entry of edits, besides the logouts and the stop.
+    /// Returns `AllocError` if allocation fails.
     pub fn reserve(&mut self) -> Result<(), AllocError>
         ensures history { self.new.history ≡ self.old.history }
         ensures marks { self.new.marks ≡ self.old.marks }
@@ -89,7 +89,8 @@ impl Register {
         self.log.reserve(self.marks.len() as u64 + 2)
     }
 
-    /// Logs a new session in, and answers its id. The session that is 64 logins back ends.
+    /// Logs a new session in and returns its id. The session of 64 logins before ends.
+    /// Returns `AllocError` if allocation fails; history and last-answered lengths are then unchanged.
     pub fn login(&mut self, by: u32) -> Result<u32, AllocError>
         requires going { is_stopped self.old.history ≡ false }
         requires place { has_place self.old.history ≡ true }
@@ -109,7 +110,7 @@ impl Register {
         Ok(id)
     }
 
-    /// Logs a live session out, without memory.
+    /// Logs the live session `id` out. Does not allocate.
     pub fn logout(&mut self, by: u32, id: u32)
         requires going { is_stopped self.old.history ≡ false }
         requires live { is_live self.old.history id ≡ true }
@@ -120,7 +121,7 @@ impl Register {
         self.log.append(Entry::Logout { by, id });
     }
 
-    /// Adds a batch, in the room that was made. No mark moves.
+    /// Appends a batch in capacity reserved before. No last-answered length changes.
     pub fn edit(&mut self, by: u32, batch: Batch)
         requires going { is_stopped self.old.history ≡ false }
         requires place { has_place self.old.history ≡ true }
@@ -135,7 +136,7 @@ impl Register {
         self.places += 1;
     }
 
-    /// Stops the share, without memory. No mark moves.
+    /// Stops the share. Does not allocate. No last-answered length changes.
     pub fn stop(&mut self, by: u32)
         requires { is_stopped self.old.history ≡ false }
         ensures history { self.new.history ≡ self.old.history ++ Entry.Stop by ∷ [] }
@@ -145,7 +146,8 @@ impl Register {
         self.is_stopped = true;
     }
 
-    /// Moves the mark of a session to the end of the history, where the session is live, without memory.
+    /// Sets the last-answered length of session `id` to the history's length if the session is live. Does not
+    /// allocate.
     pub fn touch(&mut self, id: u32)
         ensures history { self.new.history ≡ self.old.history }
         ensures marks { self.new.marks ≡ marks_after self.old.history id self.old.marks }
@@ -159,14 +161,14 @@ impl Register {
         }
     }
 
-    /// The entry of a number, counted from 0.
+    /// Returns entry `n`, counted from 0, or `None` past the last.
     pub fn entry(&self, n: u64) -> Option<&Entry>
         ensures { option_copied result ≡ slice_get self.now.history n }
     {
         self.log.entry(n)
     }
 
-    /// How many entries there are.
+    /// Returns the number of entries.
     pub fn len(&self) -> u64
         ensures count { result ≡ length self.now.history }
         ensures small { result < 9223372036854775808 }
@@ -174,42 +176,42 @@ impl Register {
         self.log.len()
     }
 
-    /// The revision of the history.
+    /// Returns the revision of the history.
     pub fn revision(&self) -> u32
         ensures { result ≡ revision (batches self.now.history) }
     {
         self.log.revision()
     }
 
-    /// Whether the share was stopped.
+    /// Returns whether the share was stopped.
     pub fn stopped(&self) -> bool
         ensures { result ≡ is_stopped self.now.history }
     {
         self.is_stopped
     }
 
-    /// How many entries of edits and of logins there are.
+    /// Returns the number of entries of edits and of logins.
     pub fn places(&self) -> u32
         ensures { result ≡ count_by takes_place self.now.history }
     {
         self.places
     }
 
-    /// How many edits all batches have.
+    /// Returns the number of edits in all batches.
     pub fn edits(&self) -> u32
         ensures { result ≡ length (all_edits self.now.history) }
     {
         self.edits
     }
 
-    /// Whether one more login, or one more batch, has a place.
+    /// Returns whether one more login or batch is within the limit on entries.
     pub fn has_place(&self) -> bool
         ensures { result ≡ has_place self.now.history }
     {
         (self.places as usize) < MAX_ENTRIES
     }
 
-    /// Whether so many edits more are not too many.
+    /// Returns whether `count` more edits are within the limit on edits.
     pub fn has_room_for(&self, count: usize) -> bool
         requires { count ≤ most_edits }
         ensures { result ≡ has_room_for self.now.history count }
@@ -217,7 +219,8 @@ impl Register {
         self.edits as usize + count <= MAX_EDITS
     }
 
-    /// The mark of a session, where it is live: a point of the history, from its login on.
+    /// Returns the last-answered length of session `id`, or `None` if it is not live. It lies between the length at
+    /// the session's login and the present one.
     pub fn seen(&self, id: u32) -> Option<u64>
         ensures mark { result ≡ at id self.now.marks }
         ensures live { is_some result ≡ is_live self.now.history id }
@@ -227,7 +230,7 @@ impl Register {
         self.marks.get(&id).copied()
     }
 
-    /// The entries, oldest first, without memory.
+    /// Returns the entries, oldest first. Does not allocate.
     pub fn into_history(self) -> Vec<Entry>
         ensures { result.items ≡ self.history }
     {

@@ -1,4 +1,4 @@
--- What a share's answer says to an ask.
+-- The reply to a request in a share's answer.
 use Rattle.std.proofs.Common.{◌≡◌, ℕ, List, Option, Some, None, refl, sym, ap, ◌∙◌, subst}
 use Rattle.dmap_tags.specs.Spelling.{spelling}
 use Rattle.dmap_tags.specs.Tree.{Tree}
@@ -61,7 +61,7 @@ spells reply said reason is = let body = writes reply.body said.form said.plan i
       ∙ ap (λ (b : List ℕ). with_head reply.status (form_of reply.body) b last) body.bytes;
 }
 
--- what is said of an answer
+-- the reply in an answer
 abbrev pub said_in : Answer → Option Said
 said_in (answer.Reply reply) = Some reply.said
 said_in (answer.Wait now point) = None

@@ -1,4 +1,4 @@
--- What the code keeps of a connection tells what is asked on it, and how it ends.
+-- The code's state of a connection decides its next request, and how it ends.
 use Rattle.std.proofs.Common.{◌≡◌, ◌≢◌, ◌+◌, ◌<◌, ◌≤◌, ◌&&◌, ◌==◌, ◌++◌, ℕ, List, [], ◌∷◌, length, length-append, Bool, true, false, not, Option, Some, None, is_some, if◌then◌else◌, refl, sym, ap, ◌∙◌, arith}
 use Rattle.http_heads.specs.declared.refusal.HeadError.{HeadError}
 use Rattle.share_asks.specs.declared.ask.Ask.{Ask}
@@ -31,7 +31,7 @@ pub some_is_some : {A : Type 0} (o : Option A) → is_some o ≡ false → o ≡
 some_is_some None is = refl
 some_is_some (Some a) is = absurd (cc)
 
--- ---- how it ends where nothing waits
+-- ---- how it ends if it is idle
 
 abbrev end_by : Bool → Bool → End → Option End
 end_by asked refused end = if not asked && not refused then Some end else None
@@ -101,7 +101,7 @@ unless_ended : (b : Bool) (o : Option Ask) → is_some (if b then None else o) �
 unless_ended true o is = absurd (cc)
 unless_ended false o is = refl
 
--- something is asked on it, so it has not ended
+-- it has a next request, so it has not ended
 pub goes : (c : Connection) → is_some (asked_on c) ≡ true → c.is_ended ≡ false
 goes c is = unless_ended c.is_ended (next_ask c) is
 

@@ -1,4 +1,4 @@
--- The lines at the end of a script, told one by one.
+-- The lines at the end of a script, written one by one.
 use Rattle.std.proofs.Common.{◌≡◌, ◌+◌, ◌<◌, ◌≤◌, ◌++◌, ℕ, List, [], length, drop, get_or, Option, refl, sym, ap, ◌∙◌, subst, append_assoc, append-nil}
 use Rattle.std.proofs.KnownBytes.{Appends-nil, Appends-trans}
 use Rattle.std.proofs.lemmas.List.{drop_all, drop_more}
@@ -11,7 +11,7 @@ use Rattle.share_replay.specs.Ends.{end_line}
 use Rattle.share_replay.specs.Machine.{last_lines}
 use Rattle.share_replay.proofs.Written.{cut_before}
 
--- the ends of so many connections were told
+-- the ends of the first `index` connections were written
 pub record HasTold (cs : List (Option Connection)) (index : ℕ) (start now : Option (List ℕ)) : Type 0 where
   pub done : List ℕ
   pub split : last_lines 1 cs ≡ done ++ last_lines (index + 1) (drop index cs)

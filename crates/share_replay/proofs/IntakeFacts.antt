@@ -52,7 +52,7 @@ fed_all n all ready within goes none = elim (cases_lt n all) [
   | inr more ↦ omega arith
 ]
 
--- the reader took further bytes, and handed out the ask that waited then
+-- the reader took more bytes, and returned the next request
 pub read_more : (asks : List Ask) (i j : Intake) (r : Reader) (unread : List ℕ) (n : ℕ)
     → i.next ≡ None → i.fault ≡ None → unread ≡ drop i.fed i.bytes.items
     → r.error ≡ None → n ≤ length unread → (n < length unread → r.ready ≢ None)
@@ -153,7 +153,7 @@ came_more asks i j more reader fed next fault bytes passed = record {
   valid = subst (λ (o : Option Ask). IfSome o (λ ask. IsValidWant ask.want)) (sym next) passed.valid;
 }
 
--- the next ask was answered
+-- the next request was answered
 pub passed_next : (asks : List Ask) (ask : Ask) (i j : Intake) → i.next ≡ Some ask → j.reader ≡ i.reader → j.fed ≡ i.fed → j.next ≡ None → j.fault ≡ i.fault
     → j.bytes.items ≡ i.bytes.items → IsReadOn asks i → HasPassed (asks ++ ask ∷ []) j
 passed_next asks ask i j is reader fed none fault bytes read =

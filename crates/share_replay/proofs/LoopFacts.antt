@@ -1,4 +1,4 @@
--- Answers until nothing is due, behind a line.
+-- Answers until no connection can be answered, after a line.
 use Rattle.std.proofs.Common.{◌≡◌, ◌+◌, ◌<◌, ◌≤◌, ℕ, List, slice_set, Bool, true, false, Option, None, Result, Ok, Err, OnOk, OnErr, if◌then◌else◌, refl, sym, ap, ◌∙◌, subst, arith}
 use Rattle.std.proofs.KnownBytes.{Appends-trans}
 use Rattle.std.specs.Io.KnownBytes.{Appends}
@@ -46,7 +46,7 @@ pub settled_smaller : (was : Bool) (s : Settings) (place : ℕ) (h h' : List Ent
 settled_smaller true s place h h' cs cs' t t' rest fewer = let less = fewer refl in omega (arith, less)
 settled_smaller false s place h h' cs cs' t t' rest fewer = let r = rest refl in let left : most_left cs' ≡ most_left cs = ap most_left r.2 in omega (arith, left)
 
--- ---- a line, and what is answered behind it
+-- ---- a line, and the answers after it
 
 begun_at : (line : Delivery) (d : Desk) (h : List Entry) (cs cs' : List (Option Connection)) (start t t' : Option (List ℕ)) → IsAt d h cs start t
     → cs' ≡ slice_set cs (line_place line) (reached line (connection_at cs (line_place line)))

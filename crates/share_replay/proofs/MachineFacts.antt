@@ -16,7 +16,7 @@ use Rattle.share_replay.specs.Played.{IsAt, IsPart, IsUntold, SlotAnswered, Slot
 use Rattle.share_replay.specs.Turns.{Due, Turn, due_on, left_on, turn_for}
 use Rattle.share_replay.proofs.Written.{all_taken}
 
--- ---- the places
+-- ---- the connections by index
 
 pub connection_there : (cs : List (Option Connection)) (place : ℕ) (d : Option Connection) → place < length cs → connection_at cs place ≡ get_or cs place d
 connection_there cs place d within = ap (λ (o : Option (Option Connection)). option_and_then (λ (c : Option Connection). c) o) (slice_get-get_or cs place d within)
@@ -26,7 +26,7 @@ nobody_there cs place past = ap (λ (o : Option (Option Connection)). option_and
 
 -- ---- one turn
 
--- where the machine is at this state, a turn of a connection on which something is due is that of the state
+-- if the machine is at this state, a turn of a connection with a next answer is that of the state
 stepped_is : (s : Settings) (d : Desk) (h : List Entry) (cs : List (Option Connection)) (start t : Option (List ℕ)) (place : ℕ) (c : Connection) (due : Due)
     → IsAt d h cs start t → connection_at cs place ≡ Some c → due_on s h c ≡ Some due
     → stepped_at s (Some place) d ≡ taken_at place (turn_for (place + 1) h c due) d
@@ -89,7 +89,7 @@ part_at s h h' cs t t' place slot within was (inr a) d start at =
       part_turned s h h' cs t t' place slot is a d start at,
     )
 
--- the same, of what an answer says of the place
+-- the same, of an answer at this index
 pub turned_here : {E : Type 0} (s : Settings) (h h' : List Entry) (cs : List (Option Connection)) (t t' : Option (List ℕ)) (place : ℕ) (d slot' : Option Connection) (result : Result Bool E)
     → place < length cs → IfOk result (λ was. was ≡ true → SlotAnswered s (place + 1) h (get_or cs place d) h' slot' t t')
     → IfOk result (λ was. was ≡ true → (desk : Desk) (start : Option (List ℕ)) → IsAt desk h cs start t → IsAt (stepped_at s (Some place) desk) h' (slice_set cs place slot') start t')
@@ -145,7 +145,7 @@ stepped_turn s d h cs start t place turn at is =
     ∙ ap (λ (l : List (Option Connection)). stepped_at s (turn_place s h place l) d) (sym at.connections)
     ∙ ap (λ (o : Option ℕ). stepped_at s o d) is
 
--- ---- answers until nothing is due
+-- ---- answers until no connection can be answered
 
 still : (s : Settings) (place k : ℕ) (d : Desk) → turn_place s (answers s place k d).history place (answers s place k d).connections ≡ None
     → (n : ℕ) → k ≤ n → answers s place n d ≡ answers s place k d
@@ -161,7 +161,7 @@ answers_more s place k (suc j) d =
     let same : suc (j + k) ≡ suc j + k = omega arith in
     ap (stepped s place) (answers_more s place k j d) ∙ ap (λ (m : ℕ). answers s place m d) same
 
--- so many answers lead from one state to another
+-- some number of answers leads from one state to another
 pub record Leads (s : Settings) (place : ℕ) (h : List Entry) (cs : List (Option Connection)) (t : Option (List ℕ)) (h' : List Entry) (cs' : List (Option Connection)) (t' : Option (List ℕ)) : Type 0 where
   pub count : ℕ
   pub few : most_left cs' + count ≤ most_left cs

@@ -14,7 +14,7 @@ use Rattle.share_replay.specs.Laws.{NothingIsPlayed, HistoriesGoOn, EndedConnect
 pub nothing_is_played : NothingIsPlayed
 nothing_is_played s h = (refl, refl)
 
--- ---- histories that go on
+-- ---- histories that grow
 
 Goes : List Entry → List Entry → Type 0
 Goes h k = (more : List Entry) × (k ≡ h ++ more)

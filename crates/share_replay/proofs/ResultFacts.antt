@@ -1,4 +1,4 @@
--- What follows from what is known of an answer, by whether it is a value or an error.
+-- What follows from a contract on a result, by whether it is a value or an error.
 use Rattle.std.specs.Prelude.{Result, Ok, Err, OnOk, OnErr}
 
 pub on_ok_then : {A E : Type 0} (P Q : Type 0) (r : Result A E) → (P → Q) → OnOk r P → OnOk r Q

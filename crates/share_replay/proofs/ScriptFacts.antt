@@ -69,7 +69,7 @@ broken_behind s h h' cs lines t u v at told =
           }));
     }
 
--- what was taken is a front of what the script writes
+-- what was written is a prefix of what the script writes
 pub front_of : (s : Settings) (h h' : List Entry) (lines : List Delivery) (t t' : Option (List ℕ)) → IsBrokenOff s h lines h' t t' → AppendsPrefix t t' (script_bytes s h lines)
 front_of s h h' lines t t' b =
     let more = outputs_go_on s h lines b.line b.answered b.few in

@@ -1,4 +1,4 @@
--- One answer: of the connection that was delivered to, or of the first on which something is due.
+-- One answer: of the connection that the line reached, or of the first that can be answered.
 use Rattle.std.proofs.Common.{◌≡◌, ◌⊎◌, ◌+◌, ◌<◌, ◌≤◌, ℕ, List, length, drop, true, false, Option, Some, None, is_some, sym, ap, ◌∙◌, subst, arith, inl, inr}
 use Rattle.std.specs.Io.KnownBytes.{Appends}
 use Rattle.item_model.specs.declared.changes.Entry.{Entry}
@@ -8,7 +8,7 @@ use Rattle.share_replay.specs.Machine.{Desk, answers, connection_at, due_at, fir
 use Rattle.share_replay.specs.Played.{IsAt, IsPart}
 use Rattle.share_replay.proofs.MachineFacts.{first_behind, first_here, first_nowhere, stepped_turn, turn_other, turn_there}
 
--- the machine stands at a state that equals another
+-- the machine is at a state that equals another
 pub at_same : (d : Desk) (h h0 : List Entry) (cs cs0 : List (Option Connection)) (start t t0 : Option (List ℕ)) → h ≡ h0 → cs ≡ cs0 → t ≡ t0 → IsAt d h0 cs0 start t0 → IsAt d h cs start t
 at_same d h h0 cs cs0 start t t0 same_h same_cs same_t at = record {
   history = same_h ∙ at.history;
@@ -23,7 +23,7 @@ due_same s s0 h h0 cs cs0 place same_s same_h same_cs =
     ∙ ap (λ (k : List Entry). is_some (due_at s k (connection_at cs0 place))) (sym same_h)
     ∙ ap (λ (l : List (Option Connection)). is_some (due_at s h (connection_at l place))) (sym same_cs)
 
--- ---- the first on which something is due
+-- ---- the first that can be answered
 
 pub found : (s s0 : Settings) (h h0 h' : List Entry) (cs cs0 cs' : List (Option Connection)) (t t0 t' : Option (List ℕ)) (place : ℕ) → s ≡ s0 → h ≡ h0 → cs ≡ cs0 → t ≡ t0
     → place < length cs0 → first_due s0 h0 0 cs0 ≡ first_due s0 h0 place (drop place cs0) → is_some (due_at s h (connection_at cs place)) ≡ true

@@ -5,7 +5,7 @@ use Rattle.share_replay.specs.Lines.{before, behind, in_front, line_tells}
 use Rattle.share_replay.specs.Scripts.{lines_in, longer, may_follow, may_all_follow, then_read, with_told, lines_read}
 use Rattle.share_replay.specs.declared.delivery.Delivery.{Delivery}
 
--- bytes in front of others
+-- bytes before others
 abbrev pub behind_bytes : List ℕ → Option (List ℕ) → Option (List ℕ)
 behind_bytes front None = None
 behind_bytes front (Some bytes) = Some (front ++ bytes)
@@ -26,7 +26,7 @@ no_line (b ∷ text) is = elim (cases_Bool (b == 10)) [
   | inr e ↦ rw e (ap (longer b) (no_line text (rw e at is)))
 ]
 
--- and else the first stands before the line feed
+-- otherwise the first line ends before the line feed
 pub one_line : (text rest : List ℕ) → behind 10 text ≡ Some rest → lines_in text ≡ (before 10 text ∷ (lines_in rest).0, (lines_in rest).1)
 one_line [] rest is = absurd (cc)
 one_line (b ∷ text) rest is = elim (cases_Bool (b == 10)) [
@@ -42,7 +42,7 @@ line_is_shorter mark (b ∷ text) rest is = elim (cases_Bool (b == mark)) [
   | inr e ↦ let shorter = line_is_shorter mark text rest (rw e at is) in omega arith
 ]
 
--- what a cut at the first line feed tells of the lines, where the parts of a cut are seen so
+-- what a split at the first line feed says of the lines, for any view of its two parts
 pub lines_by : {R : Type 0} (first rest : R → List ℕ) (text : List ℕ) (cut : Option R)
     → MatchOption cut (behind 10 text ≡ None) (λ r. (first r ≡ before 10 text) × (behind 10 text ≡ Some (rest r)))
     → MatchOption cut (lines_in text ≡ ([], text)) (λ r. lines_in text ≡ (first r ∷ (lines_in (rest r)).0, (lines_in (rest r)).1))

@@ -1,4 +1,4 @@
--- What is due on a connection, and that each answer leaves fewer to come.
+-- The next answer on a connection, and that each answer leaves fewer.
 use Rattle.std.proofs.Common.{◌≡◌, ◌+◌, ◌-◌, ◌<◌, ◌≤◌, ◌++◌, ℕ, List, Bool, true, false, ◌==◌, Option, Some, None, Result, Ok, Err, IfOk, OnOk, OnErr, is_some, if◌then◌else◌, refl, ap, ◌∙◌, subst, arith, inr}
 use Rattle.std.specs.Option.{option_or}
 use Rattle.std.proofs.KnownBytes.{Appends-nil, Appends-trans}
@@ -26,7 +26,7 @@ use Rattle.share_replay.specs.declared.ends.End.TheVariants.{Closed, Spent, Stop
 use Rattle.share_replay.specs.declared.replay_error.ReplayError.{ReplayError}
 use Rattle.share_replay.proofs.Written.{all_taken, cut_before}
 
--- ---- what is due
+-- ---- the next answer
 
 unless_ended : {A : Type 0} (b : Bool) (o : Option A) (a : A) → (if b then None else o) ≡ Some a → (b ≡ false) × (o ≡ Some a)
 unless_ended true o a is = absurd (cc)
@@ -106,7 +106,7 @@ same_written number h c f g close same =
     let last = last_by h (c.served + 1) close in
     ap (λ (bytes : List ℕ). reply_lines number bytes ++ end_line number (option_or last (end_of_input (one_more c)))) (same (is_some last))
 
--- ---- parts of a reply and of the end behind it
+-- ---- parts of a reply and of the end after it
 
 pub cut_reply : (number : ℕ) (h : List Entry) (c : Connection) (f : Bool → List ℕ) (close : Bool) (last : Option End) (b : Bool) (t t' : Option (List ℕ))
     → last ≡ last_by h (c.served + 1) close → b ≡ is_some last → AppendsPrefix t t' (reply_lines number (f b)) → AppendsPrefix t t' (turn_with number h c f close).written

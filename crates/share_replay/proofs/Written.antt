@@ -1,4 +1,4 @@
--- What a sink took, one part behind the other.
+-- What a sink took, one part after the other.
 use Rattle.std.proofs.Common.{ℕ, List, ◌++◌, Option, Result, Ok, Err, length, OnOk, OnErr, sym, subst, length-append, take_all, arith}
 use Rattle.std.proofs.lemmas.List.{take-append-le}
 use Rattle.std.proofs.KnownBytes.{Appends-nil, Appends-trans}
@@ -14,7 +14,7 @@ none_taken t bytes = (0, omega arith, Appends-nil t)
 pub all_taken : (t u : Option (List ℕ)) (bytes : List ℕ) → Appends t u bytes → AppendsPrefix t u bytes
 all_taken t u bytes all = (length bytes, omega arith, subst (Appends t u) (sym (take_all (length bytes) bytes (omega arith))) all)
 
--- a front of the first bytes was
+-- a prefix of the first bytes was
 pub cut_before : (a b : List ℕ) (t u : Option (List ℕ)) → AppendsPrefix t u a → AppendsPrefix t u (a ++ b)
 cut_before a b t u (n, within, cut) =
     (n, omega (arith, within, length-append a b), subst (Appends t u) (sym (take-append-le n a b within)) cut)

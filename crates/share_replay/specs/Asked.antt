@@ -1,4 +1,4 @@
--- What a share said to an ask, and what that left of it.
+-- The share's response to a request, and the share after it.
 use Rattle.std.specs.Prelude.{◌≡◌, ℕ, Bool, Option, Some, None}
 use Rattle.http_front.specs.ReplyHeads.{HasReason}
 use Rattle.listing_plan.specs.Plans.{IsWritable, plan_bytes}
@@ -9,7 +9,7 @@ use Rattle.share_replies.specs.Added.{after}
 use Rattle.share_replies.specs.Answers.{Shared}
 use Rattle.share_replies.specs.Replies.{Reply, Replies, Holds, answer_to}
 
--- it can be written, as the reply
+-- The response can be written, and its bytes are those of the reply.
 pub record Spells (said : Said) (reply : Reply) : Type 0 where
   pub reason : HasReason said.status
   pub writable : IsWritable said.plan

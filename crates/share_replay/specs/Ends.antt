@@ -11,11 +11,11 @@ end_words Spent = codes "spent"
 end_words Stopped = codes "stopped"
 end_words Held = codes "held"
 
--- the line of an end, where there is one
+-- The line of an end, if there is one.
 abbrev pub end_line : ℕ → Option End → List ℕ
 end_line number None = []
 end_line number (Some end) = codes "# " ++ decimal number ++ codes " " ++ end_words end ++ 10 ∷ []
 
--- a reply's bytes, below a line that tells whose they are and how many
+-- The bytes of a reply, after a line with the number of its connection and their count.
 abbrev pub reply_lines : ℕ → List ℕ → List ℕ
 reply_lines number bytes = codes "> " ++ decimal number ++ codes " " ++ decimal (length bytes) ++ 10 ∷ bytes ++ 10 ∷ []

@@ -1,5 +1,5 @@
--- The lines of a script. `open N listen` and `open N edit` open a connection, `text N T` delivers what the text T
--- writes, and `close N` ends what comes over a connection. One space stands between two words.
+-- The lines of a script. `open N listen` and `open N edit` open a connection, `text N T` delivers the bytes that the
+-- text T encodes, and `close N` ends the input of a connection. One space separates two words.
 use Rattle.std.specs.Prelude.{ℕ, ◌+◌, ◌-◌, ◌*◌, List, [], ◌∷◌, codes, ◌==◌, ◌&&◌, Option, Some, None, option_map, if◌then◌else◌}
 use Rattle.std.specs.Char.{is_ascii_digit}
 use Rattle.std.specs.Int.{is_in_range}
@@ -10,8 +10,8 @@ use Rattle.share_asks.specs.declared.ask.Role.TheVariants.{Listen, Edit}
 use Rattle.share_replay.specs.declared.delivery.Delivery.{Delivery}
 use Rattle.share_replay.specs.declared.delivery.Delivery.TheVariants.{Open, Text, Close}
 
--- ---- what a text writes: bytes from 20 to 7e hex stand for themselves, but for the backslash, which begins `\r`,
--- `\n`, `\\` and `\x` with two hex digits in letters of either case
+-- ---- Texts. A byte from 20 to 7e hex encodes itself, except the backslash, which begins `\r`, `\n`, `\\` and `\x`
+-- with two hex digits of either case.
 
 abbrev pub hex_value : ℕ → Option ℕ
 hex_value b =
@@ -23,14 +23,14 @@ hex_byte None low = None
 hex_byte (Some high) None = None
 hex_byte (Some high) (Some low) = Some (high * 16 + low)
 
--- the byte that an escape without digits stands for
+-- The byte of an escape without digits.
 abbrev pub escape_of : ℕ → Option ℕ
 escape_of b = if b == 114 then Some 13 else (if b == 110 then Some 10 else (if b == 92 then Some 92 else None))
 
 abbrev pub plain_byte : ℕ → Option ℕ
 plain_byte b = if is_in_range 32 126 b then Some b else None
 
--- a byte in front of others
+-- A byte before others.
 abbrev pub in_front : Option ℕ → Option (List ℕ) → Option (List ℕ)
 in_front None bytes = None
 in_front (Some b) None = None
@@ -41,18 +41,18 @@ abbrev mutual
   written_by [] = Some []
   written_by (b ∷ text) = if b == 92 then escaped_by text else in_front (plain_byte b) (written_by text)
 
-  -- behind a backslash
+  -- after a backslash
   pub escaped_by : List ℕ → Option (List ℕ)
   escaped_by [] = None
   escaped_by (b ∷ text) = if b == 120 then digits_by text else in_front (escape_of b) (written_by text)
 
-  -- behind `\x`
+  -- after `\x`
   pub digits_by : List ℕ → Option (List ℕ)
   digits_by [] = None
   digits_by (high ∷ []) = None
   digits_by (high ∷ low ∷ text) = in_front (hex_byte (hex_value high) (hex_value low)) (written_by text)
 
--- ---- numbers of connections: one or two digits, the first of them no zero
+-- ---- Numbers of connections: one or two digits, the first not zero.
 
 abbrev pub two_digits : ℕ → ℕ → Option ℕ
 two_digits a b = if is_in_range 49 57 a && is_ascii_digit b then Some ((a - 48) * 10 + (b - 48)) else None
@@ -63,9 +63,9 @@ number_in (a ∷ []) = if is_in_range 49 57 a then Some (a - 48) else None
 number_in (a ∷ b ∷ []) = two_digits a b
 number_in (a ∷ b ∷ c ∷ more) = None
 
--- ---- words and lines
+-- ---- Words and lines.
 
--- what stands before the first byte of a value, and behind it where there is one
+-- The bytes before the first byte with the value `mark`, and those after it, if it occurs.
 abbrev pub before : ℕ → List ℕ → List ℕ
 before mark [] = []
 before mark (b ∷ line) = if b == mark then [] else b ∷ before mark line
@@ -93,7 +93,7 @@ delivers None bytes = None
 delivers (Some number) None = None
 delivers (Some number) (Some bytes) = Some (Text number bytes)
 
--- what is told behind the word `open`, `text` or `close`
+-- The delivery of a line, from what follows the word `open`, `text` or `close`.
 abbrev pub open_told : List ℕ → Option Delivery
 open_told line = opens (number_in (first_word line)) (option_and_then role_named (other_words line))
 
@@ -109,6 +109,6 @@ told_behind word line =
     else (if bytes_eq word (codes "text") then text_told line
     else (if bytes_eq word (codes "close") then close_told line else None))
 
--- what a line tells, without its line feed
+-- The delivery of a line without its line feed.
 abbrev pub line_tells : List ℕ → Option Delivery
 line_tells line = option_and_then (told_behind (first_word line)) (other_words line)

@@ -1,6 +1,7 @@
--- The machine of a replay: one share, many connections, and one answer at a time. A delivery reaches one connection, and then
--- what is due is answered, that connection's requests first and else those of the one with the lowest number, until nothing
--- is. An update that is held is a next request that no answer is due to now, so it is looked at again after each answer.
+-- The machine of a replay: one share, many connections, and one answer at a time. A line reaches one connection. Then
+-- the machine answers until it can answer no more: first the requests of that connection, then those of the
+-- connection with the lowest number. A pending update is a next request without an answer yet, so the machine tries
+-- it again after each answer.
 use Rattle.std.specs.Prelude.{ℕ, zero, suc, ◌+◌, ◌-◌, List, [], ◌∷◌, ◌++◌, is_some, Option, Some, None, option_map, replicate, if◌then◌else◌}
 use Rattle.std.specs.List.{slice_get, slice_set, sum_by, fold}
 use Rattle.std.specs.Option.{option_and_then}
@@ -13,15 +14,15 @@ use Rattle.share_replay.specs.declared.delivery.Delivery.{Delivery}
 use Rattle.share_replay.specs.declared.delivery.Delivery.TheVariants.{Open, Text, Close}
 use Rattle.share_replay.specs.declared.ends.End.{End}
 
--- how many connections there may be
+-- The most connections.
 abbrev pub most_connections : ℕ
 most_connections = 64
 
--- ---- the whole machine
+-- ---- The whole machine.
 
 pub record Desk : Type 0 where
   pub history : List Entry
-  -- the connection of each number from 1 on, where it was opened
+  -- the connection of each number from 1, if it was opened
   pub connections : List (Option Connection)
   pub output : List ℕ
 
@@ -34,12 +35,13 @@ connection_at cs place = option_and_then (λ c. c) (slice_get cs place)
 abbrev pub due_at : Settings → List Entry → Option Connection → Option Due
 due_at s h connection = option_and_then (due_on s h) connection
 
--- the place of the lowest number on which something is due, where this is the place of the first
+-- The index of the first connection that can be answered, if the first of these has the index `place`.
 abbrev pub first_due : Settings → List Entry → ℕ → List (Option Connection) → Option ℕ
 first_due s h place [] = None
 first_due s h place (c ∷ cs) = if is_some (due_at s h c) then Some place else first_due s h (place + 1) cs
 
--- the place whose turn it is: that of the connection that was delivered to, where something is due on it
+-- The index of the connection that is answered next: the one that the line reached if it can be answered, otherwise
+-- the first that can.
 abbrev pub turn_place : Settings → List Entry → ℕ → List (Option Connection) → Option ℕ
 turn_place s h place cs = if is_some (due_at s h (connection_at cs place)) then Some place else first_due s h 0 cs
 
@@ -58,7 +60,7 @@ abbrev pub turn_of : Settings → Desk → ℕ → Option Connection → Desk
 turn_of s d place None = d
 turn_of s d place (Some c) = with_turn place d c (due_on s d.history c)
 
--- one answer, where one is due
+-- One answer, if there is one.
 abbrev pub stepped_at : Settings → Option ℕ → Desk → Desk
 stepped_at s None d = d
 stepped_at s (Some place) d = turn_of s d place (connection_at d.connections place)
@@ -66,7 +68,7 @@ stepped_at s (Some place) d = turn_of s d place (connection_at d.connections pla
 abbrev pub stepped : Settings → ℕ → Desk → Desk
 stepped s place d = stepped_at s (turn_place s d.history place d.connections) d
 
--- so many answers, after a delivery at the place
+-- The first `n` answers after a delivery to the connection at `place`.
 abbrev pub answers : Settings → ℕ → ℕ → Desk → Desk
 answers s place zero d = d
 answers s place (suc n) d = stepped s place (answers s place n d)
@@ -78,11 +80,11 @@ left_at (Some c) = left_on c
 abbrev pub most_left : List (Option Connection) → ℕ
 most_left cs = sum_by left_at cs
 
--- nothing is due any more
+-- All answers: afterwards no connection can be answered.
 abbrev pub settled : Settings → ℕ → Desk → Desk
 settled s place d = answers s place (most_left d.connections) d
 
--- ---- lines
+-- ---- Lines.
 
 abbrev pub number_of : Delivery → ℕ
 number_of (Open number role) = number
@@ -92,7 +94,7 @@ number_of (Close number) = number
 abbrev pub line_place : Delivery → ℕ
 line_place delivery = place_of (number_of delivery)
 
--- what a line makes of the connection of its number, and what is written at once
+-- The connection after a line of its number, and what is written at once.
 abbrev pub reached : Delivery → Option Connection → Option Connection
 reached (Open number role) c = Some (opened role)
 reached (Text number bytes) c = option_map (gets bytes) c
@@ -113,7 +115,7 @@ begun delivery d = let c = connection_at d.connections (line_place delivery) in 
 abbrev pub played : Settings → Desk → Delivery → Desk
 played s d delivery = settled s (line_place delivery) (begun delivery d)
 
--- ---- scripts
+-- ---- Scripts.
 
 abbrev pub nobody : List (Option Connection)
 nobody = replicate most_connections None
@@ -124,7 +126,7 @@ begin h = record { history = h; connections = nobody; output = [] }
 abbrev pub script_run : Settings → List Entry → List Delivery → Desk
 script_run s h lines = fold (played s) (begin h) lines
 
--- at the end of a script each connection that has not ended is told how it ends, in order of number
+-- At the end of a script, a line for each connection that has not ended, in order of number.
 abbrev pub last_lines : ℕ → List (Option Connection) → List ℕ
 last_lines number [] = []
 last_lines number (c ∷ cs) = end_line number (option_and_then last_end c) ++ last_lines (number + 1) cs
@@ -132,7 +134,7 @@ last_lines number (c ∷ cs) = end_line number (option_and_then last_end c) ++ l
 abbrev pub output_of : Desk → List ℕ
 output_of d = d.output ++ last_lines 1 d.connections
 
--- what a replay writes, and the history that it leaves
+-- The output of a replay, and the history that it leaves.
 abbrev pub script_bytes : Settings → List Entry → List Delivery → List ℕ
 script_bytes s h lines = output_of (script_run s h lines)
 

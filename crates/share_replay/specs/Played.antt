@@ -1,4 +1,4 @@
--- What the code has of the machine at a moment, and what a replay that broke off leaves.
+-- The state of the machine in the code, and what an interrupted replay leaves.
 use Rattle.std.specs.Prelude.{◌≡◌, ◌⊎◌, ◌<◌, ◌≤◌, ℕ, List, [], take, Option, Some, None}
 use Rattle.std.specs.Io.KnownBytes.{Appends}
 use Rattle.std.specs.List.{slice_get}
@@ -10,9 +10,9 @@ use Rattle.share_replay.specs.Turns.{Due, due_on, left_on, turn_for}
 use Rattle.share_replay.specs.Machine.{Desk, answers, begun, line_place, most_left, output_of, script_run}
 use Rattle.share_replay.specs.declared.delivery.Delivery.{Delivery}
 
--- ---- one connection
+-- ---- One connection.
 
--- what was due was answered
+-- The next answer was given.
 pub record HasAnswered (s : Settings) (number : ℕ) (h : List Entry) (c : Connection) (h' : List Entry) (c' : Connection) (before now : Option (List ℕ)) : Type 0 where
   pub due : Due
   pub is_due : due_on s h c ≡ Some due
@@ -20,12 +20,12 @@ pub record HasAnswered (s : Settings) (number : ℕ) (h : List Entry) (c : Conne
   pub connection : c' ≡ (turn_for number h c due).connection
   pub written : Appends before now (turn_for number h c due).written
 
--- nothing was answered yet, and nothing written
+-- No answer was given, and nothing written.
 pub record IsUntold (h h' : List Entry) (before now : Option (List ℕ)) : Type 0 where
   pub history : h' ≡ h
   pub taken : Appends before now []
 
--- what was due was answered, and a front of it written
+-- The next answer was given, and a prefix of it written.
 pub record IsHalfTold (s : Settings) (number : ℕ) (h : List Entry) (c : Connection) (h' : List Entry) (before now : Option (List ℕ)) : Type 0 where
   pub due : Due
   pub is_due : due_on s h c ≡ Some due
@@ -36,7 +36,7 @@ pub record IsHalfTold (s : Settings) (number : ℕ) (h : List Entry) (c : Connec
 abbrev pub BreaksOff : Settings → ℕ → List Entry → Connection → List Entry → Option (List ℕ) → Option (List ℕ) → Type 0
 BreaksOff s number h c h' before now = IsUntold h h' before now ⊎ IsHalfTold s number h c h' before now
 
--- ---- the place of a number
+-- ---- The connection at an index.
 
 pub record SlotAnswered (s : Settings) (number : ℕ) (h : List Entry) (slot : Option Connection) (h' : List Entry) (slot' : Option Connection) (before now : Option (List ℕ)) : Type 0 where
   pub old : Connection
@@ -53,20 +53,20 @@ pub record SlotHalfTold (s : Settings) (number : ℕ) (h : List Entry) (slot : O
 abbrev pub SlotBreaksOff : Settings → ℕ → List Entry → Option Connection → List Entry → Option (List ℕ) → Option (List ℕ) → Type 0
 SlotBreaksOff s number h slot h' before now = IsUntold h h' before now ⊎ SlotHalfTold s number h slot h' before now
 
--- ---- the machine
+-- ---- The machine.
 
--- this far the machine has come, where `start` is what was taken when it began
+-- The machine has reached `d`; `start` is the output when it began.
 pub record IsAt (d : Desk) (h : List Entry) (cs : List (Option Connection)) (start now : Option (List ℕ)) : Type 0 where
   pub history : h ≡ d.history
   pub connections : cs ≡ d.connections
   pub written : Appends start now d.output
 
--- the same, but only a front of the output was taken
+-- The same, but only a prefix of the output was written.
 pub record IsPart (d : Desk) (h : List Entry) (start now : Option (List ℕ)) : Type 0 where
   pub history : h ≡ d.history
   pub taken : AppendsPrefix start now d.output
 
--- the machine within a line, after so many of its answers, or at the end of the script
+-- The machine within a line after the first `answered` answers, or at the end of the script.
 abbrev pub broken_in : Settings → Desk → Option Delivery → ℕ → Desk
 broken_in s d (Some line) answered = answers s (line_place line) answered (begun line d)
 broken_in s d None answered = record { history = d.history; connections = d.connections; output = output_of d }
@@ -74,12 +74,12 @@ broken_in s d None answered = record { history = d.history; connections = d.conn
 abbrev pub broken_at : Settings → List Entry → List Delivery → ℕ → ℕ → Desk
 broken_at s h lines line answered = broken_in s (script_run s h (take line lines)) (slice_get lines line) answered
 
--- how many answers there may be within the line
+-- The most answers within the line.
 abbrev pub most_answers : Desk → Option Delivery → ℕ
 most_answers d (Some line) = most_left (begun line d).connections
 most_answers d None = 0
 
--- the share has the history of the machine after some of its answers, and a front of what those wrote was taken
+-- The share has the history of the machine after some of its answers, and a prefix of their output was written.
 pub record IsBrokenOff (s : Settings) (h : List Entry) (lines : List Delivery) (h' : List Entry) (before now : Option (List ℕ)) : Type 0 where
   pub line : ℕ
   pub answered : ℕ

@@ -1,4 +1,4 @@
--- Why a text is no script. Want of memory may come whenever.
+-- Why a text is not a script. `Memory` may occur at any time.
 use Rattle.std.specs.Prelude.{◌≡◌, ℕ, List, Err}
 use Rattle.share_replay.specs.Scripts.{script_of}
 use Rattle.share_replay.specs.declared.script.ScriptError.{ScriptError}

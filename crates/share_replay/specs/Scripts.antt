@@ -1,5 +1,5 @@
--- Scripts: lines, each ended by a line feed, of which each opens a connection that was not opened before, with a number
--- from 1 to 64, or names one that was.
+-- Scripts: lines that each end with a line feed. A line opens a new connection, with a number from 1 to 64, or names
+-- one that an earlier line opened.
 use Rattle.std.specs.Prelude.{◌≡◌, ℕ, ◌+◌, get_or, List, [], ◌∷◌, ◌++◌, Bool, true, false, ◌==◌, ◌&&◌, not, Option, Some, None, Result, Ok, Err, if◌then◌else◌}
 use Rattle.std.specs.Int.{is_in_range}
 use Rattle.std.specs.List.{list_any}
@@ -7,7 +7,7 @@ use Rattle.share_replay.specs.declared.delivery.Delivery.{Delivery}
 use Rattle.share_replay.specs.declared.delivery.Delivery.TheVariants.{Open, Text, Close}
 use Rattle.share_replay.specs.Lines.{line_tells}
 
--- the lines of a text that are ended by a line feed, and what stands behind the last of them
+-- The lines of a text that end with a line feed, and the bytes after the last of them.
 abbrev pub longer : ℕ → List (List ℕ) × List ℕ → List (List ℕ) × List ℕ
 longer b ([], last) = ([], b ∷ last)
 longer b (line ∷ lines, last) = ((b ∷ line) ∷ lines, last)
@@ -21,23 +21,23 @@ opens_number number (Open other role) = other == number
 opens_number number (Text other bytes) = false
 opens_number number (Close other) = false
 
--- whether the lines before have opened the connection
+-- Whether the lines before opened the connection.
 abbrev pub is_opened : List Delivery → ℕ → Bool
 is_opened before number = list_any (opens_number number) before
 
--- whether the line may stand behind these
+-- Whether the line may follow those before.
 abbrev pub may_follow : List Delivery → Delivery → Bool
 may_follow before (Open number role) = is_in_range 1 64 number && not (is_opened before number)
 may_follow before (Text number bytes) = is_opened before number
 may_follow before (Close number) = is_opened before number
 
--- each line of these may stand behind those before it
+-- Each of these lines may follow those before it.
 abbrev pub may_all_follow : List Delivery → List Delivery → Bool
 may_all_follow before [] = true
 may_all_follow before (d ∷ ds) = may_follow before d && may_all_follow (before ++ d ∷ []) ds
 
--- what lines read as behind these: all of them, or the number of the first that is refused, where `line` is the number of
--- the first line
+-- The reading of lines after those `before`: all of them, or the number of the first bad one. `line` is the number of
+-- the first line.
 abbrev pub then_read : List Delivery → Option Delivery → ℕ → Result (List Delivery) ℕ → Result (List Delivery) ℕ
 then_read before None line rest = Err line
 then_read before (Some d) line rest = if may_follow before d then rest else Err line
@@ -52,10 +52,10 @@ lines_read before line [] (b ∷ last) = Err line
 lines_read before line (text ∷ texts) last =
     then_read before (line_tells text) line (lines_read (with_told before (line_tells text)) (line + 1) texts last)
 
--- the script that a text is, or its first bad line, counted from 1
+-- The script of a text, or the number of its first bad line, counted from 1.
 abbrev pub script_of : List ℕ → Result (List Delivery) ℕ
 script_of text = lines_read [] 1 (lines_in text).0 (lines_in text).1
 
--- the flags under which numbers were opened
+-- The flags say which numbers were opened.
 abbrev pub AreOpened : List Bool → List Delivery → Type 0
 AreOpened flags before = (number : ℕ) → get_or flags number false ≡ is_opened before number

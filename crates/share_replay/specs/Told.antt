@@ -1,4 +1,4 @@
--- What is to be told on a connection, as the code has it.
+-- The next output on a connection, as the code has it.
 use Rattle.std.specs.Prelude.{◌≡◌, ◌<◌, ℕ, Bool, Some, None}
 use Rattle.http_front.specs.ReplyHeads.{HasReason}
 use Rattle.http_heads.specs.declared.refusal.HeadError.{HeadError}
@@ -9,10 +9,10 @@ use Rattle.share_replies.specs.Answers.{Shared}
 use Rattle.share_replay.specs.Asked.{IsReplied}
 use Rattle.share_replay.specs.Connections.{Connection, asked_on, fault_on}
 use Rattle.share_replay.specs.Turns.{due_on, most_requests}
-use Rattle.share_replay.specs.declared.asking.Told.{Told}
-use Rattle.share_replay.specs.declared.asking.Told.TheVariants.{Reply, Refusal, Nothing}
+use Rattle.share_replay.specs.declared.asking.Output.{Output}
+use Rattle.share_replay.specs.declared.asking.Output.TheVariants.{Reply, Refusal, Nothing}
 
--- a reply to the next ask is due
+-- The reply to the next request.
 pub record IsDueReply (old new : Shared) (number : ℕ) (c : Connection) (said : Said) (close : Bool) : Type 0 where
   pub ask : Ask
   pub asked : asked_on c ≡ Some ask
@@ -20,7 +20,7 @@ pub record IsDueReply (old new : Shared) (number : ℕ) (c : Connection) (said :
   pub closes : close ≡ ask.close
   pub says : IsReplied old new number ask.want said
 
--- a refusal is
+-- A refusal.
 pub record IsDueRefusal (old new : Shared) (c : Connection) (status : ℕ) : Type 0 where
   pub error : HeadError
   pub asked : asked_on c ≡ None
@@ -30,12 +30,12 @@ pub record IsDueRefusal (old new : Shared) (c : Connection) (status : ℕ) : Typ
   pub reason : HasReason status
   pub stays : new ≡ old
 
--- nothing is
+-- Nothing.
 pub record IsNotDue (old new : Shared) (c : Connection) : Type 0 where
   pub none : due_on old.settings old.history c ≡ None
   pub stays : new ≡ old
 
-abbrev pub IsDue : Shared → Shared → ℕ → Connection → Told → Type 0
+abbrev pub IsDue : Shared → Shared → ℕ → Connection → Output → Type 0
 IsDue old new number c (Reply said close) = IsDueReply old new number c said close
 IsDue old new number c (Refusal status) = IsDueRefusal old new c status
 IsDue old new number c Nothing = IsNotDue old new c

@@ -1,4 +1,4 @@
--- What is due on a connection, and what is done then.
+-- The next answer on a connection, and its effect.
 use Rattle.std.specs.Prelude.{ℕ, ◌+◌, ◌-◌, List, [], ◌++◌, Bool, true, ◌==◌, is_some, Option, Some, None, option_map, if◌then◌else◌}
 use Rattle.std.specs.Option.{option_or}
 use Rattle.http_heads.specs.declared.refusal.HeadError.{HeadError}
@@ -15,23 +15,23 @@ use Rattle.share_replay.specs.Ends.{end_line, reply_lines}
 use Rattle.share_replay.specs.declared.ends.End.{End}
 use Rattle.share_replay.specs.declared.ends.End.TheVariants.{Closed, Refused, Spent, Stopped}
 
--- how many requests a connection may have
+-- The most requests of a connection.
 abbrev pub most_requests : ℕ
 most_requests = 65536
 
--- ---- what is due on a connection
+-- ---- The next answer on a connection.
 
 pub data Due : Type 0 where
-  -- the reply to an ask
+  -- the reply to a request
   Answers : (ask : Ask) (reply : Reply) → Due
-  -- that what came is refused
+  -- the refusal of its bytes
   Refuses : (error : HeadError) → Due
 
 abbrev pub due_for : Ask → Answer → Option Due
 due_for ask (Replies reply) = Some (Answers ask reply)
 due_for ask Holds = None
 
--- a refusal stands behind all asks
+-- A refusal comes after all requests.
 abbrev pub due_next : Settings → List Entry → Option Ask → Option HeadError → Option Due
 due_next s h (Some ask) fault = due_for ask (answer_to s h ask.want)
 due_next s h None fault = option_map Refuses fault
@@ -39,15 +39,15 @@ due_next s h None fault = option_map Refuses fault
 abbrev pub due_on : Settings → List Entry → Connection → Option Due
 due_on s h c = if c.is_ended then None else due_next s h (next_ask c) (reading_on c).fault
 
--- ---- what is done where something is due
+-- ---- The effect of an answer.
 
 pub record Turn : Type 0 where
   pub history : List Entry
   pub connection : Connection
   pub written : List ℕ
 
--- that a reply is the last on its connection, by the history after it, the number of requests answered with it, and whether
--- the request asks for the end
+-- How the connection ends after a reply. `h` is the history after it, `served` the number of its requests answered,
+-- and `close` says whether the request closes.
 abbrev pub last_by : List Entry → ℕ → Bool → Option End
 last_by h served close = if is_stopped h then Some Stopped else (if served == most_requests then Some Spent else (if close then Some Closed else None))
 
@@ -61,7 +61,7 @@ turn_at_end number h c reply last end = record {
   written = reply_lines number (reply_bytes reply (is_some last)) ++ end_line number end;
 }
 
--- the reply is written, and where the connection then ends, how; a connection that was closed ends behind its last reply
+-- The reply is written, and then how the connection ends, if it ends. A closed connection ends after its last reply.
 abbrev pub turn_for : ℕ → List Entry → Connection → Due → Turn
 turn_for number h c (Answers ask reply) =
     let more = after h number ask.want in let left = one_more c in let last = last_by more left.served ask.close in
@@ -72,17 +72,17 @@ turn_for number h c (Refuses error) = record {
   written = reply_lines number (refusal_bytes error) ++ end_line number (Some (Refused (status_of error)));
 }
 
--- how many answers there may still be: those to a connection's requests, and a refusal
+-- The most answers that remain: to the requests of a connection, and a refusal.
 abbrev pub left_on : Connection → ℕ
 left_on c = if c.is_ended then 0 else most_requests + 1 - c.served
 
--- the same of a reply that is known by its bytes, which `last` decides, where the history is the one after it
+-- The effect of a reply with given bytes, if `h` is the history after it.
 abbrev pub turn_with : ℕ → List Entry → Connection → (bytes : Bool → List ℕ) → (close : Bool) → Turn
 turn_with number h c bytes close =
     let left = one_more c in let last = last_by h left.served close in let end = option_or last (end_of_input left) in
     record { history = h; connection = ended_by end left; written = reply_lines number (bytes (is_some last)) ++ end_line number end }
 
--- and of a refusal with a status
+-- The effect of a refusal with a status.
 abbrev pub refused_with : ℕ → List Entry → Connection → (status : ℕ) → Turn
 refused_with number h c status = record {
   history = h;

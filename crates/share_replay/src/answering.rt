@@ -1,4 +1,4 @@
-//! One answer on one connection.
+//! Gives one answer on one connection.
 
 ghost use Rattle.std.specs.Prelude.{◌≡◌, ◌<◌, List, true, false, None, is_some, IfOk, OnOk, OnErr, MatchResult};
 ghost use Rattle.std.specs.Io.KnownBytes.{Appends};
@@ -12,7 +12,7 @@ ghost use Rattle.share_replay.specs.Played.{BreaksOff, HasAnswered};
 ghost use Rattle.share_replay.specs.Stops.{CountsFault};
 ghost use Rattle.share_replay.specs.Turns.{due_on, left_on, most_requests, refused_with, turn_with};
 
-use crate::asking::{Told, told_on};
+use crate::asking::{Output, next_output};
 use crate::connection::Connection;
 use crate::ends::End;
 use crate::replay_error::ReplayError;
@@ -23,7 +23,7 @@ use share_asks::BodyForm;
 use share_core::{Said, Share};
 use std::alloc::{AllocError, Global};
 
-/// Answers what is due on the connection of a number, and tells whether anything was.
+/// Gives the next answer on connection `number`, if there is one. Returns whether there was.
 pub(crate) fn answer_on<W: Sink>(
     alloc: Global,
     number: u32,
@@ -39,17 +39,17 @@ pub(crate) fn answer_on<W: Sink>(
     ensures settings { share.new.settings ≡ share.old.settings }
     ensures count { MatchResult result (λ _. W.faults sink.new ≡ W.faults sink.old) (λ e. CountsFault (W.faults sink.old) (W.faults sink.new) e) }
 {
-    match told_on(number, connection, share) {
-        Ok(Told::Reply { said, close }) => {
+    match next_output(number, connection, share) {
+        Ok(Output::Reply { said, close }) => {
             reply_on(alloc, number, connection, &said, share, close, sink)
         }
-        Ok(Told::Refusal { status }) => refuse_on(alloc, number, connection, status, sink),
-        Ok(Told::Nothing) => Ok(false),
+        Ok(Output::Refusal { status }) => refuse_on(alloc, number, connection, status, sink),
+        Ok(Output::Nothing) => Ok(false),
         Err(AllocError) => Err(ReplayError::Memory),
     }
 }
 
-// Writes a reply to the next request, and how the connection ends behind it, if it does. Answers that it did.
+// Writes a reply to the next request, and how the connection ends after it, if it ends. Returns `true`.
 fn reply_on<W: Sink>(
     alloc: Global,
     number: u32,
@@ -92,7 +92,7 @@ fn reply_on<W: Sink>(
     }
 }
 
-// Writes that what came is refused, and that the connection ends. Answers that it did.
+// Writes the refusal, and that the connection ends. Returns `true`.
 fn refuse_on<W: Sink>(
     alloc: Global,
     number: u32,

@@ -1,4 +1,4 @@
-//! What is due on a connection.
+//! The next answer on a connection.
 
 ghost use Rattle.std.specs.Prelude.{◌≡◌, ◌<◌, IfOk, OnErr};
 ghost use Rattle.share_asks.specs.Valid.{IsValidWant};
@@ -14,44 +14,44 @@ use std::alloc::AllocError;
 use std::marker::Brand;
 use std::sync::ledger::{Blank, Ledger};
 
-/// What is to be told on a connection.
+/// The next output on a connection.
 #[derive(Drop)]
-pub(crate) enum Told {
-    /// The reply to its next request, behind which the connection ends where the request asks for it.
+pub(crate) enum Output {
+    /// The reply to its next request. If `close`, the connection ends after it.
     Reply { said: Said, close: bool },
-    /// That what came is refused, by a status.
+    /// The refusal of its bytes, with its status.
     Refusal { status: u16 },
     Nothing,
 }
 
-/// What is to be told on the connection of a number. The share answers its next request.
-pub(crate) fn told_on(
+/// Returns the next output on connection `number`. The share answers its next request.
+pub(crate) fn next_output(
     number: u32,
     connection: &Connection,
     share: &mut Share,
-) -> Result<Told, AllocError>
+) -> Result<Output, AllocError>
     ensures told { IfOk result (IsDue share.old share.new number connection.now) }
     ensures unchanged { OnErr result (share.new ≡ share.old) }
 {
     match connection.next() {
         Some(ask) => match said_to(share, number, ask) {
-            Ok(Some(said)) => Ok(Told::Reply {
+            Ok(Some(said)) => Ok(Output::Reply {
                 said,
                 close: ask.close,
             }),
-            Ok(None) => Ok(Told::Nothing),
+            Ok(None) => Ok(Output::Nothing),
             Err(error) => Err(error),
         },
         None => match connection.fault() {
-            Some(error) => Ok(Told::Refusal {
+            Some(error) => Ok(Output::Refusal {
                 status: status_of(error),
             }),
-            None => Ok(Told::Nothing),
+            None => Ok(Output::Nothing),
         },
     }
 }
 
-// What the share says to an ask of the connection of a number; `None` where the ask is held.
+// Returns the share's response to a request of connection `number`; `None` if the update is pending.
 fn said_to(share: &mut Share, number: u32, ask: &Ask) -> Result<Option<Said>, AllocError>
     requires valid { IsValidWant ask.now.want }
     ensures said { IfOk result (IsSaidTo share.old share.new number ask.now.want) }

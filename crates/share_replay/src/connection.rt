@@ -15,10 +15,10 @@ use share_core::Share;
 use std::alloc::{AllocError, Global};
 use std::marker::Model;
 
-/// How many requests a connection may have.
+/// The most requests of a connection.
 const MOST_REQUESTS: u32 = 65_536;
 
-/// A connection: what came over it, and how far it was answered.
+/// A connection: the bytes that came over it, and how many requests were answered.
 #[derive(Drop)]
 pub(crate) struct Connection {
     intake: Intake,
@@ -53,7 +53,7 @@ impl Connection {
         })
     }
 
-    /// Bytes come over it, unless it was closed or has ended. Where there is no memory for them, it is answered no more.
+    /// Delivers bytes, unless the connection was closed or has ended. If an allocation fails, the connection ends.
     pub(crate) fn deliver(&mut self, more: &[u8]) -> Result<(), AllocError>
         ensures { OnOk result (self.new ≡ gets more.now self.old) }
     {
@@ -69,7 +69,7 @@ impl Connection {
         }
     }
 
-    /// No more bytes come. It ends at once where nothing waits.
+    /// Ends the input. Returns how the connection ends, if it ends at once because it is idle.
     pub(crate) fn close(&mut self) -> Option<End>
         ensures closed { self.new ≡ closes self.old }
         ensures told { result ≡ end_at_close self.old }
@@ -83,7 +83,7 @@ impl Connection {
         end
     }
 
-    /// The request that is to be answered next, unless the connection has ended.
+    /// Returns the next request, unless the connection has ended.
     pub(crate) fn next(&self) -> Option<&Ask>
         ensures asked { option_copied result ≡ asked_on self.now }
         ensures valid { IfSome result (λ ask. IsValidWant ask.now.want) }
@@ -95,7 +95,7 @@ impl Connection {
         self.intake.next.as_ref()
     }
 
-    /// Why what came is refused, where nothing is asked before it.
+    /// Returns the error of the bytes, if all requests before them were answered.
     pub(crate) fn fault(&self) -> Option<&HeadError>
         requires { asked_on self.now ≡ None }
         ensures { option_copied result ≡ fault_on self.now }
@@ -106,8 +106,8 @@ impl Connection {
         self.intake.fault.as_ref()
     }
 
-    /// How it ends behind the reply to its next request, where that is the last one, by whether the share is stopped then
-    /// and whether the request asks for the end.
+    /// Returns how the connection ends after the reply to its next request, if that is its last. `close` says whether
+    /// the request closes.
     pub(crate) fn last_by(&self, share: &Share, close: bool) -> Option<End>
         requires { self.now.served < most_requests }
         ensures { result ≡ last_by share.now.history (self.now.served + 1) close }
@@ -123,8 +123,8 @@ impl Connection {
         }
     }
 
-    /// Its next request was answered, by the last reply where an end is given. Answers how it ends then, if it does. Where
-    /// there is no memory to read on, it is answered no more.
+    /// Counts an answered request; `last` is given if its reply was the last. Returns how the connection ends, if it
+    /// ends. If an allocation fails, the connection ends.
     pub(crate) fn count(&mut self, last: Option<End>) -> Result<Option<End>, AllocError>
         requires asked { is_some (asked_on self.old) ≡ true }
         requires few { last ≡ None → self.old.served + 1 < most_requests }
@@ -151,14 +151,14 @@ impl Connection {
         Ok(end)
     }
 
-    /// Nothing is answered on it any more.
+    /// Ends the connection: no more requests are answered.
     pub(crate) fn end(&mut self)
         ensures { self.new ≡ record self.old { is_ended = true } }
     {
         self.is_ended = true;
     }
 
-    /// How it ends at the end of a script, unless it has ended.
+    /// Returns how the connection ends at the end of a script, unless it has ended.
     pub(crate) fn last_end(&self) -> Option<End>
         ensures { result ≡ last_end self.now }
     {
@@ -171,7 +171,7 @@ impl Connection {
         }
     }
 
-    // How it ends where no more bytes come and nothing waits.
+    // Returns how the connection ends at the end of its input, if it is idle.
     fn end_if_idle(&self) -> Option<End>
         requires { self.now.is_ended ≡ false }
         ensures { result ≡ end_if_idle self.now }

@@ -1,15 +1,15 @@
-//! What one line of a script does.
+//! The lines of a script.
 
 use dmap_tags::Bytes;
 use share_asks::Role;
 
-/// What a line of a script does to the connection of a number.
+/// A line of a script: what it does to connection `number`.
 #[derive(Debug, Drop)]
 pub enum Delivery {
-    /// The connection opens, in this role.
+    /// Opens the connection, in this role.
     Open { number: u32, role: Role },
-    /// Bytes come over it.
+    /// Delivers bytes over it.
     Text { number: u32, bytes: Bytes },
-    /// No more bytes come over it.
+    /// Ends its input.
     Close { number: u32 },
 }

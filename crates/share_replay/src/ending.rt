@@ -1,4 +1,4 @@
-//! How connections end at the end of a script.
+//! Ends of connections at the end of a script.
 
 ghost use Rattle.std.specs.Prelude.{◌≡◌, ◌≤◌, length, option_copied, OnOk, OnErr, MatchResult};
 ghost use Rattle.std.specs.Io.KnownBytes.{Appends};
@@ -16,7 +16,7 @@ use crate::telling::tell_end;
 use daap_outside::Sink;
 use std::alloc::Global;
 
-/// Tells of each connection that has not ended how it ends, in order of number.
+/// Writes for each connection that has not ended how it ends, in order of number.
 pub(crate) fn tell_last_ends<W: Sink>(
     alloc: Global,
     connections: &[Option<Connection>],

@@ -1,18 +1,18 @@
-//! How connections end.
+//! Ends of connections.
 
-/// How a connection ends, in the words of a replay.
+/// How a connection ends.
 #[derive(Clone, Copy, Debug, PartialEq, Eq)]
 pub enum End {
-    /// Its bytes ended between two requests, or its last request asked for the end.
+    /// Its input ended between two requests, or its last request closed it.
     Closed,
-    /// Its bytes ended inside a request; so many had come.
+    /// Its input ended inside a request, after `at` bytes.
     Cut { at: u64 },
-    /// No further bytes could mend what came, and it was told this status.
+    /// Its bytes were refused with this status: no more bytes could make them a request.
     Refused { status: u16 },
-    /// It had as many requests as a connection may have.
+    /// It had the most requests of a connection.
     Spent,
     /// The share was stopped.
     Stopped,
-    /// An update was still held when the script ended.
+    /// An update was still pending at the end of the script.
     Held,
 }

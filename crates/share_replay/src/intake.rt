@@ -1,4 +1,4 @@
-//! What came over a connection, and how far it was read.
+//! The bytes of a connection, and how far they were read.
 
 ghost use Rattle.std.specs.Prelude.{◌≡◌, ◌≢◌, ◌≤◌, [], ◌∷◌, ◌++◌, ℕ, List, length, Some, None, option_copied, IfOk, OnOk};
 ghost use Rattle.http_heads.specs.declared.refusal.HeadError.TheVariants.{Memory};
@@ -9,7 +9,7 @@ use http_front::{HeadError, HeadReader};
 use share_asks::{Ask, Role};
 use std::alloc::{AllocError, Global};
 
-/// All bytes that came over a connection, and the request among them that is to be answered next.
+/// All bytes that came over a connection, and the next request in them.
 #[derive(Drop)]
 pub(crate) struct Intake {
     pub(crate) reader: HeadReader,
@@ -20,7 +20,7 @@ pub(crate) struct Intake {
 }
 
 impl Intake {
-    /// An intake over which nothing came.
+    /// Returns an intake without bytes.
     pub(crate) fn new(alloc: Global, role: Role) -> Result<Intake, AllocError>
         ensures role { IfOk result (λ i. i.reader.role ≡ role) }
         ensures bytes { IfOk result (λ i. i.bytes.items ≡ []) }
@@ -36,7 +36,7 @@ impl Intake {
         })
     }
 
-    /// Takes further bytes, and reads up to the end of the next request, where none is known.
+    /// Appends bytes. If the next request is not known, reads to its end.
     pub(crate) fn take(&mut self, more: &[u8]) -> Result<(), AllocError>
         requires { self.old.fed ≤ length self.old.bytes.items }
         ensures within { self.new.fed ≤ length self.new.bytes.items }
@@ -48,7 +48,7 @@ impl Intake {
         self.read_on()
     }
 
-    /// The next request was answered: reads up to the end of the one behind it.
+    /// Drops the next request, which was answered, and reads to the end of the following one.
     pub(crate) fn pass(&mut self) -> Result<(), AllocError>
         requires { self.old.fed ≤ length self.old.bytes.items }
         ensures within { self.new.fed ≤ length self.new.bytes.items }
@@ -60,7 +60,7 @@ impl Intake {
         self.read_on()
     }
 
-    // Reads up to the end of the next request, where none is known.
+    // Reads to the end of the next request, if it is not known.
     fn read_on(&mut self) -> Result<(), AllocError>
         requires { self.old.fed ≤ length self.old.bytes.items }
         ensures within { self.new.fed ≤ length self.new.bytes.items }
@@ -98,7 +98,7 @@ fn put_fault(place: &mut Option<HeadError>, fault: HeadError)
     *place = Some(fault);
 }
 
-// A refusal, and no want of memory.
+// Returns the error if it is a refusal.
 fn unless_memory(error: HeadError) -> Result<HeadError, AllocError>
     ensures same { IfOk result (λ refusal. refusal ≡ error) }
     ensures fault { IfOk result (λ refusal. refusal ≢ Memory) }

@@ -1,4 +1,4 @@
-//! What holds of all replays. Each function does nothing; its contract is a fact that follows from the definitions.
+//! Theorems about all replays. Each function has an empty body; its contract is the theorem.
 
 ghost use Rattle.share_replay.specs.Laws.{NothingIsPlayed, HistoriesGoOn, OutputsGoOn, EndedConnectionsRest, LinesByTheByte};
 
@@ -7,22 +7,22 @@ pub fn nothing_is_played()
     ensures { NothingIsPlayed }
 {}
 
-/// A script only adds to the share's history.
+/// A script only appends to the share's history.
 pub fn histories_go_on()
     ensures { HistoriesGoOn }
 {}
 
-/// What was written when a replay broke off is a front of what the script writes.
+/// The output of an interrupted replay is a prefix of the script's output.
 pub fn outputs_go_on()
     ensures { OutputsGoOn }
 {}
 
-/// A connection that has ended is answered nothing, and told nothing more.
+/// A connection that has ended gets no answer and no more bytes.
 pub fn ended_connections_rest()
     ensures { EndedConnectionsRest }
 {}
 
-/// How some ends, and a reply, stand in the output.
+/// Some ends and a reply, byte by byte.
 pub fn lines_by_the_byte()
     ensures { LinesByTheByte }
 {}

@@ -1,4 +1,4 @@
-//! Scripts of what comes over many connections, and what a share answers to them, one answer at a time.
+//! Scripts of what comes over many connections, and replays of them to a share, one answer at a time.
 #![tactic(auto)]
 
 mod answering;

@@ -1,4 +1,4 @@
-//! One line of a script.
+//! Reads one line of a script.
 
 ghost use Rattle.std.specs.Prelude.{◌≡◌, ◌≢◌, [], ◌<◌, length, Some, None, IfOk, IfSome, MatchOption};
 ghost use Rattle.share_replay.specs.Lines.{hex_value, escape_of, hex_byte, in_front, written_by, number_in, before, behind, first_word, other_words, role_named, open_told, text_told, close_told, line_tells};
@@ -8,7 +8,7 @@ use dmap_tags::Bytes;
 use share_asks::Role;
 use std::alloc::{AllocError, Global};
 
-/// What a line tells, without its line feed; `None` where it tells nothing.
+/// Returns the delivery of a line without its line feed; `None` if the line is malformed.
 pub(crate) fn read_line(alloc: Global, line: &[u8]) -> Result<Option<Delivery>, AllocError>
     ensures { IfOk result (λ told. told ≡ line_tells line.now) }
 {
@@ -58,7 +58,7 @@ fn read_close(rest: &[u8]) -> Option<Delivery>
     Some(Delivery::Close { number })
 }
 
-/// What stands before the first space, and what behind it.
+/// Returns what precedes the first space, and what follows it.
 fn split_word(line: &[u8]) -> Option<(&[u8], &[u8])>
     ensures { MatchOption result (other_words line.now ≡ None)
         (λ r. (r.0.now ≡ first_word line.now) × (other_words line.now ≡ Some r.1.now)) }
@@ -66,7 +66,7 @@ fn split_word(line: &[u8]) -> Option<(&[u8], &[u8])>
     split_once_at(line, b' ')
 }
 
-/// What stands before the first byte of that value, and what behind it.
+/// Returns what precedes the first byte with the value `mark`, and what follows it.
 pub(crate) fn split_once_at(bytes: &[u8], mark: u8) -> Option<(&[u8], &[u8])>
     ensures { MatchOption result (behind mark bytes.now ≡ None)
         (λ r. (r.0.now ≡ before mark bytes.now) × (behind mark bytes.now ≡ Some r.1.now)) }
@@ -79,7 +79,7 @@ pub(crate) fn split_once_at(bytes: &[u8], mark: u8) -> Option<(&[u8], &[u8])>
     None
 }
 
-/// A number of one or two digits, without a zero in front.
+/// Returns the value of a number of one or two digits without a leading zero.
 fn read_number(digits: &[u8]) -> Option<u32>
     ensures { result ≡ number_in digits.now }
 {
@@ -104,7 +104,7 @@ fn role_named(word: &[u8]) -> Option<Role>
     }
 }
 
-/// The bytes that a text writes; `None` where it has a byte or an escape that may not stand there.
+/// Returns the bytes that a text encodes; `None` if a byte or an escape is malformed.
 #[tactic(auto, using(crate::proofs::Texts::one_byte_more, crate::proofs::Texts::none_in_front))]
 fn unescaped(alloc: Global, text: &[u8]) -> Result<Option<Bytes>, AllocError>
     ensures { IfOk result (λ bytes. bytes ≡ written_by text.now) }
@@ -122,7 +122,7 @@ fn unescaped(alloc: Global, text: &[u8]) -> Result<Option<Bytes>, AllocError>
     }
 }
 
-/// The byte that a text writes first, and the text behind it.
+/// Returns the first byte that a text encodes, and the text after it.
 fn first_byte(text: &[u8]) -> Option<(u8, &[u8])>
     ensures written { MatchOption result (text.now ≢ [] → written_by text.now ≡ None)
         (λ r. written_by text.now ≡ in_front (Some r.0) (written_by r.1.now)) }
@@ -156,7 +156,7 @@ fn hex_byte(high: u8, low: u8) -> Option<u8>
     Some(high * 16 + low)
 }
 
-/// The value of a hex digit.
+/// Returns the value of a hex digit.
 fn hex_value(digit: u8) -> Option<u8>
     ensures value { result ≡ hex_value digit }
     ensures small { IfSome result (λ value. value < 16) }

@@ -1,4 +1,4 @@
-//! Answers behind a line of a script, one at a time, until nothing is due.
+//! Plays a line of a script, and gives all answers that it makes possible.
 
 ghost use Rattle.std.specs.Prelude.{◌≡◌, ◌≤◌, ◌<◌, ◌⊎◌, ℕ, List, true, false, length, is_some, Some, None, Option, IfOk, OnOk, OnErr, MatchResult};
 ghost use Rattle.share_replay.specs.Machine.{Desk, answers, begun, connection_at, due_at, first_due, left_at, line_place, most_connections, most_left, played, settled, stepped, stepped_at, turn_place};
@@ -14,7 +14,7 @@ use daap_outside::Sink;
 use share_core::Share;
 use std::alloc::Global;
 
-/// Plays one line, and answers what is due then.
+/// Plays one line, and answers until no connection can be answered.
 pub(crate) fn play<W: Sink>(
     alloc: Global,
     line: &Delivery,
@@ -36,7 +36,7 @@ pub(crate) fn play<W: Sink>(
     }
 }
 
-// Answers until nothing is due.
+// Answers until no connection can be answered.
 fn settle<W: Sink>(
     alloc: Global,
     place: usize,
@@ -62,7 +62,7 @@ fn settle<W: Sink>(
     Ok(())
 }
 
-// One answer, of the connection at the place where something is due on it, and else of the first on which something is.
+// Gives one answer: on the connection at `place` if it has one, otherwise on the first connection that has.
 fn answer_one<W: Sink>(
     alloc: Global,
     place: usize,
@@ -89,7 +89,7 @@ fn answer_one<W: Sink>(
     }
 }
 
-// One answer, of the first connection on which something is due.
+// Gives one answer, on the first connection that has one.
 fn answer_first<W: Sink>(
     alloc: Global,
     connections: &mut [Option<Connection>],
@@ -119,7 +119,7 @@ fn answer_first<W: Sink>(
     Ok(false)
 }
 
-// Answers what is due on the connection at a place, where there is one.
+// Gives the next answer on the connection at `place`, if there is one.
 fn answer_at<W: Sink>(
     alloc: Global,
     place: usize,

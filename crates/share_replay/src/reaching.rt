@@ -1,4 +1,4 @@
-//! What a line of a script does to the connection of its number.
+//! The effect of a line of a script on its connection.
 
 ghost use Rattle.std.specs.Prelude.{◌≡◌, IfOk, OnOk, OnErr, MatchResult, Some, option_map, slice_set};
 ghost use Rattle.share_replay.specs.Connections.{gets};
@@ -16,10 +16,10 @@ use crate::telling::tell_end;
 use daap_outside::Sink;
 use std::alloc::{AllocError, Global};
 
-/// How many connections there may be.
+/// The most connections.
 const MOST_CONNECTIONS: usize = 64;
 
-/// The places of all numbers, none of which is opened.
+/// Returns the list of all connections, none of them open.
 pub(crate) fn nobody(alloc: Global) -> Result<Vec<Option<Connection>>, AllocError>
     ensures { IfOk result (λ cs. cs.items ≡ nobody) }
 {
@@ -30,7 +30,7 @@ pub(crate) fn nobody(alloc: Global) -> Result<Vec<Option<Connection>>, AllocErro
     Ok(connections)
 }
 
-/// The place of the connection of a line.
+/// Returns the index of a line's connection.
 pub(crate) fn place_of(line: &Delivery) -> usize
     ensures { result ≡ line_place line.now }
 {
@@ -41,7 +41,7 @@ pub(crate) fn place_of(line: &Delivery) -> usize
     }
 }
 
-/// Does to the connection of a line what the line says, and tells how it ends, where it ends at once.
+/// Changes the connection of a line as the line says. Writes how it ends, if it ends at once.
 pub(crate) fn reach<W: Sink>(
     alloc: Global,
     line: &Delivery,

@@ -1,10 +1,10 @@
-//! Why a replay broke off.
+//! Errors of a replay.
 
 use daap_outside::Failed;
 use std::alloc::AllocError;
 use thiserror::Error;
 
-/// Why a replay broke off. What it had answered until then, it has answered.
+/// Why a replay was interrupted. Answers that it gave before remain.
 #[derive(Debug, Drop, PartialEq, Eq, Error)]
 pub enum ReplayError {
     /// The sink failed.

@@ -1,4 +1,4 @@
-//! The machine of a replay.
+//! Plays a script.
 
 ghost use Rattle.std.specs.Prelude.{◌≡◌, OnOk, OnErr, MatchResult};
 ghost use Rattle.std.specs.Io.KnownBytes.{Appends};
@@ -16,12 +16,12 @@ use daap_outside::Sink;
 use share_core::Share;
 use std::alloc::Global;
 
-/// Plays a script to a share, and writes what is answered.
+/// Plays `script` to `share`, and writes the answers to `sink`.
 ///
-/// Each line of the script reaches one connection; then what is due is answered, that connection's requests first, until
-/// nothing is. At the end of the script each connection that has not ended is told how it ends. After an `Err` the share has
-/// the history of the machine after some of its answers, and what the sink took is a front of what those wrote. What comes
-/// over a connection is kept until the end of the replay.
+/// Each line reaches one connection. Then the share answers until no connection can be answered, that connection
+/// first. At the end of the script a line is written for each connection that has not ended. After an `Err` the share
+/// has the history after some of these answers, and the sink a prefix of their output. The bytes of a connection are
+/// kept until the end of the replay.
 pub fn replay<W: Sink>(
     alloc: Global,
     script: &Script,

@@ -1,4 +1,4 @@
-//! Scripts, and how they are read.
+//! Reads scripts.
 
 ghost use Rattle.std.specs.Prelude.{◌≡◌, ◌++◌, ◌∷◌, [], ℕ, List, true, false, Some, None, Ok, length, get_or, slice_set, ◌+◌, ◌≤◌, IfOk, IfErr, MatchOption, ◌&&◌, not};
 ghost use Rattle.std.specs.Int.{is_in_range};
@@ -16,8 +16,7 @@ use thiserror::Error;
 /// Why a script was not read.
 #[derive(Debug, Drop, PartialEq, Eq, Error)]
 pub enum ScriptError {
-    /// The first line, counted from 1, that is none of a script's, or may not stand behind those before it. A last
-    /// line without a line feed is one.
+    /// The first line, counted from 1, that is malformed, may not follow those before it, or has no line feed.
     #[error("line {line}")]
     Line { line: u64 },
     #[error("memory")]
@@ -46,7 +45,7 @@ impl<T: Drop> From<AllocFailed<T>> for ScriptError {
     }
 }
 
-/// The lines of a script, each of which may stand behind those before it.
+/// The lines of a script, each of which may follow those before it.
 #[derive(Debug, Drop)]
 pub struct Script {
     lines: Vec<Delivery>,
@@ -77,7 +76,7 @@ impl Script {
         Ok(Script { lines })
     }
 
-    /// Its lines, in order.
+    /// Returns its lines, in order.
     pub fn lines(&self) -> &[Delivery]
         ensures lines { result.now ≡ self.now }
         ensures follow { may_all_follow [] self.now ≡ true }
@@ -113,7 +112,7 @@ fn read_lines(alloc: Global, text: &[u8]) -> Result<Vec<Delivery>, ScriptError>
     Ok(lines)
 }
 
-/// The first line without its line feed, and what stands behind that.
+/// Returns the first line without its line feed, and what follows.
 fn split_line(text: &[u8]) -> Option<(&[u8], &[u8])>
     ensures lines { MatchOption result (lines_in text.now ≡ ([], text.now))
         (λ r. lines_in text.now ≡ (r.0.now ∷ (lines_in r.1.now).0, (lines_in r.1.now).1)) }
@@ -122,7 +121,7 @@ fn split_line(text: &[u8]) -> Option<(&[u8], &[u8])>
     split_once_at(text, b'\n')
 }
 
-/// The flags of the numbers up to 64, none of which is opened.
+/// Returns the flags of the numbers up to 64, none of them opened.
 fn none_opened() -> [bool; 65]
     ensures size { length result ≡ 65 }
     ensures none { AreOpened result [] }
@@ -130,7 +129,8 @@ fn none_opened() -> [bool; 65]
     [false; 65]
 }
 
-/// Whether a line may stand behind others, which have opened these numbers.
+/// Returns whether a line may follow others, whose opened numbers are the flags `opened`. Sets the flag of a
+/// connection that it opens.
 fn follow(opened: &mut [bool], told: &Delivery) -> bool
     requires { length opened.old ≡ 65 }
     ensures { (lines : List Delivery) → AreOpened opened.old lines

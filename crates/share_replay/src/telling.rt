@@ -1,4 +1,4 @@
-//! The lines of a replay's output.
+//! Writes the lines of a replay's output.
 
 ghost use Rattle.std.specs.Prelude.{◌≡◌, ◌+◌, ◌++◌, ◌∷◌, [], codes, decimal, length, IfOk, OnOk, OnErr, MatchResult};
 ghost use Rattle.std.specs.Io.KnownBytes.{Appends};
@@ -19,7 +19,7 @@ use listing_plan::Plan;
 use share_asks::BodyForm;
 use std::alloc::{AllocError, Global};
 
-/// Writes a reply's bytes, below a line that tells whose they are and how many.
+/// Writes the bytes of a reply, after a line with the number of its connection and their count.
 pub(crate) fn tell_reply<W: Sink>(
     alloc: Global,
     number: u32,
@@ -43,7 +43,7 @@ pub(crate) fn tell_reply<W: Sink>(
     }
 }
 
-/// Writes the line of an end, where there is one.
+/// Writes the line of an end, if there is one.
 pub(crate) fn tell_end<W: Sink>(
     alloc: Global,
     number: u32,
@@ -61,7 +61,7 @@ pub(crate) fn tell_end<W: Sink>(
     }
 }
 
-// What stands before a reply's body: the line of the reply, and its head.
+// Returns what precedes a reply's body: the line of the reply, and its head.
 fn reply_front(
     alloc: Global,
     number: u32,
@@ -83,7 +83,7 @@ fn reply_front(
     Ok(text)
 }
 
-// Writes what stands before a body, the body, and a line feed.
+// Writes what precedes a body, the body, and a line feed.
 fn write_parts<W: Sink>(front: &[u8], body: &Plan, sink: &mut W) -> Result<(), Failed>
     requires { IsWritable body.now }
     ensures written { OnOk result (Appends (W.taken sink.old) (W.taken sink.new) (front.now ++ (plan_bytes body.now ++ 10 ∷ []))) }

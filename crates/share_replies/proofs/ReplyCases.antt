@@ -13,11 +13,11 @@ use Rattle.share_asks.specs.declared.ask.Want.TheVariants.{ServerInfo, Codes, Lo
 use Rattle.share_replies.specs.Settings.{Settings}
 use Rattle.share_replies.specs.Replies.{Body, Nothing, Allowed, Line, Tagged, Reply, Answer, Replies, Holds, request_fault, lacks_session, lacks_container, records_fault, meets_limit, refusal, success, is_held, reply_with, answer_to}
 
--- where a refusal is told, it has the property
+-- if a refusal is given, it has the property
 abbrev pub all_have : (ℕ × Body → Bool) → Option (ℕ × Body) → Bool
 all_have has found = option_map_or has found true
 
--- each refusal has the property, whatever line or method it tells
+-- each refusal has the property, whatever line or method it states
 pub record HaveRefusals (has : ℕ × Body → Bool) : Type 0 where
   pub line : (text : List ℕ) → has (400, Line text) ≡ true
   pub session : has (403, Nothing) ≡ true
@@ -26,7 +26,7 @@ pub record HaveRefusals (has : ℕ × Body → Bool) : Type 0 where
   pub stopped : has (503, Nothing) ≡ true
   pub limit : has (507, Nothing) ≡ true
 
--- each success has the property, whatever tag it tells
+-- each success has the property, whatever its tag
 pub record HaveSuccesses (has : ℕ × Body → Bool) : Type 0 where
   pub tag : (tag : Tree) → has (200, Tagged tag) ≡ true
   pub nothing : has (204, Nothing) ≡ true
@@ -71,7 +71,7 @@ records_have has (Values session browse query) r = refl
 records_have has Stop r = refl
 records_have has (Bad fault) r = refl
 
--- so each refusal of a want has it
+-- so each refusal of a request has it
 pub refusals_have : (has : ℕ × Body → Bool) (h : List Entry) (want : Want) → HaveRefusals has → all_have has (refusal h want) ≡ true
 refusals_have has h want r =
     or_have has (only_if (is_stopped h) (503, Nothing)) _ (only_have has (is_stopped h) (503, Nothing) r.stopped)
@@ -81,7 +81,7 @@ refusals_have has h want r =
     (or_have has (records_fault want) _ (records_have has want r)
     (or_have has (only_if (meets_limit h want) (507, Nothing)) None (only_have has (meets_limit h want) (507, Nothing) r.limit) refl)))))
 
--- what a success is told as, the two that are refused before among them
+-- the success of each request, among them the two that are refused before
 successes_have : (has : ℕ × Body → Bool) (s : Settings) (h : List Entry) (want : Want) → HaveRefusals has → HaveSuccesses has → has (success s h want) ≡ true
 successes_have has s h ServerInfo r x = x.tag _
 successes_have has s h Codes r x = x.tag _
@@ -101,7 +101,7 @@ successes_have has s h (Bad (Method allow)) r x = r.method allow
 successes_have has s h (Bad (Parameter name)) r x = r.line _
 successes_have has s h (Bad (Query error)) r x = r.line _
 
--- an answer that replies has the property
+-- a reply has the property; a pending update has it trivially
 abbrev answer_has : (ℕ × Body → Bool) → Answer → Bool
 answer_has has (Replies reply) = has (reply.status, reply.body)
 answer_has has Holds = true

@@ -30,7 +30,7 @@ no_reply_is_a_failure s h want reply is =
 
 -- ---- a share that was stopped
 
--- the session of an answer by whether the share was stopped
+-- the session of a reply, by whether the share is stopped
 nobody : (h : List Entry) (want : Want) → is_stopped h ≡ true → session_of h want ≡ 0
 nobody h Login is = rw is refl
 nobody h ServerInfo is = refl
@@ -79,7 +79,7 @@ forbidden_refusal : (h : List Entry) (want : Want) → is_stopped h ≡ false �
     → refusal h want ≡ Some (403, Nothing)
 forbidden_refusal h want goes_on fine lacks = rw (goes_on, fine, lacks) refl
 
--- what needs a session is no faulty request, and its answer is of that session or of none
+-- a request that needs a session is not malformed, and its reply is for that session or for none
 needs_one : (h : List Entry) (want : Want) (session : ℕ) → needed want ≡ Some session
     → (request_fault want ≡ None) × (session_of h want ≡ option_map_or (λ id. cond (not (is_stopped h) && is_live h id) id 0) (needed want) 0)
 needs_one h ServerInfo session is = absurd (true≢false (sym (ap is_some is)))
@@ -105,7 +105,7 @@ others_are_forbidden s h want session goes_on is dead =
 
 -- ---- what is added
 
--- what is added is what the want makes
+-- the added entry is the one that a success makes
 was_made : (refused : Bool) (made : Option Entry) (e : Entry) → cond refused None made ≡ Some e → made ≡ Some e
 was_made true made e is = absurd (true≢false (sym (ap is_some is)))
 was_made false made e is = is
@@ -151,13 +151,13 @@ readers_change_nothing h by want e quiet is =
     let none : (option_map_or is_edit (made_by by h want) false ≡ false) × (option_map_or is_stop (made_by by h want) false ≡ false) = made_quietly by h want quiet in
     (sym (ap (λ o. option_map_or is_edit o false) made) ∙ none.0, sym (ap (λ o. option_map_or is_stop o false) made) ∙ none.1)
 
--- ---- what is held
+-- ---- pending updates
 
 abbrev holds_on : Answer → Bool
 holds_on (Replies reply) = false
 holds_on Holds = true
 
--- only an update is held, and it makes no entry
+-- only an update is pending, and it makes no entry
 held_made : (s : Settings) (by : ℕ) (h : List Entry) (want : Want) → cond (is_held h want) Holds (reply_with h want (success s h want)) ≡ Holds
     → made_by by h want ≡ None
 held_made s by h ServerInfo is = refl

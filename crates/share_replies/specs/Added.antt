@@ -1,5 +1,5 @@
--- What an answer adds to the history: nothing where the want is refused, and else the one entry of a login, a
--- logout, a batch that has edits, or a stop.
+-- What an answer adds to the history: nothing if the request is refused, otherwise the one entry of a login, a
+-- logout, a batch with edits, or a stop.
 use Rattle.std.specs.Prelude.{ℕ, List, ◌∷◌, ◌++◌, Option, Some, None, is_some, Ok, if◌then◌else◌}
 use Rattle.std.specs.Option.{option_to_list}
 use Rattle.item_model.specs.declared.changes.Entry.{Entry}
@@ -9,7 +9,7 @@ use Rattle.share_asks.specs.declared.ask.Want.{Want}
 use Rattle.share_asks.specs.declared.ask.Want.TheVariants.{Login, Logout, Edit, Stop}
 use Rattle.share_replies.specs.Replies.{refusal}
 
--- the entry that a success makes, by the pass of a number
+-- the entry of a success, made by handle number `by`
 abbrev pub made_by : ℕ → List Entry → Want → Option Entry
 made_by by h Login = Some (entry.Login by (next_session h))
 made_by by h (Logout session) = Some (entry.Logout by session)

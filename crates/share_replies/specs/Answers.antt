@@ -1,6 +1,6 @@
--- A share as a value, and what one call on it tells and leaves. A reply tells the point that it was given at, which is the
--- number of entries after it, and the mark that its session had; it then moves the mark to that point. A want that is held
--- leaves everything.
+-- A share as a value, and what one call on it returns and leaves. A reply comes with the number of entries after it
+-- (`point`) and the last-answered length of its session (`seen`), which it then sets to `point`. A pending update
+-- changes nothing.
 use Rattle.std.specs.Prelude.{ℕ, List, Bool, length, is_some, unwrap_or}
 use Rattle.item_model.specs.declared.changes.Entry.{Entry}
 use Rattle.share_history.specs.Histories.{batches, revision}
@@ -14,14 +14,14 @@ use Rattle.share_replies.specs.Added.{adds, after}
 pub record Shared : Type 0 where
   pub settings : Settings
   pub history : List Entry
-  -- for each live session the point of its last answer, ascending by session
+  -- for each live session the history length of its last answer, ascending by session
   pub marks : List (ℕ × ℕ)
 
 pub data Told : Type 0 where
   Replied : (reply : Reply) (point seen : ℕ) (added : Bool) → Told
   Waiting : (revision point : ℕ) → Told
 
--- the mark of a session, 0 where it has none
+-- the last-answered length of a session, or 0
 abbrev pub mark_of : List (ℕ × ℕ) → ℕ → ℕ
 mark_of marks session = unwrap_or (at session marks) 0
 

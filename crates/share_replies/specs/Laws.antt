@@ -1,4 +1,4 @@
--- What follows from the definition of a reply. Each fact here is proved for all settings, histories and wants.
+-- Laws that follow from the definition of a reply, proved for all settings, histories and requests.
 use Rattle.std.specs.Prelude.{◌≡◌, ℕ, List, [], ◌∷◌, ◌++◌, length, codes, ◌==◌, Bool, true, false, Some, None}
 use Rattle.dmap_tags.specs.Spelling.{spelling}
 use Rattle.item_model.specs.declared.changes.Entry.{Entry}
@@ -11,30 +11,30 @@ use Rattle.share_replies.specs.SmallBodies.{server_info_body, login_body, revisi
 use Rattle.share_replies.specs.Replies.{Reply, Replies, Holds, Nothing, needed, answer_to}
 use Rattle.share_replies.specs.Added.{adds}
 
--- no reply has the status by which want of memory is told
+-- no reply has the status for an allocation failure
 abbrev pub NoReplyIsAFailure : Type 0
 NoReplyIsAFailure = (s : Settings) (h : List Entry) (want : Want) (reply : Reply) → answer_to s h want ≡ Replies reply → (reply.status == 500) ≡ false
 
--- a share that was stopped refuses everything, adds nothing and is no session's any more
+-- a stopped share refuses every request, adds nothing, and replies to no session
 abbrev pub StoppedSharesRefuse : Type 0
 StoppedSharesRefuse =
     (s : Settings) (h : List Entry) (by : ℕ) (want : Want) → is_stopped h ≡ true
     → (answer_to s h want ≡ Replies (record { status = 503; body = Nothing; session = 0 })) × (adds h by want ≡ None)
 
--- a session that is not live gets no listing: what needs it is refused, and for no session
+-- a request that needs a session is refused, for no session, if the session is not live
 abbrev pub OthersAreForbidden : Type 0
 OthersAreForbidden =
     (s : Settings) (h : List Entry) (want : Want) (session : ℕ) → is_stopped h ≡ false → needed want ≡ Some session → is_live h session ≡ false
     → answer_to s h want ≡ Replies (record { status = 403; body = Nothing; session = 0 })
 
--- the pass that an entry is of
+-- the number of the handle that made an entry
 abbrev pub maker : Entry → ℕ
 maker (entry.Edits by batch) = by
 maker (entry.Login by id) = by
 maker (entry.Logout by id) = by
 maker (entry.Stop by) = by
 
--- what an answer adds is of the pass that asked
+-- the entry of an answer is of the handle that asked
 abbrev pub EntriesAreTheAskers : Type 0
 EntriesAreTheAskers = (h : List Entry) (by : ℕ) (want : Want) (e : Entry) → adds h by want ≡ Some e → maker e ≡ by
 
@@ -44,7 +44,7 @@ is_edit (entry.Login by id) = false
 is_edit (entry.Logout by id) = false
 is_edit (entry.Stop by) = false
 
--- wants by which a share is changed: an edit and the stop
+-- the operations that change a share: an edit and the stop
 abbrev pub is_change : Want → Bool
 is_change ServerInfo = false
 is_change Codes = false
@@ -59,17 +59,17 @@ is_change (Edit body) = true
 is_change Stop = true
 is_change (Bad fault) = false
 
--- nothing else edits or stops a share
+-- no other operation edits or stops a share
 abbrev pub ReadersChangeNothing : Type 0
 ReadersChangeNothing =
     (h : List Entry) (by : ℕ) (want : Want) (e : Entry) → is_change want ≡ false → adds h by want ≡ Some e → (is_edit e ≡ false) × (is_stop e ≡ false)
 
--- a want that is held adds nothing
+-- a pending update adds nothing
 abbrev pub HeldWantsAddNothing : Type 0
 HeldWantsAddNothing = (s : Settings) (h : List Entry) (by : ℕ) (want : Want) → answer_to s h want ≡ Holds → adds h by want ≡ None
 
--- the body of the first login, byte by byte, that of the revision behind the first edit, and how long a share with a name of
--- one byte tells of itself
+-- the body of the first login, byte by byte, that of the revision after the first edit, and the length of the server
+-- information of a share with a name of one byte
 abbrev pub SmallBodiesByTheByte : Type 0
 SmallBodiesByTheByte =
     (spelling (login_body 1)

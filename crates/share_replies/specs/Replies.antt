@@ -1,6 +1,5 @@
--- What a share replies, as a function of its settings, of its history and of what is wanted: the first refusal that
--- applies, in the order of the list below, and else the success of the table. An update of the present revision
--- is held.
+-- What a share replies, as a function of its settings, its history and the request: the first refusal that applies,
+-- in the order of `refusal`, otherwise the row of `success`. An update of the present revision is pending.
 use Rattle.std.specs.Prelude.{ℕ, List, [], ◌∷◌, ◌++◌, Bool, false, ◌&&◌, ◌==◌, not, Option, Some, None, Ok, Err, if◌then◌else◌}
 use Rattle.std.specs.Option.{option_or, option_map_or}
 use Rattle.dmap_tags.specs.Tree.{Tree}
@@ -28,7 +27,7 @@ use Rattle.share_replies.specs.SmallBodies.{server_info_body, login_body, revisi
 
 pub data Body : Type 0 where
   Nothing : Body
-  -- nothing, and the head tells the method that is allowed
+  -- no body; the head states the allowed method
   Allowed : (allow : Verb) → Body
   Line : (text : List ℕ) → Body
   Tagged : (tag : Tree) → Body
@@ -36,14 +35,14 @@ pub data Body : Type 0 where
 pub record Reply : Type 0 where
   pub status : ℕ
   pub body : Body
-  -- whose answer it is; 0 where it is no session's
+  -- the session that is answered, or 0
   pub session : ℕ
 
 pub data Answer : Type 0 where
   Replies : (reply : Reply) → Answer
   Holds : Answer
 
--- the session that a want needs; the rest needs none
+-- the session that a request needs, if it needs one
 abbrev pub needed : Want → Option ℕ
 needed ServerInfo = None
 needed Codes = None
@@ -64,7 +63,7 @@ fault_reply (Method allow) = (405, Allowed allow)
 fault_reply (Parameter name) = (400, Line (parameter_line name))
 fault_reply (Query error) = (400, Line (query_line error))
 
--- what is wrong with the request itself
+-- the error of the request itself
 abbrev pub request_fault : Want → Option (ℕ × Body)
 request_fault (Bad fault) = Some (fault_reply fault)
 request_fault want = None
@@ -107,7 +106,7 @@ success s h (Lists session) = (200, Tagged (containers_body s.name h))
 success s h (Values session browse query) = (200, Tagged (browse_body h browse query))
 success s h (Edit (Ok [])) = (204, Nothing)
 success s h (Edit (Ok (e ∷ es))) = (200, Tagged (revision_body (revision (batches h ++ (e ∷ es) ∷ []))))
--- neither is ever reached: both are refused
+-- never reached, like `Bad`: both are refused
 success s h (Edit (Err error)) = (400, Line (records_line error))
 success s h (Bad fault) = fault_reply fault
 success s h Stop = (204, Nothing)
@@ -116,8 +115,8 @@ abbrev pub is_held : List Entry → Want → Bool
 is_held h (Update session number) = number == revision (batches h)
 is_held h want = false
 
--- an answer is its session's, whether it grants or refuses, where the session is live and the share goes on; a login
--- that has a place is the new session's
+-- the session of a reply, granted or refused: the one that the request needs, if it is live and the share is not
+-- stopped; for a login within the limit, the new one
 abbrev pub session_of : List Entry → Want → ℕ
 session_of h Login = if not (is_stopped h) && has_place h then next_session h else 0
 session_of h want = option_map_or (λ session. if not (is_stopped h) && is_live h session then session else 0) (needed want) 0

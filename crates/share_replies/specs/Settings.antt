@@ -1,4 +1,5 @@
--- What a share is opened with, and never changes: its name, and for how many revisions back it answers with a change.
+-- The settings with which a share is opened, and which never change: its name, and the length of its delta window in
+-- revisions.
 use Rattle.std.specs.Prelude.{ℕ, List}
 
 pub record Settings : Type 0 where

@@ -1,9 +1,10 @@
--- The bodies that tell of no row: of /server-info, of a login, and of a revision.
+-- The bodies without rows: of `/server-info`, of a login, and of a revision.
 use Rattle.std.specs.Prelude.{ℕ, List, [], ◌∷◌}
 use Rattle.dmap_tags.specs.Codes.{code}
 use Rattle.dmap_tags.specs.Tree.{Tree, leaf, list, trees_of, U8, U32, Version, Text}
 
--- protocol versions 2.0 and 3.0; a login is needed, without a password; updates, index, browse and query are served
+-- protocol versions 2.0 and 3.0; a login is required, without a password; updates, index, browse and query are
+-- supported
 abbrev pub server_info_body : List ℕ → Tree
 server_info_body name =
     list (code "msrv")

@@ -1,23 +1,23 @@
-//! What holds of all replies. Each function does nothing; its contract is a fact that follows from the definitions.
+//! Laws of all replies. Each function has an empty body; its contract is a theorem about the definitions.
 
 ghost use Rattle.share_replies.specs.Laws.{NoReplyIsAFailure, StoppedSharesRefuse, OthersAreForbidden, EntriesAreTheAskers, ReadersChangeNothing, HeldWantsAddNothing, SmallBodiesByTheByte};
 
-/// No reply has the status 500, which tells want of memory alone.
+/// No reply has the status 500, which is only for an allocation failure.
 pub fn no_reply_is_a_failure()
     ensures { NoReplyIsAFailure }
 {}
 
-/// A share that was stopped answers 503 whatever is wanted.
+/// A stopped share replies 503 to every request.
 pub fn a_stopped_share_refuses()
     ensures { StoppedSharesRefuse }
 {}
 
-/// What needs a session is refused with 403 where the session is not live.
+/// A request that needs a session gets 403 if the session is not live.
 pub fn others_are_forbidden()
     ensures { OthersAreForbidden }
 {}
 
-/// The entry that an answer adds has the number of the pass that asked.
+/// The entry of an answer has the number of the handle that asked.
 pub fn an_entry_is_its_askers()
     ensures { EntriesAreTheAskers }
 {}
@@ -27,12 +27,12 @@ pub fn readers_change_nothing()
     ensures { ReadersChangeNothing }
 {}
 
-/// An update that is held leaves no entry.
+/// A pending update adds no entry.
 pub fn a_held_want_adds_nothing()
     ensures { HeldWantsAddNothing }
 {}
 
-/// The small bodies have the bytes and the length that players know.
+/// The small bodies have the bytes and the length that players expect.
 pub fn small_bodies_by_the_byte()
     ensures { SmallBodiesByTheByte }
 {}

@@ -1,5 +1,5 @@
-//! What a share replies, and what it adds to its history, as functions of its settings, its history and what is
-//! wanted. The definitions stand in `specs/`; the functions here are facts that follow from them.
+//! Definitions of what a share replies and what it adds to its history, as functions of its settings, its history and
+//! the request. The definitions are in `specs/`; `laws` has theorems about them.
 #![tactic(auto)]
 
 pub mod laws;

@@ -1,4 +1,4 @@
--- A connection that goes on has not come to its limit.
+-- A connection that stays open has not reached its limit.
 use Rattle.std.proofs.Common.{◌≡◌, ◌≢◌, ◌⊎◌, ◌≤◌, ℕ, zero, suc, ◌+◌, List, [], ◌∷◌, length, refl, sym, ap, ◌∙◌, inl, inr, Bool, true, false, cond, ◌==◌, Some, None, arith}
 use Rattle.std.proofs.lemmas.Bool.{eq-eqb}
 use Rattle.item_model.specs.declared.changes.Entry.{Entry}
@@ -15,7 +15,7 @@ use Rattle.share_server.specs.Ends.{GoOnToLast, Breaks, EndsInside, EndsAtEnd, r
 use Rattle.share_server.specs.Laws.{NoneBeyondTheLimit}
 use Rattle.share_server.proofs.Endings.{served_count}
 
--- where no end comes, the number is not the limit
+-- if there is no end, the number is not the limit
 not_due : (limit n : ℕ) (close stopped : Bool) → end_behind limit n close stopped ≡ None → n ≢ limit
 not_due limit n close true none same = absurd (cc)
 not_due limit n close false none same = absurd (let here : (n == limit) ≡ true = eq-eqb n limit same in let some : Some Spent ≡ None = sym (ap (λ (b : Bool). cond b (Some Spent) (cond close (Some Closed) None)) here) ∙ none in cc)

@@ -1,4 +1,4 @@
--- Ends of connections: they stay, whatever bytes and entries come later; they come at the limit at most; and where no ask
+-- Ends of connections. They stay, whatever bytes and entries come later. They are at most at the limit. If no request
 -- closes, the input, the limit or a stop decides.
 use Rattle.std.proofs.Common.{◌≡◌, ◌⊎◌, ℕ, ◌+◌, List, [], ◌∷◌, ◌++◌, length, take, drop, refl, sym, ap, ◌∙◌, subst, inl, inr, Bool, true, false, cond, ◌==◌, ◌||◌, Some, None, true≢false, append-nil}
 use Rattle.std.proofs.lemmas.List.{length-append, take-append-drop}
@@ -124,7 +124,7 @@ module _ (settings : Settings) (by limit : ℕ) (h later : List Entry) where
   inside_longer role bytes more asks served rest output Memory are ends =
       (to_last_longer asks served are ends.0, wants_longer asks served output are ends.1)
 
--- ---- the end behind a reply, by its cause
+-- ---- the end after a reply, by its cause
 
 due_closes : (limit n : ℕ) (close stopped : Bool) → end_behind limit n close stopped ≡ Some Closed → close ≡ true
 due_closes limit n close true is = absurd (cc)
@@ -180,7 +180,7 @@ any_at p (y ∷ xs) x ys is = ap (λ b. p y || b) (any_at p xs x ys is) ∙ or_t
     or_true true = refl
     or_true false = refl
 
--- a stop at a point is one of the whole history
+-- a stop within a history length is one of the whole history
 stop_stays : (h : List Entry) (n : ℕ) → is_stopped (take n h) ≡ true → is_stopped h ≡ true
 stop_stays h n is = ap is_stopped (sym (take-append-drop n h)) ∙ any_later is_stop (take n h) (drop n h) is
 

@@ -1,4 +1,4 @@
--- What a pass serves in one turn and then in another.
+-- What a handle serves in one turn and then in another.
 use Rattle.std.proofs.Common.{◌≡◌, ◌≤◌, ℕ, ◌+◌, List, [], ◌∷◌, ◌++◌, length, refl, sym, ap, ◌∙◌, subst, inl, inr, cond, arith}
 use Rattle.std.proofs.lemmas.List.{append-nil, append_assoc, length-append}
 use Rattle.item_model.specs.declared.changes.Edit.{Edit}
@@ -32,7 +32,7 @@ are_marked_joined h (s ∷ served) more_served are more = (are.0, are_marked_joi
 lower_by : (a b c d : ℕ) → a ≤ b → b + c ≤ d → a + c ≤ d
 lower_by a b c d le rises = omega arith
 
--- points that rise between two numbers rise between any that are wider apart
+-- lengths that increase between two numbers do so between any that are wider apart
 pub rises_wider : (low low' high high' : ℕ) (served : List Served) → low' ≤ low → high ≤ high' → Rises low served high → Rises low' served high'
 rises_wider low low' high high' [] le le' rises = omega arith
 rises_wider low low' high high' (s ∷ served) le le' rises =
@@ -58,9 +58,9 @@ added_joined h (s ∷ served) more_served =
     ap (λ (es : List Entry). added_part s.added (at_point h s) ++ es) (added_joined h served more_served)
     ∙ sym (append_assoc (added_part s.added (at_point h s)) (added_entries h served) (added_entries h more_served))
 
--- ---- one turn behind the other
+-- ---- one turn after the other
 
--- a pass that served is one that made nothing else
+-- a handle that served made no other entries
 pub but_nothing : (k k' : Pass) (asks : List Ask) (served : List Served) → Serves k k' asks served → ServesBut k k' asks served []
 but_nothing k k' asks served one = record {
   fresh = one.fresh;
@@ -126,7 +126,7 @@ serves_in_turn k k' k'' asks more_asks served more_served one two =
     nothing_but k k'' (asks ++ more_asks) (served ++ more_served) [] refl
     (serves_then_but k k' k'' asks more_asks served more_served [] one (but_nothing k' k'' more_asks more_served two))
 
--- a turn that served nothing, behind one that made entries of which no request was told
+-- a turn that served nothing, after one that made entries which no reported request added
 pub but_then_quiet : (k k' k'' : Pass) (asks : List Ask) (served : List Served) (lost : List Entry) → ServesBut k k' asks served lost → Serves k' k'' [] []
     → ServesBut k k'' asks served lost
 but_then_quiet k k' k'' asks served lost one two =
@@ -159,7 +159,7 @@ lost_behind k k' k'' asks served more_served batch lost one made = record {
   unseen = rises_joined (length k.seen) (length k'.seen) (length made.earlier) served more_served one.fresh.rises made.unseen;
 }
 
--- whatever comes later stands behind it
+-- whatever comes later is after it
 pub lost_before : (k k' k'' : Pass) (more : List Entry) (served : List Served) (batch : List Edit) (lost : List Entry) → k''.seen ≡ k'.seen ++ more
     → Unacknowledged k k' served batch lost → Unacknowledged k k'' served batch lost
 lost_before k k' k'' more served batch lost grows made = record {

@@ -1,4 +1,4 @@
--- One request more behind those that were served.
+-- One more request after those that were served.
 use Rattle.std.proofs.Common.{◌≡◌, ℕ, ◌+◌, List, [], ◌∷◌, ◌++◌, length, sym, ap, ◌∙◌, subst, is_some, None, append_assoc, append-nil, arith}
 use Rattle.item_model.specs.declared.changes.Entry.{Entry}
 use Rattle.share_asks.specs.declared.ask.Ask.{Ask}
@@ -8,7 +8,7 @@ use Rattle.share_server.specs.Served.{at_point}
 use Rattle.share_server.specs.Replies.{GoOn, due, replies_from, served_bytes}
 
 module _ (limit : ℕ) (h : List Entry) (ask : Ask) (s : Served) where
-  -- where no end comes behind one request more, the connection goes on behind all
+  -- if there is no end after one more request, the connection stays open after all
   pub goes_on_joined : (n : ℕ) (asks : List Ask) (served : List Served) → GoOn limit h n asks served → due limit (n + length served) ask (at_point h s) ≡ None
       → GoOn limit h n (asks ++ ask ∷ []) (served ++ s ∷ [])
   goes_on_joined n [] [] on none = let same : n + 0 ≡ n = omega arith in (subst (λ m. due limit m ask (at_point h s) ≡ None) same none, tt)
@@ -18,7 +18,7 @@ module _ (limit : ℕ) (h : List Entry) (ask : Ask) (s : Served) where
       let same : n + length (t ∷ served) ≡ (n + 1) + length served = omega arith in
       (on.0, goes_on_joined (n + 1) asks served on.1 (subst (λ m. due limit m ask (at_point h s) ≡ None) same none))
 
-  -- its bytes stand behind those of the others
+  -- its bytes follow those of the others
   pub replies_joined : (settings : Settings) (n : ℕ) (asks : List Ask) (served : List Served) → GoOn limit h n asks served
       → replies_from settings limit h n (asks ++ ask ∷ []) (served ++ s ∷ [])
       ≡ replies_from settings limit h n asks served ++ served_bytes settings (at_point h s) ask s (is_some (due limit (n + length served) ask (at_point h s)))

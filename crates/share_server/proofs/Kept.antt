@@ -1,4 +1,4 @@
--- What one turn makes of an edit: it is kept in the turn that adds it, or the share is stopped behind it.
+-- What one turn does with an edit: it is kept in the turn that adds it, or the same turn stops the share.
 use Rattle.std.proofs.Common.{◌≡◌, ◌≢◌, ℕ, zero, suc, ◌+◌, List, [], ◌∷◌, ◌++◌, length, Bool, true, false, cond, ◌||◌, is_some, Some, None, refl, sym, ap, ◌∙◌, subst, append_assoc, append-nil, length-append, arith}
 use Rattle.std.proofs.lemmas.List.Elements.{All-append}
 use Rattle.std.specs.Prelude.{All, Result, Ok, Err, OnOk, OnErr, is_ok, is_err}
@@ -29,9 +29,9 @@ use Rattle.share_server.proofs.Listening.{any_neither}
 use Rattle.share_server.proofs.Losing.{keeping_none}
 use Rattle.share_server.proofs.Turning.{own_stays, serves_nothing}
 
--- ---- the entry that a want adds
+-- ---- the entry that an operation adds
 
--- what it is of a want that the share grants
+-- the entry of an operation that succeeds
 granted : (h : List Entry) (by : ℕ) (want : Want) (e : Entry) → adds h by want ≡ Some e → made_by by h want ≡ Some e
 granted h by want e = by_refusal (is_some (refusal h want))
   where
@@ -107,7 +107,7 @@ all_two e f one two (suc zero) d less = two
 all_two e f one two (suc (suc i)) d less = absurd (omega (arith, less))
 
 module _ (k : Pass) (h : List Entry) (on : Continues maker (numbers_of k) k.seen h) where
-  -- what a pass made behind the history that its turn found
+  -- what a handle appended to the history that its turn found
   own_behind : (made : List Entry) → All (λ e. maker e ≡ k.number) made → entries_of maker k.number (h ++ made) ≡ entries_of maker k.number k.seen ++ made
   own_behind made own = adds_own maker k.number h (h ++ made) (made, refl, own) made refl ∙ ap (λ es. es ++ made) (own_stays k h on)
 
@@ -221,7 +221,7 @@ grows_twice old new newer by (same, more, grown, own) stays stopped = (
   All-append (λ e. maker e ≡ by) more (entry.Stop by ∷ []) own (all_one (entry.Stop by) refl),
 )
 
--- the pass has then seen what the turn left
+-- the handle has then seen what the turn left
 pub kept_in : (k k' : Pass) (h : List Entry) (keeps keeps' : List (List OneEdit) → Type 0) (is_lost' : Bool) (faults faults' : ℕ) (loses : Bool) → k' ≡ after_turn k h
     → Keeping keeps keeps' is_lost' faults faults' k (after_turn k h) loses → Keeping keeps keeps' is_lost' faults faults' k k' loses
 kept_in k k' h keeps keeps' is_lost' faults faults' loses left is = subst (λ now. Keeping keeps keeps' is_lost' faults faults' k now loses) (sym left) is
@@ -252,7 +252,7 @@ lost_goes : {T E : Type 0} (r : Result T E) → is_ok r ≡ false → is_err r �
 lost_goes (Ok x) lost = absurd (cc)
 lost_goes (Err e) lost = refl
 
--- what was asked of the share in a turn of this pass
+-- a request of the share in a turn of this handle
 pub record Turn (k : Pass) (old : Shared) (by : ℕ) (want : Want) (added : Bool) (h' : List Entry) : Type 0 where
   pub own : k.number ≡ by
   pub found : Finds k old

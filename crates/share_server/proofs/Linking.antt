@@ -105,7 +105,7 @@ pumped role limit k k1 k2 left left1 left2 taken taken1 taken2 r r2 served serve
     ended_inside role (under.bytes ++ piece) limit k k2 left left2 taken taken2 served2 end under.some (feeds under.bytes under.midway)
     (Consumes-trans left left1 left2 under.bytes piece under.off read)
 
--- the same where the read left what was taken, and the writes left the input
+-- the same if the read left the output, and the writes left the input
 pub pumped_on : (role : Role) (limit : ℕ) (k k1 k2 : Pass) (left left1 left2 left3 taken taken1 taken2 taken3 : Option (List ℕ)) (r r2 : Reader) (served served2 : List Served) (consumed consumed2 : ℕ) (piece : List ℕ) (o : Option LinkEnd)
     → Underway role limit k k1 left left1 taken taken1 r served consumed → Consumes left1 left2 piece → taken2 ≡ taken1 → left3 ≡ left2
     → consumed2 ≡ min (consumed + length piece) (2 ^ 64 - 1)

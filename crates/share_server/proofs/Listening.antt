@@ -1,4 +1,4 @@
--- A player's requests ask for no change, whatever their bytes; so what they add edits and stops nothing.
+-- A player's requests are no changes, whatever their bytes; so what they add edits and stops nothing.
 use Rattle.std.proofs.Common.{◌≡◌, ℕ, List, [], ◌∷◌, ◌++◌, refl, ap, ◌∙◌, inl, inr, codes, Bool, true, false, cond, ◌||◌, ◌==◌, MatchBool, Option, Some, None}
 use Rattle.std.specs.List.{AllZip, list_any}
 use Rattle.std.specs.Option.{option_and_then, option_to_list}
@@ -21,7 +21,7 @@ use Rattle.share_replies.proofs.ReplyFacts.{readers_change_nothing}
 use Rattle.http_front.specs.Asks.{Spells}
 use Rattle.http_front.specs.Readings.{Joins}
 use Rattle.http_front.specs.Numbers.{number_in, range_in}
-use Rattle.http_front.specs.Parameters.{told, meta_in}
+use Rattle.http_front.specs.Parameters.{nonempty_value, meta_in}
 use Rattle.http_front.specs.Routes.{for_role, place_at, place_of, verb_of, verb_text}
 use Rattle.http_front.specs.Targets.{local_part, path_of, query_of}
 use Rattle.http_front.specs.Wants.{NumberThen, MetaThen, RangeThen, QueryThen, filter_or, PlaceWant, WithMethod, AtPlace}
@@ -31,9 +31,9 @@ use Rattle.share_server.specs.declared.report.Served.{Served}
 use Rattle.share_server.specs.Served.{at_point, answered_on, added_part, IsGivenUp, IsReplied, IsServed, AreServed, added_entries}
 use Rattle.share_server.specs.Laws.{PlayersChangeNothing}
 
--- ---- what a player asks for
+-- ---- the operations of a player
 
--- whatever fits is no change
+-- every one is no change
 abbrev IsQuiet : (Want → Type 0) → Type 0
 IsQuiet P = (w : Want) → P w → is_change w ≡ false
 
@@ -58,19 +58,19 @@ quiet_query (Some text) Then quiet w (inl (a, x, is)) = quiet (Some a) w is
 quiet_query (Some text) Then quiet w (inr (e, other, x, is)) = ap is_change is
 
 quiet_session : (query : List ℕ) (of : ℕ → Want) → ((session : ℕ) → is_change (of session) ≡ false)
-    → IsQuiet (NumberThen (codes "session-id") (number_in (told (codes "session-id") query)) (λ session want. want ≡ of session))
+    → IsQuiet (NumberThen (codes "session-id") (number_in (nonempty_value (codes "session-id") query)) (λ session want. want ≡ of session))
 quiet_session query of quiet =
-    quiet_number (codes "session-id") (number_in (told (codes "session-id") query)) (λ session want. want ≡ of session) (λ session. quiet_is (of session) (quiet session))
+    quiet_number (codes "session-id") (number_in (nonempty_value (codes "session-id") query)) (λ session want. want ≡ of session) (λ session. quiet_is (of session) (quiet session))
 
 quiet_rows : (target : Target) (query : List ℕ) → IsQuiet (PlaceWant (place.Rows target) query [])
 quiet_rows target query =
-    quiet_number (codes "session-id") (number_in (told (codes "session-id") query)) _ (λ session.
-    quiet_number (codes "delta") (number_in (told (codes "delta") query)) _ (λ base.
-    quiet_meta (meta_in (told (codes "meta") query)) _ (λ meta.
-    quiet_query (told (codes "query") query) _ (λ asked.
-    quiet_range (range_in (told (codes "index") query)) _ (λ range. quiet_is _ refl)))))
+    quiet_number (codes "session-id") (number_in (nonempty_value (codes "session-id") query)) _ (λ session.
+    quiet_number (codes "delta") (number_in (nonempty_value (codes "delta") query)) _ (λ base.
+    quiet_meta (meta_in (nonempty_value (codes "meta") query)) _ (λ meta.
+    quiet_query (nonempty_value (codes "query") query) _ (λ asked.
+    quiet_range (range_in (nonempty_value (codes "index") query)) _ (λ range. quiet_is _ refl)))))
 
--- a place that is neither that of edits nor that of the stop
+-- a resource that is neither that of edits nor that of the stop
 abbrev is_listening : Place → Bool
 is_listening place.Edit = false
 is_listening place.Stop = false
@@ -82,14 +82,14 @@ quiet_place place.Codes query body at = quiet_is Codes refl
 quiet_place place.Login query body at = quiet_is Login refl
 quiet_place place.Logout query body at = quiet_session query (λ session. Logout session) (λ session. refl)
 quiet_place place.Update query body at =
-    quiet_number (codes "session-id") (number_in (told (codes "session-id") query)) _ (λ session.
-    quiet_number (codes "revision-number") (number_in (told (codes "revision-number") query)) _ (λ revision. quiet_is (Update session revision) refl))
+    quiet_number (codes "session-id") (number_in (nonempty_value (codes "session-id") query)) _ (λ session.
+    quiet_number (codes "revision-number") (number_in (nonempty_value (codes "revision-number") query)) _ (λ revision. quiet_is (Update session revision) refl))
 quiet_place place.Databases query body at = quiet_session query (λ session. Databases session) (λ session. refl)
 quiet_place place.Lists query body at = quiet_session query (λ session. Lists session) (λ session. refl)
 quiet_place (place.Rows target) query body at = quiet_rows target query
 quiet_place (place.Values browse) query body at =
-    quiet_number (codes "session-id") (number_in (told (codes "session-id") query)) _ (λ session.
-    quiet_query (filter_or (told (codes "filter") query) (told (codes "query") query)) _ (λ asked. quiet_is (Values session browse asked) refl))
+    quiet_number (codes "session-id") (number_in (nonempty_value (codes "session-id") query)) _ (λ session.
+    quiet_query (filter_or (nonempty_value (codes "filter") query) (nonempty_value (codes "query") query)) _ (λ asked. quiet_is (Values session browse asked) refl))
 quiet_place place.Edit query body at = absurd (cc)
 quiet_place place.Stop query body at = absurd (cc)
 
@@ -97,7 +97,7 @@ quiet_method : (right : Bool) (p : Place) (query body : List ℕ) → is_listeni
 quiet_method true p query body at w is = quiet_place p query body at w is
 quiet_method false p query body at w is = ap is_change is
 
--- where a place is found, it is one for players
+-- if a resource is found, it is one for players
 abbrev AllListening : Option Place → Type 0
 AllListening None = Unit {0}
 AllListening (Some p) = is_listening p ≡ true
@@ -178,7 +178,7 @@ quiet_all settings by h (m ∷ ms) (ask ∷ asks) (s ∷ served) spell are =
 pub players_change_nothing : PlayersChangeNothing
 players_change_nothing input asks rest settings by h served joins are = quiet_all settings by h joins.requests asks served joins.spell are
 
--- nor does the last of a player's asks ask for a change
+-- nor is the last of a player's requests a change
 pub last_is_quiet : (input : List ℕ) (asks : List Ask) (ask : Ask) (rest : List ℕ) → Joins Listen input (asks ++ ask ∷ []) rest → is_change ask.want ≡ false
 last_is_quiet input asks ask rest joins = by_messages joins.requests asks joins.spell
   where

@@ -15,7 +15,7 @@ use Rattle.share_server.specs.Replies.{due, replies_from, served_bytes, answer_b
 use Rattle.share_server.specs.Passes.{IsMarked, AreMarked}
 use Rattle.share_server.specs.Laws.{Stays, LaterEntriesChangeNothing, ServedBytesAreReplies}
 
--- the history at a point that is within is the same
+-- the history up to a length that is within it is the same
 pub same_point : (h more : List Entry) (s : Served) → s.point ≤ length h → at_point (h ++ more) s ≡ at_point h s
 same_point h more s within = take-append-le s.point h more within
 
@@ -48,7 +48,7 @@ stays settings by limit h more n (ask ∷ asks) (s ∷ served) are =
 pub later_entries_change_nothing : LaterEntriesChangeNothing
 later_entries_change_nothing = stays
 
--- ---- marks
+-- ---- last-answered lengths
 
 pub marked_longer : (h more : List Entry) (s : Served) → s.point ≤ length h → IsMarked h s → IsMarked (h ++ more) s
 marked_longer h more s within is = record {

@@ -22,7 +22,7 @@ use Rattle.share_server.specs.Kept.{IsUnheard, Keeping}
 -- ---- ends
 
 module _ (role : Role) (asks : List Ask) (k k' : Pass) (served : List Served) (end : LinkEnd) where
-  -- an end that is no loss lost nothing
+  -- an end that is not a loss lost nothing
   pub loses_none : (bytes : List ℕ) → is_loss end ≡ false → Loses role bytes asks k k' served [] end
   loses_none bytes unlost = subst (λ b. MatchBool b (LosesEdit role bytes asks k k' served []) (◌≡◌ {A = List Entry} [] [])) (sym unlost) refl
 
@@ -42,7 +42,7 @@ module _ (role : Role) (asks : List Ask) (k k' : Pass) (served : List Served) (e
       }
       by_end false none = none
 
-  -- so nobody was told of what was lost
+  -- so no reported request added what was lost
   pub unheard : (bytes : List ℕ) (lost : List Entry) → Loses role bytes asks k k' served lost end → IsUnheard (is_loss end) k.number lost
   unheard bytes lost = by_end (is_loss end)
     where
@@ -50,7 +50,7 @@ module _ (role : Role) (asks : List Ask) (k k' : Pass) (served : List Served) (e
       by_end true loses = (loses.batch, loses.made.lost_is)
       by_end false none = none
 
-  -- and nothing was, where the end is no loss
+  -- and nothing was lost if the end is not a loss
   pub lost_none : (bytes : List ℕ) (lost : List Entry) → is_loss end ≡ false → Loses role bytes asks k k' served lost end → lost ≡ []
   lost_none bytes lost unlost loses = subst (λ b. MatchBool b (LosesEdit role bytes asks k k' served lost) (lost ≡ [])) unlost loses
 
@@ -70,7 +70,7 @@ keeping_none keeps is_lost faults k k' going quiet = record {
   counts = refl;
 }
 
--- a turn behind those before, none of which lost an edit
+-- a turn after those before, none of which lost an edit
 pub keeping_then : (keeps keeps' keeps'' : List (List Edit) → Type 0) (is_lost' is_lost'' : Bool) (faults faults' faults'' : ℕ) (k k' k'' : Pass) (loses : Bool)
     → Keeping keeps keeps' is_lost' faults faults' k k' false → Keeping keeps' keeps'' is_lost'' faults' faults'' k' k'' loses
     → Keeping keeps keeps'' is_lost'' faults faults'' k k'' loses
@@ -95,7 +95,7 @@ keeping_then keeps keeps' keeps'' is_lost' is_lost'' faults faults' faults'' k k
       counts = subst (λ n. MatchBool loses (Rose n faults'') (faults'' ≡ n)) one.counts two.counts;
     }
 
--- lists with two elements behind them
+-- lists that both end with two elements
 same_front : (xs ys : List Entry) (a b c d : Entry) → xs ++ (a ∷ b ∷ []) ≡ ys ++ (c ∷ d ∷ []) → xs ≡ ys
 same_front xs ys a b c d same =
     let count : length xs ≡ length ys =

@@ -25,7 +25,7 @@ use Rattle.share_server.specs.Steps.{Ends}
 
 -- ---- bytes
 
--- what was written behind a base is a front of the base and of all that was to be written
+-- a prefix written after a base is a prefix of the base and all that was to be written
 pub cut_behind : (base bytes : List ℕ) (n : ℕ) → IsCutOf (base ++ take n bytes) (base ++ bytes)
 cut_behind base bytes n = (
   drop n bytes,
@@ -35,7 +35,7 @@ cut_behind base bytes n = (
 pub cut_whole : (bytes : List ℕ) → IsCutOf bytes bytes
 cut_whole bytes = ([], sym (append-nil bytes))
 
--- ---- ends that are due behind a reply
+-- ---- ends after a reply
 
 no_other : (limit n : ℕ) (close stopped : Bool) (end : LinkEnd) → end ≢ Stopped → end ≢ Spent → end ≢ Closed → end_behind limit n close stopped ≡ Some end → ⊥
 no_other limit n close true end a b c is = a (cc)
@@ -54,7 +54,7 @@ module _ (role : Role) (bytes : List ℕ) (settings : Settings) (limit : ℕ) (h
   never end a b c behind =
       no_other limit (length behind.parts.earlier + 1) behind.parts.ask.close (is_stopped (at_point h behind.parts.last)) end a b c behind.is_due
 
-  -- an end that is due behind a reply is no loss
+  -- an end after a reply is not a loss
   pub due_loses_none : (end : LinkEnd) → EndsBehind limit h asks served end → is_loss end ≡ false
   due_loses_none Closed behind = refl
   due_loses_none Stopped behind = refl
@@ -65,7 +65,7 @@ module _ (role : Role) (bytes : List ℕ) (settings : Settings) (limit : ℕ) (h
   due_loses_none FileFault behind = absurd (never FileFault (λ e. cc) (λ e. cc) (λ e. cc) behind)
   due_loses_none Memory behind = refl
 
-  -- an end that is due behind the last reply, all of which are written
+  -- an end after the last reply, all of which are written
   pub due_inside : (output : List ℕ) (end : LinkEnd) → EndsBehind limit h asks served end → output ≡ replies settings limit h asks served
       → EndsInside role bytes settings limit h asks served rest output end
   due_inside output Closed behind is = (behind, is)
@@ -95,7 +95,7 @@ module _ (role : Role) (bytes : List ℕ) (limit : ℕ) (k k' : Pass) (taken tak
   abbrev Inside : List ℕ → LinkEnd → Type 0
   Inside output end = EndsInside role bytes k.settings limit k'.seen asks served rest output end
 
-  -- the connection ended with these bytes behind the base
+  -- the connection ended with these bytes after the base
   pub ended_with : (more : List ℕ) (end : LinkEnd) → is_loss end ≡ false → Appends taken' taken'' more → Inside (base ++ more) end → Ends role bytes limit k k' taken taken'' served end
   ended_with more end unlost last how = record {
     asks = asks;
@@ -123,7 +123,7 @@ module _ (role : Role) (bytes : List ℕ) (limit : ℕ) (k k' : Pass) (taken tak
     how = how;
   }
 
-  -- there was no memory to go on: the failure stands behind a base that it may stand behind
+  -- an allocation failed: the 500 may follow this base
   pub up_given : (end : LinkEnd) → GoOnToLast limit k'.seen asks served
       → WantsMemory k.settings limit k'.seen asks served (base ++ failure_bytes true) → IsGivenUp taken' taken'' end → Ends role bytes limit k k' taken taken'' served end
   up_given Closed on wants up = absurd up

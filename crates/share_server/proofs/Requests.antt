@@ -27,13 +27,13 @@ use Rattle.share_server.specs.Steps.{Goes, Exchanges}
 use Rattle.share_server.proofs.Joined.{goes_on_joined, replies_joined}
 use Rattle.share_server.proofs.Outcomes.{cut_behind, cut_whole, due_inside, due_loses_none, ended_at, ended_with, up_given}
 
--- all replies but the last stand on the connection, which went on behind them
+-- all replies but the last are written, and the connection stayed open after them
 record AllButLast (limit : ℕ) (k k' : Pass) (taken taken' : Option (List ℕ)) (asks : List Ask) (ask : Ask) (served : List Served) (s : Served) : Type 0 where
   serves : Serves k k' (asks ++ ask ∷ []) (served ++ s ∷ [])
   goes_on : GoOn limit k'.seen 1 asks served
   written : Appends taken taken' (replies k.settings limit k'.seen asks served)
 
--- what was served and written stays so, whatever the pass saw later
+-- what was served and written stays, whatever the handle saw later
 record GoesStill (limit : ℕ) (k k' : Pass) (taken taken' : Option (List ℕ)) (asks : List Ask) (served : List Served) : Type 0 where
   goes_on : GoOn limit k'.seen 1 asks served
   written : Appends taken taken' (replies k.settings limit k'.seen asks served)
@@ -47,7 +47,7 @@ goes_still limit k k1 k2 more taken taken' asks served goes grows =
       written = subst (λ bytes. Appends taken taken' bytes) (sym (ap (λ h. replies k.settings limit h asks served) grows ∙ later.bytes)) goes.written;
     }
 
--- a request was answered behind those that were served
+-- a request was answered after those that were served
 answered_behind : (limit : ℕ) (k k1 k2 : Pass) (taken taken' : Option (List ℕ)) (asks : List Ask) (ask : Ask) (served : List Served) (s : Served)
     → Goes limit k k1 taken taken' asks served → Serves k1 k2 (ask ∷ []) (s ∷ []) → AllButLast limit k k2 taken taken' asks ask served s
 answered_behind limit k k1 k2 taken taken' asks ask served s goes one =
@@ -153,14 +153,14 @@ exchanged limit k k1 k2 taken taken' taken'' asks ask served s said stopped d en
     ∙ ap (λ t. served_bytes t (at_point k2.seen s) ask s (is_some d)) settings)
     written)
 
--- there was no room for its report, so it was not answered
+-- reserving capacity for its report failed, so it was not answered
 pub unserved : (limit : ℕ) (k k' : Pass) (taken taken' taken'' : Option (List ℕ)) (asks : List Ask) (ask : Ask) (served : List Served) (end : LinkEnd)
     → Goes limit k k' taken taken' asks served → IsGivenUp taken' taken'' end → Exchanges limit k k' taken taken'' asks ask served (Some end)
 unserved limit k k' taken taken' taken'' asks ask served end goes up = λ role bytes begin.
     up_given role bytes limit k k' taken taken' taken'' asks served begin.behind (replies k.settings limit k'.seen asks served) begin.first goes.serves
     goes.written end (inl goes.goes_on) (all_told refl) up
 
--- its peer went while it was held: all replies stand on the connection
+-- its peer left while it was pending: all replies are written
 pub gone : (limit : ℕ) (k k1 k2 : Pass) (taken taken' taken'' : Option (List ℕ)) (asks : List Ask) (ask : Ask) (served : List Served)
     → Goes limit k k1 taken taken' asks served → Serves k1 k2 [] [] → taken'' ≡ taken'
     → Exchanges limit k k2 taken taken'' asks ask served (Some LinkFault)
@@ -172,7 +172,7 @@ gone limit k k1 k2 taken taken' taken'' asks ask served goes none same = λ role
     ended_at role bytes limit k k2 taken taken' taken'' asks served begin.behind (replies k.settings limit k2.seen asks served) begin.first serves
     still.written LinkFault refl same (replying (inl still.goes_on) (cut_whole (replies k.settings limit k2.seen asks served)))
 
--- its edit was lost: all replies stand on the connection, and none to it
+-- its edit was lost: all replies are written, and none to it
 pub unkept : (limit : ℕ) (k k1 k2 : Pass) (taken taken' taken'' : Option (List ℕ)) (asks : List Ask) (ask : Ask) (served : List Served)
     → Goes limit k k1 taken taken' asks served → IsLost k1 k2 ask → taken'' ≡ taken'
     → Exchanges limit k k2 taken taken'' asks ask served (Some FileFault)

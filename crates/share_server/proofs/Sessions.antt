@@ -1,4 +1,4 @@
--- Whose answer a reply is: a session's that is live, or one's that logs in.
+-- The session of a reply: one that is live, or that logs in.
 use Rattle.std.proofs.Common.{◌≡◌, ◌⊎◌, ◌<◌, ℕ, List, Bool, true, false, cond, not, ◌&&◌, ◌==◌, Option, Some, None, MatchBool, refl, sym, ap, ◌∙◌, subst, inl, inr, arith}
 use Rattle.std.specs.Option.{option_map_or}
 use Rattle.item_model.specs.declared.changes.Entry.{Entry}
@@ -34,7 +34,7 @@ logs_in_or_lives h (Edit body) lt = none lt
 logs_in_or_lives h Stop lt = none lt
 logs_in_or_lives h (Bad fault) lt = none lt
 
--- whose an answer is, and another's where it is held
+-- the session of an answer, or `n` if it is pending
 abbrev whose : ℕ → Answer → ℕ
 whose n (Replies reply) = reply.session
 whose n Holds = n

@@ -1,4 +1,4 @@
--- A piece more of the bytes of a connection.
+-- One more chunk of the bytes of a connection.
 use Rattle.std.proofs.Common.{◌≡◌, ◌≢◌, ◌⊎◌, ℕ, ◌+◌, List, [], ◌∷◌, ◌++◌, take, drop, refl, sym, ap, ◌∙◌, subst, inl, inr, Option, Some, None, append_assoc, append-nil, take-append-drop, take-add}
 use Rattle.std.specs.Option.{option_to_list}
 use Rattle.http_heads.specs.declared.refusal.HeadError.{HeadError}
@@ -38,7 +38,7 @@ ends_longer role bytes more limit k k' taken taken' served end ends = record {
       (ends_stay role bytes more k.settings k.number limit k'.seen [] ends.asks served ends.rest ends.output end ends.serves.are_served ends.how);
 }
 
--- and inside the whole piece, where it ended in the front of it
+-- and inside the whole chunk, if it ended in a prefix of it
 ends_in_piece : (role : Role) (bytes piece : List ℕ) (n limit : ℕ) (k k' : Pass) (taken taken' : Option (List ℕ)) (served : List Served) (end : LinkEnd)
     → Ends role (bytes ++ take n piece) limit k k' taken taken' served end → Ends role (bytes ++ piece) limit k k' taken taken' served end
 ends_in_piece role bytes piece n limit k k' taken taken' served end ends =
@@ -46,7 +46,7 @@ ends_in_piece role bytes piece n limit k k' taken taken' served end ends =
     (append_assoc bytes (take n piece) (drop n piece) ∙ ap (λ b. bytes ++ b) (take-append-drop n piece))
     (ends_longer role (bytes ++ take n piece) (drop n piece) limit k k' taken taken' served end ends)
 
--- a front of the piece, and a front of the rest behind it
+-- a prefix of the chunk, and a prefix of the rest after it
 pub front_behind : (bytes piece rest : List ℕ) (d n : ℕ) → rest ≡ drop d piece → (bytes ++ take d piece) ++ take n rest ≡ bytes ++ take (d + n) piece
 front_behind bytes piece rest d n is =
     append_assoc bytes (take d piece) (take n rest)
@@ -57,7 +57,7 @@ pub rest_behind : (bytes piece rest : List ℕ) (d : ℕ) → rest ≡ drop d pi
 rest_behind bytes piece rest d is =
     append_assoc bytes (take d piece) rest ∙ ap (λ (b : List ℕ). bytes ++ b) (ap (λ (b : List ℕ). take d piece ++ b) is ∙ take-append-drop d piece)
 
--- ---- the reader took a front of the piece
+-- ---- the reader took a prefix of the chunk
 
 module _ (role : Role) (bytes piece : List ℕ) (n limit : ℕ) (k k' : Pass) (taken taken' : Option (List ℕ)) (r r1 r2 : Reader) (served : List Served) (o : Option Ask)
     (midway : Midway role bytes limit k k' taken taken' r served) (role_stays : r1.role ≡ r.role) (fine : r1.error ≡ None)
@@ -86,7 +86,7 @@ module _ (role : Role) (bytes piece : List ℕ) (n limit : ℕ) (k k' : Pass) (t
     goes = midway.goes;
   }
 
-  -- one is, and was served, behind which the connection goes on or ends
+  -- it is complete and was served, and the connection stays open after it or ends
   pub took_one : (ask : Ask) (k2 : Pass) (taken2 : Option (List ℕ)) (served2 : List Served) → o ≡ Some ask
       → ((start : Pass) (first : Option (List ℕ)) (asks : List Ask) → Goes limit start k' first taken' asks served
       → Exchanges limit start k2 first taken2 asks ask served2 None)

@@ -1,4 +1,4 @@
--- What one turn at a share tells of a request, and what its pass has then served.
+-- What one turn at a share reports of a request, and what its handle has then served.
 use Rattle.std.proofs.Common.{◌≡◌, ◌≤◌, ◌<◌, ℕ, ◌+◌, ◌-◌, zero, suc, List, [], ◌∷◌, ◌++◌, length, take, drop, Bool, true, false, cond, ◌==◌, true≢false, is_some, Option, Some, None, MatchBool, refl, sym, ap, ◌∙◌, subst, inl, arith, append_assoc, append-nil, length-append, eq-eqb}
 use Rattle.std.proofs.Math.Seq.{take-length, take-append_seam, drop-append_seam}
 use Rattle.std.specs.Option.{option_to_list}
@@ -35,9 +35,9 @@ use Rattle.share_server.specs.declared.report.Served.{Served}
 use Rattle.share_server.specs.Served.{at_point, answered_on, added_part, IsGivenUp, IsReplied, IsServed}
 use Rattle.share_server.specs.Replies.{answer_bytes, served_bytes}
 use Rattle.share_server.specs.Passes.{Pass, Serves}
-use Rattle.share_server.specs.declared.turns.outcome.Look.{Look}
-use Rattle.share_server.specs.declared.turns.outcome.Look.TheVariants as look
-use Rattle.share_server.specs.Answering.{Says, IsLooked, Finds, HasAdded, has_added, loses_in, served_of, given_up, look_of}
+use Rattle.share_server.specs.declared.turns.outcome.TurnOutcome.{TurnOutcome}
+use Rattle.share_server.specs.declared.turns.outcome.TurnOutcome.TheVariants as outcome
+use Rattle.share_server.specs.Answering.{Says, IsTurnOutcome, Finds, HasAdded, has_added, loses_in, served_of, given_up, turn_outcome}
 use Rattle.share_server.proofs.Saying.{writes, said_bytes}
 
 -- ---- a history, and what was added to it
@@ -54,9 +54,9 @@ parts h (Some e) =
       part = ap (λ n. drop n (h ++ e ∷ [])) len ∙ drop-append_seam h (e ∷ []);
     }
 
--- ---- what a pass serves in a turn that left this history
+-- ---- what a handle serves in a turn that left this history
 
--- nothing of its own is later than what it had seen
+-- none of its own entries is later than what it had seen
 pub own_stays : (k : Pass) (h : List Entry) → Continues maker (numbers_of k) k.seen h → entries_of maker k.number h ≡ entries_of maker k.number k.seen
 own_stays k h on = on.own k.number (0, omega arith, refl)
 
@@ -69,7 +69,7 @@ serves_nothing k h on =
       own = own_stays k h on ∙ sym (append-nil (entries_of maker k.number k.seen));
     }
 
--- one request, at the end of the history, behind what was added for it
+-- one request, at the end of the history, after what was added for it
 record Shows (k : Pass) (h new : List Entry) (want : Want) (s : Served) : Type 0 where
   point : s.point ≡ length (h ++ new)
   served : IsServed k.settings k.number (h ++ new) want s
@@ -79,7 +79,7 @@ record Shows (k : Pass) (h new : List Entry) (want : Want) (s : Served) : Type 0
   late : 0 < s.session → is_live (answered_on s.added (at_point (h ++ new) s)) s.session ≡ true
       → length (until_login s.session (answered_on s.added (at_point (h ++ new) s))) ≤ s.seen
 
--- a point lies behind what was seen, and behind what was added
+-- a length is at or after what was seen and then what was added
 rises_by : (a b c d e : ℕ) → a ≤ b → c ≤ d → e ≡ b + d → a + c ≤ e
 rises_by a b c d e le le' is = omega arith
 
@@ -108,13 +108,13 @@ serves_one k h new ask s on own shows =
 
 -- ---- no memory
 
-abbrev pub unanswered : ℕ → Bool → ℕ → Look
-unanswered point stopped revised = look.Answered (record { served = given_up point; said = None; stopped = stopped; revision = revised })
+abbrev pub unanswered : ℕ → Bool → ℕ → TurnOutcome
+unanswered point stopped revised = outcome.Answered (record { served = given_up point; said = None; stopped = stopped; revision = revised })
 
 -- the history is the one that was found
 pub failed_at : (k : Pass) (h : List Entry) (ask : Ask) (point : ℕ) (stopped : Bool) (revised : ℕ) → Continues maker (numbers_of k) k.seen h → point ≡ length h
     → stopped ≡ is_stopped h → revised ≡ revision (batches h) → (is_free ask.want ≡ true → is_stopped h ≡ true)
-    → IsLooked k (after_turn k h) ask (unanswered point stopped revised)
+    → IsTurnOutcome k (after_turn k h) ask (unanswered point stopped revised)
 failed_at k h ask point stopped revised on at is is_now free =
     let whole : h ++ [] ≡ h = append-nil h in
     let here : h ≡ take point h = sym (ap (λ n. take n h) at ∙ take-length h) in
@@ -137,8 +137,8 @@ failed_at k h ask point stopped revised on at is is_now free =
 
 -- ---- a reply
 
-abbrev pub answered_by : Reply → Bool → ℕ → Look
-answered_by r stopped revised = look.Answered (record { served = served_of r; said = Some r.said; stopped = stopped; revision = revised })
+abbrev pub answered_by : Reply → Bool → ℕ → TurnOutcome
+answered_by r stopped revised = outcome.Answered (record { served = served_of r; said = Some r.said; stopped = stopped; revision = revised })
 
 count_of : (new : Option Entry) → cond (is_some new) 1 0 ≤ length (option_to_list new)
 count_of None = omega arith
@@ -211,7 +211,7 @@ module _ (k : Pass) (h : List Entry) (ask : Ask) (reply : replies.Reply) (mark :
   )
 
   replied_at : (stopped : Bool) (revised : ℕ) → Continues maker (numbers_of k) k.seen h → All (λ e. maker e ≡ k.number) (option_to_list added) → IsBetween h r
-      → stopped ≡ is_stopped h' → revised ≡ revision (batches h') → IsLooked k (after_turn k h') ask (answered_by r stopped revised)
+      → stopped ≡ is_stopped h' → revised ≡ revision (batches h') → IsTurnOutcome k (after_turn k h') ask (answered_by r stopped revised)
   replied_at stopped revised on own between is_so is_now = record {
     serves = serves_one k h (option_to_list added) ask s on own (shows between);
     latest = is.point;
@@ -221,7 +221,7 @@ module _ (k : Pass) (h : List Entry) (ask : Ask) (reply : replies.Reply) (mark :
     said = says;
   }
 
--- ---- the answer to what was asked
+-- ---- the answer to the request
 
 all_made : (by : ℕ) (new : Option Entry) → ((e : Entry) → new ≡ Some e → maker e ≡ by) → All (λ e. maker e ≡ by) (option_to_list new)
 all_made by None own i d less = absurd (omega (arith, less))
@@ -231,20 +231,20 @@ all_made by (Some e) own (suc i) d less = absurd (omega (arith, less))
 left_by : (k : Pass) (old new : Shared) (ask : Ask) (r : Reply) (stopped : Bool) (revised : ℕ) → Finds k old → (a : replies.Answer)
     → answer_to old.settings old.history ask.want ≡ a → IsTold (told old k.number ask.want a) (answer.Reply r) → new ≡ left old k.number ask.want a
     → IsBetween old.history r → stopped ≡ is_stopped new.history → revised ≡ revision (batches new.history)
-    → IsLooked k (after_turn k new.history) ask (answered_by r stopped revised)
+    → IsTurnOutcome k (after_turn k new.history) ask (answered_by r stopped revised)
 left_by k old new ask r stopped revised found Holds answers is share between is_so is_now = absurd is
 left_by k old new ask r stopped revised found (Replies reply) answers is share between is_so is_now =
     let grown : new.history ≡ after old.history k.number ask.want = ap (λ (s : Shared). s.history) share in
-    subst (λ h. IsLooked k (after_turn k h) ask (answered_by r stopped revised)) (sym grown)
+    subst (λ h. IsTurnOutcome k (after_turn k h) ask (answered_by r stopped revised)) (sym grown)
     (replied_at k old.history ask reply _ r (ap (λ (s : Settings). answer_to s old.history ask.want) (sym found.settings) ∙ answers) is stopped revised found.history
     (all_made k.number (adds old.history k.number ask.want) (entries_are_the_askers old.history k.number ask.want)) between (is_so ∙ ap is_stopped grown)
     (is_now ∙ ap (λ (h : List Entry). revision (batches h)) grown))
 
 held_by : (k : Pass) (old new : Shared) (ask : Ask) (now point : ℕ) → Finds k old → (a : replies.Answer)
-    → IsTold (told old k.number ask.want a) (answer.Wait now point) → new ≡ left old k.number ask.want a → IsLooked k (after_turn k new.history) ask (look.Held point)
+    → IsTold (told old k.number ask.want a) (answer.Wait now point) → new ≡ left old k.number ask.want a → IsTurnOutcome k (after_turn k new.history) ask (outcome.Held point)
 held_by k old new ask now point found (Replies reply) is share = absurd is
 held_by k old new ask now point found Holds is share =
-    subst (λ (s : Shared). IsLooked k (after_turn k s.history) ask (look.Held point)) (sym share) (serves_nothing k old.history found.history, is.1)
+    subst (λ (s : Shared). IsTurnOutcome k (after_turn k s.history) ask (outcome.Held point)) (sym share) (serves_nothing k old.history found.history, is.1)
 
 -- what a call on the share gave, and what the share is then
 pub record Asked (old new : Shared) (by : ℕ) (want : Want) (result : Result Answer AllocError) (stopped : Bool) (revised end : ℕ) : Type 0 where
@@ -256,13 +256,13 @@ pub record Asked (old new : Shared) (by : ℕ) (want : Want) (result : Result An
   pub revised_is : revised ≡ revision (batches new.history)
   pub end_is : end ≡ length new.history
 
--- want of memory for a want that is free shows that the share was stopped
+-- an allocation that fails for an operation that does not allocate shows that the share was stopped
 free_failed : (error : AllocError) (stopped free : Bool) → (stopped ≡ false → free ≡ true → IsOk {T = Answer} (Err error)) → free ≡ true → stopped ≡ true
 free_failed error true free ok wanted = refl
 free_failed error false free ok wanted = absurd (true≢false (sym (ok refl wanted)))
 
 pub asked_at : (k : Pass) (old new : Shared) (by : ℕ) (ask : Ask) (result : Result Answer AllocError) (stopped : Bool) (revised end : ℕ) → k.number ≡ by → Finds k old
-    → Asked old new by ask.want result stopped revised end → IsLooked k (after_turn k new.history) ask (look_of result stopped revised end)
+    → Asked old new by ask.want result stopped revised end → IsTurnOutcome k (after_turn k new.history) ask (turn_outcome result stopped revised end)
 asked_at k old new by ask (Ok (answer.Reply r)) stopped revised end own found asked =
     let mine : IsAnswer old new k.number ask.want (answer.Reply r) = subst (λ n. IsAnswer old new n ask.want (answer.Reply r)) (sym own) asked.answered in
     left_by k old new ask r stopped revised found (answer_to old.settings old.history ask.want) refl mine.told mine.share asked.marked asked.stopped_is asked.revised_is
@@ -271,13 +271,13 @@ asked_at k old new by ask (Ok (answer.Wait now point)) stopped revised end own f
     held_by k old new ask now point found (answer_to old.settings old.history ask.want) mine.told mine.share
 asked_at k old new by ask (Err error) stopped revised end own found asked =
     let same : new ≡ old = asked.unchanged in
-    subst (λ (s : Shared). IsLooked k (after_turn k s.history) ask (unanswered end stopped revised)) (sym same)
+    subst (λ (s : Shared). IsTurnOutcome k (after_turn k s.history) ask (unanswered end stopped revised)) (sym same)
     (failed_at k old.history ask end stopped revised found.history (asked.end_is ∙ ap (λ (s : Shared). length s.history) same)
     (asked.stopped_is ∙ ap (λ (s : Shared). is_stopped s.history) same) (asked.revised_is ∙ ap (λ (s : Shared). revision (batches s.history)) same)
     (free_failed error (is_stopped old.history) (is_free ask.want) asked.free))
 
 -- no answer is a loss
-pub told_no_loss : (result : Result Answer AllocError) (stopped : Bool) (revised end : ℕ) → loses_in (look_of result stopped revised end) ≡ false
+pub told_no_loss : (result : Result Answer AllocError) (stopped : Bool) (revised end : ℕ) → loses_in (turn_outcome result stopped revised end) ≡ false
 told_no_loss (Ok (answer.Reply r)) stopped revised end = refl
 told_no_loss (Ok (answer.Wait now point)) stopped revised end = refl
 told_no_loss (Err error) stopped revised end = refl
@@ -301,16 +301,16 @@ held_adds old new by want now point Holds is share = ap (λ (s : Shared). s.hist
 
 -- the history has what the answer says that it added
 pub added_at : (old new : Shared) (by : ℕ) (want : Want) (result : Result Answer AllocError) (stopped : Bool) (revised end : ℕ)
-    → IfOk result (IsAnswer old new by want) → OnErr result (new ≡ old) → HasAdded (has_added (look_of result stopped revised end)) old.history by want new.history
+    → IfOk result (IsAnswer old new by want) → OnErr result (new ≡ old) → HasAdded (has_added (turn_outcome result stopped revised end)) old.history by want new.history
 added_at old new by want (Ok (answer.Reply r)) stopped revised end is same =
     replied_adds old new by want r (answer_to old.settings old.history want) is.told is.share
 added_at old new by want (Ok (answer.Wait now point)) stopped revised end is same =
     held_adds old new by want now point (answer_to old.settings old.history want) is.told is.share
 added_at old new by want (Err error) stopped revised end is same = ap (λ (s : Shared). s.history) same
 
--- the pass has then seen what the answer left
-pub turned : (k k' : Pass) (h : List Entry) (ask : Ask) (look : Look) → k' ≡ after_turn k h → IsLooked k (after_turn k h) ask look → IsLooked k k' ask look
-turned k k' h ask look left is = subst (λ now. IsLooked k now ask look) (sym left) is
+-- the handle has then seen what the answer left
+pub turned : (k k' : Pass) (h : List Entry) (ask : Ask) (outcome : TurnOutcome) → k' ≡ after_turn k h → IsTurnOutcome k (after_turn k h) ask outcome → IsTurnOutcome k k' ask outcome
+turned k k' h ask outcome left is = subst (λ now. IsTurnOutcome k now ask outcome) (sym left) is
 
 -- ---- what a turn adds
 

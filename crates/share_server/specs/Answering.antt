@@ -1,4 +1,4 @@
--- What is said to a request that was served, and by which turns; or that its edit was added and lost.
+-- What is written for a request that was served, and in which turns; or that its edit was added and lost.
 use Rattle.std.specs.Prelude.{◌≡◌, List, [], ◌∷◌, ◌++◌, length, Bool, true, false, Option, Some, None, Result, Ok, Err, ℕ}
 use Rattle.std.specs.declared.alloc.AllocError.{AllocError}
 use Rattle.daap_outside.specs.Counts.{Rose}
@@ -31,28 +31,28 @@ use Rattle.share_server.specs.Losses.{ServesBut, Unacknowledged}
 use Rattle.share_server.specs.declared.turns.outcome.Answered.{Answered}
 use Rattle.share_server.specs.declared.turns.outcome.Unanswered.{Unanswered}
 use Rattle.share_server.specs.declared.turns.outcome.Unanswered.TheVariants.{Gone, Lost}
-use Rattle.share_server.specs.declared.turns.outcome.Look.{Look}
-use Rattle.share_server.specs.declared.turns.outcome.Look.TheVariants as look
+use Rattle.share_server.specs.declared.turns.outcome.TurnOutcome.{TurnOutcome}
+use Rattle.share_server.specs.declared.turns.outcome.TurnOutcome.TheVariants as outcome
 
--- nothing is said where there was no memory for an answer; what is said can be written, and makes the bytes of the request,
--- by the history at its point
+-- If allocating the answer failed, the status is 500. Otherwise the answer can be written, and its bytes are those of
+-- the request on the history `p`.
 abbrev pub Says : Settings → List Entry → Ask → Served → Option Said → Type 0
 Says settings p ask s None = s.status ≡ 500
 Says settings p ask s (Some said) =
     HasReason said.status × IsWritable said.plan
     × ((last : Bool) → with_head said.status said.form (plan_bytes said.plan) last ≡ served_bytes settings p ask s last)
 
--- a pass served the request, in the last of its turns
+-- The handle served the request, in the last of its turns.
 pub record IsAnswered (k k' : Pass) (ask : Ask) (a : Answered) : Type 0 where
   pub serves : Serves k k' (ask ∷ []) (a.served ∷ [])
   pub latest : a.served.point ≡ length k'.seen
   pub stopped : a.stopped ≡ is_stopped (at_point k'.seen a.served)
   pub revised : a.revision ≡ revision (batches (at_point k'.seen a.served))
-  -- a logout and the stop want no memory
+  -- a logout and the stop do not allocate
   pub free : is_free ask.want ≡ true → a.served.status ≡ 500 → is_stopped k'.seen ≡ true
   pub said : Says k.settings (at_point k'.seen a.served) ask a.served a.said
 
--- the edit that the request asks for was added and lost, and nothing was served
+-- The edit of the request was added and lost, and nothing was served.
 pub record IsLost (k k' : Pass) (ask : Ask) : Type 0 where
   pub batch : List Edit
   pub asks_it : ask.want ≡ want.Edit (Ok batch)
@@ -60,7 +60,7 @@ pub record IsLost (k k' : Pass) (ask : Ask) : Type 0 where
   pub serves : ServesBut k k' [] [] lost
   pub made : Unacknowledged k k' [] batch lost
 
--- the request was served; or its peer went while it was held, or its edit was lost, and nothing was served
+-- The request was served. Or nothing was: its peer left while it was pending, or its edit was lost.
 abbrev pub IsOutcome : Pass → Pass → Ask → Result Answered Unanswered → Type 0
 IsOutcome k k' ask (Ok a) = IsAnswered k k' ask a
 IsOutcome k k' ask (Err Gone) = Serves k k' [] []
@@ -71,47 +71,47 @@ loses (Ok a) = false
 loses (Err Gone) = false
 loses (Err Lost) = true
 
--- the link's count rose exactly where its peer went
+-- The connection's error counter increased exactly if its peer left.
 abbrev pub CountsOutcome : ℕ → ℕ → Result Answered Unanswered → Type 0
 CountsOutcome before now (Ok a) = now ≡ before
 CountsOutcome before now (Err Gone) = Rose before now
 CountsOutcome before now (Err Lost) = now ≡ before
 
--- in one turn the pass served the request, or nothing, or lost its edit
-abbrev pub IsLooked : Pass → Pass → Ask → Look → Type 0
-IsLooked k k' ask (look.Answered a) = IsAnswered k k' ask a
-IsLooked k k' ask (look.Held point) = Serves k k' [] [] × (point ≡ length k'.seen)
-IsLooked k k' ask (look.Lost point) = IsLost k k' ask
+-- In one turn the handle served the request, or nothing, or lost its edit.
+abbrev pub IsTurnOutcome : Pass → Pass → Ask → TurnOutcome → Type 0
+IsTurnOutcome k k' ask (outcome.Answered a) = IsAnswered k k' ask a
+IsTurnOutcome k k' ask (outcome.Held point) = Serves k k' [] [] × (point ≡ length k'.seen)
+IsTurnOutcome k k' ask (outcome.Lost point) = IsLost k k' ask
 
-abbrev pub loses_in : Look → Bool
-loses_in (look.Answered a) = false
-loses_in (look.Held point) = false
-loses_in (look.Lost point) = true
+abbrev pub loses_in : TurnOutcome → Bool
+loses_in (outcome.Answered a) = false
+loses_in (outcome.Held point) = false
+loses_in (outcome.Lost point) = true
 
--- the answer added an entry
-abbrev pub has_added : Look → Bool
-has_added (look.Answered a) = a.served.added
-has_added (look.Held point) = false
-has_added (look.Lost point) = false
+-- Whether the answer added an entry.
+abbrev pub has_added : TurnOutcome → Bool
+has_added (outcome.Answered a) = a.served.added
+has_added (outcome.Held point) = false
+has_added (outcome.Lost point) = false
 
--- the history has one entry more, which the want adds, or is as it was
+-- The operation added one entry to the history, or left it as it was.
 abbrev pub HasAdded : Bool → List Entry → ℕ → Want → List Entry → Type 0
 HasAdded false h by want h' = h' ≡ h
 HasAdded true h by want h' = (e : Entry) × (adds h by want ≡ Some e) × (h' ≡ h ++ e ∷ [])
 
--- a share that a turn of the pass found
+-- A share that a turn of the handle finds.
 pub record Finds (k : Pass) (share : Shared) : Type 0 where
   pub settings : share.settings ≡ k.settings
   pub history : Continues maker (numbers_of k) k.seen share.history
 
--- what is told of an answer, or of want of memory, at the end of the history
+-- The report of a reply, or of an answer that failed to allocate at the end of the history.
 abbrev pub served_of : Reply → Served
 served_of r = record { session = r.session; seen = r.seen; point = r.point; status = r.said.status; added = r.added }
 
 abbrev pub given_up : ℕ → Served
 given_up point = record { session = 0; seen = 0; point = point; status = 500; added = false }
 
-abbrev pub look_of : Result Answer AllocError → Bool → ℕ → ℕ → Look
-look_of (Ok (answer.Reply r)) stopped revision end = look.Answered (record { served = served_of r; said = Some r.said; stopped = stopped; revision = revision })
-look_of (Ok (answer.Wait now point)) stopped revision end = look.Held point
-look_of (Err error) stopped revision end = look.Answered (record { served = given_up end; said = None; stopped = stopped; revision = revision })
+abbrev pub turn_outcome : Result Answer AllocError → Bool → ℕ → ℕ → TurnOutcome
+turn_outcome (Ok (answer.Reply r)) stopped revision end = outcome.Answered (record { served = served_of r; said = Some r.said; stopped = stopped; revision = revision })
+turn_outcome (Ok (answer.Wait now point)) stopped revision end = outcome.Held point
+turn_outcome (Err error) stopped revision end = outcome.Answered (record { served = given_up end; said = None; stopped = stopped; revision = revision })

@@ -1,5 +1,5 @@
--- How a connection ends, by the bytes that came on it, what was served and what was written. Ends inside the bytes stay
--- whatever follows; ends of the input speak of all of it.
+-- How a connection ends, by its input, the requests served and the output. An end inside the bytes stays whatever
+-- follows; an end of the input is about all of it.
 use Rattle.std.specs.Prelude.{◌≡◌, ◌⊎◌, ◌≢◌, ℕ, ◌+◌, ◌-◌, ◌^◌, min, List, [], ◌∷◌, ◌++◌, length, true, false, Option, Some, None}
 use Rattle.item_model.specs.declared.changes.Entry.{Entry}
 use Rattle.http_heads.specs.declared.refusal.HeadError.{HeadError}
@@ -14,7 +14,7 @@ use Rattle.share_server.specs.declared.report.LinkEnd.TheVariants.{Closed, Cut, 
 use Rattle.share_server.specs.Served.{at_point}
 use Rattle.share_server.specs.Replies.{GoOn, due, replies}
 
--- what was asked and served, before the last request and with it
+-- The requests and their reports: the earlier ones, and the last.
 pub record Parts (asks : List Ask) (served : List Served) : Type 0 where
   pub earlier_asks : List Ask
   pub ask : Ask
@@ -23,23 +23,23 @@ pub record Parts (asks : List Ask) (served : List Served) : Type 0 where
   pub asks_are : asks ≡ earlier_asks ++ ask ∷ []
   pub served_are : served ≡ earlier ++ last ∷ []
 
--- the connection ends so behind the last reply, and went on before it
+-- The connection ended with `end` after the last reply, and stayed open after the earlier ones.
 pub record EndsBehind (limit : ℕ) (h : List Entry) (asks : List Ask) (served : List Served) (end : LinkEnd) : Type 0 where
   pub parts : Parts asks served
   pub goes_on : GoOn limit h 1 parts.earlier_asks parts.earlier
   pub is_due : due limit (length parts.earlier + 1) parts.ask (at_point h parts.last) ≡ Some end
 
--- it went on behind all replies, or behind all but the last
+-- It stayed open after all replies, or after all but the last.
 abbrev pub GoOnToLast : ℕ → List Entry → List Ask → List Served → Type 0
 GoOnToLast limit h asks served = GoOn limit h 1 asks served ⊎ ((parts : Parts asks served) × GoOn limit h 1 parts.earlier_asks parts.earlier)
 
--- all asks of the bytes were served, the connection went on, and this rest is no whole request
+-- All requests in the bytes were served, the connection stayed open, and `rest` is not a complete request.
 pub record Idles (role : Role) (bytes : List ℕ) (limit : ℕ) (h : List Entry) (asks : List Ask) (served : List Served) (rest : List ℕ) (fault : Option HeadError) : Type 0 where
   pub goes_on : GoOn limit h 1 asks served
   pub reads : IsReading role bytes (reading asks rest fault)
 
--- what stands on the connection where there was no memory: all replies, and perhaps the failure; or all but the last,
--- which the failure may stand for where it added nothing
+-- The output after an allocation failed: all replies, then optionally a 500; or all but the last, then optionally a
+-- 500 if the last request added no entry.
 pub data WantsMemory (settings : Settings) (limit : ℕ) (h : List Entry) (asks : List Ask) (served : List Served) (output : List ℕ) : Type 0 where
   all : output ≡ replies settings limit h asks served → WantsMemory settings limit h asks served output
   all_told : output ≡ replies settings limit h asks served ++ failure_bytes true → WantsMemory settings limit h asks served output
@@ -48,12 +48,12 @@ pub data WantsMemory (settings : Settings) (limit : ℕ) (h : List Entry) (asks 
   in_its_place : (parts : Parts asks served) → parts.last.added ≡ false
       → output ≡ replies settings limit h parts.earlier_asks parts.earlier ++ failure_bytes true → WantsMemory settings limit h asks served output
 
--- a front of it
+-- `output` is a prefix of `whole`.
 abbrev pub IsCutOf : List ℕ → List ℕ → Type 0
 IsCutOf output whole = (missing : List ℕ) × (whole ≡ output ++ missing)
 
--- what stands on a connection that failed: a front of the replies, of what stands there for want of memory, or of the
--- replies and the refusal of what no request is
+-- The output of a connection that failed: a prefix of the replies, of the output after a failed allocation, or of the
+-- replies and the refusal of malformed bytes.
 pub data Breaks (role : Role) (bytes : List ℕ) (settings : Settings) (limit : ℕ) (h : List Entry) (asks : List Ask) (served : List Served) (rest output : List ℕ) : Type 0 where
   replying : GoOnToLast limit h asks served → IsCutOf output (replies settings limit h asks served)
       → Breaks role bytes settings limit h asks served rest output
@@ -62,7 +62,7 @@ pub data Breaks (role : Role) (bytes : List ℕ) (settings : Settings) (limit : 
   refusing : (error : HeadError) → Idles role bytes limit h asks served rest (Some error)
       → IsCutOf output (replies settings limit h asks served ++ refusal_bytes error) → Breaks role bytes settings limit h asks served rest output
 
--- ends that stay whatever bytes follow
+-- The ends that stay whatever bytes follow.
 abbrev pub EndsInside : Role → List ℕ → Settings → ℕ → List Entry → List Ask → List Served → (rest output : List ℕ) → LinkEnd → Type 0
 EndsInside role bytes settings limit h asks served rest output Closed =
     EndsBehind limit h asks served Closed × (output ≡ replies settings limit h asks served)
@@ -78,7 +78,7 @@ EndsInside role bytes settings limit h asks served rest output LinkFault = Break
 EndsInside role bytes settings limit h asks served rest output FileFault = GoOn limit h 1 asks served × (output ≡ replies settings limit h asks served)
 EndsInside role bytes settings limit h asks served rest output Memory = GoOnToLast limit h asks served × WantsMemory settings limit h asks served output
 
--- ends of the input: between two requests, or inside one, of which so many bytes were read
+-- The ends of the input: between two requests, or inside one after `at` bytes.
 abbrev pub EndsAtEnd : Role → List ℕ → Settings → ℕ → List Entry → List Ask → List Served → (rest output : List ℕ) → LinkEnd → Type 0
 EndsAtEnd role input settings limit h asks served rest output Closed =
     Idles role input limit h asks served rest None × (rest ≡ []) × (output ≡ replies settings limit h asks served)

@@ -1,4 +1,5 @@
--- What a keeper of edits did while a pass made entries: it keeps the edits of each of them in order, but a last one that it lost.
+-- What a keeper of edits did while a handle made entries: it keeps the edits of each entry in order, except a last
+-- one that it lost.
 use Rattle.std.specs.Prelude.{◌≡◌, ◌≢◌, ℕ, List, [], ◌++◌, Bool, true, false, MatchBool, Option, Some, None, Ok}
 use Rattle.daap_outside.specs.Counts.{Rose}
 use Rattle.item_model.specs.declared.changes.Edit.{Edit}
@@ -11,23 +12,23 @@ use Rattle.share_replies.specs.Laws.{maker}
 use Rattle.share_server.specs.Passes.{Pass}
 use Rattle.share_server.specs.Losses.{edit_and_stop}
 
--- the edits that a want brings
+-- The edits that an operation brings.
 abbrev pub edits_wanted : Want → List Edit
 edits_wanted (want.Edit (Ok batch)) = batch
 edits_wanted other = []
 
--- what was made ready for a batch, which is nothing where that has no edits
+-- What was made ready for a batch: nothing if the batch has no edits.
 abbrev pub IsReadyFor : {R : Type 0} → (R → List Edit → Type 0) → List Edit → Option R → Type 0
 IsReadyFor is_for batch None = batch ≡ []
 IsReadyFor is_for batch (Some ready) = (batch ≢ []) × is_for ready batch
 
--- the entries of which no request is told: none, or an edit and the stop behind it
+-- The entries that no reported request added: none, or an edit and the stop after it.
 abbrev pub IsUnheard : Bool → ℕ → List Entry → Type 0
 IsUnheard false number lost = lost ≡ []
 IsUnheard true number lost = (batch : List Edit) × (lost ≡ edit_and_stop number batch)
 
--- what a keeper was said to keep before and after, and its count of faults: the pass made these entries, all their batches are
--- kept behind those before, and it lost one exactly where a fault was counted
+-- A keeper before and after the handle made entries. It keeps all their batches after those it kept before. It lost
+-- one exactly if its error counter increased.
 pub record Keeping (keeps keeps' : List (List Edit) → Type 0) (is_lost' : Bool) (faults faults' : ℕ) (k k' : Pass) (loses : Bool) : Type 0 where
   pub number : k'.number ≡ k.number
   pub made : List Entry

@@ -16,7 +16,7 @@ use Rattle.share_server.specs.Passes.{Pass}
 use Rattle.share_server.specs.Losses.{Loses, ServesBut}
 use Rattle.share_server.specs.Ends.{EndsInside, EndsAtEnd}
 
--- how a connection ends whose input reads as this, of which no ask closes
+-- How a connection ends whose input has the reading `r`, in which no request closes.
 abbrev pub EndsAs : Reading → ℕ → List Entry → List Ask → List Served → LinkEnd → Type 0
 EndsAs r limit h asks served Closed = (r.asks ≡ asks) × (r.rest ≡ []) × (r.fault ≡ None)
 EndsAs r limit h asks served (Cut at) = (r.asks ≡ asks) × (r.rest ≢ []) × (r.fault ≡ None)
@@ -27,13 +27,13 @@ EndsAs r limit h asks served LinkFault = ⊤
 EndsAs r limit h asks served FileFault = ⊤
 EndsAs r limit h asks served Memory = ⊤
 
--- where no ask closes, the connection ends by its input, its limit or a stop, or for want of the outside or of memory
+-- If no request closes, the connection ends by its input, its limit, a stop or a failure.
 abbrev pub Completes : Role → List ℕ → ℕ → List Entry → List Ask → List Served → LinkEnd → Type 0
 Completes role input limit h asks served end =
     (r : Reading) → IsReading role input r → list_any (λ ask. ask.close) r.asks ≡ false → EndsAs r limit h asks served end
 
--- from what is told of a connection before and after, and of the pass that served it: the first asks of its input were
--- served, in order, what was written is theirs, and it ended so; where an edit was lost, it is the one that was asked for next
+-- A connection and the handle that served it, before and after. The first requests of the input were served, in
+-- order, the output is theirs, and `end` is how it ended. A lost edit is that of the next request.
 pub record LinkEnded (role : Role) (limit : ℕ) (k k' : Pass) (left taken taken' : Option (List ℕ)) (served : List Served) (end : LinkEnd) : Type 0 where
   pub at_once : limit ≡ 0 → (served ≡ []) × (end ≡ Spent)
   pub input : List ℕ

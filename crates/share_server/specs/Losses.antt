@@ -1,4 +1,4 @@
--- An edit that was added to the history and could not be kept: a stop stands behind it, and no answer shows it.
+-- An edit that was added to the history and could not be kept. A stop follows it, and no answer shows it.
 use Rattle.std.specs.Prelude.{◌≡◌, ℕ, List, [], ◌∷◌, ◌++◌, length, Bool, true, false, MatchBool, Option, Some, None, Result, Ok, Err}
 use Rattle.item_model.specs.declared.changes.Edit.{Edit}
 use Rattle.item_model.specs.declared.changes.Entry.{Entry}
@@ -15,18 +15,18 @@ use Rattle.share_server.specs.declared.report.LinkEnd.TheVariants.{Closed, Cut, 
 use Rattle.share_server.specs.Served.{AreServed, added_entries}
 use Rattle.share_server.specs.Passes.{Pass, Fresh, Rises}
 
--- a pass served these asks, as in `Serves`, but made entries besides of which no request was told
+-- The handle served `asks`, as in `Serves`, and also made the entries `lost`, which no reported request added.
 pub record ServesBut (k k' : Pass) (asks : List Ask) (served : List Served) (lost : List Entry) : Type 0 where
   pub fresh : Fresh k k' served
   pub stays : k' ≡ record k { seen = k'.seen; looks = k'.looks }
   pub are_served : AreServed k.settings k.number k'.seen asks served
   pub own : entries_of maker k.number k'.seen ≡ entries_of maker k.number k.seen ++ (added_entries k'.seen served ++ lost)
 
--- an edit of the pass and a stop right behind it
+-- An edit of handle `number`, followed by its stop.
 abbrev pub edit_and_stop : ℕ → List Edit → List Entry
 edit_and_stop number batch = entry.Edits number batch ∷ entry.Stop number ∷ []
 
--- the edit stands behind the point of each request, with the stop right behind it
+-- The edit comes after the history length of each request, and the stop follows it at once.
 pub record Unacknowledged (k k' : Pass) (served : List Served) (batch : List Edit) (lost : List Entry) : Type 0 where
   pub lost_is : lost ≡ edit_and_stop k.number batch
   pub earlier : List Entry
@@ -34,7 +34,7 @@ pub record Unacknowledged (k k' : Pass) (served : List Served) (batch : List Edi
   pub stand : k'.seen ≡ earlier ++ (lost ++ later)
   pub unseen : Rises (length k.seen) served (length earlier)
 
--- the lost edit is what the next request of the bytes asks for
+-- The lost edit is that of the next request in the bytes.
 pub record LosesEdit (role : Role) (bytes : List ℕ) (asks : List Ask) (k k' : Pass) (served : List Served) (lost : List Entry) : Type 0 where
   pub ask : Ask
   pub behind : List ℕ
@@ -53,7 +53,7 @@ is_loss LinkFault = false
 is_loss FileFault = true
 is_loss Memory = false
 
--- where a connection may go on
+-- Of a connection that may stay open.
 abbrev pub is_loss_if : Option LinkEnd → Bool
 is_loss_if None = false
 is_loss_if (Some end) = is_loss end
@@ -62,6 +62,6 @@ abbrev pub is_loss_in : Result ℕ LinkEnd → Bool
 is_loss_in (Ok n) = false
 is_loss_in (Err end) = is_loss end
 
--- an edit was lost exactly where the end says so
+-- An edit was lost exactly if the end says so.
 abbrev pub Loses : Role → (bytes : List ℕ) → List Ask → (k k' : Pass) → List Served → (lost : List Entry) → LinkEnd → Type 0
 Loses role bytes asks k k' served lost end = MatchBool (is_loss end) (LosesEdit role bytes asks k k' served lost) (lost ≡ [])

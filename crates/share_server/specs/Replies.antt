@@ -1,4 +1,4 @@
--- When a connection ends behind a reply, and the bytes of the replies that were written on it.
+-- When a connection ends after a reply, and the bytes of its replies.
 use Rattle.std.specs.Prelude.{◌≡◌, ℕ, ◌+◌, List, [], ◌∷◌, ◌++◌, Bool, ◌==◌, is_some, Option, Some, None, if◌then◌else◌}
 use Rattle.item_model.specs.declared.changes.Entry.{Entry}
 use Rattle.share_asks.specs.declared.ask.Ask.{Ask}
@@ -15,11 +15,11 @@ abbrev pub end_behind : (limit n : ℕ) (close stopped : Bool) → Option LinkEn
 end_behind limit n close stopped =
     if stopped then Some Stopped else if n == limit then Some Spent else if close then Some Closed else None
 
--- the end that comes behind the n-th reply, if one does, by the history at its point
+-- How the connection ends after the `n`-th reply, if it does, by the history at that reply.
 abbrev pub due : (limit n : ℕ) → Ask → List Entry → Option LinkEnd
 due limit n ask p = end_behind limit n ask.close (is_stopped p)
 
--- a connection goes on behind each of these, counted from n
+-- The connection stays open after each of these replies, counted from `n`.
 abbrev pub GoOn : ℕ → List Entry → ℕ → List Ask → List Served → Type 0
 GoOn limit h n [] [] = Unit {0}
 GoOn limit h n [] (s ∷ served) = ⊥
@@ -30,12 +30,12 @@ abbrev pub answer_bytes : Answer → Bool → List ℕ
 answer_bytes (Replies reply) last = reply_bytes reply last
 answer_bytes Holds last = []
 
--- what was written for a request, by the history at its point
+-- What was written for a request, by the history at its length.
 abbrev pub served_bytes : Settings → List Entry → Ask → Served → Bool → List ℕ
 served_bytes settings p ask s last =
     if s.status == 500 then failure_bytes last else answer_bytes (answer_to settings (answered_on s.added p) ask.want) last
 
--- what was written for all, counted from n: the reply behind which the connection ends says so
+-- What was written for all, counted from `n`: the reply after which the connection ends says so.
 abbrev pub replies_from : Settings → ℕ → List Entry → ℕ → List Ask → List Served → List ℕ
 replies_from settings limit h n [] served = []
 replies_from settings limit h n (ask ∷ asks) [] = []

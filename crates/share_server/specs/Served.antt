@@ -1,5 +1,5 @@
--- A request that was served, by the history of its share. What is told of it speaks of the history at its point alone, so
--- that whatever comes later changes nothing.
+-- A request that was served, by the history of its share. Its report depends only on the history at its length, so
+-- later entries change nothing.
 use Rattle.std.specs.Prelude.{◌≡◌, ◌≤◌, ℕ, ◌-◌, List, [], ◌∷◌, ◌++◌, length, take, drop, Bool, false, ◌==◌, is_some, MatchBool, if◌then◌else◌}
 use Rattle.std.specs.Option.{option_to_list}
 use Rattle.item_model.specs.declared.changes.Entry.{Entry}
@@ -10,25 +10,25 @@ use Rattle.share_replies.specs.Replies.{Reply, Replies, answer_to}
 use Rattle.share_replies.specs.Added.{adds}
 use Rattle.share_server.specs.declared.report.Served.{Served}
 
--- the history at the point of a request
+-- The history at the length of a request.
 abbrev pub at_point : List Entry → Served → List Entry
 at_point h s = take s.point h
 
--- the history that an answer was given on: the one at its point, without the entry that it added
+-- The history that an answer was computed from: the one at its length, without the entry that it added.
 abbrev pub answered_on : Bool → List Entry → List Entry
 answered_on added p = if added then take (length p - 1) p else p
 
--- what an answer added: the last entry at its point, or nothing
+-- What an answer added: the last entry at its length, or nothing.
 abbrev pub added_part : Bool → List Entry → List Entry
 added_part added p = if added then drop (length p - 1) p else []
 
--- there was no memory for its answer: it is no session's, and nothing was added
+-- An allocation failed: the request has no session, and added nothing.
 pub record IsGivenUp (s : Served) : Type 0 where
   pub session : s.session ≡ 0
   pub seen : s.seen ≡ 0
   pub added : s.added ≡ false
 
--- it got the share's reply on the history that it was answered on, and added what that adds
+-- The request got the share's reply on the history that it was answered on, and added what that adds.
 pub record IsReplied (settings : Settings) (by : ℕ) (p : List Entry) (want : Want) (s : Served) : Type 0 where
   pub reply : Reply
   pub replies : answer_to settings (answered_on s.added p) want ≡ Replies reply
@@ -37,19 +37,19 @@ pub record IsReplied (settings : Settings) (by : ℕ) (p : List Entry) (want : W
   pub adds_it : added_part s.added p ≡ option_to_list (adds (answered_on s.added p) by want)
   pub added : s.added ≡ is_some (adds (answered_on s.added p) by want)
 
--- a status of 500 tells that there was no memory, and every other one is the share's
+-- The status 500 reports a failed allocation; every other status is the share's.
 pub record IsServed (settings : Settings) (by : ℕ) (h : List Entry) (want : Want) (s : Served) : Type 0 where
   pub within : s.point ≤ length h
   pub how : MatchBool (s.status == 500) (IsGivenUp s) (IsReplied settings by (at_point h s) want s)
 
--- each ask was served, in order, by the pass of a number
+-- Handle `by` served each request, in order.
 abbrev pub AreServed : Settings → ℕ → List Entry → List Ask → List Served → Type 0
 AreServed settings by h [] [] = Unit {0}
 AreServed settings by h [] (s ∷ served) = ⊥
 AreServed settings by h (ask ∷ asks) [] = ⊥
 AreServed settings by h (ask ∷ asks) (s ∷ served) = IsServed settings by h ask.want s × AreServed settings by h asks served
 
--- the entries that were added, in order
+-- The entries that were added, in order.
 abbrev pub added_entries : List Entry → List Served → List Entry
 added_entries h [] = []
 added_entries h (s ∷ served) = added_part s.added (at_point h s) ++ added_entries h served

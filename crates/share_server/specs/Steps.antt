@@ -1,4 +1,4 @@
--- How far the serving of a connection has come, by what its pass has seen, what it took and what was read off it.
+-- How far a connection has been served: what its handle has seen, what was written, and what was read.
 use Rattle.std.specs.Prelude.{◌≡◌, ◌≢◌, ℕ, ◌-◌, ◌^◌, ◌<◌, min, List, [], ◌∷◌, ◌++◌, length, take, Option, Some, None, Result, Ok, Err}
 use Rattle.std.specs.Io.KnownBytes.{Appends, Consumes}
 use Rattle.item_model.specs.declared.changes.Entry.{Entry}
@@ -15,20 +15,20 @@ use Rattle.share_server.specs.Ends.{EndsInside}
 use Rattle.share_server.specs.Losses.{Loses, ServesBut}
 use Rattle.share_server.specs.Links.{LinkEnded}
 
--- these asks were served, all replies are written, and the connection goes on
+-- These requests were served, all replies are written, and the connection stays open.
 pub record Goes (limit : ℕ) (k k' : Pass) (taken taken' : Option (List ℕ)) (asks : List Ask) (served : List Served) : Type 0 where
   pub serves : Serves k k' asks served
   pub goes_on : GoOn limit k'.seen 1 asks served
   pub written : Appends taken taken' (replies k.settings limit k'.seen asks served)
 
--- the bytes begin with these asks, and with one more
+-- The bytes begin with `asks`, and then `ask`.
 pub record BeginWith (role : Role) (bytes : List ℕ) (asks : List Ask) (ask : Ask) : Type 0 where
   pub behind : List ℕ
   pub first : Joins role bytes asks behind
   pub rest : List ℕ
   pub all : Joins role bytes (asks ++ ask ∷ []) rest
 
--- the connection ended inside these bytes, at a lost edit if it lost one
+-- The connection ended inside these bytes, at a lost edit if it lost one.
 pub record Ends (role : Role) (bytes : List ℕ) (limit : ℕ) (k k' : Pass) (taken taken' : Option (List ℕ)) (served : List Served) (end : LinkEnd) : Type 0 where
   pub asks : List Ask
   pub rest : List ℕ
@@ -40,13 +40,13 @@ pub record Ends (role : Role) (bytes : List ℕ) (limit : ℕ) (k k' : Pass) (ta
   pub written : Appends taken taken' output
   pub how : EndsInside role bytes k.settings limit k'.seen asks served rest output end
 
--- one ask more was served, or the connection ended at it
+-- One more request was served, or the connection ended at it.
 abbrev pub Exchanges : (limit : ℕ) (k k' : Pass) (taken taken' : Option (List ℕ)) → List Ask → Ask → List Served → Option LinkEnd → Type 0
 Exchanges limit k k' taken taken' asks ask served None = Goes limit k k' taken taken' (asks ++ ask ∷ []) served
 Exchanges limit k k' taken taken' asks ask served (Some end) =
     (role : Role) (bytes : List ℕ) → BeginWith role bytes asks ask → Ends role bytes limit k k' taken taken' served end
 
--- the reader was fed these bytes and goes on, all its asks were served
+-- The reader was fed these bytes and continues, and all its requests were served.
 pub record Midway (role : Role) (bytes : List ℕ) (limit : ℕ) (k k' : Pass) (taken taken' : Option (List ℕ)) (reader : Reader) (served : List Served) : Type 0 where
   pub role_is : reader.role ≡ role
   pub idle : reader.ready ≡ None
@@ -55,17 +55,17 @@ pub record Midway (role : Role) (bytes : List ℕ) (limit : ℕ) (k k' : Pass) (
   pub read : HasRead bytes asks reader
   pub goes : Goes limit k k' taken taken' asks served
 
--- so many bytes of a piece more were read, or the connection ended in it
+-- `n` more bytes of the chunk were read, or the connection ended in it.
 abbrev pub Steps : Role → (bytes piece : List ℕ) (limit : ℕ) (k k' : Pass) (taken taken' : Option (List ℕ)) → Reader → List Served → Result ℕ LinkEnd → Type 0
 Steps role bytes piece limit k k' taken taken' reader served (Ok n) = Midway role (bytes ++ take n piece) limit k k' taken taken' reader served
 Steps role bytes piece limit k k' taken taken' reader served (Err end) = Ends role (bytes ++ piece) limit k k' taken taken' served end
 
--- a piece more was read, or the connection ended in it
+-- One more chunk was read, or the connection ended in it.
 abbrev pub Feeds : Role → (bytes piece : List ℕ) (limit : ℕ) (k k' : Pass) (taken taken' : Option (List ℕ)) → Reader → List Served → Option LinkEnd → Type 0
 Feeds role bytes piece limit k k' taken taken' reader served None = Midway role (bytes ++ piece) limit k k' taken taken' reader served
 Feeds role bytes piece limit k k' taken taken' reader served (Some end) = Ends role (bytes ++ piece) limit k k' taken taken' served end
 
--- all bytes that were read off the connection were fed, and so many they are
+-- All bytes that were read off the connection were fed, and `consumed` counts them.
 pub record Underway (role : Role) (limit : ℕ) (k k' : Pass) (left left' taken taken' : Option (List ℕ)) (reader : Reader) (served : List Served) (consumed : ℕ) : Type 0 where
   pub some : 0 < limit
   pub bytes : List ℕ
@@ -73,7 +73,7 @@ pub record Underway (role : Role) (limit : ℕ) (k k' : Pass) (left left' taken 
   pub off : Consumes left left' bytes
   pub counted : consumed ≡ min (length bytes) (2 ^ 64 - 1)
 
--- the input ended where the reader stands, behind so many bytes: between two requests, or inside one
+-- The input ended after `consumed` bytes: between two requests, or inside one.
 abbrev pub EndsInput : Reader → (consumed : ℕ) → LinkEnd → Type 0
 EndsInput reader consumed Closed = reader.kept ≡ []
 EndsInput reader consumed (Cut at) = (reader.kept ≢ []) × (at ≡ consumed)
@@ -84,7 +84,7 @@ EndsInput reader consumed LinkFault = ⊥
 EndsInput reader consumed FileFault = ⊥
 EndsInput reader consumed Memory = ⊥
 
--- one read more was served, or the connection ended
+-- The requests of one more read were served, or the connection ended.
 abbrev pub Pumps : Role → (limit : ℕ) (k k' : Pass) (left left' taken taken' : Option (List ℕ)) → Reader → List Served → ℕ → Option LinkEnd → Type 0
 Pumps role limit k k' left left' taken taken' reader served consumed None = Underway role limit k k' left left' taken taken' reader served consumed
 Pumps role limit k k' left left' taken taken' reader served consumed (Some end) = LinkEnded role limit k k' left taken taken' served end

@@ -1,4 +1,4 @@
--- What a connection took, by what came of a write on it.
+-- The output of a connection after a write, by the write's outcome.
 use Rattle.std.specs.Prelude.{◌≡◌, ◌⊎◌, ℕ, List, Bool, true, false, Option, Some, None}
 use Rattle.std.specs.Io.KnownBytes.{Appends}
 use Rattle.daap_outside.specs.Told.{AppendsPrefix}
@@ -11,7 +11,7 @@ use Rattle.share_server.specs.declared.report.LinkEnd.{LinkEnd}
 use Rattle.share_server.specs.declared.report.LinkEnd.TheVariants.{Closed, Cut, Refused, Spent, Stopped, LinkFault, FileFault, Memory}
 use Rattle.share_server.specs.Serving.{CountsEnd}
 
--- it was told that there is no memory, or failed meanwhile
+-- It got the 500, or failed while it was written.
 abbrev pub IsGivenUp : (taken taken' : Option (List ℕ)) → LinkEnd → Type 0
 IsGivenUp taken taken' Closed = ⊥
 IsGivenUp taken taken' (Cut at) = ⊥
@@ -22,7 +22,7 @@ IsGivenUp taken taken' LinkFault = AppendsPrefix taken taken' (failure_bytes tru
 IsGivenUp taken taken' FileFault = ⊥
 IsGivenUp taken taken' Memory = Appends taken taken' (failure_bytes true)
 
--- it was told why its bytes are refused; or that there is no memory for that; or failed meanwhile
+-- It got the refusal of its bytes; or the 500, because allocating the refusal failed; or it failed meanwhile.
 abbrev pub IsRefused : HeadError → (taken taken' : Option (List ℕ)) → LinkEnd → Type 0
 IsRefused error taken taken' Closed = ⊥
 IsRefused error taken taken' (Cut at) = ⊥
@@ -33,29 +33,29 @@ IsRefused error taken taken' LinkFault = AppendsPrefix taken taken' (refusal_byt
 IsRefused error taken taken' FileFault = ⊥
 IsRefused error taken taken' Memory = Appends taken taken' (failure_bytes true)
 
--- an answer that can be written, if there is one
+-- An answer that can be written, if there is one.
 abbrev pub IsSayable : Option Said → Type 0
 IsSayable None = Unit {0}
 IsSayable (Some said) = HasReason said.status × IsWritable said.plan
 
--- the bytes of an answer, of which nothing is said where there was no memory for it
+-- The bytes of an answer; those of the 500 if allocating it failed.
 abbrev pub said_bytes : Option Said → Bool → List ℕ
 said_bytes None last = failure_bytes last
 said_bytes (Some said) last = with_head said.status said.form (plan_bytes said.plan) last
 
--- what came of the writing of a reply of these bytes, behind which an end may be due: all of it stands there; a front of it
--- does, since the connection failed; or there was no memory for it, and it was left out, or the connection was told instead
+-- What happened to a reply of these bytes, with the end `due` after it, if any. All of it was written. Or the
+-- connection failed after a prefix. Or an allocation failed, and nothing or a 500 was written instead.
 pub data WasWritten (bytes : List ℕ) (added : Bool) (due : Option LinkEnd) (taken taken' : Option (List ℕ)) (end : Option LinkEnd) : Type 0 where
   whole : Appends taken taken' bytes → end ≡ due → WasWritten bytes added due taken taken' end
   broken : AppendsPrefix taken taken' bytes → end ≡ Some LinkFault → WasWritten bytes added due taken taken' end
   left_out : taken' ≡ taken → end ≡ Some Memory → WasWritten bytes added due taken taken' end
   replaced : added ≡ false → (e : LinkEnd) → IsGivenUp taken taken' e → end ≡ Some e → WasWritten bytes added due taken taken' end
 
--- the count where a connection may end or go on
+-- The error counter of a connection that may end or stay open.
 abbrev pub CountsMaybe : (before now : ℕ) → Option LinkEnd → Type 0
 CountsMaybe before now None = now ≡ before
 CountsMaybe before now (Some end) = CountsEnd before now end
 
--- an end that no failure makes
+-- An end that is not a failure.
 abbrev pub IsCalm : Option LinkEnd → Type 0
 IsCalm due = (n : ℕ) → CountsMaybe n n due

@@ -1,6 +1,6 @@
-//! Serving a connection of a share. Requests are read off it, answered in turns at the share, and written back; what
-//! is read next waits until a reply was written. A keeper has each edit before it is answered. What is reported of it, and
-//! what that says of the share's one history.
+//! Serves a connection of a share: reads requests, answers each in a turn, and writes the reply before it reads on. A
+//! keeper has each edit before its reply is written. The report of a connection is a function of the share's one
+//! history.
 #![tactic(auto)]
 
 pub mod laws;

@@ -7,40 +7,40 @@ use std::marker::Model;
 /// A request that was served.
 #[derive(Clone, Copy, Debug, PartialEq, Eq)]
 pub struct Served {
-    /// The session whose answer it was; 0 where it was no session's.
+    /// The session that was answered, 0 if none.
     pub session: u32,
-    /// The point at which that session was answered before; 0 where it was not.
+    /// The session's last-answered length before, 0 if it had none.
     pub seen: u64,
-    /// How many entries the history had behind the answer.
+    /// The history length after the answer.
     pub point: u64,
-    /// 500 where there was no memory for an answer.
+    /// The status; 500 if allocating the answer failed.
     pub status: u16,
-    /// Whether the answer added an entry, which is then the last one at its point.
+    /// Whether the answer added an entry, which is then the last one at `point`.
     pub added: bool,
 }
 
 /// How a connection ended.
 #[derive(Clone, Copy, Debug, PartialEq, Eq)]
 pub enum LinkEnd {
-    /// The input ended between two requests, or a request asked to close.
+    /// The input ended between two requests, or a request closed the connection.
     Closed,
-    /// The input ended inside a request, so many bytes after its begin.
+    /// The input ended inside a request, `at` bytes after the start of the input.
     Cut { at: u64 },
-    /// The bytes were no request.
+    /// The bytes are malformed.
     Refused { status: u16 },
-    /// As many requests were served as may be on one connection, or by one worker.
+    /// The limit of requests on one connection, or of its worker, was reached.
     Spent,
     /// The share was stopped.
     Stopped,
-    /// A read or a write failed.
+    /// A read, a write or a probe failed.
     LinkFault,
-    /// An edit was added and may not have been kept. It was not answered, and the share was stopped behind it.
+    /// An edit was added and may not have been kept. It got no reply, and the same turn stopped the share.
     FileFault,
-    /// There was no memory.
+    /// An allocation failed.
     Memory,
 }
 
-/// Requests that were served, in order.
+/// The requests that were served, in order.
 #[derive(Debug, Drop)]
 pub struct ServedRequests {
     items: Vec<Served>,
@@ -56,7 +56,7 @@ impl Model for ServedRequests {
 }
 
 impl ServedRequests {
-    /// These requests.
+    /// Returns the report of these requests.
     pub fn of(items: Vec<Served>) -> ServedRequests
         ensures { result ≡ items.items }
     {
@@ -76,10 +76,10 @@ impl ServedRequests {
     }
 }
 
-/// What is told of a connection that was served.
+/// The report of a connection.
 #[derive(Debug, Drop)]
 pub struct LinkReport {
-    /// The number of the pass that served it.
+    /// The number of the handle that served it.
     pub number: u32,
     pub served: ServedRequests,
     pub end: LinkEnd,

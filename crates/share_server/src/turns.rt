@@ -1,6 +1,5 @@
-//! One request of a connection, answered by a share that many connections take turns at. A turn is held for the answer
-//! alone, and to keep an edit: what is written of it is written later. A request that is held waits at the bell, outside
-//! any turn.
+//! Answers one request of a connection of a share that many connections share. A turn lasts for the answer, and to
+//! keep an edit; the reply is written later. A pending request waits at the bell, outside any turn.
 
 mod answers;
 mod keeping;

@@ -1,4 +1,4 @@
--- Passes that are joined to one, one after another.
+-- Handles that are joined to one, one after another.
 use Rattle.std.proofs.Common.{◌≡◌, ℕ, suc, ◌+◌, ◌<◌, ◌≤◌, List, [], ◌∷◌, ◌++◌, length, get_or, sym, ap, ◌∙◌, subst, arith, length-append}
 use Rattle.std.proofs.Math.ListN.{get_or-append}
 use Rattle.std.proofs.Math.Seq.{get_or-append_seam}
@@ -15,7 +15,7 @@ use Rattle.share_turns.specs.Made.{by_of}
 use Rattle.share_turns.specs.declared.numbers.Number.{Number}
 use Rattle.share_turns.specs.Work.{Apart, IsIn}
 
--- what holds of the elements of a list holds of the one behind its front
+-- what all elements of a list satisfy, the one after a prefix does
 pub all_seam : {A : Type 0} (P : A → Type 0) (xs : List A) (y : A) (ys zs : List A) → zs ≡ xs ++ y ∷ ys → All P zs → P y
 all_seam P xs y ys zs is all =
     let len = length-append xs (y ∷ ys) in
@@ -29,7 +29,7 @@ covered_by pass pass' p on at = record {
       (continues_less by_of (numbers_of (known pass)) (numbers_of (known p)) (known pass).seen (known pass').seen at.numbers on.history);
 }
 
--- a pass after a join covers the pass before it, and the one that was joined
+-- a handle after a join covers the handle before it, and the one that was joined
 joins_first : (pass pass' other : NumbersPass) → known pass' ≡ after_join (known pass) (known other) → Continues by_of (numbers_of (known pass)) (known pass).seen (known pass').seen → IsCovered pass' pass
 joins_first pass pass' other is history = record {
   numbers = λ n has. subst (λ k. Contains (numbers_of k) n) (sym is) (Contains-append_left (numbers_of (known pass)) (numbers_of (known other)) n has);
@@ -64,7 +64,7 @@ apart_more pass other ps covered apart all i j d before less =
     subst (λ (t : NumbersPass × NumbersPass). Apart (known t.0) (known t.1)) (λ k. (sym at_i k, (sym (get_or-append_seam ps other [] d) ∙ ap (λ m. get_or (ps ++ other ∷ []) m d) is) k))
     (λ n mine his. apart n ((covered i d front).numbers n mine) his))
 
--- a history that goes on from a pass goes on from those that it covers
+-- a history that continues a handle's continues those that it covers
 pub seen_in : (history : List Number) (pass : NumbersPass) (ps : List NumbersPass) → AreCovered pass ps → Continues by_of (numbers_of (known pass)) (known pass).seen history → All (λ p. IsIn history (known p)) ps
 seen_in history pass ps covered on k d less =
     let p = get_or ps k d in

@@ -1,4 +1,4 @@
--- What is known of passes that were joined to one.
+-- What is known of handles that were joined to one.
 use Rattle.std.specs.Prelude.{ℕ, List, All, AllPairs, Contains}
 use Rattle.share_lock.specs.declared.pass.Pass.{Pass}
 use Rattle.share_lock.specs.Histories.{Continues}
@@ -13,7 +13,7 @@ use Rattle.share_turns.specs.Work.{Apart}
 abbrev pub NumbersPass : Type 0
 NumbersPass = Pass Numbers Number (Unit {0}) ghosts
 
--- a pass has the numbers of another, and its history goes on from the other's
+-- A handle has the numbers of another, and its history continues the other's.
 pub record IsCovered (by other : NumbersPass) : Type 0 where
   pub numbers : (n : ℕ) → Contains (numbers_of (known other)) n → Contains (numbers_of (known by)) n
   pub history : Continues by_of (numbers_of (known other)) (known other).seen (known by).seen
@@ -21,6 +21,6 @@ pub record IsCovered (by other : NumbersPass) : Type 0 where
 abbrev pub AreCovered : NumbersPass → List NumbersPass → Type 0
 AreCovered pass passes = All (λ p. IsCovered pass p) passes
 
--- no two passes have a number in common
+-- No two handles have a number in common.
 abbrev pub AreApart : List NumbersPass → Type 0
 AreApart passes = AllPairs (λ p q. Apart (known p) (known q)) passes

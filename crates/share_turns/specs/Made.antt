@@ -1,4 +1,4 @@
--- The numbers of a list, and who added each.
+-- The numbers of a list, and the handle that added each.
 use Rattle.std.specs.Prelude.{ℕ, List}
 use Rattle.share_turns.specs.declared.numbers.Number.{Number}
 use Rattle.share_turns.specs.declared.numbers.Numbers.{Numbers}

@@ -1,4 +1,4 @@
-//! A crew of workers at one list, from its opening to the list that they leave.
+//! A crew of workers that share one list, from its opening to the list that they leave.
 ghost use Rattle.std.specs.Prelude.{◌≡◌, ◌+◌, ◌<◌, ◌^◌, All, IfOk};
 ghost use Rattle.share_lock.specs.Passes.{lock_id, IsReady};
 
@@ -11,7 +11,7 @@ use std::alloc::{AllocError, Global};
 use std::sync::Wait;
 use std::thread::Threads;
 
-/// So many workers, each with a pass of its own that is split from the first.
+/// Returns `count` workers, each with a handle that is split from the first.
 pub fn hired<R: Wait>(
     rt: &R,
     alloc: Global,
@@ -36,7 +36,7 @@ pub fn hired<R: Wait>(
     Ok(workers)
 }
 
-/// The workers' passes.
+/// Returns the workers' handles.
 fn passes_of(
     alloc: Global,
     lock: &ShareLock<Numbers>,
@@ -52,7 +52,7 @@ fn passes_of(
     Ok(passes)
 }
 
-/// Opens an empty list, lets each of so many workers add its numbers in a thread of its own, and gives the list.
+/// Opens an empty list, lets each of `count` workers add its numbers in its own thread, and returns the list.
 pub fn crew<R: Threads + Wait + Sync>(
     rt: &R,
     alloc: Global,

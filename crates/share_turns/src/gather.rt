@@ -1,4 +1,4 @@
-//! Passes that come together again, and the list that they leave.
+//! Handles that are joined again, and the list that they leave.
 ghost use Rattle.std.specs.Prelude.{◌≡◌, ◌∷◌, All, AllPairs};
 ghost use Rattle.share_lock.specs.Passes.{lock_id, known, IsReady};
 ghost use Rattle.share_turns.specs.Gathered.{AreCovered, AreApart};
@@ -9,7 +9,7 @@ use crate::numbers::Numbers;
 use share_lock::{Pass, ShareLock};
 use std::sync::Wait;
 
-/// The first pass, with all others taken in.
+/// Returns the first handle, with all others joined to it.
 fn joined(
     lock: &ShareLock<Numbers>,
     first: Pass<Numbers>,
@@ -28,8 +28,8 @@ fn joined(
     pass
 }
 
-/// Takes all passes in, and the list out for good in a last turn. It begins with what each of them had seen, has no later
-/// number of theirs, and no two of them have a number in common.
+/// Joins all handles, and takes the list out for good in a last turn. The list begins with what each of them had
+/// seen, has no later number of theirs, and no two of them have a number in common.
 pub fn gathered<R: Wait>(
     rt: &R,
     lock: &ShareLock<Numbers>,

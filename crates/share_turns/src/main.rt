@@ -1,5 +1,5 @@
-//! Threads that take turns at one list of numbers: what the lock's clauses tell its callers, and how many turns it
-//! gives a second beside a `std` Mutex.
+//! Threads that take turns at one list of numbers. Shows what the lock's clauses say to its callers, and measures its
+//! turns per second against a `std` Mutex.
 #![tactic(auto)]
 
 mod crew;
@@ -19,7 +19,7 @@ const WORKERS: u32 = 8;
 
 const TURNS: u64 = 1000;
 
-/// Without words, the length of the list that eight workers leave. With one, the turns a second.
+/// Without arguments, prints the length of the list that eight workers leave; with one, the turns per second.
 fn main(rt: HostRuntime) -> io::Result<()> {
     if env::args(&rt)?.count() > 1 {
         return print_rates(&rt, rt.alloc());

@@ -1,10 +1,10 @@
-//! A list of numbers, as the state that turns are taken at.
+//! A list of numbers, the state of this lock.
 ghost use Rattle.std.specs.Prelude.{◌≡◌, ◌++◌, [], ◌∷◌, vec_len, OnErr, OnOk, length};
 
 use share_lock::Recorded;
 use std::alloc::{AllocError, Global};
 
-/// A number, and the pass that added it.
+/// A number, and the handle that added it.
 #[derive(Clone, Copy)]
 pub struct Number {
     pub by: u32,
@@ -18,7 +18,7 @@ pub struct Numbers {
 }
 
 impl Numbers {
-    /// No number, without memory.
+    /// Returns an empty list. Does not allocate.
     pub fn new(alloc: Global) -> Numbers
         ensures { result.items.items ≡ [] }
     {
@@ -27,7 +27,7 @@ impl Numbers {
         }
     }
 
-    /// Adds a number at the end.
+    /// Appends a number.
     pub fn add(&mut self, by: u32, value: u64) -> Result<(), AllocError>
         ensures ok { OnOk result (self.new.items.items ≡ self.old.items.items ++ record { by = by; value = value } ∷ []) }
         ensures err { OnErr result (self.new.items.items ≡ self.old.items.items) }

@@ -1,4 +1,4 @@
-//! How many turns that change nothing a lock gives a second, beside a `std` Mutex.
+//! Turns per second that change nothing, at a lock and at a `std` Mutex.
 ghost use Rattle.std.specs.Prelude.{All};
 ghost use Rattle.std.specs.Thread.{IsSync};
 ghost use Rattle.share_lock.specs.Passes.{lock_id, IsReady};
@@ -17,7 +17,7 @@ const THREADS: usize = 8;
 
 const TURNS: u64 = 100_000;
 
-// Turns that add nothing.
+// Takes turns that add nothing.
 fn idle<R: Wait>(rt: &R, lock: &ShareLock<Numbers>, worker: &mut Worker)
     requires { IsReady (lock_id lock.now) worker.old.pass }
     ensures { IsReady (lock_id lock.now) worker.new.pass }
@@ -28,7 +28,7 @@ fn idle<R: Wait>(rt: &R, lock: &ShareLock<Numbers>, worker: &mut Worker)
     }
 }
 
-// As many turns at a list under a Mutex.
+// Takes the same number of turns at a list under a Mutex.
 fn idle_at_mutex<R: Wait>(rt: &R, list: &Mutex<Numbers>) {
     for _ in 0..TURNS {
         drop(list.lock(rt));
@@ -49,7 +49,7 @@ fn idle_all<R: Threads + Wait + Sync>(rt: &R, lock: &ShareLock<Numbers>, workers
     );
 }
 
-// The time that the lock's turns take.
+// Returns the time of the lock's turns.
 fn lock_time<R: Threads + Wait + Sync + Clock>(rt: &R, alloc: Global) -> io::Result<Duration> {
     let (lock, mut first) = ShareLock::open(alloc, Numbers::new(alloc), THREADS as u32 + 1)?;
     let mut workers = hired(rt, alloc, &lock, &mut first, THREADS as u32, TURNS)?;
@@ -58,7 +58,7 @@ fn lock_time<R: Threads + Wait + Sync + Clock>(rt: &R, alloc: Global) -> io::Res
     begin.elapsed(rt)
 }
 
-// The time that the Mutex's turns take.
+// Returns the time of the Mutex's turns.
 fn mutex_time<R: Threads + Wait + Sync + Clock>(rt: &R, alloc: Global) -> io::Result<Duration> {
     let list = Mutex::new(Numbers::new(alloc));
     let mut places = [0u8; THREADS];
@@ -72,7 +72,7 @@ fn mutex_time<R: Threads + Wait + Sync + Clock>(rt: &R, alloc: Global) -> io::Re
     begin.elapsed(rt)
 }
 
-/// Turns a second, of both, in this run.
+/// Prints the turns per second of both, in this run.
 pub fn print_rates<R: Threads + Wait + Sync + Clock + Print>(
     rt: &R,
     alloc: Global,

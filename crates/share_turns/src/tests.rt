@@ -1,4 +1,4 @@
-//! Two passes, threads, and the bell.
+//! Two handles, threads, and the bell.
 
 ghost use Rattle.std.specs.Prelude.{All};
 ghost use Rattle.share_lock.specs.Passes.{lock_id, IsReady};
@@ -15,7 +15,7 @@ use std::test::Fail;
 use std::thread::{Threads, join, sleep};
 use std::time::{Clock, CpuClock, Duration};
 
-// Pass 0 is split, pass 1 adds 5, pass 0 takes a turn, takes pass 1 in, and takes the list out.
+// Handle 0 is split, handle 1 adds 5, handle 0 takes a turn, joins handle 1, and takes the list out.
 fn two_passes<R: Wait>(rt: &R, alloc: Global) -> Result<(Numbers, u32, u64), AllocError> {
     let (lock, mut first) = ShareLock::open(alloc, Numbers::new(alloc), 2)?;
     let mut second = lock.split(rt, &mut first)?;
@@ -40,7 +40,7 @@ fn two_passes_share_one_list(rt: HostRuntime) -> Result<(), Fail> {
     Ok(())
 }
 
-// Whether the numbers of each worker are those from 0 on, in order, and there are no others.
+// Whether the numbers of each worker are those from 0, in order, and there are no others.
 fn is_whole(list: &Numbers, workers: u32, turns: u64) -> bool {
     let each = (1..=workers).all(|by| {
         list.items
@@ -87,7 +87,7 @@ fn the_bell_forgets_no_ring(rt: HostRuntime) {
     bell.wait(&rt, 2);
 }
 
-// Keeps a turn for a second, and tells once it has it.
+// Keeps a turn for a second, and sets `taken` once it has it.
 fn keep_a_turn<R: Wait + Clock>(
     rt: &R,
     lock: &ShareLock<Numbers>,
@@ -102,7 +102,7 @@ fn keep_a_turn<R: Wait + Clock>(
     lock.give(turn);
 }
 
-// Lets each worker take its turns, in a thread of its own, once another has a turn.
+// Lets each worker take its turns, in its own thread, once another thread has a turn.
 fn work_behind<R: Threads + Wait + Clock + Sync>(
     rt: &R,
     lock: &ShareLock<Numbers>,
@@ -120,7 +120,7 @@ fn work_behind<R: Threads + Wait + Clock + Sync>(
     work_all(rt, lock, workers, 9);
 }
 
-// For how long this program has the processor while eight threads wait a second for their turns.
+// The processor time of this program while eight threads wait a second for their turns.
 fn time_of_waiting<R: Threads + Wait + Clock + CpuClock + Sync>(
     rt: &R,
     alloc: Global,
@@ -140,7 +140,7 @@ fn time_of_waiting<R: Threads + Wait + Clock + CpuClock + Sync>(
     Ok(rt.process_cpu_time()?.saturating_sub(before))
 }
 
-// Eight threads that looked again and again would have the processor for a second and more.
+// Eight threads that polled would use the processor for a second and more.
 #[test]
 fn eight_threads_wait_for_their_turns_asleep(rt: HostRuntime) -> Result<(), Fail> {
     let time = time_of_waiting(&rt, rt.alloc())?;

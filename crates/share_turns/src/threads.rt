@@ -1,4 +1,4 @@
-//! Workers in threads of their own.
+//! Workers in their own threads.
 ghost use Rattle.std.specs.Prelude.{◌≡◌, ℕ, ◌<◌, All, length, slice_index_or};
 ghost use Rattle.std.specs.Thread.{IsSync};
 ghost use Rattle.share_lock.specs.Passes.{lock_id, IsReady};
@@ -11,7 +11,7 @@ use std::sync::Wait;
 use std::thread;
 use std::thread::Threads;
 
-/// Takes each worker's turns, beside those of the others, and returns when all have ended.
+/// Takes the turns of all workers concurrently, and returns when all have ended.
 pub fn work_all<R: Threads + Wait + Sync>(
     rt: &R,
     lock: &ShareLock<Numbers>,

@@ -1,4 +1,4 @@
-//! Turns at one list of numbers, by one pass.
+//! Turns at one list of numbers, by one handle.
 ghost use Rattle.std.specs.Prelude.{◌≡◌, ◌++◌, [], ◌∷◌, length, OnOk, OnErr};
 ghost use Rattle.share_lock.specs.Passes.{lock_id, known, IsReady};
 ghost use Rattle.share_turns.specs.Work.{added_in, first_numbers, IsSame};
@@ -8,7 +8,7 @@ use share_lock::{Pass, ShareLock};
 use std::alloc::AllocError;
 use std::sync::Wait;
 
-/// Adds a number in a turn. The numbers of the pass are then those before and this one, and the turn is a look.
+/// Appends a number in a turn. The handle's numbers are then those before and this one, and the turn is recorded.
 pub fn add<R: Wait>(
     rt: &R,
     lock: &ShareLock<Numbers>,
@@ -29,7 +29,7 @@ pub fn add<R: Wait>(
     added
 }
 
-/// The turns that a pass is to take, and how many of them added their number.
+/// A handle, the turns that it is to take, and how many of them added their number.
 #[derive(Drop)]
 pub struct Worker {
     pub pass: Pass<Numbers>,
@@ -38,7 +38,7 @@ pub struct Worker {
 }
 
 #[tactic(auto, using(crate::proofs::Lists::one_more))]
-/// Takes the worker's turns: each adds its own number, counted from 0. It stops where there is no memory.
+/// Takes the worker's turns. Each adds its own number, counted from 0. Stops if an allocation fails.
 pub fn work<R: Wait>(rt: &R, lock: &ShareLock<Numbers>, worker: &mut Worker)
     requires ready { IsReady (lock_id lock.now) worker.old.pass }
     ensures ready { IsReady (lock_id lock.now) worker.new.pass }

@@ -1,4 +1,4 @@
-//! `mirror_client`: followers over links in memory, whose peers say what is known beforehand.
+//! `mirror_client`: followers over connections in memory, whose peers send known bytes.
 
 ghost use Rattle.std.specs.Prelude.{◌≤◌, ◌<◌};
 ghost use Rattle.share_asks.specs.Valid.{MayAsk};
@@ -11,7 +11,7 @@ use std::alloc::{AllocError, Global};
 use std::process::Abort;
 use std::test::Fail;
 
-// A table that tells as many codes as are needed here.
+// A table with the codes that are needed here.
 const CODES: &[u8] =
     b"mccr\0\0\x03\x05mstt\0\0\0\x04\0\0\0\xc8mdcl\0\0\00mcnm\0\0\0\x04mlogmcna\0\0\0\x12dmap.loginresponsemcty\0\0\0\x02\0\x0cmdcl\0\0\0,mcnm\0\0\0\x04mlidmcna\0\0\0\x0edmap.sessionidmcty\0\0\0\x02\0\x05mdcl\0\0\0)mcnm\0\0\0\x04msttmcna\0\0\0\x0bdmap.statusmcty\0\0\0\x02\0\x05mdcl\0\0\01mcnm\0\0\0\x04mupdmcna\0\0\0\x13dmap.updateresponsemcty\0\0\0\x02\0\x0cmdcl\0\0\01mcnm\0\0\0\x04musrmcna\0\0\0\x13dmap.serverrevisionmcty\0\0\0\x02\0\x05mdcl\0\0\0-mcnm\0\0\0\x04mutymcna\0\0\0\x0fdmap.updatetypemcty\0\0\0\x02\0\x01mdcl\0\0\06mcnm\0\0\0\x04mtcomcna\0\0\0\x18dmap.specifiedtotalcountmcty\0\0\0\x02\0\x05mdcl\0\0\00mcnm\0\0\0\x04mrcomcna\0\0\0\x12dmap.returnedcountmcty\0\0\0\x02\0\x05mdcl\0\0\0*mcnm\0\0\0\x04mlclmcna\0\0\0\x0cdmap.listingmcty\0\0\0\x02\0\x0cmdcl\0\0\0.mcnm\0\0\0\x04mlitmcna\0\0\0\x10dmap.listingitemmcty\0\0\0\x02\0\x0cmdcl\0\0\03mcnm\0\0\0\x04mudlmcna\0\0\0\x15dmap.deletedidlistingmcty\0\0\0\x02\0\x0cmdcl\0\0\0)mcnm\0\0\0\x04miidmcna\0\0\0\x0bdmap.itemidmcty\0\0\0\x02\0\x05mdcl\0\0\0+mcnm\0\0\0\x04minmmcna\0\0\0\x0ddmap.itemnamemcty\0\0\0\x02\0\x09mdcl\0\0\00mcnm\0\0\0\x04adbsmcna\0\0\0\x12daap.databasesongsmcty\0\0\0\x02\0\x0c";
 
@@ -26,7 +26,7 @@ pub(crate) const UPDATE: &[u8] = b"mupd\0\0\0\x18mstt\0\0\0\x04\0\0\0\xc8musr\0\
 const DELTA: &[u8] =
     b"adbs\0\0\0Umstt\0\0\0\x04\0\0\0\xc8muty\0\0\0\x01\x01musr\0\0\0\x04\0\0\0\x04mtco\0\0\0\x04\0\0\0\0mrco\0\0\0\x04\0\0\0\0mlcl\0\0\0\0mudl\0\0\0\x0cmiid\0\0\0\x04\0\0\0\x07";
 
-// A full listing of revision 2, and one that tells no revision.
+// A full listing of revision 2, and one without a revision.
 const OLDER: &[u8] =
     b"adbs\0\0\0Amstt\0\0\0\x04\0\0\0\xc8muty\0\0\0\x01\0musr\0\0\0\x04\0\0\0\x02mtco\0\0\0\x04\0\0\0\0mrco\0\0\0\x04\0\0\0\0mlcl\0\0\0\0";
 
@@ -42,7 +42,7 @@ const TWO_ROUNDS: Bodies = &[CODES, LOGIN, FULL, UPDATE, DELTA];
 
 const ONE_ROUND: Bodies = &[CODES, LOGIN, FULL];
 
-/// Adds a reply with a status and a body.
+/// Appends a reply with a status and a body.
 pub(crate) fn reply(
     alloc: Global,
     replies: &mut Vec<u8>,
@@ -55,7 +55,7 @@ pub(crate) fn reply(
     replies.extend_from_slice(body)
 }
 
-/// The replies that bodies are, each with status 200.
+/// Returns replies with these bodies, each with status 200.
 fn replies(alloc: Global, bodies: &[&'static [u8]]) -> Result<Vec<u8>, AllocError> {
     let mut bytes = Vec::new(alloc);
     for body in bodies {
@@ -64,7 +64,7 @@ fn replies(alloc: Global, bodies: &[&'static [u8]]) -> Result<Vec<u8>, AllocErro
     Ok(bytes)
 }
 
-/// The same, and then the reply to a logout.
+/// Returns these replies, and then the reply to a logout.
 fn session(alloc: Global, bodies: &[&'static [u8]]) -> Result<Vec<u8>, AllocError> {
     let mut bytes = replies(alloc, bodies)?;
     bytes.extend_from_slice(NO_CONTENT.as_bytes())?;
@@ -84,7 +84,7 @@ pub(crate) fn link(
     Ok(MemLink::new(input, output))
 }
 
-/// A line for each round.
+/// Returns a line for each round.
 fn lines(alloc: Global, applied: &[Applied]) -> Result<String, AllocError> {
     let mut text = String::new(alloc);
     for done in applied {
@@ -98,7 +98,7 @@ fn lines(alloc: Global, applied: &[Applied]) -> Result<String, AllocError> {
     Ok(text)
 }
 
-/// How following for some rounds ended, and the revision and the number of rows that are held then.
+/// Follows for `rounds` rounds. Returns how it ended, and the revision and the number of rows of the mirror.
 fn told_by(
     alloc: Global,
     link: &mut MemLink,
@@ -152,7 +152,7 @@ fn follow(
 const WRITTEN: &str =
     "GET /content-codes HTTP/1.1\r\nHost: here\r\nClient-DAAP-Version: 3.0\r\n\r\nGET /login HTTP/1.1\r\nHost: here\r\nClient-DAAP-Version: 3.0\r\n\r\nGET /databases/1/items?session-id=1 HTTP/1.1\r\nHost: here\r\nClient-DAAP-Version: 3.0\r\n\r\nGET /update?session-id=1&revision-number=3 HTTP/1.1\r\nHost: here\r\nClient-DAAP-Version: 3.0\r\n\r\nGET /databases/1/items?session-id=1&delta=3 HTTP/1.1\r\nHost: here\r\nClient-DAAP-Version: 3.0\r\n\r\nGET /logout?session-id=1 HTTP/1.1\r\nHost: here\r\nClient-DAAP-Version: 3.0\r\n\r\n";
 
-/// How following ended, and whether these bytes were written.
+/// Follows for `rounds` rounds. Returns how it ended, and whether the bytes that it wrote are `written`.
 fn told_and_wrote(
     alloc: Global,
     link: &mut MemLink,
@@ -200,7 +200,7 @@ fn one_round_waits_for_nothing(rt: HostRuntime) -> Result<(), Fail> {
     Ok(())
 }
 
-/// The lengths of the replies up to the first listing and to the second.
+/// The lengths of the replies up to the first listing and up to the second.
 #[derive(Clone, Copy)]
 struct Listings {
     first: usize,
@@ -214,7 +214,7 @@ fn listing_lengths(alloc: Global) -> Result<Listings, AllocError> {
     })
 }
 
-/// The revision and the number of rows that are held after so many bytes of two rounds.
+/// Returns the revision and the number of rows of a mirror after `at` bytes of the replies to two rounds.
 fn held(at: usize, listings: Listings) -> &'static str {
     if at < listings.first {
         "0/0"
@@ -260,7 +260,7 @@ fn each_read_may_fail(rt: HostRuntime) -> Result<(), Fail> {
     Ok(())
 }
 
-/// Follows a peer that sends these bodies with 200, then one with this status, and then nothing.
+/// Follows a peer that sends `bodies` with 200, then `body` with `status`, and then nothing.
 fn ends(
     alloc: Global,
     bodies: &[&'static [u8]],
@@ -272,7 +272,7 @@ fn ends(
     follow(alloc, input.as_slice(), 4096, &[])
 }
 
-/// Bodies with 200, the status and the body of the last reply, and how following ends.
+/// Bodies with 200, the status and the body of the last reply, and how the follower ends.
 type End = (Bodies, &'static str, &'static [u8], &'static str);
 
 fn all_end(rt: &impl Abort, alloc: Global, rows: &[End]) -> Result<(), Fail> {

@@ -1,5 +1,5 @@
-//! `kept_library`: a file that keeps the edits of a share is opened again and again, with each of its calls failing, and where it is
-//! none or a share doesn't take what it has.
+//! `kept_library`: a file that keeps the edits of a share is opened again and again; each of its calls fails in turn;
+//! files that are not edit files, or whose batches pass a limit, are refused.
 
 use crate::openings::records;
 use command_core::Fault;
@@ -16,7 +16,7 @@ const NONE: &str = "op,kind,id\n";
 
 const SONG: &str = "op,kind,id,dmap.itemname\nput,item,7,A\n";
 
-/// Files with a disk for each list of the numbers of calls that fail.
+/// Returns files with a disk for each element of `failing`, the numbers of its calls that fail.
 fn files_with(alloc: Global, failing: &[&[u64]]) -> Result<MemFiles, Fail> {
     let mut disks = Vec::new(alloc);
     for numbers in failing {
@@ -32,7 +32,7 @@ fn opened(alloc: Global, files: &mut MemFiles, input: &str) -> Result<Opened, Fa
     Ok(open_library(alloc, files, "edits", "Demo", 16, first))
 }
 
-/// Opens a share and its file, and gives the revision, or the status of the fault.
+/// Opens a share and its file. Returns the revision, or the status of the error.
 fn opens(alloc: Global, files: &mut MemFiles, input: &str) -> Result<Result<u32, u8>, Fail> {
     match opened(alloc, files, input)? {
         Ok(kept) => {
@@ -43,7 +43,7 @@ fn opens(alloc: Global, files: &mut MemFiles, input: &str) -> Result<Result<u32,
     }
 }
 
-/// The records of the input, those of an edit that is accepted then, and the revision at which the share is opened.
+/// The records of the input, those of an edit after it, and the revision at which the share is opened.
 type Turn = (&'static str, &'static str, u32);
 
 const TURNS: [Turn; 5] = [
@@ -85,7 +85,7 @@ fn a_share_is_opened_with_what_its_file_kept(rt: HostRuntime) -> Result<(), Fail
     has_turns(&rt, rt.alloc(), &mut files, &TURNS)
 }
 
-/// Opens a new file with an input, where the call of that number fails, and then opens it again.
+/// Opens a new file with an input, the call with the number `failing` fails, and then opens the file again.
 fn opens_twice(alloc: Global, failing: u64) -> Result<(Result<u32, u8>, Result<u32, u8>), Fail> {
     let mut files = files_with(alloc, &[&[failing], &[]])?;
     let first = opens(alloc, &mut files, SONG)?;
@@ -93,10 +93,11 @@ fn opens_twice(alloc: Global, failing: u64) -> Result<(Result<u32, u8>, Result<u
     Ok((first, second))
 }
 
-/// How many calls make a file and append to it.
+/// This many calls make a file and append to it.
 const CALLS: u64 = 12;
 
-/// Whether a fault is told exactly where one of these calls fails, and the file opens then with the batch or without it.
+/// Returns whether an error is returned exactly if one of these calls fails, and the file then opens with the batch or
+/// without it.
 fn each_fails(alloc: Global) -> Result<bool, Fail> {
     for number in 1..=CALLS {
         let (first, second) = opens_twice(alloc, number)?;
@@ -114,7 +115,8 @@ fn each_call_that_fails_is_told(rt: HostRuntime) -> Result<(), Fail> {
     Ok(())
 }
 
-/// Bytes, the last of the lists from 2 on that the input puts, and the line and the status of the refusal.
+/// The bytes of a file, the id of the last list that the input puts, from 2 on, and the line and the status of the
+/// refusal.
 type Refused = (&'static [u8], u32, &'static str, u8);
 
 const REFUSED: [Refused; 3] = [
@@ -128,7 +130,7 @@ const REFUSED: [Refused; 3] = [
     (b"\x01DAAPEDIT\0", 1_026, "limit: library\n", 8),
 ];
 
-/// Whether the file is refused so, and stays as it was.
+/// Returns whether the file is refused as `row` says, and is unchanged.
 fn is_refused(alloc: Global, row: &Refused) -> Result<bool, Fail> {
     let (bytes, last, line, status) = *row;
     if bytes.is_empty() {

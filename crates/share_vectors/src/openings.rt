@@ -1,4 +1,4 @@
-//! `share_core`: shares that are opened with batches.
+//! `share_core`: opens shares with batches.
 
 ghost use Rattle.std.specs.Prelude.{◌≢◌, [], All, IfOk};
 ghost use Rattle.item_model.specs.Valid.{AreValid};
@@ -11,10 +11,10 @@ use std::alloc::{AllocError, Global};
 use std::string::String;
 use std::test::Fail;
 
-/// Records of one kind with the ids of a range, and in how many batches they stand.
+/// The operation and kind of records, their first and last id, and the number of batches that have them.
 type Rows = (&'static str, u32, u32, u32);
 
-/// The revision of the opened share, or why none is opened.
+/// The revision of the opened share, or why it is not opened.
 #[derive(Clone, Copy, PartialEq, Eq)]
 enum Opening {
     At(u32),
@@ -107,7 +107,7 @@ fn batches(alloc: Global, table: &[Rows]) -> Result<Vec<Batch>, Fail>
     Ok(batches)
 }
 
-/// Opens a share with the batches. One that has not an entry for each batch counts as refused.
+/// Opens a share with the batches. Fails if the share does not have an entry for each batch.
 fn open_with(alloc: Global, table: &[Rows]) -> Result<Opening, Fail> {
     let batches = batches(alloc, table)?;
     let count = batches.len() as u64;

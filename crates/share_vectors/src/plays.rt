@@ -1,6 +1,6 @@
 //! `share_replay`: scripts that are played to a share, each with its whole output.
 //!
-//! Known bytes are in one table or in functions of their own: a proof of a test need not read them.
+//! Known bytes are in one table or in their own functions, so that the proof of a test need not read them.
 
 use daap_outside::MemSink;
 use item_model::{Batch, Edits};
@@ -49,12 +49,12 @@ const REFUSED: &str =
 const REFUSED_OUTPUT: &[u8] =
     b"> 1 72\nHTTP/1.1 413 Content Too Large\r\nContent-Length: 0\r\nConnection: close\r\n\r\n\n# 1 refused 413\n> 2 66\nHTTP/1.1 400 Bad Request\r\nContent-Length: 0\r\nConnection: close\r\n\r\n\n# 2 refused 400\n> 3 86\nHTTP/1.1 431 Request Header Fields Too Large\r\nContent-Length: 0\r\nConnection: close\r\n\r\n\n# 3 refused 431\n";
 
-/// A script, what it writes, and how many entries the share has then.
+/// A script, what the share answers, and how many entries the share then has.
 type Play = (&'static str, &'static [u8], u64);
 
-/// An update is held until the next edit; the same bytes one by one; an edit waits after an update of its own; a closed
-/// connection ends after its last reply; what is held at the end is told; an update of no session is held no more; what
-/// is no request is refused.
+/// An update is pending until the next edit; the same bytes one by one; an edit waits after an update of its
+/// connection; a closed connection ends after its last reply; pending updates are reported at the end; an update ends
+/// with its session; bytes that are not a request are refused.
 const PLAYS: [Play; 7] = [
     (HELD, HELD_OUTPUT, 3),
     (ONE_BY_ONE, HELD_OUTPUT, 3),
@@ -82,7 +82,8 @@ fn opened(alloc: Global) -> Result<Share, AllocError> {
     }
 }
 
-/// How a replay to a share named `daapshare` ended, the bytes that its sink took, and how many entries the share has.
+/// How a replay to a share named `daapshare` ended, the bytes that its sink took, and how many entries the share then
+/// has.
 #[derive(Drop)]
 struct Outcome {
     end: Result<(), ReplayError>,
@@ -90,7 +91,7 @@ struct Outcome {
     entries: u64,
 }
 
-// Each of these owns one thing more, and drops it in one place: proofs cost by these.
+// Each of these functions owns one more value, and drops it in one place: that keeps their proofs small.
 fn play(
     alloc: Global,
     script: &Script,
@@ -143,12 +144,12 @@ fn scripts_are_played(rt: HostRuntime) -> Result<(), Fail> {
 const LOGOUTS: &str =
     "text 2 GET /logout?session-id=1 HTTP/1.1\\r\\n\\r\\n\ntext 2 GET /logout?session-id=2 HTTP/1.1\\r\\n\\r\\n\ntext 2 GET /logout?session-id=2 HTTP/1.1\\r\\n\\r\\n\n";
 
-/// The end of the output after 65 logins.
+/// Returns the end of the output after 65 logins.
 fn after_logins() -> &'static [u8] {
     b"> 2 45\nHTTP/1.1 403 Forbidden\r\nContent-Length: 0\r\n\r\n\n> 2 27\nHTTP/1.1 204 No Content\r\n\r\n\n> 2 45\nHTTP/1.1 403 Forbidden\r\nContent-Length: 0\r\n\r\n\n# 1 closed\n# 2 closed\n"
 }
 
-/// 65 logins, and then logouts of the first two sessions.
+/// Returns a script of 65 logins, and then logouts of the first two sessions.
 fn logins(alloc: Global) -> Result<String, AllocError> {
     let mut text = String::from_str(alloc, "open 1 listen\nopen 2 listen\n")?;
     for _ in 0..65u32 {
@@ -171,7 +172,7 @@ fn the_65th_login_ends_the_first_session(rt: HostRuntime) -> Result<(), Fail> {
 const STOPPED: &str =
     "open 1 edit\ntext 1 GET /login HTTP/1.1\\r\\n\\r\\nPOST /stop HTTP/1.1\\r\\n\\r\\n\n";
 
-/// The end of what the sink takes, where it fails at the line of the end.
+/// Returns the end of what the sink takes if it fails at the line of the connection's end.
 fn stopped_front() -> &'static [u8] {
     b"\x04\0\0\0\x01\n> 1 46\nHTTP/1.1 204 No Content\r\nConnection: close\r\n\r\n"
 }

@@ -1,4 +1,4 @@
-//! `mirror_client`: pushes over links in memory, whose peers say what is known beforehand.
+//! `mirror_client`: pushes over connections in memory, whose peers send known bytes.
 
 use crate::followers::{LOGIN, NO_CONTENT, UPDATE, link, reply};
 use daap_outside::MemLink;
@@ -7,7 +7,7 @@ use std::alloc::{AllocError, Global};
 use std::process::Abort;
 use std::test::Fail;
 
-/// How a push ends.
+/// Pushes `body`, or a stop if it is `None`. Returns how that ends.
 fn told(alloc: Global, link: &mut MemLink, body: Option<&[u8]>) -> Result<String, AllocError> {
     match push_link(alloc, link, "here", body) {
         Ok(Pushed::Revision(n)) => format!(in alloc; "revision {n}"),
@@ -20,7 +20,7 @@ fn told(alloc: Global, link: &mut MemLink, body: Option<&[u8]>) -> Result<String
     }
 }
 
-/// Bytes that a peer sends, then a reply, if a status is given, and how a push ends.
+/// Bytes that a peer sends, then a reply, if its status is not empty, and how a push ends.
 type Push = (&'static str, &'static str, &'static [u8], &'static str);
 
 fn input(alloc: Global, push: &Push) -> Result<Vec<u8>, AllocError> {
@@ -41,7 +41,7 @@ fn told_and_wrote(
     Ok((text, link.taken() == written.as_bytes()))
 }
 
-/// How a push of a body, or of a stop if there is none, ends, and whether these bytes were written.
+/// Pushes `body`, or a stop if it is `None`. Returns how that ends, and whether the bytes that it wrote are `written`.
 fn pushed(
     alloc: Global,
     push: &Push,

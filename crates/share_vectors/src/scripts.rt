@@ -1,4 +1,4 @@
-//! `share_replay`: scripts and the lines at which they are refused.
+//! `share_replay`: scripts, and the lines at which texts are refused.
 
 use share_asks::Role;
 use share_replay::{Delivery, Script, ScriptError, laws};
@@ -6,7 +6,7 @@ use std::alloc::{AllocError, Global};
 use std::process::Abort;
 use std::test::Fail;
 
-/// The line at which a text is refused, 0 where it is a script.
+/// Returns the line at which `text` is refused, or 0 if it is a script.
 fn refused_at(alloc: Global, text: &[u8]) -> Result<u64, AllocError> {
     match Script::read(alloc, text) {
         Ok(_) => Ok(0),

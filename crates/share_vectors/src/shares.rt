@@ -1,4 +1,4 @@
-//! `share_core`: answers of shares, one after the other.
+//! `share_core`: answers of shares, one after another.
 
 ghost use Rattle.std.specs.Prelude.{◌≡◌, ◌<◌, None, IfOk};
 ghost use Rattle.share_asks.specs.Valid.{IsValidWant};
@@ -33,7 +33,8 @@ fn answered<L: Ledger>(blank: Blank, share: &mut Share, ask: &Ask) -> Result<Ans
     share.answer(9, ask, &mut Steps::<L>::open(blank))
 }
 
-/// What a reply told: its status, session, point, the mark and whether it added an entry. A wait has the status 0.
+/// A reply: its status, its session, the history length, the session's last-answered length before it, and whether it
+/// added an entry. A pending update has the status 0.
 type Told = (u16, u32, u64, u64, bool);
 
 fn told(share: &mut Share, want: Want) -> Result<Told, AllocError>
@@ -50,7 +51,7 @@ fn told(share: &mut Share, want: Want) -> Result<Told, AllocError>
     }
 }
 
-/// What is asked, by a session where one is given.
+/// A request, with its session if it has one.
 #[derive(Clone, Copy)]
 enum Asked {
     Info,
@@ -110,7 +111,7 @@ fn want(alloc: Global, asked: Asked) -> Result<Want, AllocError>
     }
 }
 
-/// Asks in turn, and compares what is told.
+/// Makes the requests of `table` in turn, and compares the replies.
 fn tells(
     rt: &impl Abort,
     alloc: Global,
@@ -126,7 +127,7 @@ fn tells(
 
 const PUT_7: &str = "op,kind,id,dmap.itemname\nput,item,7,Hey\n";
 
-/// Each kind of answer, with the mark that the session had before it.
+/// Each kind of answer, with the last-answered length of the session before it.
 const MARKS: [(Asked, Told); 10] = [
     (Asked::Info, (200, 0, 0, 0, false)),
     (Asked::Login, (200, 1, 1, 0, true)),
@@ -140,7 +141,7 @@ const MARKS: [(Asked, Told); 10] = [
     (Asked::Logout(1), (204, 1, 4, 3, true)),
 ];
 
-/// A dead session comes before a container that is not there, and the stop before all.
+/// A session that is not live is refused before a container that does not exist, and everything after the stop.
 const REFUSALS: [(Asked, Told); 10] = [
     (Asked::Login, (200, 1, 1, 0, true)),
     (Asked::Container7(1), (404, 1, 1, 1, false)),
@@ -157,7 +158,7 @@ const REFUSALS: [(Asked, Told); 10] = [
     (Asked::Stop, (503, 0, 2, 0, false)),
 ];
 
-/// Asks a share in turn, and gives the marks of its first two sessions.
+/// Makes the requests of `table` in turn. Returns the last-answered lengths of the first two sessions.
 fn marks(
     rt: &impl Abort,
     alloc: Global,
@@ -184,7 +185,7 @@ fn refusals_come_in_their_order(rt: HostRuntime) -> Result<(), Fail> {
     Ok(())
 }
 
-/// Behind 64 logins.
+/// Requests after 64 logins.
 const THE_65TH: [(Asked, Told); 4] = [
     (Asked::Databases(1), (200, 1, 64, 1, false)),
     (Asked::Login, (200, 65, 65, 0, true)),

@@ -50,8 +50,8 @@ use Rattle.item_model.specs.contracts.changes.Edit.{the_row as edit_row}
 use Rattle.item_model.specs.contracts.changes.Batch.{the_row as batch_row}
 use Rattle.item_model.specs.contracts.changes.Entry.{the_row as entry_row}
 use Rattle.playlist_store.specs.contracts.head.ListHead.{the_row as head_row}
-use Rattle.playlist_store.specs.contracts.kept.Kept.{the_row as kept_row}
-use Rattle.playlist_store.specs.contracts.kept.KeptList.{the_row as list_row}
+use Rattle.playlist_store.specs.contracts.kept.ListVersion.{the_row as kept_row}
+use Rattle.playlist_store.specs.contracts.kept.ListHistory.{the_row as list_row}
 use Rattle.playlist_store.specs.contracts.store.PlaylistStore.{the_row as lists_row}
 use Rattle.share_register.specs.contracts.register.Register.{the_row as register_row}
 use Rattle.share_core.specs.contracts.share.Share.{the_row as share_row}

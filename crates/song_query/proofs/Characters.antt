@@ -1,4 +1,4 @@
--- Pieces that stand in a text by its bytes stand there by its characters: none begins inside of another.
+-- Parts occur in a text by its bytes exactly if they do by its characters: no character begins inside another.
 use Rattle.std.proofs.Common.{◌≡◌, ◌≤◌, ◌<◌, ◌++◌, ◌&&◌, ◌||◌, inl, inr, ℕ, suc, Bool, true, false, List, [], ◌∷◌, length, map, take, drop, refl, ap, ap₂, sym, subst, ◌∙◌, append_assoc, arith}
 use Rattle.std.proofs.Math.Seq.{take-append_seam, drop-append_seam}
 use Rattle.std.proofs.lemmas.List.{take-append-drop}
@@ -11,7 +11,7 @@ use lib.Utf8.{encode, encodes}
 use Rattle.song_query.specs.Glob.{joins, from_some}
 use Rattle.song_query.proofs.Joining.{eq_true, eq_false, or_second}
 
--- a byte that begins no character
+-- a byte that is not the first of a character
 abbrev IsInside : ℕ → Type 0
 IsInside b = (128 ≤ b) × (b < 192)
 
@@ -19,7 +19,7 @@ abbrev AllInside : List ℕ → Type 0
 AllInside [] = ⊤
 AllInside (b ∷ bs) = IsInside b × AllInside bs
 
--- the bytes of a character: the first begins one, and none behind it does
+-- the bytes of a character: the first one begins it, and the others do not
 record Shaped (bytes : List ℕ) : Type 0 where
   first : ℕ
   others : List ℕ
@@ -71,17 +71,17 @@ shaped c =
       ]
     ]
 
--- what holds here holds from some place on
+-- a test that holds of a list holds of some rest of it
 here : (test : List ℕ → Bool) (xs : List ℕ) → test xs ≡ true → from_some test xs ≡ true
 here test [] e = e
 here test (x ∷ xs) e = or_left _ _ e
 
--- what holds from a later place on holds from an earlier one on
+-- a test that holds of some rest of a rest holds of some rest of the whole
 ahead : (test : List ℕ → Bool) (xs rest : List ℕ) → from_some test rest ≡ true → from_some test (xs ++ rest) ≡ true
 ahead test [] rest e = e
 ahead test (x ∷ xs) rest e = or_right _ _ (ahead test xs rest e)
 
--- a test that is passed on from inside of a character
+-- if the test holds inside a character, it holds of some rest after the character
 abbrev IsPassedOn : (List ℕ → Bool) → Type 0
 IsPassedOn test = (xs rest : List ℕ) → AllInside xs → test (xs ++ rest) ≡ true → from_some test rest ≡ true
 
@@ -103,7 +103,7 @@ no_beginning c x more xs h e =
 front_bytes : (p text : List ℕ) → take (length p) text ≡ p → text ≡ p ++ drop (length p) text
 front_bytes p text e = sym (take-append-drop (length p) text) ∙ ap (λ x. x ++ drop (length p) text) e
 
--- what is found from inside of a character on is found behind it
+-- parts found from inside a character are found after it
 later : (ps : List (List ℕ)) → IsPassedOn (joins (map encodes ps))
 later ps [] rest h e = here (joins (map encodes ps)) rest e
 later [] (x ∷ xs) rest h e = absurd (false≢true e)
@@ -118,13 +118,13 @@ later ((c ∷ cs) ∷ q ∷ ps) (x ∷ xs) rest h e =
     let begins : take (length p) text ≡ p = (bytes_eq-Decides _ _).0 (and_parts _ _ e).0 in
     absurd (false≢true (no_beginning c x (encodes cs ++ drop (length p) text) (xs ++ rest) h.0 (front_bytes p text begins ∙ append_assoc (encode c) (encodes cs) (drop (length p) text))))
 
--- two tests that imply each other are one
+-- two tests that imply each other are equal
 both_ways : (a b : Bool) → (a ≡ true → b ≡ true) → (b ≡ true → a ≡ true) → a ≡ b
 both_ways true b f g = sym (f refl)
 both_ways false true f g = g refl
 both_ways false false f g = refl
 
--- the places inside of a character are passed over
+-- no offset inside a character has to be tried
 passed_bytes : (test : List ℕ → Bool) → IsPassedOn test → (bytes rest : List ℕ) → Shaped bytes → from_some test (bytes ++ rest) ≡ (test (bytes ++ rest) || from_some test rest)
 passed_bytes test on bytes rest s =
     subst (λ b. from_some test (b ++ rest) ≡ (test (b ++ rest) || from_some test rest)) (sym s.is)
@@ -135,7 +135,7 @@ some_chars ps same [] = same []
 some_chars ps same (c ∷ cs) =
     passed_bytes (joins (map encodes ps)) (later ps) (encode c) (encodes cs) (shaped c) ∙ ap₂ ◌||◌ (same (c ∷ cs)) (some_chars ps same cs)
 
--- bytes that begin a text are the characters that begin it
+-- if bytes begin a text, their characters do
 front_chars : (p cs rest : List ℕ) → encodes cs ≡ encodes p ++ rest → take (length p) cs ≡ p
 front_chars [] cs rest e = refl
 front_chars (c ∷ p) cs rest e =
@@ -146,7 +146,7 @@ same_text : (cs p : List ℕ) → bytes_eq (encodes cs) (encodes p) ≡ bytes_eq
 same_text cs p =
     both_ways _ _ (λ e. eq_true cs p (encodes_same cs p ((bytes_eq-Decides (encodes cs) (encodes p)).0 e))) (λ e. eq_true (encodes cs) (encodes p) (ap encodes ((bytes_eq-Decides cs p).0 e)))
 
--- a piece in front and the others behind it
+-- a first part and the others after it
 front_step : (p cs : List ℕ) (test tests : List ℕ → Bool) → ((ds : List ℕ) → from_some test (encodes ds) ≡ from_some tests ds)
     → (bytes_eq (take (length (encodes p)) (encodes cs)) (encodes p) && from_some test (drop (length (encodes p)) (encodes cs))) ≡ (bytes_eq (take (length p) cs) p && from_some tests (drop (length p) cs))
 front_step p cs test tests same =
@@ -164,7 +164,7 @@ front_step p cs test tests same =
           ∙ sym (and_left _ _ missed)
     ]
 
--- pieces are joined by their bytes where they are by their characters
+-- parts are joined by their bytes exactly if they are by their characters
 pub by_chars : (ps : List (List ℕ)) (cs : List ℕ) → joins (map encodes ps) (encodes cs) ≡ joins ps cs
 by_chars [] cs = refl
 by_chars (p ∷ []) cs = same_text cs p

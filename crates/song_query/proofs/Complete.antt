@@ -1,4 +1,4 @@
--- The machine reads each text that is spelled from a form, and ends with what the form means.
+-- The machine reads each text that is printed from a form, and ends with the meaning of the form.
 use Rattle.std.proofs.Common.{◌≡◌, ◌++◌, ◌&&◌, ◌||◌, ◌==◌, ℕ, Bool, not, true, false, cond, List, [], ◌∷◌, map, Option, Some, None, refl, ap, sym, ◌∙◌, subst, append_assoc, append-nil}
 use Rattle.std.proofs.lemmas.Bool.{and_parts, cond-true, cond-false, false≢true}
 use Rattle.item_model.specs.Proper.{are_name_bytes}
@@ -9,7 +9,7 @@ use Rattle.song_query.specs.Grammar.{Blank, space, plus, blank, blanks, Mark, qu
 use Rattle.song_query.specs.declared.levels.Level.{Level}
 use Rattle.song_query.specs.Machine.{Place, due, close, apart, opened, named, valued, slashed, State, start, with_unit, with_member, level_query, here, cond_of, go, bind, run}
 
--- what is read leads from one state to another
+-- reading the bytes leads from one state to another
 pub record Runs (s : State) (bytes : List ℕ) (t : State) : Type 0 where
   pub ran : run s bytes ≡ Some t
 
@@ -46,7 +46,7 @@ apart_gap [] l ls = stay
 apart_gap (space ∷ g) l ls = next refl (apart_gap g l ls)
 apart_gap (plus ∷ g) l ls = next refl (apart_gap g l ls)
 
--- where the machine is behind a unit and blanks
+-- the position after a unit and blanks
 abbrev pub behind : List Blank → Place
 behind [] = close
 behind (b ∷ g) = apart
@@ -56,7 +56,7 @@ close_gap [] l ls = stay
 close_gap (space ∷ g) l ls = next refl (apart_gap g l ls)
 close_gap (plus ∷ g) l ls = next refl (apart_gap g l ls)
 
--- a blank behind a unit
+-- a blank after a unit
 close_blank : (b : Blank) (l : Level) (ls : List Level) → go (here close l ls) (blank b) ≡ Some (here apart l ls)
 close_blank space l ls = refl
 close_blank plus l ls = refl
@@ -69,7 +69,7 @@ behind_shut : (g : List Blank) (l m : Level) (ls : List Level) → go (here (beh
 behind_shut [] l m ls = refl
 behind_shut (b ∷ g) l m ls = refl
 
--- where a unit may begin
+-- the positions at which a unit may begin
 data Entry : Type 0 where
   at_due : Entry
   at_apart : Entry
@@ -159,7 +159,7 @@ cond_runs c e l ls h =
     (both (name_runs (c.first ∷ []) c.rest l ls more.0)
     (both (op_runs (c.first ∷ c.rest) c.op l ls) (value_runs (c.first ∷ c.rest) c.op c.value l ls more.1))))
 
--- the level behind an `or`, whose last member is still open
+-- the level after an `or`, whose last member is still open
 abbrev pub after_or : OrForm → Level
 after_or (only a) = lv [] (units a)
 after_or (either o g h a) = lv (members o) (units a)
@@ -202,7 +202,7 @@ mutual
       (next (behind_comma g (after_or o) ls ∙ ap (λ l. Some (here due l ls)) (after_members o))
       (both (due_gap k (lv (members o) []) ls) (and_runs a (members o) ls parts.1))))
 
--- a text that is spelled from a form is read whole
+-- a text printed from a form is read to its end
 pub query_runs : (f : QueryForm) → is_or f.body ≡ true → Runs start (print_query f) (here (behind f.back) (after_or f.body) [])
 query_runs f h =
     both (due_gap f.front (lv [] []) []) (both (or_runs f.body [] h) (close_gap f.back (after_or f.body) []))

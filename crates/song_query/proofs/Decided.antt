@@ -1,4 +1,4 @@
--- Each text has an answer: the machine is run over its bytes, and tells what it is.
+-- Each text has a result: that of the machine run over its bytes.
 use Rattle.std.proofs.Common.{◌≡◌, ◌≢◌, ◌≤◌, ◌+◌, ℕ, Bool, true, false, List, [], ◌∷◌, length, drop, Option, Some, None, Result, Ok, Err, refl, ap, sym, ◌∙◌, inl, inr, arith}
 use Rattle.std.proofs.lemmas.Bool.{cases_lt}
 use Rattle.std.proofs.lemmas.List.{length-drop, drop-drop}
@@ -12,7 +12,7 @@ use Rattle.song_query.specs.Machine.{State, start, go, is_end, level_query}
 use Rattle.song_query.proofs.Queries.{query_of, query_back}
 use Rattle.song_query.proofs.Reached.{Reached, at_start, byte_reached, byte_stops, byte_too_deep, end_answer, ok_answer}
 
--- a text has an answer other than want of memory
+-- a text has a result other than out of memory
 abbrev pub HasAnswer : List ℕ → Type 0
 HasAnswer text = (answer : Result Query QueryError) × (answer ≢ Err Memory) × Answers text answer
 
@@ -26,7 +26,7 @@ at_end text place s true e h k l =
     (Ok q, no_memory q, ok_answer text place s q h k e (query_back (level_query s.level)) l)
 at_end text place s false e h k l = (Err (At place End), (λ x. absurd (cc x)), end_answer text place s h k e l)
 
--- at a byte, where all that follows has an answer
+-- at a byte, if the rest has a result
 at_byte : (text rest : List ℕ) (place c : ℕ) (s : State) (next : Option State) → go s c ≡ next → drop place text ≡ c ∷ rest → Reached text place s → length text ≤ query_bytes
     → ((t : State) → Reached text (place + 1) t → HasAnswer text) → HasAnswer text
 at_byte text rest place c s None e left h l behind = (Err (At place Byte), (λ x. absurd (cc x)), byte_stops text rest place c s h left e l)
@@ -42,7 +42,7 @@ answer_from text [] place s left h l =
 answer_from text (c ∷ rest) place s left h l =
     at_byte text rest place c s (go s c) refl left h l (λ t reached. answer_from text rest (place + 1) t (sym (drop-drop 1 place text) ∙ ap (drop 1) left) reached l)
 
--- each text is read or refused
+-- each text is read or has an error
 pub answer_for : (text : List ℕ) → HasAnswer text
 answer_for text = elim (cases_lt query_bytes (length text)) [
   | inl long ↦ (Err TooLong, (λ x. absurd (cc x)), long)

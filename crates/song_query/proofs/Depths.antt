@@ -1,4 +1,4 @@
--- How deep forms and queries are: the parentheses that are open at once in their texts.
+-- How deep forms and queries are: the maximum number of parentheses that are open at once in their texts.
 use Rattle.std.proofs.Common.{ℕ, suc, max}
 use Rattle.item_model.specs.QueryTree.{QueryTree, condition, and_of, or_of, QueryTrees, no_queries, more_queries}
 use Rattle.song_query.specs.Grammar.{UnitForm, cond, group, AndForm, one, more, OrForm, only, either}
@@ -17,7 +17,7 @@ abbrev mutual
   or_depth (either o g h a) = max (or_depth o) (and_depth a)
 
 abbrev mutual
-  -- of a query as a whole, as a unit, and as a member
+  -- of a query as a whole text, as a unit, and as a member
   pub depth : QueryTree → ℕ
   depth (condition c) = 0
   depth (and_of qs) = units_depth qs

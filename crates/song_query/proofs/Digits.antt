@@ -5,7 +5,7 @@ use Rattle.std.proofs.lemmas.Bool.{and_right, and_from, cond-true, lt-ltb, ltb-f
 use Rattle.std.proofs.lemmas.Bool.Decides.{nat_tests}
 use Rattle.song_query.specs.Holds.{are_digits, number_from, number_of}
 
--- more digits make no smaller number
+-- more digits never make a number smaller
 pub number_grows : (n : ℕ) (cs : List ℕ) → n ≤ number_from n cs
 number_grows n [] = omega arith
 number_grows n (c ∷ cs) = omega (arith, number_grows (n * 10 + (c - 48)) cs)
@@ -16,12 +16,12 @@ number_at n i [] h = absurd (omega arith)
 number_at n zero (c ∷ cs) h = number_grows (n * 10 + (c - 48)) cs
 number_at n (suc i) (c ∷ cs) h = number_at n i cs (omega arith)
 
--- a number that is too large is none
+-- a number that is too large has no value
 pub too_large : (cs : List ℕ) → 2 ^ 64 ≤ number_from 0 cs → number_of cs ≡ None
 too_large [] h = refl
 too_large (c ∷ cs) h = grind (arith, nat_tests, and_right)
 
--- the digits are all there
+-- at the end, the number is that of all digits
 pub all_digits : (n i : ℕ) (cs : List ℕ) → length cs ≤ i → false ≡ (length cs == 0) → n < 2 ^ 64 → are_digits (drop i cs) ≡ are_digits cs → number_from n (drop i cs) ≡ number_from 0 cs
     → Some n ≡ number_of cs
 all_digits n i [] h e k d m = absurd (false≢true e)
@@ -36,7 +36,7 @@ no_more : (b : Bool) (n : ℕ) → None ≡ (if b then Some n else None) → b �
 no_more true n e = absurd (cc)
 no_more false n e = refl
 
--- a digit more makes a number that is too large
+-- a further digit may make the number too large
 pub too_large_at : (n i : ℕ) (cs : List ℕ) (d : ℕ) → i < length cs → d ≡ get_or cs i 0 → None ≡ (if nat_lt (n * 10 + (d - 48)) (2 ^ 64) then Some (n * 10 + (d - 48)) else None) → number_from n (drop i cs) ≡ number_from 0 cs → None ≡ number_of cs
 too_large_at n i cs d h e k m =
     let at = number_at n i cs h in

@@ -1,5 +1,5 @@
--- The beginning of a query's text as a form that is not whole yet: what is whole of each level that is open, and
--- the beginning of a condition.
+-- The beginning of a query's text as an incomplete form: the complete parts of each open level, and the beginning of
+-- a condition.
 use Rattle.std.proofs.Common.{◌≡◌, ◌++◌, ◌&&◌, ℕ, Bool, true, List, [], ◌∷◌, map, refl, ap, sym, ◌∙◌, append_assoc}
 use Rattle.std.proofs.lemmas.Bool.{and_parts, and_from}
 use Rattle.item_model.specs.Proper.{is_name_byte, are_name_bytes}
@@ -11,7 +11,7 @@ use Rattle.song_query.specs.declared.levels.Level.{Level}
 use Rattle.song_query.specs.Machine.{Place, due, opened, named, begun, valued, slashed, State, here}
 use Rattle.song_query.proofs.Complete.{lv, behind}
 
--- what stands before the member of an `or` that is being read: blanks, or blanks, members and a comma
+-- what precedes the member of an `or` that is being parsed: blanks, or blanks, members and a comma
 pub data Front : Type 0 where
   fresh : List Blank → Front
   after_comma : List Blank → OrForm → List Blank → List Blank → Front
@@ -42,7 +42,7 @@ abbrev pub front_blank : Front → Blank → Front
 front_blank (fresh g) b = fresh (g ++ b ∷ [])
 front_blank (after_comma k o g h) b = after_comma k o g (h ++ b ∷ [])
 
--- what stands before the unit that is being read: nothing, or units and blanks
+-- what precedes the unit that is being parsed: nothing, or units and blanks
 pub data Lead : Type 0 where
   first : Lead
   next_to : AndForm → Blank → List Blank → Lead
@@ -63,14 +63,14 @@ abbrev pub lead_and : Lead → UnitForm → AndForm
 lead_and first u = one u
 lead_and (next_to a b g) u = more a b g u
 
--- the first of an operator's two marks
+-- the first of an operator's two characters
 abbrev pub op_mark : Op → List ℕ
 op_mark Is = []
 op_mark IsNot = 33 ∷ []
 op_mark Less = 60 ∷ []
 op_mark More = 62 ∷ []
 
--- the colon comes behind it
+-- the colon follows it
 pub op_marked : (o : Op) → print_op o ++ [] ≡ op_mark o ++ 58 ∷ []
 op_marked Is = refl
 op_marked IsNot = refl
@@ -106,7 +106,7 @@ is_stub (operating c cs o) = are_name_bytes (c ∷ cs)
 is_stub (valuing c cs o ps p) = are_name_bytes (c ∷ cs) && (are_pieces ps && are_atoms p)
 is_stub (slashing c cs o ps p) = are_name_bytes (c ∷ cs) && (are_pieces ps && are_atoms p)
 
--- the innermost level that is open
+-- the innermost open level
 pub data Draft : Type 0 where
   starts : Front → Draft
   after : Front → AndForm → List Blank → Draft

@@ -1,4 +1,4 @@
--- Folded texts: the test of their bytes decides what is said of their characters, and lowering finds them.
+-- Folded texts: the test on their bytes decides the relation on their characters, and lowering finds them.
 use Rattle.std.proofs.Common.{◌≡◌, ℕ, Bool, List, [], ◌∷◌, map, refl, ap, ap₂, sym, ◌∙◌, Decides}
 use Rattle.std.proofs.lemmas.Bool.Decides.{Decides-at}
 use Rattle.std.proofs.lemmas.Str.Ascii.{IsAscii-nil}
@@ -19,7 +19,7 @@ unfolding folded
 glob_by_chars pieces text =
     ap (λ ps. joins ps (folded text)) (folded_pieces pieces) ∙ by_chars (map folded_chars pieces) (folded_chars text)
 
--- the test tells where the pattern describes the text
+-- the test decides whether the pattern matches the text
 pub glob_is_Glob : (pieces : List (List ℕ)) (text : List ℕ) → Decides (glob pieces text) (Glob pieces text)
 glob_is_Glob pieces text =
     Decides-at _ _ (glob_by_chars pieces text) (joins_decides (map folded_chars pieces) (folded_chars text))
@@ -28,7 +28,7 @@ lowered_pieces : (ps : List (List ℕ)) → map lowered (map folded ps) ≡ map 
 lowered_pieces [] = refl
 lowered_pieces (p ∷ ps) = ap₂ ◌∷◌ (lowered_folded p) (lowered_pieces ps)
 
--- folded pieces are found in what is searched for a text, lowered, where they are found in the text, folded
+-- folded parts are found in the lowered searched text exactly if they are found in the folded text
 pub searched_is_glob : (pieces : List (List ℕ)) (text searched : List ℕ) (r : Bool) → IsSearchedFor text searched → r ≡ joins (map lowered (map folded pieces)) (lowered searched) → r ≡ glob pieces text
 searched_is_glob pieces text searched r h e = e ∙ ap₂ joins (lowered_pieces pieces) h
 
@@ -36,6 +36,6 @@ pub searched_decides : (pieces : List (List ℕ)) (text searched : List ℕ) (r 
 searched_decides pieces text searched r h e =
     Decides-at r _ (searched_is_glob pieces text searched r h e) (glob_is_Glob pieces text)
 
--- no text is searched for an empty one
+-- the empty text may be searched for itself
 pub nothing_searched : IsSearchedFor [] []
 nothing_searched = sym (folded_ascii [] IsAscii-nil)

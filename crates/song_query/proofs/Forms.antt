@@ -1,4 +1,4 @@
--- The form of the printed text: each proper query has one that is spelled as the query is printed.
+-- The form of the printed text: each proper query has one whose text is the printed one.
 use Rattle.std.proofs.Common.{◌≡◌, ◌++◌, ◌&&◌, ◌||◌, ◌==◌, ℕ, suc, max, Bool, true, false, not, List, [], ◌∷◌, refl, ap, sym, ◌∙◌, subst, inl, inr, eqb, append_assoc, append-nil, arith}
 use Rattle.std.proofs.lemmas.Bool.{and_parts, and_from, or_from, cond-true, cond-false, eqb-true, false≢true, cases_Bool}
 use Rattle.item_model.specs.Proper.{is_name_byte, are_name_bytes, has_one, have_two, is_proper, are_proper}
@@ -9,7 +9,7 @@ use Rattle.song_query.specs.Printing.{is_before_mark, printed_byte, printed_piec
 use Rattle.song_query.specs.Reading.{QueryReads}
 use Rattle.song_query.proofs.Depths.{unit_depth, and_depth, or_depth, depth, depth_in_and, depth_in_or, units_depth, members_depth}
 
--- the marks and the other bytes
+-- the characters that are escaped, and the other bytes
 pub data Sort (c : ℕ) : Type 0 where
   is_quote : c ≡ 39 → Sort c
   is_backslash : c ≡ 92 → Sort c
@@ -31,11 +31,11 @@ plain_by false true z b h = absurd (false≢true (sym h))
 plain_by false false true b h = absurd (false≢true (sym h))
 plain_by false false false b h = refl
 
--- a byte that is no mark is printed as it is
+-- a byte that is not escaped is printed as it is
 pub plain_printed : (c : ℕ) (rest : List ℕ) → is_mark c ≡ false → printed_byte c rest ≡ c ∷ []
 plain_printed c rest h = cond-false _ _ _ (plain_by (c == 39) (c == 92) (c == 42) (is_before_mark rest) h)
 
--- atoms that spell a piece as it is printed
+-- atoms whose text is the printed part
 record PieceFor (p : List ℕ) : Type 0 where
   pub atoms : List Atom
   pub valid : are_atoms atoms ≡ true
@@ -103,7 +103,7 @@ piece_for [] = no_piece
 piece_for (c ∷ []) = last_for c (sort c) no_piece
 piece_for (c ∷ d ∷ ds) = more_for c d ds (sort c) (piece_for (d ∷ ds)) (piece_for ds)
 
--- a value that is spelled as the pieces are printed
+-- a value whose text is the printed parts
 record ValueFor (ps : List (List ℕ)) : Type 0 where
   pub value : Value
   pub valid : is_value value ≡ true
@@ -161,7 +161,7 @@ cond_for c h =
     let parts = and_parts (has_one c.name && are_name_bytes c.name) (has_one c.pattern) h in
     cond_by c.name c.pattern c refl refl parts.0 parts.1
 
--- forms of a query as a unit, as a member and as a whole
+-- forms of a query as a unit, as a member and as a whole text
 record UnitFor (q : QueryTree) : Type 0 where
   pub form : UnitForm
   pub valid : is_unit form ≡ true
@@ -176,7 +176,7 @@ record MemberFor (q : QueryTree) : Type 0 where
   pub means : joined and_of (units form) ≡ q
   pub deep : and_depth form ≡ depth_in_or q
 
--- forms of several units behind others
+-- forms of several units after others
 record AndMore (a : AndForm) (qs : QueryTrees) : Type 0 where
   pub form : AndForm
   pub valid : is_and form ≡ true

@@ -22,7 +22,7 @@ one_byte c rest h = ap length (plain_printed c rest h)
 lone_byte : (c : ℕ) (rest : List ℕ) → is_mark c ≡ false → length (printed_byte 92 (c ∷ rest)) ≡ 1
 lone_byte c rest h = ap length (let e : printed_byte 92 (c ∷ rest) ≡ 92 ∷ [] = cond-false _ _ _ h in e)
 
--- no atoms spell a piece with fewer bytes
+-- no atoms write a part with fewer bytes
 piece_least : (atoms : List Atom) → are_atoms atoms ≡ true → length (printed_piece (piece_of atoms)) ≤ length (print_atoms atoms)
 piece_least [] h = omega arith
 piece_least (plain c ∷ atoms) h =
@@ -42,7 +42,7 @@ piece_least (lone c ∷ atoms) h =
       piece_least atoms parts.1,
     )
 
--- behind a star, and as the first pieces
+-- after a star, and as the first parts
 more_least : (starred : List (List Atom)) (last : List Atom) → are_pieces starred ≡ true → are_atoms last ≡ true
     → length (printed_more (map piece_of starred ++ piece_of last ∷ [])) ≤ length (print_starred starred) + length (print_atoms last) + 1
 more_least [] last h k = omega (arith, piece_least last k, length-append (printed_piece (piece_of last)) [])
@@ -83,7 +83,7 @@ cond_least c h =
       length-append (print_value c.value) (39 ∷ []),
     )
 
--- the bytes of queries as units or members, each with a blank or a comma behind it
+-- the bytes of queries as units or members, each followed by a blank or a comma
 units_total : List QueryTree → ℕ
 units_total [] = 0
 units_total (q ∷ qs) = suc (length (printed_unit q) + units_total qs)

@@ -1,4 +1,4 @@
--- What the machine says of a text: where it reads as a query, and where it is stuck.
+-- What the machine decides of a text: whether it reads as a query, and at which offset it is stuck.
 use Rattle.std.proofs.Common.{◌⊎◌, inl, inr, ◌≡◌, ◌≤◌, ◌<◌, ◌+◌, ◌++◌, ℕ, true, false, List, [], ◌∷◌, map, length, take, drop, Some, None, refl, ap, sym, ◌∙◌, subst, arith}
 use Rattle.std.proofs.Math.Seq.{take-length}
 use Rattle.std.proofs.lemmas.List.{take-append-drop, take-append-le, length-take-le}
@@ -12,7 +12,7 @@ use Rattle.song_query.proofs.Complete.{behind, run_append, after_or, after_query
 use Rattle.song_query.proofs.Draft.{front_gap, front_or, quoted, naming, operating, valuing, slashing, Draft, starts, after, within, print_front, draft_place, draft_level, is_draft, Out, out_level, are_outs, print_whole, front_printed, front_read, front_valid}
 use Rattle.song_query.proofs.Sound.{some_is, drafted, regrouped}
 
--- a draft behind a unit outside of parentheses is a form
+-- a draft after a unit outside of parentheses is a form
 whole_reads : (x : Draft) (outs : List Out) → is_draft x ≡ true → is_behind_unit (draft_place x) ≡ true → is_outside (map out_level outs) ≡ true
     → QueryReads (print_whole (record { draft = x; outer = outs })) (level_query (draft_level x))
 whole_reads (starts f) outs v e o = absurd (false≢true e)
@@ -67,7 +67,7 @@ one_reading text q r h k =
     let b = read_back text r k in
     sym a.means ∙ ap (λ (s : State). level_query s.level) (some_is _ _ (sym a.ran ∙ b.ran)) ∙ b.means
 
--- bytes that end the unit that is begun, where there is none one that is short
+-- bytes that end the unit that was begun, or a short unit if none was
 ending : Place → List ℕ
 ending due = 39 ∷ 97 ∷ 58 ∷ 39 ∷ []
 ending close = []
@@ -78,7 +78,7 @@ ending (begun n o) = 58 ∷ 39 ∷ []
 ending (valued n o ps p) = 39 ∷ []
 ending (slashed n o ps p) = 39 ∷ 39 ∷ []
 
--- the end that some bytes lead to
+-- the end to which some bytes lead
 record Ending (s : State) (bytes : List ℕ) : Type 0 where
   pub state : State
   pub ran : run s bytes ≡ Some state
@@ -113,7 +113,7 @@ end_all (begun n o) l ls = let e = close_all close _ ls refl in record { state =
 end_all (valued n o ps p) l ls = let e = close_all close _ ls refl in record { state = e.state; ran = e.ran; ends = e.ends }
 end_all (slashed n o ps p) l ls = let e = close_all close _ ls refl in record { state = e.state; ran = e.ran; ends = e.ends }
 
--- what is read begins a text that reads
+-- bytes that are read begin a text that reads
 pub begins : (bytes : List ℕ) (s : State) → run start bytes ≡ Some s → Begins bytes
 begins bytes s h =
     let e = end_all s.place s.level s.outer in
@@ -124,7 +124,7 @@ begins bytes s h =
           (run_append start bytes (ending s.place ++ parens s.outer) ∙ ap (λ o. bind o (λ t. run t (ending s.place ++ parens s.outer))) h ∙ e.ran) e.ends;
     }
 
--- what is not read begins none
+-- bytes that are not read begin none
 pub stops : (bytes : List ℕ) → run start bytes ≡ None → Begins bytes → ⊥
 stops bytes h b =
     let r = read_back (bytes ++ b.more) b.query b.reads in
@@ -134,7 +134,7 @@ stops bytes h b =
     no_state : (s : State) → None ≡ Some s → ⊥
     no_state s e = cc
 
--- more of a text is not read where less is not
+-- if a prefix is not read, no longer one is
 more_stops : (text : List ℕ) (m n : ℕ) → m ≤ n → n ≤ length text → run start (take m text) ≡ None → run start (take n text) ≡ None
 more_stops text m n h k e =
     let long : m ≤ length (take n text) = omega (arith, length-take-le n text k) in

@@ -9,7 +9,7 @@ use Rattle.song_query.specs.Nesting.{Where, outside, inside, behind, where_next,
 use Rattle.song_query.proofs.Sound.{some_is, chosen, blank_at}
 use Rattle.song_query.proofs.Wide.{AreWide}
 
--- where a place is
+-- whether a position is outside of conditions, in one, or after a backslash
 abbrev pub where_at : Place → Where
 where_at due = outside
 where_at close = outside
@@ -20,7 +20,7 @@ where_at (begun n o) = inside
 where_at (valued n o ps p) = inside
 where_at (slashed n o ps p) = behind
 
--- a step goes along with the count
+-- a step changes the levels as it changes the count
 record Counts (w : Where) (n : ℕ) (c : ℕ) (t : State) : Type 0 where
   pub place : where_next w c ≡ where_at t.place
   pub count : open_next w n c ≡ length t.outer
@@ -150,22 +150,22 @@ run_counts : (s : State) (bytes : List ℕ) (t : State) → run s bytes ≡ Some
 run_counts s [] t h = ap (λ (x : State). length x.outer) (some_is _ _ h)
 run_counts s (c ∷ cs) t h = counts_on s c cs t (go s c) refl h (λ u k. run_counts u cs t k)
 
--- the levels that are open behind a text are its open parentheses
+-- the levels after a text are its open parentheses
 pub nested : (bytes : List ℕ) (t : State) → run start bytes ≡ Some t → open_at_end bytes ≡ length t.outer
 nested bytes t h = run_counts start bytes t h
 
--- where the bytes lead to
+-- outside of conditions, in one, or after a backslash, after the bytes
 where_behind : Where → List ℕ → Where
 where_behind w [] = w
 where_behind w (c ∷ cs) = where_behind (where_next w c) cs
 
--- the count of two parts
+-- the count after two parts
 open_append : (w : Where) (n : ℕ) (a b : List ℕ) → open_behind w n (a ++ b) ≡ open_behind (where_behind w a) (open_behind w n a) b
 unfolding where_behind
 open_append w n [] b = refl
 open_append w n (c ∷ cs) b = open_append (where_next w c) (open_next w n c) cs b
 
--- bytes beyond ASCII open and close nothing
+-- bytes above ASCII open and close nothing
 wide_keeps : (w : Where) (n : ℕ) (bytes : List ℕ) → AreWide bytes → open_behind w n bytes ≡ n
 wide_keeps w n [] h = refl
 wide_keeps outside n (b ∷ bytes) h =
@@ -175,6 +175,6 @@ wide_keeps outside n (b ∷ bytes) h =
 wide_keeps inside n (b ∷ bytes) h = wide_keeps (where_next inside b) n bytes (record { each = λ k x. h.each (suc k) (omega arith) })
 wide_keeps behind n (b ∷ bytes) h = wide_keeps inside n bytes (record { each = λ k x. h.each (suc k) (omega arith) })
 
--- so they change no count
+-- so they do not change the count
 pub wide_behind : (a b : List ℕ) → AreWide b → open_at_end (a ++ b) ≡ open_at_end a
 wide_behind a b h = open_append outside 0 a b ∙ wide_keeps (where_behind outside a) (open_at_end a) b h

@@ -1,4 +1,4 @@
--- A text has one answer: it reads as one query, or has one refusal. Want of memory alone is no part of this.
+-- A text has one result: the query that it reads as, or one error. Out of memory is not considered here.
 use Rattle.std.proofs.Common.{◌≡◌, ◌≢◌, ◌≤◌, ◌<◌, ◌+◌, ℕ, List, [], length, take, Result, Ok, Err, refl, sym, ap, ◌∙◌, subst, ⊎_elim, arith, append-nil}
 use Rattle.std.proofs.Math.Seq.{take-length}
 use Rattle.std.proofs.lemmas.Bool.{cases_lt}
@@ -16,7 +16,7 @@ use Rattle.song_query.specs.Limits.{open_parentheses}
 use Rattle.song_query.proofs.MachineLaws.{one_reading}
 use Rattle.song_query.proofs.Queries.{one_query}
 
--- the whole of a text that reads begins one
+-- a text that reads is a beginning of a text that reads
 pub whole_begins : (text : List ℕ) (query : QueryTree) → QueryReads text query → Begins (take (length text) text)
 whole_begins text query h = record {
   more = [];
@@ -24,7 +24,7 @@ whole_begins text query h = record {
   reads = subst (λ (bytes : List ℕ). QueryReads bytes query) (sym (append-nil (take (length text) text) ∙ take-length text)) h;
 }
 
--- where too many parentheses are open, the text is not shallow further on
+-- after a parenthesis too many, no longer prefix is shallow
 deep_is_behind : (text : List ℕ) (m n : ℕ) → IsTooDeep text m → IsShallow text n → n ≤ m
 deep_is_behind text m n h k =
     ⊎_elim
@@ -35,7 +35,7 @@ deep_is_behind text m n h k =
     (λ (behind : n ≤ m). behind)
     (cases_lt m n)
 
--- a text that reads is not refused
+-- a text that reads has no error
 pub answers_once : (text : List ℕ) (q : Query) (e : QueryError) → e ≢ Memory → Answers text (Ok q) → Answers text (Err e) → ⊥
 answers_once text q TooLong other h k = omega (arith, h.0, k)
 answers_once text q (TooDeep place) other h k = omega (arith, k.1.within, deep_is_behind text place (length text) k.1 h.2)
@@ -44,7 +44,7 @@ answers_once text q (At place Byte) other h k =
     k.2 (omega (arith, k.1.within, k.1.longest (length text) (omega arith) (whole_begins text (tree_of q) h.1)))
 answers_once text q Memory other h k = other refl
 
--- a text is not stuck before the first parenthesis too many, nor shallow behind it
+-- a text is not stuck before the first parenthesis too many, nor shallow after it
 deep_or_stuck : (text : List ℕ) (m n : ℕ) → IsTooDeep text m → IsStuck text n → IsShallow text n → ⊥
 deep_or_stuck text m n h k s =
     let inside : m < length text = h.within in
@@ -56,14 +56,14 @@ stuck_once text m n h k = omega (arith, k.longest m h.within h.begins, h.longest
 deep_once : (text : List ℕ) (m n : ℕ) → IsTooDeep text m → IsTooDeep text n → m ≡ n
 deep_once text m n h k = omega (arith, deep_is_behind text m n h k.first, deep_is_behind text n m k h.first)
 
--- the cause at a place is one
+-- there is one cause at an offset
 cause_once : (text : List ℕ) (m n : ℕ) (v w : QueryWhy) → m ≡ n → IsRefusedAt text m v → IsRefusedAt text n w → At m v ≡ At n w
 cause_once text m n End End e h k = ap (λ place. At place End) e
 cause_once text m n End Byte e h k = absurd (k (sym e ∙ h.0))
 cause_once text m n Byte End e h k = absurd (h (e ∙ k.0))
 cause_once text m n Byte Byte e h k = ap (λ place. At place Byte) e
 
--- two refusals of a text are the same
+-- two errors of a text are equal
 pub refusal_once : (text : List ℕ) (d e : QueryError) → d ≢ Memory → e ≢ Memory → Answers text (Err d) → Answers text (Err e) → d ≡ e
 refusal_once text Memory e p r h k = absurd (p refl)
 refusal_once text d Memory p r h k = absurd (r refl)
@@ -77,7 +77,7 @@ refusal_once text (At m v) TooLong p r h k = absurd (omega (arith, h.0, k))
 refusal_once text (At m v) (TooDeep n) p r h k = absurd (deep_or_stuck text n m k.1 h.1 h.3)
 refusal_once text (At m v) (At n w) p r h k = cause_once text m n v w (stuck_once text m n h.1 k.1) h.2 k.2
 
--- two answers of a text are the same
+-- two results of a text are equal
 pub one_answer : (text : List ℕ) (a b : Result Query QueryError) → a ≢ Err Memory → b ≢ Err Memory → Answers text a → Answers text b → a ≡ b
 one_answer text (Ok q) (Ok r) p s h k = ap (λ (x : Query). Ok x) (one_query q r (one_reading text (tree_of q) (tree_of r) h.1 k.1))
 one_answer text (Ok q) (Err e) p s h k = absurd (answers_once text q e (λ m. s (ap (λ (x : QueryError). Err x) m)) h k)

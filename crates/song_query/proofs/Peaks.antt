@@ -16,12 +16,12 @@ use Rattle.song_query.proofs.Forms.{text_for}
 use Rattle.song_query.proofs.Shallowest.{form_shallow}
 use Rattle.song_query.proofs.Nested.{name_inside}
 
--- what is open before the bytes is open at once in them
+-- the maximum in bytes is at least the number open before them
 pub at_least : (w : Where) (n : ℕ) (bytes : List ℕ) → n ≤ most_open w n bytes
 at_least w n [] = omega arith
 at_least w n (c ∷ cs) = omega arith
 
--- bytes that leave the place and the count
+-- a byte that opens and closes nothing
 stays : (w v : Where) (n c : ℕ) (rest : List ℕ) → where_next w c ≡ v → open_next w n c ≡ n → most_open w n (c ∷ rest) ≡ most_open v n rest
 stays w v n c rest h k =
     let a : most_open (where_next w c) (open_next w n c) rest ≡ most_open v n rest =
@@ -70,7 +70,7 @@ atoms_peak (lone c ∷ atoms) n rest h =
     ∙ stays behind inside n c (print_atoms atoms ++ rest) refl refl
     ∙ atoms_peak atoms n rest parts.1
 
--- two parts, one behind the other
+-- two parts, one after the other
 split : (w : Where) (n : ℕ) (a b rest : List ℕ) → most_open w n ((a ++ b) ++ rest) ≡ most_open w n (a ++ (b ++ rest))
 split w n a b rest = ap (most_open w n) (append_assoc a b rest)
 
@@ -108,11 +108,11 @@ cond_peak c n rest h =
 flat : (n m : ℕ) → n ≤ m → m ≡ max (n + 0) m
 flat n m h = omega arith
 
--- parentheses around what is as deep as d
+-- parentheses around something of depth d
 around : (n d m x : ℕ) → n ≤ m → x ≡ max (n + 1 + d) (max (n + 1) m) → max n x ≡ max (n + suc d) m
 around n d m x h e = omega arith
 
--- one part behind another
+-- one part after another
 behind_it : (n d e m x : ℕ) → x ≡ max (n + e) m → max (n + d) x ≡ max (n + max d e) m
 behind_it n d e m x h = omega arith
 
@@ -162,7 +162,7 @@ mutual
 no_max : (d m : ℕ) → m ≡ 0 → max (0 + d) m ≡ d
 no_max d m h = omega arith
 
--- the parentheses that are open at once in a text that is spelled from a form
+-- the parentheses that are open at once in a text printed from a form
 deepest_of : (f : QueryForm) → is_or f.body ≡ true → deepest (print_query f) ≡ or_depth f.body
 deepest_of f h =
     gap_peak f.front 0 (print_or f.body ++ blanks f.back)

@@ -1,4 +1,4 @@
--- A printed piece, character by character.
+-- A printed part, character by character.
 use Rattle.std.proofs.Common.{if◌then◌else◌, ◌≡◌, ◌⊎◌, ◌≤◌, ◌<◌, ◌++◌, ℕ, suc, false, List, [], ◌∷◌, refl, ap, sym, ◌∙◌, inl, inr, arith, append_assoc}
 use Rattle.std.proofs.lemmas.Bool.{or_from, and_left, cond-false, ne_eqb, cases_lt}
 use Rattle.std.proofs.lemmas.Str.{encode_ascii}
@@ -7,7 +7,7 @@ use Rattle.song_query.specs.Printing.{is_escaped, printed_char, printed_piece}
 use Rattle.song_query.proofs.Forms.{plain_printed}
 use Rattle.song_query.proofs.Wide.{AreWide, wide_bytes, no_mark}
 
--- bytes beyond ASCII are printed as they are
+-- bytes above ASCII are printed as they are
 wide_printed : (bytes rest : List ℕ) → AreWide bytes → printed_piece (bytes ++ rest) ≡ bytes ++ printed_piece rest
 wide_printed [] rest h = refl
 wide_printed (b ∷ bytes) rest h =
@@ -26,7 +26,7 @@ char_by c rest (inr h) =
     ap (λ s. s ++ printed_piece rest) (cond-false (is_escaped c rest) (92 ∷ encode_utf8 c) (encode_utf8 c) (not_escaped c rest h))
     ∙ sym (wide_printed (encode_utf8 c) rest (wide_bytes c h))
 
--- a character and the rest behind it
+-- a character and the rest after it
 pub char_printed : (c : ℕ) (rest : List ℕ) → printed_char c rest ++ printed_piece rest ≡ printed_piece (encode_utf8 c ++ rest)
 char_printed c rest = char_by c rest (cases_lt c 128)
 

@@ -1,4 +1,4 @@
--- A text that is read up to a place, and what it answers there.
+-- A text read up to an offset, and the result there.
 use Rattle.std.proofs.Common.{⊎_elim, ◌≡◌, ◌≢◌, ◌≤◌, ◌<◌, ◌+◌, ◌-◌, ◌++◌, ℕ, zero, suc, true, false, List, [], ◌∷◌, length, take, drop, get_or, Option, Some, None, Ok, Err, refl, ap, sym, ◌∙◌, subst, inl, inr, arith, length-append}
 use Rattle.std.proofs.Math.Seq.{take-add, take-append_seam}
 use Rattle.std.proofs.lemmas.Bool.{cases_lt}
@@ -22,7 +22,7 @@ use Rattle.song_query.proofs.MachineLaws.{accepted, begins, stuck_at, stuck_end,
 use Rattle.song_query.proofs.Wide.{AreWide, wide_bytes, char_long}
 use Rattle.song_query.proofs.Nested.{nested, wide_behind}
 
--- the text up to the place leads to the state, and not too many parentheses are open on the way
+-- the text up to the offset leads to the state, and on the way not too many parentheses are open
 pub record Reached (text : List ℕ) (place : ℕ) (s : State) : Type 0 where
   pub within : place ≤ length text
   pub ran : run start (take place text) ≡ Some s
@@ -31,13 +31,13 @@ pub record Reached (text : List ℕ) (place : ℕ) (s : State) : Type 0 where
 pub at_start : (text : List ℕ) → Reached text 0 start
 at_start text = record { within = omega arith; ran = refl; shallow = λ n h. (let e : n ≡ 0 = omega arith in rw e (omega arith)) }
 
--- the place is in the text where something is left
+-- the offset is inside the text if something is left
 left_within : (text bytes rest : List ℕ) (place : ℕ) → drop place text ≡ bytes ++ rest → place ≤ length text → place + length bytes ≤ length text
 left_within text bytes rest place e h =
     let l : length (drop place text) ≡ length (bytes ++ rest) = ap length e in
     omega (arith, length-drop place text, length-append bytes rest)
 
--- what a part of the bytes that are left leads to
+-- the state after a part of the bytes left
 ran_on : (text bytes rest : List ℕ) (place : ℕ) (s : State) (t : Option State) → drop place text ≡ bytes ++ rest → run start (take place text) ≡ Some s → run s bytes ≡ t
     → run start (take (place + length bytes) text) ≡ t
 ran_on text bytes rest place s t e h k =
@@ -72,7 +72,7 @@ wide_take (suc k) [] h = record { each = λ i x. absurd (omega arith) }
 wide_take (suc k) (b ∷ bytes) h =
     wide_more b (take k bytes) (h.each 0 (omega arith)) (wide_take k bytes (record { each = λ i x. h.each (suc i) (omega arith) }))
 
--- in a character beyond ASCII nothing is opened
+-- a character above ASCII opens nothing
 shallow_in : (text rest bytes : List ℕ) (place n : ℕ) → drop place text ≡ bytes ++ rest → AreWide bytes → place ≤ n → n ≤ place + length bytes
     → open_at_end (take n text) ≡ open_at_end (take place text)
 shallow_in text rest bytes place n e w h k =
@@ -102,7 +102,7 @@ shallow_on text rest place c n t e s r d h =
     (cases_lt c 128))
     (cases_lt n (place + 1))
 
--- one place more
+-- one offset more
 shallow_more : (text : List ℕ) (place n : ℕ) → IsShallow text place → open_at_end (take (place + 1) text) ≤ open_parentheses → n ≤ place + 1
     → open_at_end (take n text) ≤ open_parentheses
 shallow_more text place n s last h = elim (cases_lt place n) [
@@ -121,7 +121,7 @@ char_reached text rest place c s t h e r d =
       shallow = λ n x. shallow_on text rest place c n t e h.shallow ran d x;
     }
 
--- a byte more, with which not too many parentheses are open
+-- a byte more, after which not too many parentheses are open
 pub byte_reached : (text rest : List ℕ) (place c : ℕ) (s t : State) → Reached text place s → drop place text ≡ c ∷ rest → go s c ≡ Some t → length t.outer ≤ open_parentheses
     → Reached text (place + 1) t
 byte_reached text rest place c s t h e r d =
@@ -133,7 +133,7 @@ byte_reached text rest place c s t h e r d =
       shallow = λ n x. shallow_more text place n h.shallow (omega arith) x;
     }
 
--- a byte that no query goes on with
+-- a byte with which no query continues
 pub byte_stops : (text rest : List ℕ) (place c : ℕ) (s : State) → Reached text place s → drop place text ≡ c ∷ rest → go s c ≡ None
     → length text ≤ query_bytes → Answers text (Err (At place Byte))
 byte_stops text rest place c s h e r l =
@@ -169,7 +169,7 @@ ok_answer text place s q h k e m l =
     let last : place ≡ length text = omega (arith, h.within) in
     (l, subst (QueryReads text) (sym m) (accepted text s whole e), subst (IsShallow text) last h.shallow)
 
--- a character that is not taken, by its first byte
+-- the error of a refused character, by its first byte
 pub refusal_answer : (text rest : List ℕ) (place c : ℕ) (s t : State) (refusal : Refusal) → Reached text place s → drop place text ≡ encode_utf8 c ++ rest → Taken s c t (Err refusal)
     → length text ≤ query_bytes → Answers text (Err (refused_at place refusal))
 refusal_answer text rest place c s t ByteRefused h e r l =

@@ -1,4 +1,4 @@
--- A text has one answer: the query that it reads as within the limits, which is proper.
+-- A text has one result: the query that it reads as within the limits, which is proper.
 use Rattle.std.proofs.Common.{◌≡◌, ◌≢◌, ◌+◌, ◌++◌, ◌&&◌, ℕ, true, List, [], ◌∷◌, map, length, Result, Ok, Err, refl, sym, subst, arith, IfOk}
 use Rattle.std.proofs.lemmas.Bool.{and_parts, and_from}
 use Rattle.item_model.specs.Proper.{is_name_byte, are_name_bytes, has_one, is_proper, are_proper}
@@ -58,12 +58,12 @@ mutual
       let parts = and_parts (is_or o) (is_and a) h in
       proper_append (members o) (joined and_of (units a)) (members_proper o parts.0) (joined_and (units a) (some_units a) (units_proper a parts.1))
 
--- what a text reads as is proper
+-- a query that a text reads as is proper
 pub reads_proper : (text : List ℕ) (q : QueryTree) → QueryReads text q → is_proper q ≡ true
 reads_proper text q r =
     subst (λ x. is_proper x ≡ true) (sym r.means) (joined_or (members r.form.body) (some_members r.form.body) (members_proper r.form.body r.valid))
 
--- an answer is the query of each reading
+-- if a text reads as a query within the limits, the result is that query
 pub answers_complete : (text : List ℕ) (r : Result Query QueryError) → Answers text r → IsComplete text r
 answers_complete text (Ok q) a query reads l s = one_reading text (tree_of q) query a.1 reads
 answers_complete text (Err TooLong) a query reads l s = absurd (omega (arith, a))
@@ -80,7 +80,7 @@ answers_complete text (Err (At place Byte)) a query reads l s =
     a.2 last
 answers_complete text (Err Memory) a query reads l s = tt
 
--- a query that is answered is proper
+-- a query that is returned is proper
 pub answers_proper : (text : List ℕ) (r : Result Query QueryError) → Answers text r → IfOk r (λ q. is_proper (tree_of q) ≡ true)
 answers_proper text (Ok q) a = reads_proper text (tree_of q) a.1
 answers_proper text (Err e) a = tt

@@ -1,4 +1,4 @@
--- No text that reads as a query has more parentheses open at once than the printed one needs.
+-- No text that reads as a query has fewer parentheses open at once than the printed one.
 use Rattle.std.proofs.Common.{◌≡◌, ◌≤◌, ◌++◌, ℕ, suc, max, List, [], ◌∷◌, arith}
 use Rattle.item_model.specs.QueryTree.{QueryTree, condition, and_of, or_of, queries_of}
 use Rattle.song_query.specs.Grammar.{UnitForm, cond, group, AndForm, one, more, OrForm, only, either, joined, unit_meaning, units, members}

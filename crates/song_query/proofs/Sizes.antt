@@ -1,4 +1,4 @@
--- Sizes of queries, by which recursions over them end.
+-- Sizes of queries, by which recursions over them terminate.
 use Rattle.std.proofs.Common.{◌<◌, ℕ, zero, suc, List, [], ◌∷◌, map, length, get_or, arith}
 use Rattle.item_model.specs.QueryTree.{query_size, query_sizes, queries_of}
 use Rattle.item_model.specs.QuerySeen.{tree_of}

@@ -1,4 +1,4 @@
--- Each step of the machine is a step of a draft: what was read is the beginning of a text that reads.
+-- Each step of the machine is a step of a draft: the bytes read begin a text that reads.
 use Rattle.std.proofs.Common.{◌≡◌, ◌⊎◌, ◌++◌, ◌&&◌, ◌||◌, ℕ, Bool, not, true, false, cond, List, [], ◌∷◌, map, Option, Some, None, refl, ap, sym, ◌∙◌, subst, inl, inr, eqb, append_assoc, append-nil}
 use Rattle.std.proofs.lemmas.Bool.{and_parts, and_from, or_from, eqb-true, false≢true}
 use Rattle.item_model.specs.Proper.{is_name_byte, are_name_bytes}
@@ -10,12 +10,12 @@ use Rattle.song_query.specs.Machine.{due, close, valued, slashed, State, start, 
 use Rattle.song_query.proofs.Complete.{lv}
 use Rattle.song_query.proofs.Draft.{Front, fresh, after_comma, print_front, front_members, is_front, front_gap, front_or, front_blank, Lead, first, next_to, print_lead, lead_units, is_lead, lead_and, Stub, quoted, naming, operating, op_mark, op_marked, valuing, slashing, print_stub, stub_place, is_stub, Draft, starts, after, within, print_draft, draft_place, draft_level, is_draft, Out, out_level, print_outs, are_outs, Whole, print_whole, is_whole, state_of, blanks_append, atoms_append, piece_append, are_atoms_append, starred_append, are_pieces_append, names_append, pieces_map_append, front_printed, front_read, front_valid, front_blank_printed, front_blank_read, front_blank_valid, lead_printed, lead_read, lead_valid}
 
--- the choice that a test makes
+-- the case that a test selects
 pub chosen : (b : Bool) (x y z : Option State) → cond b x y ≡ z → ((b ≡ true) × (x ≡ z)) ⊎ ((b ≡ false) × (y ≡ z))
 chosen true x y z h = inl (refl, h)
 chosen false x y z h = inr (refl, h)
 
--- a draft that is one byte longer and has the state that the step gave
+-- a draft that is one byte longer and has the state after the step
 pub record Grown (w : Whole) (c : ℕ) (t : State) : Type 0 where
   pub next : Whole
   pub valid : is_whole next ≡ true
@@ -58,7 +58,7 @@ comma_printed : (k o g f a : List ℕ) (c : ℕ) → f ++ a ≡ k ++ o → c ≡
 comma_printed k o g f a c p e =
     rw e (sym (append_assoc k o (g ++ 44 ∷ [])) ∙ ap (λ x. x ++ (g ++ 44 ∷ [])) (sym p) ∙ simp append_assoc)
 
--- behind the same two parts
+-- after the same two parts
 pub regrouped : (k o f a rest : List ℕ) → f ++ a ≡ k ++ o → k ++ (o ++ rest) ≡ f ++ (a ++ rest)
 regrouped k o f a rest p = sym (append_assoc k o rest) ∙ ap (λ x. x ++ rest) (sym p) ∙ append_assoc f a rest
 
@@ -78,7 +78,7 @@ cond_printed : (f l and : List ℕ) (n : ℕ) (ns o ps p : List ℕ) (c : ℕ) �
     → f ++ (and ++ []) ≡ (f ++ (l ++ 39 ∷ n ∷ (ns ++ (o ++ (ps ++ p))))) ++ c ∷ []
 cond_printed f l and n ns o ps p c h e = ap (λ x. f ++ x) (append-nil and ∙ sym h) ∙ rw e (simp append_assoc)
 
--- a quote or an opening parenthesis behind a lead
+-- a quote or an opening parenthesis after a lead
 begins_unit : (f : Front) (d : Lead) (old : Draft) (outs : List Out) (c : ℕ) (t : State) (other : Option State)
     → is_front f ≡ true → is_lead d ≡ true → are_outs outs ≡ true → print_draft old ≡ print_front f ++ print_lead d
     → begin (lv (front_members f) (lead_units d)) (map out_level outs) c other ≡ Some t
@@ -101,7 +101,7 @@ begins_unit f d old outs c t other v w o p h else_ =
       ]
     ]
 
--- a closing parenthesis behind a unit
+-- a closing parenthesis after a unit
 shuts : (f : Front) (a : AndForm) (g : List Blank) (outs : List Out) (c : ℕ) (t : State)
     → is_front f ≡ true → is_and a ≡ true → are_outs outs ≡ true → c ≡ 41
     → shut (lv (front_members f) (units a)) (map out_level outs) ≡ Some t
@@ -123,7 +123,7 @@ shuts f a g (x ∷ outs) c t v w o e h =
           ∙ h;
     }
 
--- a comma or a closing parenthesis behind a unit
+-- a comma or a closing parenthesis after a unit
 follows_unit : (f : Front) (a : AndForm) (g : List Blank) (outs : List Out) (c : ℕ) (t : State)
     → is_front f ≡ true → is_and a ≡ true → are_outs outs ≡ true
     → follow (lv (front_members f) (units a)) (map out_level outs) c ≡ Some t
@@ -195,7 +195,7 @@ value_grows f d n ns op ps p outs c t v w o k h =
       ]
     ]
 
--- a byte behind a backslash
+-- a byte after a backslash
 slash_grows : (f : Front) (d : Lead) (n : ℕ) (ns : List ℕ) (op : Op) (ps : List (List Atom)) (p : List Atom) (outs : List Out) (c : ℕ) (t : State)
     → is_front f ≡ true → is_lead d ≡ true → are_outs outs ≡ true → is_stub (slashing n ns op ps p) ≡ true
     → step (slashed (n ∷ ns) op (map piece_of ps) (piece_of p)) (lv (front_members f) (lead_units d)) (map out_level outs) c ≡ Some t
@@ -296,14 +296,14 @@ draft_grows (within f d s) outs c t v o h =
     let more = and_parts _ _ parts.1 in
     stub_step f d s outs c t parts.0 more.0 o more.1 h
 
--- what was read is a draft with the state that it led to
+-- the bytes read have a draft, with the state to which they led
 pub record Drafted (bytes : List ℕ) (t : State) : Type 0 where
   pub whole : Whole
   pub valid : is_whole whole ≡ true
   pub printed : print_whole whole ≡ bytes
   pub state : state_of whole ≡ t
 
--- what an option holds
+-- equal options have equal values
 pub some_is : (s t : State) → Some s ≡ Some t → s ≡ t
 some_is s t h = cc
 

@@ -1,4 +1,4 @@
--- The bytes of a character beyond ASCII: a value has them as they are, and nothing else goes on with them.
+-- The bytes of a character above ASCII: a value has them as they are, and elsewhere no query continues with them.
 use Rattle.std.proofs.Common.{◌⊎◌, inl, inr, ◌≡◌, ◌≢◌, ◌≤◌, ◌<◌, ◌++◌, ℕ, suc, false, List, [], ◌∷◌, length, get_or, Some, None, refl, ap, sym, ◌∙◌, subst, append_assoc, append-nil, arith, string_bytes}
 use Rattle.std.proofs.lemmas.Bool.{or_from, cond-false, ne_eqb, cases_lt}
 use Rattle.std.proofs.lemmas.Bool.Decides.{nat_tests}
@@ -15,7 +15,7 @@ use Rattle.song_query.specs.Machine.{valued, slashed, here, go, run}
 use Rattle.song_query.specs.Seen.{place_at}
 use Rattle.song_query.proofs.Complete.{Runs, next, stay, plain_read}
 
--- bytes that are no ASCII
+-- bytes above ASCII
 pub record AreWide (bytes : List ℕ) : Type 0 where
   pub each : (k : ℕ) → k < length bytes → 128 ≤ get_or bytes k 0
 
@@ -28,7 +28,7 @@ wide_at c k h l (inr x) = x
 pub wide_bytes : (c : ℕ) → 128 ≤ c → AreWide (encode_utf8 c)
 wide_bytes c h = record { each = λ k l. wide_at c k h l (cases_lt _ _) }
 
--- a byte that is no ASCII is no mark
+-- a byte above ASCII is not escaped
 pub no_mark : (b : ℕ) → 128 ≤ b → is_mark b ≡ false
 no_mark b h = or_from _ _ (ne_eqb b 39 (omega arith)) (or_from _ _ (ne_eqb b 92 (omega arith)) (ne_eqb b 42 (omega arith)))
 
@@ -54,12 +54,12 @@ slashed_run n o ps p (b ∷ bytes) l ls h k =
 pub char_long : (c : ℕ) → 0 < length (encode_utf8 c)
 char_long c = let b = len_utf8_bounds c in omega (arith, length-encode c)
 
--- a value goes on with the character
+-- a value continues with the character
 pub value_takes : (c : ℕ) (n : List ℕ) (o : Op) (ps : List (List ℕ)) (p : List ℕ) (l : Level) (ls : List Level) → 128 ≤ c
     → run (here (valued n o ps p) l ls) (encode_utf8 c) ≡ Some (here (valued n o ps (p ++ encode_utf8 c)) l ls)
 value_takes c n o ps p l ls h = (plain_run n o ps p (encode_utf8 c) l ls (wide_bytes c h)).ran
 
--- and also behind a backslash, which then stands for itself
+-- and also after a backslash, which is then literal
 pub slash_takes : (c : ℕ) (n : List ℕ) (o : Op) (ps : List (List ℕ)) (p : List ℕ) (l : Level) (ls : List Level) → 128 ≤ c
     → run (here (slashed n o ps p) l ls) (encode_utf8 c) ≡ Some (here (valued n o ps (p ++ 92 ∷ encode_utf8 c)) l ls)
 slash_takes c n o ps p l ls h = (slashed_run n o ps p (encode_utf8 c) l ls (wide_bytes c h) (char_long c)).ran
@@ -84,7 +84,7 @@ same_value : (n m : List ℕ) (o u : Op) (ps qs : List (List ℕ)) (p q : List �
     → Some (here (valued n o ps p) l ls) ≡ Some (here (valued m u qs q) l ls)
 same_value n m o u ps qs p q l ls a b c d = cc
 
--- the same of the parts of a reader
+-- the same for the parts of a reader
 pub valued_taken : (c : ℕ) (place : PlaceName) (part new : Partial) (l : Level) (ls : List Level) → 128 ≤ c → place ≡ Valued
     → string_bytes new.name ≡ string_bytes part.name → new.op ≡ part.op → new.pieces ≡ part.pieces → string_bytes new.piece ≡ string_bytes part.piece ++ encode_utf8 c
     → run (here (place_at place part) l ls) (encode_utf8 c) ≡ Some (here (place_at place new) l ls)

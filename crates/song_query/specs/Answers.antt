@@ -1,4 +1,4 @@
--- What reading a text answers: the query where it reads as one within the limits, else the place and the cause.
+-- The result of reading a text: the query that it reads as within the limits, otherwise the offset and the cause.
 use Rattle.std.specs.Prelude.{◌≡◌, ◌≢◌, ◌≤◌, ◌<◌, ◌+◌, ⊤, ℕ, List, length, take, Result, Ok, Err}
 use Rattle.item_model.specs.QueryTree.{QueryTree}
 use Rattle.item_model.specs.QuerySeen.{tree_of}
@@ -11,11 +11,11 @@ use Rattle.song_query.specs.Reading.{QueryReads, HasNoReading, Begins, IsStuck}
 use Rattle.song_query.specs.Nesting.{open_at_end}
 use Rattle.song_query.specs.Limits.{query_bytes, open_parentheses}
 
--- no more parentheses are open at once up to the place than may be
+-- at each offset up to `place` no more parentheses are open than the limit allows
 abbrev pub IsShallow : List ℕ → ℕ → Type 0
 IsShallow text place = (n : ℕ) → n ≤ place → open_at_end (take n text) ≤ open_parentheses
 
--- the byte there is the first parenthesis too many, and a text that reads may go on with it
+-- the byte there is the first parenthesis too many, and some query continues with it
 pub record IsTooDeep (text : List ℕ) (place : ℕ) : Type 0 where
   pub within : place < length text
   pub begins : Begins (take (place + 1) text)
@@ -33,7 +33,7 @@ Answers text (Err (TooDeep place)) = (length text ≤ query_bytes) × IsTooDeep 
 Answers text (Err (At place why)) = (length text ≤ query_bytes) × IsStuck text place × IsRefusedAt text place why × IsShallow text place
 Answers text (Err Memory) = ⊤
 
--- the query is answered, if there is memory
+-- the query is returned, if allocation succeeds
 abbrev pub Gives : QueryTree → Result Query QueryError → Type 0
 Gives query (Ok read) = tree_of read ≡ query
 Gives query (Err TooLong) = ⊥
@@ -41,7 +41,7 @@ Gives query (Err (TooDeep place)) = ⊥
 Gives query (Err (At place why)) = ⊥
 Gives query (Err Memory) = ⊤
 
--- each query that the text reads as within the limits is answered
+-- each query that the text reads as within the limits is returned
 abbrev pub IsComplete : List ℕ → Result Query QueryError → Type 0
 IsComplete text result =
     (query : QueryTree) → QueryReads text query → length text ≤ query_bytes → IsShallow text (length text) → Gives query result

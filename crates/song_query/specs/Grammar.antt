@@ -1,5 +1,5 @@
--- The grammar of queries. A text is spelled from a form, which has its gaps, marks and wildcards, and the form
--- means a query:
+-- The grammar of queries. A form has gaps, escapes and wildcards; its printer gives the text, and its meaning is a
+-- query:
 --
 --   query = gap or gap                    or   = and { gap "," gap and }
 --   and   = unit { blanks unit }          unit = condition | "(" gap or gap ")"
@@ -25,7 +25,7 @@ blank plus = 43
 abbrev pub blanks : List Blank → List ℕ
 blanks g = map blank g
 
--- what a backslash escapes
+-- the characters that a backslash escapes
 pub data Mark : Type 0 where
   quote : Mark
   backslash : Mark
@@ -39,7 +39,7 @@ mark star = 42
 abbrev pub is_mark : ℕ → Bool
 is_mark c = c == 39 || (c == 92 || c == 42)
 
--- a part of a value: a byte, an escape, or a backslash that stands for itself with the byte behind it
+-- one element of a value: a byte, an escape, or a backslash that is literal, with the byte after it
 pub data Atom : Type 0 where
   plain : ℕ → Atom
   escaped : Mark → Atom
@@ -72,7 +72,7 @@ abbrev pub are_atoms : List Atom → Bool
 are_atoms [] = true
 are_atoms (a ∷ as_) = is_atom a && are_atoms as_
 
--- pieces, each with a star behind it
+-- parts, each followed by a star
 abbrev pub print_starred : List (List Atom) → List ℕ
 print_starred [] = []
 print_starred (p ∷ ps) = print_atoms p ++ 42 ∷ print_starred ps
@@ -81,7 +81,7 @@ abbrev pub are_pieces : List (List Atom) → Bool
 are_pieces [] = true
 are_pieces (p ∷ ps) = are_atoms p && are_pieces ps
 
--- a value is pieces with a star between each two
+-- a value is parts with a star between each two
 pub record Value : Type 0 where
   pub starred : List (List Atom)
   pub last : List Atom
@@ -122,12 +122,12 @@ mutual
     cond : CondForm → UnitForm
     group : List Blank → OrForm → List Blank → UnitForm
 
-  -- further units stand behind a blank and more blanks
+  -- further units follow a blank and more blanks
   pub data AndForm : Type 0 where
     one : UnitForm → AndForm
     more : AndForm → Blank → List Blank → UnitForm → AndForm
 
-  -- further members stand behind a comma with blanks around it
+  -- further members follow a comma with blanks around it
   pub data OrForm : Type 0 where
     only : AndForm → OrForm
     either : OrForm → List Blank → List Blank → AndForm → OrForm
@@ -145,7 +145,7 @@ abbrev mutual
   print_or (only a) = print_and a
   print_or (either o g h a) = print_or o ++ (blanks g ++ 44 ∷ (blanks h ++ print_and a))
 
--- one query stands for itself, several are members of a list
+-- one query is itself, several are the members of a list
 abbrev pub joined : (QueryTrees → QueryTree) → List QueryTree → QueryTree
 joined list [] = list no_queries
 joined list (q ∷ []) = q

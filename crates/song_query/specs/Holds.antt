@@ -1,5 +1,5 @@
--- Where a query holds: a condition by the property that it names, an `And` where all its members hold, an
--- `Or` where one does.
+-- Which rows match a query: a condition depends on the property with its name, an `And` matches if all its members
+-- do, an `Or` if one does.
 use Rattle.std.specs.Prelude.{ℕ, List, [], ◌∷◌, ◌+◌, ◌-◌, ◌*◌, ◌^◌, Option, Some, None, Bool, true, false, not, ◌&&◌, ◌||◌, ◌==◌, nat_lt, unwrap_or, codes, if◌then◌else◌}
 use Rattle.std.specs.Char.{is_ascii_digit}
 use Rattle.std.specs.Str.{bytes_eq}
@@ -17,7 +17,7 @@ use Rattle.item_model.specs.declared.item.PropValue.TheVariants.{Number, Text}
 use Rattle.item_model.specs.declared.item.Row.{Row}
 use Rattle.song_query.specs.Glob.{glob}
 
--- the value that a property without one counts as
+-- the value of a property that a row lacks
 abbrev pub absent : Kind → PropValue
 absent TextKind = Text []
 absent _ = Number 0
@@ -26,12 +26,12 @@ abbrev pub property_value : Option Property → List (Property × PropValue) →
 property_value None entries = Text []
 property_value (Some p) entries = unwrap_or (value_of p entries) (absent (property_kind p))
 
--- what a name stands for in a row: the id, the value of the property with that name, or an empty text
+-- the value of a name in a row: the id, the value of the property with that name, or an empty text
 unfoldable pub named_value : List ℕ → Row → PropValue
 named_value name row =
     if bytes_eq name (codes "dmap.itemid") then Number row.id else property_value (property_named name) row.item
 
--- the number that decimal digits go on to, after those that make n
+-- the number n followed by more decimal digits
 abbrev pub number_from : ℕ → List ℕ → ℕ
 number_from n [] = n
 number_from n (c ∷ cs) = number_from (n * 10 + (c - 48)) cs
@@ -40,13 +40,13 @@ abbrev pub are_digits : List ℕ → Bool
 are_digits [] = true
 are_digits (c ∷ cs) = is_ascii_digit c && are_digits cs
 
--- the number that one or more digits spell, where 64 bits hold it
+-- the number of one or more digits, if it fits 64 bits
 abbrev pub number_of : List ℕ → Option ℕ
 number_of [] = None
 number_of (c ∷ cs) =
     if are_digits (c ∷ cs) && nat_lt (number_from 0 (c ∷ cs)) (2 ^ 64) then Some (number_from 0 (c ∷ cs)) else None
 
--- the number that a pattern asks for, which it does without a wildcard
+-- the number in a pattern, if there is no wildcard
 abbrev pub number_asked : List (List ℕ) → Option ℕ
 number_asked [] = None
 number_asked (p ∷ []) = number_of p
@@ -64,12 +64,12 @@ abbrev pub is_above : Option ℕ → ℕ → Bool
 is_above None n = false
 is_above (Some m) n = nat_lt m n
 
--- a text matches where the pattern describes it, a number where it is the one that is asked for
+-- a text matches if the pattern matches it, a number if it is the pattern's
 unfoldable pub matches_value : List (List ℕ) → PropValue → Bool
 matches_value pieces (Text bytes) = glob pieces bytes
 matches_value pieces (Number n) = is_number (number_asked pieces) n
 
--- numbers alone are less or more than what is asked for
+-- only numbers are less or more
 unfoldable pub is_less : List (List ℕ) → PropValue → Bool
 is_less pieces (Text bytes) = false
 is_less pieces (Number n) = is_below (number_asked pieces) n

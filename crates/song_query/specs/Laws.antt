@@ -1,4 +1,4 @@
--- What follows from the definitions. Each fact here is proved for all texts.
+-- Theorems about all texts that follow from the definitions.
 use Rattle.std.specs.Prelude.{◌≡◌, ◌≢◌, ℕ, List, Result, Err}
 use Rattle.item_model.specs.QueryTree.{QueryTree}
 use Rattle.item_model.specs.declared.query.Query.{Query}
@@ -11,7 +11,7 @@ use Rattle.song_query.specs.Reading.{QueryReads}
 abbrev pub TextsReadOnce : Type 0
 TextsReadOnce = (text : List ℕ) (q r : QueryTree) → QueryReads text q → QueryReads text r → q ≡ r
 
--- a text has an answer other than want of memory
+-- a text has a result other than out of memory
 abbrev pub TextsHaveAnswers : Type 0
 TextsHaveAnswers = (text : List ℕ) → (answer : Result Query QueryError) × (answer ≢ Err Memory) × Answers text answer
 

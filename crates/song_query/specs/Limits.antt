@@ -1,10 +1,10 @@
 -- The limits of a query's text.
 use Rattle.std.specs.Prelude.{ℕ}
 
--- how many bytes it has at most
+-- the maximum length in bytes
 abbrev pub query_bytes : ℕ
 query_bytes = 4096
 
--- how many parentheses are open at once at most
+-- the maximum number of parentheses that are open at once
 abbrev pub open_parentheses : ℕ
 open_parentheses = 64

@@ -1,4 +1,4 @@
--- A text read byte by byte: what is read so far, and what may come next. It serves proofs alone.
+-- A parser that reads a text byte by byte: what it has read, and what may come next. Only proofs need it.
 use Rattle.std.specs.Prelude.{ℕ, List, [], ◌∷◌, ◌++◌, Option, Some, None, Bool, true, false, ◌||◌, ◌&&◌, ◌==◌, if◌then◌else◌}
 use Rattle.item_model.specs.Proper.{is_name_byte}
 use Rattle.item_model.specs.QueryTree.{QueryTree, condition, and_of, or_of}
@@ -7,8 +7,8 @@ use Rattle.item_model.specs.declared.condition.Op.TheVariants.{Is, IsNot, Less, 
 use Rattle.song_query.specs.Grammar.{joined, is_mark}
 use Rattle.song_query.specs.declared.levels.Level.{Level}
 
--- where in a query the next byte stands: a unit is due, behind a unit, behind a unit and blanks, behind an
--- opening quote, in a name, behind the first of an operator's two marks, in a value, behind a backslash of a value
+-- the position of the next byte in a query: where a unit is expected, after a unit, after a unit and blanks, after an
+-- opening quote, in a name, after the first of an operator's two characters, in a value, after a backslash in a value
 pub data Place : Type 0 where
   due : Place
   close : Place
@@ -62,7 +62,7 @@ begin l ls c other =
 abbrev pub cond_of : List ℕ → Op → List (List ℕ) → QueryTree
 cond_of n o ps = condition (record { name = n; op = o; pattern = ps })
 
--- a mark behind a name
+-- a character after a name
 abbrev pub operate : List ℕ → Level → List Level → ℕ → Option State
 operate n l ls c =
     if c == 58 then Some (here (valued n Is [] []) l ls)
@@ -96,7 +96,7 @@ abbrev pub run : State → List ℕ → Option State
 run s [] = Some s
 run s (c ∷ cs) = bind (go s c) (λ t. run t cs)
 
--- a query may end behind a unit and outside of parentheses
+-- a query may end after a unit and outside of parentheses
 abbrev pub is_behind_unit : Place → Bool
 is_behind_unit close = true
 is_behind_unit apart = true

@@ -1,5 +1,5 @@
 -- The text that a query is printed as: a space between the units of an `And`, a comma between the members of
--- an `Or`, and parentheses where the grammar needs them.
+-- an `Or`, and parentheses only if the grammar needs them.
 use Rattle.std.specs.Prelude.{ℕ, List, [], ◌∷◌, ◌++◌, Bool, true, ◌&&◌, ◌||◌, ◌==◌, if◌then◌else◌}
 use Rattle.std.specs.Char.{encode_utf8}
 use Rattle.item_model.specs.QueryTree.{QueryTree, condition, and_of, or_of, QueryTrees, no_queries, more_queries}
@@ -11,14 +11,14 @@ abbrev pub is_before_mark : List ℕ → Bool
 is_before_mark [] = true
 is_before_mark (c ∷ cs) = is_mark c
 
--- a backslash is doubled only where it would escape what follows
+-- a backslash is doubled only if it would otherwise escape what follows
 abbrev pub is_escaped : ℕ → List ℕ → Bool
 is_escaped c rest = (c == 39 || c == 42) || (c == 92 && is_before_mark rest)
 
 abbrev pub printed_byte : ℕ → List ℕ → List ℕ
 printed_byte c rest = if is_escaped c rest then 92 ∷ c ∷ [] else c ∷ []
 
--- the same of a character, which may have more bytes than one
+-- the same for a character, which may have several bytes
 abbrev pub printed_char : ℕ → List ℕ → List ℕ
 printed_char c rest = if is_escaped c rest then 92 ∷ encode_utf8 c else encode_utf8 c
 
@@ -26,7 +26,7 @@ abbrev pub printed_piece : List ℕ → List ℕ
 printed_piece [] = []
 printed_piece (c ∷ cs) = printed_byte c cs ++ printed_piece cs
 
--- a star between each two pieces
+-- a star between each two parts
 abbrev mutual
   pub printed_pieces : List (List ℕ) → List ℕ
   printed_pieces [] = []

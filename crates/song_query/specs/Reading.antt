@@ -1,16 +1,16 @@
--- Which texts read as a query, and where a text that reads as none is stuck.
+-- Which texts read as a query, and at which offset another text is stuck.
 use Rattle.std.specs.Prelude.{◌≡◌, ◌≤◌, ℕ, List, ◌++◌, length, take, true}
 use Rattle.item_model.specs.QueryTree.{QueryTree, or_of}
 use Rattle.song_query.specs.Grammar.{QueryForm, print_query, is_or, joined, members}
 
--- the text is spelled from a form that means the query
+-- the text is printed from a form whose meaning is the query
 pub record QueryReads (text : List ℕ) (query : QueryTree) : Type 0 where
   pub form : QueryForm
   pub valid : is_or form.body ≡ true
   pub spelled : text ≡ print_query form
   pub means : query ≡ joined or_of (members form.body)
 
--- the text reads as no query
+-- the text does not read as any query
 abbrev pub HasNoReading : List ℕ → Type 0
 HasNoReading text = (query : QueryTree) → ¬ (QueryReads text query)
 
@@ -20,7 +20,7 @@ pub record Begins (bytes : List ℕ) : Type 0 where
   pub query : QueryTree
   pub reads : QueryReads (bytes ++ more) query
 
--- no more bytes of the text can be the beginning of such a text
+-- the text up to `place` is its longest prefix with which a query begins
 pub record IsStuck (text : List ℕ) (place : ℕ) : Type 0 where
   pub within : place ≤ length text
   pub begins : Begins (take place text)

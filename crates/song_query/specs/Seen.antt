@@ -1,4 +1,4 @@
--- What the reader of a text stands for, and what one character does to it. It serves proofs alone.
+-- The state of the parser, and the effect of one character. Only proofs need it.
 use Rattle.std.specs.Prelude.{◌≡◌, ◌<◌, ⊤, ℕ, length, get_or, Option, Some, None, Result, Ok, Err, string_bytes}
 use Rattle.std.specs.Char.{encode_utf8}
 use Rattle.item_model.specs.declared.refusal.QueryError.{QueryError}
@@ -26,13 +26,13 @@ place_at Slashed p = slashed (string_bytes p.name) p.op p.pieces (string_bytes p
 abbrev pub state_of : Reader → State
 state_of r = here (place_at r.place r.partial) r.level r.outer
 
--- the answer where a character is not taken
+-- the error for a refused character
 abbrev pub refused_at : ℕ → Refusal → QueryError
 refused_at place Byte = At place QueryByte
 refused_at place Deep = TooDeep place
 refused_at place Memory = QueryMemory
 
--- the new state is the one that a step gives; a refusal says that there is none, or that it is too deep
+-- the new state is the one after the step; an error means that there is no step, or that it is too deep
 abbrev pub Stepped : Option State → State → Result (Unit {0}) Refusal → Type 0
 Stepped next new (Ok _) = next ≡ Some new
 Stepped next new (Err Byte) = next ≡ None

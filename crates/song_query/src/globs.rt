@@ -7,8 +7,9 @@ ghost use Rattle.song_query.specs.Glob.{Glob, glob, joins, from_some};
 use dmap_tags::Text;
 use item_model::Pattern;
 
-/// Whether the pattern describes the text for which this one is searched (`Item::sought`): the pieces stand in it in order
-/// with any runs between them, once the letters are folded. No place is tried twice, and nothing is allocated.
+/// Returns whether the pattern matches the text for which `searched` is searched (`Item::sought`). It does if the
+/// text, folded, is the folded parts in order, with any characters between each two. Tries no offset twice and does
+/// not allocate.
 pub fn is_glob(pattern: &Pattern, searched: &str) -> bool
     ensures joined { (text : List ℕ) → IsSearchedFor text searched.now → Decides result (Glob pattern.now text) }
     ensures test { (text : List ℕ) → IsSearchedFor text searched.now → result ≡ glob pattern.now text }
@@ -16,7 +17,7 @@ pub fn is_glob(pattern: &Pattern, searched: &str) -> bool
     is_described(pattern.folded(), searched.as_bytes())
 }
 
-// Whether the lowered text is the lowered pieces, joined by some runs.
+// Returns whether the lowered text is the lowered parts, in order, with any bytes between each two.
 fn is_described(pieces: &[Text], text: &[u8]) -> bool
     ensures { result ≡ joins (map lowered pieces.now) (lowered text.now) }
 {
@@ -26,7 +27,7 @@ fn is_described(pieces: &[Text], text: &[u8]) -> bool
     }
 }
 
-// Whether the text is the first piece, a run, the next piece, and so on.
+// Returns whether the text is the first part, any bytes, the next part, and so on.
 fn is_joined(first: &[u8], others: &[Text], text: &[u8]) -> bool
     ensures { result ≡ joins (lowered first.now ∷ map lowered others.now) (lowered text.now) }
 {
@@ -39,7 +40,7 @@ fn is_joined(first: &[u8], others: &[Text], text: &[u8]) -> bool
     }
 }
 
-// What stands behind a piece that the text begins with.
+// Returns the text after `piece`, if the text begins with it.
 fn behind_front<'a>(text: &'a [u8], piece: &[u8]) -> Option<&'a [u8]>
     ensures { MatchOption result
         (take (length piece.now) (lowered text.now) ≢ lowered piece.now)
@@ -56,8 +57,8 @@ fn behind_front<'a>(text: &'a [u8], piece: &[u8]) -> Option<&'a [u8]>
     Some(rest)
 }
 
-// What stands behind the first place of a piece. Where it can be had at all, the pieces that follow are found
-// behind that place if they are found behind any.
+// Returns the text after the first occurrence of `piece`. If the parts after `piece` are found after any occurrence,
+// they are found after the first one.
 fn behind_first<'a>(text: &'a [u8], piece: &[u8]) -> Option<&'a [u8]>
     ensures { MatchOption result
         ((q : List ℕ) (ps : List (List ℕ)) → from_some (joins (lowered piece.now ∷ q ∷ ps)) (lowered text.now) ≡ false)
@@ -77,7 +78,7 @@ fn behind_first<'a>(text: &'a [u8], piece: &[u8]) -> Option<&'a [u8]>
     }
 }
 
-// Whether the pieces stand in the text in order, and the last one at its end.
+// Returns whether the text has the parts in order, the last one at its end.
 fn are_behind(pieces: &[Text], text: &[u8]) -> bool
     ensures { result ≡ from_some (joins (map lowered pieces.now)) (lowered text.now) }
 {
@@ -96,7 +97,7 @@ fn are_behind(pieces: &[Text], text: &[u8]) -> bool
     false
 }
 
-// Whether the text ends with the piece.
+// Returns whether the text ends with `piece`.
 fn is_end(text: &[u8], piece: &[u8]) -> bool
     ensures { result ≡ from_some (joins (lowered piece.now ∷ [])) (lowered text.now) }
 {

@@ -1,4 +1,4 @@
-//! What holds of all texts. Each function does nothing; its contract is a fact that follows from the definitions.
+//! What holds for all texts. Each function has an empty body; its contract is a theorem.
 
 ghost use Rattle.song_query.specs.Laws.{AnswersAreOne, TextsHaveAnswers, TextsReadOnce};
 
@@ -7,12 +7,12 @@ pub fn a_text_reads_as_one_query()
     ensures { TextsReadOnce }
 {}
 
-/// A text reads as a query within the limits, or is refused.
+/// A text reads as a query within the limits, or has an error.
 pub fn a_text_has_an_answer()
     ensures { TextsHaveAnswers }
 {}
 
-/// A text is not both read and refused, and refused for one cause at one place.
+/// A text does not both read and have an error, and has one error at one offset at most.
 pub fn a_text_has_one_answer()
     ensures { AnswersAreOne }
 {}

@@ -1,4 +1,4 @@
-//! The levels of a query that is being read, one for each open parenthesis and one for the text.
+//! The levels of a query during parsing: one for each open parenthesis and one for the text.
 
 ghost use Rattle.std.specs.Prelude.{◌≡◌, ◌≢◌, ◌∷◌, [], OnOk, OnErr, IfOk, MatchOption, MatchResult, length};
 ghost use Rattle.item_model.specs.QueryTree.{and_of, or_of};
@@ -10,12 +10,12 @@ use std::alloc::{AllocError, Global};
 use std::marker::Model;
 use std::mem::replace;
 
-/// What is read of an `or` and of its last member.
+/// An `Or` during parsing, with its last member.
 #[derive(Drop)]
 pub struct Level {
-    /// The members that are whole.
+    /// The complete members.
     pub members: Queries,
-    /// The units of the member that is being read.
+    /// The units of the member that is being parsed.
     pub units: Queries,
 }
 
@@ -53,7 +53,7 @@ impl Levels {
         self.items.len()
     }
 
-    /// A new innermost level. An `Err` changes nothing.
+    /// Adds a new innermost level. If it fails, the levels are unchanged.
     pub fn push(&mut self, level: Level) -> Result<(), AllocError>
         ensures ok { OnOk result (self.new ≡ level ∷ self.old) }
         ensures err { OnErr result (self.new ≡ self.old) }
@@ -62,7 +62,7 @@ impl Levels {
         Ok(())
     }
 
-    /// Takes the innermost level.
+    /// Removes and returns the innermost level.
     pub fn pop(&mut self) -> Option<Level>
         ensures { MatchOption result ((self.old ≡ []) × (self.new ≡ [])) (λ l. self.old ≡ l ∷ self.new) }
     {
@@ -88,7 +88,7 @@ impl Level {
         self.units.push(unit)
     }
 
-    /// The last member is whole.
+    /// Completes the last member.
     pub fn end_member(&mut self, alloc: Global) -> Result<(), AllocError>
         ensures { OnOk result (self.new ≡ with_member self.old) }
     {
@@ -96,7 +96,7 @@ impl Level {
         self.members.push(all(units))
     }
 
-    /// The query of the level, whose last member is whole with it.
+    /// Completes the last member and returns the query of the level.
     pub fn into_query(mut self, alloc: Global) -> Result<Query, AllocError>
         ensures { IfOk result (λ q. tree_of q ≡ level_query self) }
     {
@@ -105,7 +105,7 @@ impl Level {
     }
 }
 
-// The query that all units make.
+// Returns the `And` of the units, or the only unit.
 fn all(units: Queries) -> Query
     ensures { tree_of result ≡ joined and_of units }
 {
@@ -115,7 +115,7 @@ fn all(units: Queries) -> Query
     }
 }
 
-// The query that all members make.
+// Returns the `Or` of the members, or the only member.
 fn any(members: Queries) -> Query
     ensures { tree_of result ≡ joined or_of members }
 {
@@ -125,7 +125,7 @@ fn any(members: Queries) -> Query
     }
 }
 
-// The only query, or the queries again where there is none or more than one.
+// Returns the query if there is exactly one, and the queries as they are otherwise.
 fn only(queries: Queries) -> Result<Query, Queries>
     ensures { MatchResult result (λ q. queries ≡ tree_of q ∷ []) (λ qs. (qs ≡ queries) × (length queries ≢ 1)) }
 {

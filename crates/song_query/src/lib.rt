@@ -1,5 +1,5 @@
-//! Queries over the rows of a library: `read` reads a query's text exactly by its grammar or tells the place
-//! where no query goes on, `print` writes the shortest text of a query, and `matches` tells where it holds.
+//! Queries over the rows of a library. `read` parses a query's text exactly by its grammar, or returns the offset from
+//! which no query continues. `print` returns the shortest text of a query. `matches` is whether a row matches.
 #![tactic(auto)]
 
 mod globs;

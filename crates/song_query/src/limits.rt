@@ -1,7 +1,7 @@
 //! The limits of queries.
 
-/// How many bytes the text of a query has at most.
+/// The maximum length of a query's text in bytes.
 pub const QUERY_BYTES: usize = 4096;
 
-/// How many parentheses are open at once at most.
+/// The maximum number of parentheses that are open at once.
 pub const OPEN_PARENTHESES: usize = 64;

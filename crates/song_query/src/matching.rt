@@ -1,4 +1,4 @@
-//! Where a query holds.
+//! Which rows match a query.
 
 ghost use Rattle.std.specs.Prelude.{◌≡◌, ◌+◌, ◌*◌, ◌-◌, ◌^◌, ℕ, List, map, true, Decides, Some, None, nat_lt, if◌then◌else◌};
 ghost use Rattle.song_query.specs.Glob.{glob, Glob};
@@ -19,8 +19,8 @@ use std::sync::ledger::Ledger;
 /// The name of a row's id in queries.
 const ITEM_ID: &str = "dmap.itemid";
 
-/// Whether the query holds of the row. It looks at the row once and takes no memory; no place of a text is
-/// tried twice against a pattern.
+/// Returns whether the row matches the query, and adds 1 to `steps`. Does not allocate. No offset of a text is tried
+/// twice against a pattern.
 pub fn matches<L: Ledger>(query: &Query, row: &Row, steps: &mut Steps<L>) -> bool
     ensures meaning { result ≡ holds (tree_of query.now) row.now }
     ensures globs { (pieces : List (List ℕ)) (text : List ℕ) → Decides (glob pieces text) (Glob pieces text) }
@@ -76,7 +76,7 @@ fn does_meet(cond: &Cond, row: &Row) -> bool
     }
 }
 
-// What a condition with the name compares.
+// Returns the value of the row that a condition with this name compares.
 fn sought<'a>(name: &str, row: &'a Row) -> Sought<'a>
     ensures { IsSought (named_value name.now row.now) result }
 {
@@ -92,7 +92,7 @@ fn sought<'a>(name: &str, row: &'a Row) -> Sought<'a>
     }
 }
 
-// What a row counts as that lacks a property of the kind.
+// Returns the value of a property of this kind that a row lacks.
 #[tactic(auto, using(crate::proofs::Folded::nothing_searched))]
 fn absent<'a>(kind: Kind) -> Sought<'a>
     ensures { IsSought (absent kind) result }
@@ -118,7 +118,7 @@ fn is_met_by_number(op: Op, pattern: &Pattern, n: u64) -> bool
     }
 }
 
-// The text stands for each for which it may be searched.
+// The result is the same for each text for which `searched` may be searched.
 #[tactic(auto, unfolding(crate::specs::Holds::matches_value, crate::specs::Holds::is_less, crate::specs::Holds::is_more))]
 fn is_met_by_text(op: Op, pattern: &Pattern, searched: &str) -> bool
     ensures { (text : List ℕ) → IsSearchedFor text searched.now → result ≡ is_met op pattern.now (Words text) }
@@ -130,7 +130,7 @@ fn is_met_by_text(op: Op, pattern: &Pattern, searched: &str) -> bool
     }
 }
 
-// The number that a pattern without a wildcard spells.
+// Returns the number in a pattern without a wildcard.
 fn number_asked(pieces: &[Text]) -> Option<u64>
     ensures { result ≡ number_asked pieces.now }
 {
@@ -140,7 +140,7 @@ fn number_asked(pieces: &[Text]) -> Option<u64>
     }
 }
 
-// The number that one or more decimal digits spell.
+// Returns the number of one or more decimal digits.
 fn number(digits: &[u8]) -> Option<u64>
     ensures { result ≡ number_of digits.now }
 {
@@ -160,7 +160,7 @@ fn number(digits: &[u8]) -> Option<u64>
     Some(n)
 }
 
-// The number with one digit more.
+// Returns the number followed by one more digit.
 fn with_digit(n: u64, digit: u8) -> Option<u64>
     requires { is_ascii_digit digit ≡ true }
     ensures { result ≡ (if nat_lt (n * 10 + (digit - 48)) (2 ^ 64) then Some (n * 10 + (digit - 48)) else None) }

@@ -1,4 +1,4 @@
-//! What a reader of queries keeps.
+//! The state of the parser of queries.
 
 ghost use Rattle.song_query.specs.Limits.{open_parentheses};
 ghost use Rattle.std.specs.Prelude.{◌≡◌, ◌≤◌, ◌<◌, [], ◌++◌, ◌∷◌, OnOk, IfOk, string_bytes, length};
@@ -9,33 +9,33 @@ use item_model::{Cond, Op, Pattern, Texts};
 use std::alloc::{AllocError, Global};
 use std::mem::replace;
 
-/// Where in a query the next character stands.
+/// The position in a query at which the next character is read.
 #[derive(Clone, Copy)]
 pub enum Place {
-    /// A unit is due.
+    /// A unit is expected.
     Due,
-    /// Right behind a unit.
+    /// Right after a unit.
     Close,
-    /// Behind a unit and blanks.
+    /// After a unit and blanks.
     Apart,
-    /// Behind the quote that opens a condition.
+    /// After the quote that begins a condition.
     Opened,
     /// In a name.
     Named,
-    /// Behind the first of an operator's two marks.
+    /// After the first character of an operator of two.
     Begun,
     /// In a value.
     Valued,
-    /// Behind a backslash in a value.
+    /// After a backslash in a value.
     Slashed,
 }
 
-/// Why a character is not taken.
+/// Errors of a character.
 #[derive(Drop)]
 pub enum Refusal {
-    /// No query goes on with it.
+    /// No query continues with it.
     Byte,
-    /// It is one open parenthesis too many.
+    /// It opens one parenthesis too many.
     Deep,
     Memory,
 }
@@ -51,7 +51,7 @@ impl From<AllocError> for Refusal {
     }
 }
 
-/// The condition that is being read.
+/// The condition that is being parsed.
 #[derive(Drop)]
 pub struct Partial {
     pub name: String,
@@ -60,7 +60,7 @@ pub struct Partial {
     pub piece: String,
 }
 
-/// What is read of a text.
+/// The parser, after some characters of a text.
 #[derive(Drop)]
 pub struct Reader {
     pub alloc: Global,
@@ -81,7 +81,7 @@ impl Partial {
         }
     }
 
-    /// A wildcard or the end of the value: the piece is whole, and the next one is empty.
+    /// Ends a part at a wildcard or at the end of the value, and begins the next, which is empty.
     pub fn end_piece(&mut self, alloc: Global) -> Result<(), AllocError>
         ensures pieces { OnOk result (self.new.pieces ≡ self.old.pieces ++ string_bytes self.old.piece ∷ []) }
         ensures piece { OnOk result (string_bytes self.new.piece ≡ []) }
@@ -94,7 +94,7 @@ impl Partial {
         Ok(())
     }
 
-    /// The condition, whose pieces are taken out.
+    /// Returns the condition, and moves its parts out.
     pub fn cond(&mut self, alloc: Global) -> Result<Cond, AllocError>
         requires { 0 < length self.old.pieces }
         ensures { IfOk result (λ c. (c.name ≡ string_bytes self.old.name) × (c.op ≡ self.old.op) × (c.pattern ≡ self.old.pieces)) }

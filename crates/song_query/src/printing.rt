@@ -1,4 +1,4 @@
-//! Queries printed as texts.
+//! Prints queries.
 
 ghost use Rattle.std.specs.Prelude.{◌≡◌, ◌≤◌, ◌++◌, ◌∷◌, [], ℕ, List, true, map, length, OnOk, IfOk, string_bytes, Ok};
 ghost use Rattle.item_model.specs.QueryTree.{QueryTree, queries_of};
@@ -14,8 +14,8 @@ use dmap_tags::Text;
 use item_model::{Cond, Op, Query};
 use std::alloc::{AllocError, Global};
 
-/// The shortest text of a query, and the one with the fewest open parentheses: where some text is read as the query,
-/// this one is.
+/// Returns the shortest text of a query, which is also one with the fewest parentheses open at once. If some text is
+/// read as the query, this one is.
 pub fn print(alloc: Global, query: &Query) -> Result<Text, AllocError>
     requires { IsProper query.now }
     ensures text { IfOk result (λ t. t ≡ printed (tree_of query.now)) }
@@ -41,7 +41,7 @@ fn push_query(out: &mut String, query: &Query) -> Result<(), AllocError>
     }
 }
 
-// A unit of an `And`: all lists in parentheses.
+// Appends a unit of an `And`: lists are in parentheses.
 #[cycle(push)]
 fn push_unit(out: &mut String, query: &Query) -> Result<(), AllocError>
     ensures { OnOk result (string_bytes out.new ≡ string_bytes out.old ++ printed_unit (tree_of query.now)) }
@@ -53,7 +53,7 @@ fn push_unit(out: &mut String, query: &Query) -> Result<(), AllocError>
     }
 }
 
-// A member of an `Or`: only an `Or` in parentheses.
+// Appends a member of an `Or`: only an `Or` is in parentheses.
 #[cycle(push)]
 fn push_member(out: &mut String, query: &Query) -> Result<(), AllocError>
     ensures { OnOk result (string_bytes out.new ≡ string_bytes out.old ++ printed_member (tree_of query.now)) }
@@ -65,7 +65,7 @@ fn push_member(out: &mut String, query: &Query) -> Result<(), AllocError>
     }
 }
 
-// Units in parentheses.
+// Appends units in parentheses.
 #[cycle(push)]
 fn push_closed_and(out: &mut String, units: &[Query]) -> Result<(), AllocError>
     ensures { OnOk result (string_bytes out.new ≡ string_bytes out.old ++ 40 ∷ (printed_and (queries_of (map tree_of units.now)) ++ 41 ∷ [])) }
@@ -75,7 +75,7 @@ fn push_closed_and(out: &mut String, units: &[Query]) -> Result<(), AllocError>
     out.push(')')
 }
 
-// Members in parentheses.
+// Appends members in parentheses.
 #[cycle(push)]
 fn push_closed_or(out: &mut String, members: &[Query]) -> Result<(), AllocError>
     ensures { OnOk result (string_bytes out.new ≡ string_bytes out.old ++ 40 ∷ (printed_or (queries_of (map tree_of members.now)) ++ 41 ∷ [])) }
@@ -167,7 +167,7 @@ fn push_op(out: &mut String, op: Op) -> Result<(), AllocError>
     }
 }
 
-// A wildcard between each two pieces.
+// Appends the parts, with a wildcard between each two.
 fn push_pieces(out: &mut String, pieces: &[Text]) -> Result<(), AllocError>
     ensures { OnOk result (string_bytes out.new ≡ string_bytes out.old ++ printed_pieces pieces.now) }
 {
@@ -200,7 +200,7 @@ fn push_piece(out: &mut String, piece: &str) -> Result<(), AllocError>
     Ok(())
 }
 
-// A character of a piece, with what follows it there.
+// Appends a character of a part. `rest` is what follows it in the part.
 fn push_char(out: &mut String, c: char, rest: &str) -> Result<(), AllocError>
     ensures { OnOk result (string_bytes out.new ≡ string_bytes out.old ++ printed_char c rest.now) }
 {
@@ -211,7 +211,7 @@ fn push_char(out: &mut String, c: char, rest: &str) -> Result<(), AllocError>
     out.push(c)
 }
 
-// Whether a character of a piece needs a backslash. One that is a backslash does where it would escape what
+// Returns whether a character of a part needs a backslash. A backslash does if it would otherwise escape what
 // follows.
 fn is_escaped(c: char, rest: &str) -> bool
     ensures { result ≡ is_escaped c rest.now }

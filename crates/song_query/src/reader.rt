@@ -1,4 +1,4 @@
-//! The reading of a query's text, character by character.
+//! Parses a query's text, character by character.
 
 ghost use Rattle.std.specs.Prelude.{◌≡◌, ◌≤◌, ◌<◌, [], ◌∷◌, ◌++◌, Some, OnOk, IfOk, string_bytes};
 ghost use Rattle.item_model.specs.Proper.{is_name_byte};
@@ -99,7 +99,7 @@ impl Reader {
         self.follow(c)
     }
 
-    // An opening parenthesis.
+    // Opens a parenthesis.
     fn open(&mut self) -> Result<(), Refusal>
         ensures { Stepped (Some (here due empty_level (self.old.level ∷ self.old.outer))) (state_of self.new) result }
     {
@@ -112,7 +112,7 @@ impl Reader {
         Ok(())
     }
 
-    // A comma or a closing parenthesis behind a unit.
+    // Reads a comma or a closing parenthesis after a unit.
     fn follow(&mut self, c: char) -> Result<(), Refusal>
         ensures { Stepped (follow self.old.level self.old.outer c) (state_of self.new) result }
     {
@@ -127,7 +127,7 @@ impl Reader {
         Err(Refusal::Byte)
     }
 
-    // A closing parenthesis.
+    // Closes a parenthesis.
     fn shut(&mut self) -> Result<(), Refusal>
         ensures { Stepped (shut self.old.level self.old.outer) (state_of self.new) result }
     {
@@ -167,7 +167,7 @@ impl Reader {
         self.operate(c)
     }
 
-    // The first mark of the operator, which is the only one where it is a colon.
+    // Reads the first character of the operator. A colon is the whole operator.
     fn operate(&mut self, c: char) -> Result<(), Refusal>
         ensures { Stepped (operate (string_bytes self.old.partial.name) self.old.level self.old.outer c) (state_of self.new) result }
     {
@@ -181,7 +181,7 @@ impl Reader {
         Ok(())
     }
 
-    // A colon is due.
+    // Expects a colon next.
     fn begin_op(&mut self, op: Op)
         ensures { state_of self.new ≡ here (begun (string_bytes self.old.partial.name) op) self.old.level self.old.outer }
     {
@@ -200,7 +200,7 @@ impl Reader {
         Ok(())
     }
 
-    // The value of the condition is due.
+    // Expects the value of the condition next.
     fn begin_value(&mut self, op: Op)
         ensures { state_of self.new ≡ here (valued (string_bytes self.old.partial.name) op [] []) self.old.level self.old.outer }
     {
@@ -254,7 +254,7 @@ impl Reader {
         Ok(())
     }
 
-    // A character beyond ASCII stands in values alone.
+    // A character above ASCII is only allowed in values.
     fn take_wide(&mut self, c: char) -> Result<(), Refusal>
         requires { 128 ≤ c }
         ensures { Taken (state_of self.old) c (state_of self.new) result }
@@ -274,7 +274,7 @@ impl Reader {
         }
     }
 
-    /// Whether a query may end here.
+    /// Returns whether a query may end here.
     pub fn is_end(&self) -> bool
         ensures { result ≡ is_end (state_of self.now) }
     {
@@ -284,7 +284,7 @@ impl Reader {
         }
     }
 
-    /// The query of what was read.
+    /// Returns the query of the characters that were read.
     pub fn into_query(self) -> Result<Query, AllocError>
         ensures { IfOk result (λ q. tree_of q ≡ level_query self.level) }
     {
@@ -304,7 +304,7 @@ fn is_mark(c: char) -> bool
     c == '\'' || (c == '\\' || c == '*')
 }
 
-// A letter, a digit, a point, a low line or a hyphen.
+// A letter, a digit, a dot, an underscore or a hyphen.
 fn is_of_name(c: char) -> bool
     ensures { result ≡ is_name_byte c }
 {

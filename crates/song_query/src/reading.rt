@@ -1,4 +1,4 @@
-//! Texts read as queries.
+//! Parses texts as queries.
 
 ghost use Rattle.std.specs.Prelude.{◌≡◌, ◌≤◌, true, IfOk, length};
 ghost use Rattle.item_model.specs.Proper.{is_proper};
@@ -12,8 +12,8 @@ use crate::parts::{Reader, Refusal};
 use item_model::{Query, QueryError, QueryWhy};
 use std::alloc::Global;
 
-/// The query that a text reads as. A refusal tells its cause and, in bytes from 0, its place. No call goes
-/// deeper for an open parenthesis.
+/// Returns the query that a text reads as. An error has its cause and its offset in bytes. An open parenthesis
+/// does not deepen the recursion.
 pub fn read(alloc: Global, text: &str) -> Result<Query, QueryError>
     ensures answer { Answers text.now result }
     ensures complete { IsComplete text.now result }
@@ -25,7 +25,7 @@ pub fn read(alloc: Global, text: &str) -> Result<Query, QueryError>
     read_short(alloc, text)
 }
 
-// A text that is not too long.
+// Parses a text that is not too long.
 fn read_short(alloc: Global, text: &str) -> Result<Query, QueryError>
     requires { length text.now ≤ query_bytes }
     ensures { Answers text.now result }
@@ -48,7 +48,7 @@ fn read_short(alloc: Global, text: &str) -> Result<Query, QueryError>
     Ok(reader.into_query()?)
 }
 
-// A character that is not taken, with its place.
+// Returns the error for a character that is refused at offset `place`.
 fn refused(refusal: Refusal, place: u64) -> QueryError
     ensures { result ≡ refused_at place refusal }
 {

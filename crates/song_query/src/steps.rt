@@ -1,11 +1,11 @@
-//! Counting of steps.
+//! Counts evaluations of queries.
 
 ghost use Rattle.std.specs.Prelude.{◌≡◌, ◌<◌, ◌+◌};
 
 use std::marker::Model;
 use std::sync::ledger::{Blank, Book, Ledger, Share};
 
-/// How many rows were looked at. It takes no bytes, and only `tick` changes it.
+/// The number of rows that were evaluated. It is ghost, has no bytes, and only `tick` changes it.
 #[derive(Drop)]
 pub struct Steps<L: Ledger> {
     book: Book<L>,
@@ -23,7 +23,7 @@ impl<L: Ledger> Model for Steps<L> {
 }
 
 impl<L: Ledger> Steps<L> {
-    /// No steps yet. A caller that counts nothing hands in `Blank::new(1)`.
+    /// Returns a count of 0. A caller that counts nothing passes `Blank::new(1)`.
     pub fn open(blank: Blank) -> Steps<L>
         requires name { blank.name ≡ L.name }
         requires parts { blank.parts ≡ L.parts }
@@ -34,7 +34,7 @@ impl<L: Ledger> Steps<L> {
         Steps { book, share }
     }
 
-    /// One step more, which takes no time and no memory.
+    /// Adds 1. This takes no time and does not allocate.
     pub fn tick(&mut self)
         ensures { self.new ≡ self.old + 1 }
     {

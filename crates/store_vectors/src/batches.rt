@@ -1,4 +1,4 @@
-//! Batches of edits, from records.
+//! Batches of edits, read from records.
 
 ghost use Rattle.std.specs.Prelude.{IfOk};
 ghost use Rattle.item_model.specs.Valid.{AreValid};

@@ -1,4 +1,4 @@
-//! `prop_index`: six items and what they are found by, and changes that are taken in all or not at all.
+//! `prop_index`: six or seven items with the queries that find them, and changes in order.
 
 use dmap_tags::Text;
 use item_model::{Browse, Item, ItemError, PropValue, Property, Row, SharedRow, Texts};
@@ -40,7 +40,7 @@ fn indexed(alloc: Global, songs: &[Song]) -> Result<PropIndex, Fail> {
     Ok(index)
 }
 
-/// The items that may meet the query of a text.
+/// Returns the items that may match the query in a text.
 fn candidates(alloc: Global, index: &PropIndex, text: &str) -> Result<String, Fail> {
     let query = read(alloc, text)?;
     let found = index.candidates(&query)?;
@@ -63,7 +63,7 @@ fn finds(
     Ok(())
 }
 
-/// The values of a property by which a library is browsed, each before a semicolon.
+/// Returns the values of a property by which a library is browsed, each followed by a semicolon.
 fn values(alloc: Global, index: &PropIndex, browse: Browse) -> Result<String, AllocError> {
     let values: Texts = index.values(browse)?;
     let mut text = String::new(alloc);
@@ -74,7 +74,7 @@ fn values(alloc: Global, index: &PropIndex, browse: Browse) -> Result<String, Al
     Ok(text)
 }
 
-/// The items with one of two texts.
+/// Returns the items with each of two texts.
 fn ids(
     alloc: Global,
     index: &PropIndex,
@@ -132,7 +132,7 @@ fn queries_that_need_a_text_have_candidates(rt: HostRuntime) -> Result<(), Fail>
     finds(&rt, rt.alloc(), &index, &FOUND)
 }
 
-/// The artists, the albums and the genres.
+/// Returns the artists, the albums and the genres.
 fn all_values(alloc: Global, index: &PropIndex) -> Result<String, AllocError> {
     let artists = values(alloc, index, Browse::Artists)?;
     let albums = values(alloc, index, Browse::Albums)?;
@@ -162,7 +162,7 @@ fn values_are_spelled_as_they_are(rt: HostRuntime) -> Result<(), Fail> {
     six_are_spelled(&rt, rt.alloc(), &index)
 }
 
-/// A change of the item of an id: its artist and album before and after, empty if it is not there.
+/// A change of an item: its id, its artist and album before and after; empty if it does not exist.
 type Turn = (
     u32,
     (&'static str, &'static str),

@@ -9,7 +9,7 @@ use std::alloc::{AllocError, Global};
 use std::process::Abort;
 use std::test::Fail;
 
-/// Takes in records as the next revision.
+/// Applies records as the next revision.
 fn next(alloc: Global, store: &mut ItemStore, records: &str) -> Result<(), AllocError>
     ensures { OnOk result (store.new.can_undo ≡ true) }
 {
@@ -20,7 +20,7 @@ fn next(alloc: Global, store: &mut ItemStore, records: &str) -> Result<(), Alloc
     store.apply(batch.edits.as_slice(), revision)
 }
 
-/// The ids that changed since a base, from which changes are known.
+/// Returns the ids that changed since `base`, a revision in the window.
 fn changed(alloc: Global, store: &ItemStore, base: u32) -> Result<String, AllocError> {
     if base < store.floor() || store.revision() < base {
         return Err(AllocError);
@@ -29,7 +29,7 @@ fn changed(alloc: Global, store: &ItemStore, base: u32) -> Result<String, AllocE
     format!(in alloc; "{:?}", ids.as_slice())
 }
 
-/// An item's id and name, and a dash if there is none.
+/// Returns an item's id and name, or a dash if it does not exist.
 fn named(alloc: Global, row: Option<&Row>) -> Result<String, AllocError> {
     let Some(row) = row else {
         return String::from_str(alloc, "-");
@@ -40,7 +40,7 @@ fn named(alloc: Global, row: Option<&Row>) -> Result<String, AllocError> {
     }
 }
 
-/// All items in ascending order, and how many there are.
+/// Returns all items in ascending order, and their number.
 fn shown(alloc: Global, store: &ItemStore) -> Result<String, AllocError> {
     let mut text = String::new(alloc);
     let ids = store.ids()?;
@@ -51,7 +51,7 @@ fn shown(alloc: Global, store: &ItemStore) -> Result<String, AllocError> {
     Ok(text)
 }
 
-/// The items, and the revision and the least base.
+/// Returns the items, the least base and the revision.
 fn stands(alloc: Global, store: &ItemStore) -> Result<String, AllocError> {
     let shown = shown(alloc, store)?;
     format!(in alloc; "{shown} at {}-{}", store.floor(), store.revision())
@@ -62,7 +62,7 @@ const TWO: &str = "op,kind,id,dmap.itemname\nput,item,7,b\nput,item,2,a\n";
 const FIVE: &str =
     "op,kind,id,dmap.itemname\ndrop,item,9,\ndrop,item,2,\nput,item,7,c\nput,item,4,d\nput,item,7,e\n";
 
-/// What a store that keeps 16 revisions shows after each step.
+/// Checks a store with a window of 16 after each step.
 fn two_batches(rt: &impl Abort, alloc: Global, store: &mut ItemStore) -> Result<(), Fail> {
     assert_eq!(rt; stands(alloc, store)?.as_str(), "0 at 2-2");
     next(alloc, store, TWO)?;
@@ -79,7 +79,7 @@ fn two_batches(rt: &impl Abort, alloc: Global, store: &mut ItemStore) -> Result<
     Ok(())
 }
 
-/// What it shows after both batches.
+/// Checks it after both batches.
 fn both_changed(rt: &impl Abort, alloc: Global, store: &ItemStore) -> Result<(), Fail> {
     assert_eq!(rt; stands(alloc, store)?.as_str(), "4 d;7 e;2 at 2-4");
     assert_eq!(rt; changed(alloc, store, 2)?.as_str(), "[2, 4, 7, 9]");
@@ -100,7 +100,7 @@ const NO_ONE: &str = "op,kind,id,dmap.itemname\ndrop,item,1,\nput,item,2,c\n";
 
 const TWO_AND_THREE: &str = "op,kind,id,dmap.itemname\nput,item,2,d\nput,item,3,e\n";
 
-/// The items 2 and 3 as they were at a base.
+/// Returns the items 2 and 3 as they were at `base`.
 fn versions(alloc: Global, store: &ItemStore, base: u32) -> Result<String, AllocError> {
     if base < store.floor() || store.revision() < base {
         return Err(AllocError);
@@ -110,7 +110,7 @@ fn versions(alloc: Global, store: &ItemStore, base: u32) -> Result<String, Alloc
     format!(in alloc; "{two}{three}")
 }
 
-/// What a store that keeps one revision shows after three batches, and after the last was undone.
+/// Checks a store with a window of 1 after three batches, and after the last was undone.
 fn three_batches(rt: &impl Abort, alloc: Global, store: &mut ItemStore) -> Result<(), Fail> {
     next(alloc, store, ONE_AND_TWO)?;
     next(alloc, store, NO_ONE)?;

@@ -1,4 +1,4 @@
-//! Tests of the stores of a share. Nothing here is for other crates.
+//! Tests of the stores of a share. No crate uses this one.
 #![tactic(auto)]
 
 #[cfg(test)]

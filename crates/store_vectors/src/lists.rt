@@ -9,7 +9,7 @@ use playlist_store::{ListHead, PlaylistStore};
 use std::alloc::{AllocError, Global};
 use std::test::Fail;
 
-/// The members of a list that is there.
+/// Returns the members of an existing list.
 fn members(alloc: Global, stores: &Stores, list: u32) -> Result<String, AllocError>
     requires { (list == base_list) ≡ false }
 {
@@ -23,7 +23,7 @@ fn members(alloc: Global, stores: &Stores, list: u32) -> Result<String, AllocErr
     Ok(text)
 }
 
-/// The keys of a list that were touched after a base, from which changes are known.
+/// Returns the keys of a list touched after `base`, a revision in the window.
 fn changed(alloc: Global, stores: &Stores, list: u32, base: u32) -> Result<String, AllocError>
     requires other { (list == base_list) ≡ false }
     requires keep { stores.now.items.keep ≡ stores.now.lists.keep }
@@ -36,7 +36,7 @@ fn changed(alloc: Global, stores: &Stores, list: u32, base: u32) -> Result<Strin
     format!(in alloc; "{:?}", keys.as_slice())
 }
 
-/// A member's item at two bases.
+/// Returns a member's item at two bases.
 fn at(
     alloc: Global,
     stores: &Stores,
@@ -51,7 +51,7 @@ fn at(
     format!(in alloc; "{old:?} {new:?}")
 }
 
-/// Whether bases of a list are kept.
+/// Returns whether each of two bases is in the delta window of a list.
 fn kept(lists: &PlaylistStore, list: u32, first: u32, second: u32) -> (bool, bool) {
     (lists.kept(list, first), lists.kept(list, second))
 }
@@ -63,15 +63,15 @@ fn head(alloc: Global, head: Option<&ListHead>) -> Result<String, AllocError> {
     format!(in alloc; "{} {}", head.name.as_str(), head.rule.is_some())
 }
 
-/// Songs of the kind 1 but the third, of the kind 4.
+/// Songs of kind 1, except the third, of kind 4.
 const SONGS: &str =
     "op,kind,id,com.apple.itunes.mediakind\nput,item,1,1\nput,item,2,1\nput,item,3,4\nput,item,6,1\n";
 
-/// A plain list of four members, of which one has no item.
+/// A playlist of four members, one of an item that does not exist.
 const MIX: &str =
     "op,kind,id,dmap.itemname,list,item\nput,list,2,Mix,,\nput,member,12,,2,1\nput,member,10,,2,1\nput,member,11,,2,6\nput,member,13,,2,99\n";
 
-/// One member is out of the list, and one has another item; list 4 is not there.
+/// One member is dropped, and one gets another item; list 4 does not exist.
 const REMIX: &str =
     "op,kind,id,list,item\ndrop,member,11,2,\nput,member,10,2,3\nput,member,7,4,3\n";
 
@@ -83,7 +83,7 @@ const KIND_1: &str =
 const KIND_4: &str =
     "op,kind,id,dmap.itemname,query\nput,rule,3,Rule,'com.apple.itunes.mediakind:4'\n";
 
-/// The third song comes to be of the kind 1, and the second of the kind 4.
+/// The third song gets kind 1, and the second kind 4.
 const TURNED: &str = "op,kind,id,com.apple.itunes.mediakind\nput,item,3,1\nput,item,2,4\n";
 
 const FIVE_AND_TWO: &str =
@@ -92,7 +92,7 @@ const FIVE_AND_TWO: &str =
 const TWO_SEVEN_AND_EIGHT: &str =
     "op,kind,id,dmap.itemname\ndrop,list,5,\nput,list,2,Two\nput,list,7,\nput,list,8,\n";
 
-/// The members of a list and what changed in it since two bases.
+/// Returns the members of a list and the keys that changed in it since each of two bases.
 fn since(alloc: Global, stores: &Stores, list: u32, bases: (u32, u32)) -> Result<String, AllocError>
     requires other { (list == base_list) ≡ false }
     requires keep { stores.now.items.keep ≡ stores.now.lists.keep }
@@ -182,7 +182,7 @@ fn a_rule_list_shows_what_the_rule_holds_of(rt: HostRuntime) -> Result<(), Fail>
     Ok(())
 }
 
-/// The members of the list 3, and which of two bases are kept.
+/// Returns the members of list 3, and which of two bases are in its window.
 fn ruled(alloc: Global, stores: &Stores, bases: (u32, u32)) -> Result<String, AllocError> {
     let members = members(alloc, stores, 3)?;
     let kept = kept(&stores.lists, 3, bases.0, bases.1);
@@ -215,7 +215,7 @@ fn a_rule_that_is_put_again_is_taken_back(rt: HostRuntime) -> Result<(), Fail> {
     Ok(())
 }
 
-/// The lists, how many there are, and their number after a batch more.
+/// Returns the lists, their number, and their number after a further batch.
 fn counted(alloc: Global, lists: &PlaylistStore, records: &str) -> Result<String, AllocError> {
     let ids = lists.lists()?;
     let more = batch_of(alloc, records)?;
@@ -223,7 +223,7 @@ fn counted(alloc: Global, lists: &PlaylistStore, records: &str) -> Result<String
     format!(in alloc; "{:?} {} {after}", ids.as_slice(), lists.count())
 }
 
-/// The same, and the heads of the lists 5 and 2.
+/// Returns the same, and the heads of the lists 5 and 2.
 fn shown(alloc: Global, lists: &PlaylistStore) -> Result<String, AllocError> {
     let counted = counted(alloc, lists, FIVE_AND_TWO)?;
     let five = head(alloc, lists.head(5))?;

@@ -11,7 +11,7 @@ fn drops_item(alloc: Global, id: u32) -> Result<Batch, AllocError> {
     Ok(Batch { edits })
 }
 
-// Without clauses, so that a test's proof looks into none of its calls.
+// Without clauses, so that a test's proof does not unfold its calls.
 fn grown(alloc: Global) -> Result<EditLog, AllocError> {
     let mut log = EditLog::new(alloc);
     log.reserve(3)?;
@@ -25,7 +25,7 @@ fn grown(alloc: Global) -> Result<EditLog, AllocError> {
     Ok(log)
 }
 
-/// The length, the revision and whether there is room, and the first entries.
+/// Returns the length, the revision, whether there is spare capacity, and the first entries.
 fn shown(alloc: Global, log: &EditLog) -> Result<String, AllocError> {
     let counts = (log.len(), log.revision(), log.spare() >= 1);
     format!(in alloc;

@@ -1,4 +1,4 @@
-//! `share_register`: sessions, their marks, and the limits.
+//! `share_register`: sessions, their last-answered lengths, and the limits.
 
 use item_model::{Batch, Edit, Edits};
 use share_history::{MAX_EDITS, MAX_ENTRIES};
@@ -14,7 +14,7 @@ fn drops(alloc: Global, count: usize) -> Result<Batch, AllocError> {
     Ok(Batch { edits })
 }
 
-/// A register that begins with `edits` edits.
+/// Returns a register whose history begins with `edits` edits.
 fn opened(alloc: Global, edits: usize) -> Result<Register, AllocError> {
     let batch = drops(alloc, edits)?;
     if batch.edits.as_slice().len() > MAX_EDITS {
@@ -23,7 +23,7 @@ fn opened(alloc: Global, edits: usize) -> Result<Register, AllocError> {
     Register::open(alloc, batch)
 }
 
-/// Logs in `count` times, as far as there is a place.
+/// Logs in `count` times, up to the limit on entries.
 fn log_in(register: &mut Register, count: usize) -> Result<(), AllocError> {
     for _ in 0..count {
         if register.stopped() || !register.has_place() {
@@ -40,7 +40,7 @@ fn with_logins(alloc: Global, count: usize) -> Result<Register, AllocError> {
     Ok(register)
 }
 
-/// The length and the marks of the sessions 1, 2, 64 and 65.
+/// Returns the history's length and the last-answered lengths of the sessions 1, 2, 64 and 65.
 fn shown_marks(alloc: Global, register: &Register) -> Result<String, AllocError> {
     let (first, second) = (register.seen(1), register.seen(2));
     let (third, fourth) = (register.seen(64), register.seen(65));
@@ -50,7 +50,7 @@ fn shown_marks(alloc: Global, register: &Register) -> Result<String, AllocError>
     )
 }
 
-/// The same after so many logins.
+/// Returns the same after `count` logins.
 fn marks(alloc: Global, count: usize) -> Result<String, AllocError> {
     let register = with_logins(alloc, count)?;
     shown_marks(alloc, &register)
@@ -69,7 +69,7 @@ fn the_65th_login_ends_the_first_session(rt: HostRuntime) -> Result<(), Fail> {
     Ok(())
 }
 
-/// A logout of the first of two sessions, an answer to both, and the stop.
+/// Logs out the first of two sessions, answers both, and stops.
 fn end(register: &mut Register) {
     if register.seen(1).is_some() && !register.stopped() {
         register.logout(3, 1);
@@ -87,7 +87,8 @@ fn ended(alloc: Global) -> Result<Register, AllocError> {
     Ok(register)
 }
 
-/// The marks of the first two sessions, whether there was a stop, the places that are taken, and entries.
+/// Returns the last-answered lengths of the first two sessions, whether there was a stop, the entries that count for
+/// the limit, and entries.
 fn shown_end(alloc: Global, register: &Register) -> Result<String, AllocError> {
     let marks = (register.seen(1), register.seen(2));
     let counts = (register.stopped(), register.places());
@@ -115,7 +116,7 @@ fn a_logout_takes_a_mark_and_an_answer_moves_one(rt: HostRuntime) -> Result<(), 
     Ok(())
 }
 
-/// Adds a batch of two edits, if there is room.
+/// Adds a batch of two edits, within the limits.
 fn edit(alloc: Global, register: &mut Register) -> Result<(), AllocError> {
     let batch = drops(alloc, 2)?;
     let count = batch.edits.as_slice().len();
@@ -127,7 +128,7 @@ fn edit(alloc: Global, register: &mut Register) -> Result<(), AllocError> {
     Ok(())
 }
 
-/// The revision, the numbers of edits and of places, and the second entry.
+/// Returns the revision, the numbers of edits and of entries that count for the limit, and the second entry.
 fn shown_edits(alloc: Global, register: &Register) -> Result<String, AllocError> {
     let counts = (register.revision(), register.edits(), register.places());
     format!(in alloc; "{counts:?} {:?}", register.entry(1))
@@ -152,7 +153,7 @@ fn edits_make_revisions_and_are_counted(rt: HostRuntime) -> Result<(), Fail> {
     Ok(())
 }
 
-/// Whether there is room for one edit more, and for two, after so many.
+/// Returns whether one edit more is within the limit after `edits` edits, and whether two are.
 fn room_after(alloc: Global, edits: usize) -> Result<(bool, bool), AllocError> {
     let register = opened(alloc, edits)?;
     Ok((register.has_room_for(1), register.has_room_for(2)))
@@ -164,7 +165,7 @@ fn the_limit_of_edits_is_the_number(rt: HostRuntime) -> Result<(), Fail> {
     Ok(())
 }
 
-/// Whether there is a place, and whether there is one after two more logins, and the length then.
+/// Returns whether an entry is within the limit, the same after two more logins, and the length then.
 fn fill(register: &mut Register) -> Result<(bool, bool, u64), AllocError> {
     let had_place = register.has_place();
     log_in(register, 2)?;

@@ -12,14 +12,14 @@ use std::alloc::{AllocError, Global};
 use std::marker::Brand;
 use std::sync::ledger::{Blank, Ledger};
 
-/// They keep as many revisions.
+/// Both have the same delta window.
 #[derive(Drop)]
 pub(crate) struct Stores {
     pub(crate) items: ItemStore,
     pub(crate) lists: PlaylistStore,
 }
 
-/// Both take in edits as the next revision.
+/// Applies edits to both as the next revision.
 fn take_in_by<L: Ledger>(
     blank: Blank,
     stores: &mut Stores,
@@ -69,7 +69,8 @@ fn take_in_all(
     Ok(())
 }
 
-/// The stores after records, a batch each, and a last batch, which can be taken back. They keep 16 revisions.
+/// Returns the stores after `first`, a batch from each text of records, and then `last`, which can be undone. Their
+/// window is 16.
 pub(crate) fn after(alloc: Global, first: &[&'static str], last: &str) -> Result<Stores, AllocError>
     ensures keep { IfOk result (λ stores. stores.items.keep ≡ stores.lists.keep) }
     ensures undo_items { IfOk result (λ stores. stores.items.can_undo ≡ true) }

@@ -6,7 +6,7 @@ use std::collections::BTreeMap;
 use std::process::Abort;
 use std::test::Fail;
 
-/// A key, a revision and a value, none if it is empty, and whether the key had a value before.
+/// A key, a revision, a value, which is `None` if empty, and whether the key had a value before.
 type PutRow = (u32, u32, &'static str, bool);
 
 fn text(alloc: Global, word: &str) -> Result<Option<String>, AllocError> {
@@ -29,7 +29,7 @@ fn put(
     Ok(())
 }
 
-/// The values of a key at `count` revisions from the first on, with a dash if there is none.
+/// Returns the values of a key at `count` revisions from the first on, a dash for `None`.
 fn values(
     alloc: Global,
     held: &Versions<String>,
@@ -47,7 +47,7 @@ fn values(
     Ok(values)
 }
 
-/// The values of the key 7 from the revision 2 on and of the key 2 from 3 on, and the keys.
+/// Returns the values of key 7 from revision 2 on and of key 2 from 3 on, and the keys.
 fn shown(alloc: Global, held: &Versions<String>) -> Result<String, AllocError> {
     let seven = values(alloc, held, 7, 2, 5)?;
     let two = values(alloc, held, 2, 3, 3)?;
@@ -64,7 +64,7 @@ const PUTS: [PutRow; 6] = [
     (2, 4, "d", false),
 ];
 
-/// What is held after puts, and after each of two takings back.
+/// Checks the values after puts, and after versions are taken back twice.
 fn look_up(rt: &impl Abort, alloc: Global, held: &mut Versions<String>) -> Result<(), Fail> {
     put(rt, alloc, held, &PUTS)?;
     assert!(rt; held.newest(7).is_none());

@@ -10,7 +10,7 @@ ghost use Rattle.tag_commands.specs.Counting.{IsCounted};
 
 use crate::counting::{Counter, PIECE};
 use crate::tags_fault::{TagsFault, tags_fault};
-use command_core::{Fault, Outcome, written};
+use command_core::{Fault, Outcome, write_result};
 use daap_outside::{Sink, Source};
 use fault_lines::push_number;
 use std::alloc::{AllocError, Global};
@@ -26,7 +26,7 @@ pub fn check_tags<I: Source, W: Sink>(alloc: Global, input: &mut I, output: &mut
         result }
 {
     let answer = checked(alloc, input);
-    written(alloc, output, answer)
+    write_result(alloc, output, answer)
 }
 
 /// Reads the input to its end, within its limit, and counts its tags.

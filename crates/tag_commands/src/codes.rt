@@ -7,7 +7,7 @@ ghost use Rattle.command_core.specs.Endings.{IsAnswered};
 ghost use Rattle.tag_commands.specs.Codes.{code_line, code_lines, codes_meaning};
 
 use code_table::{CodeRow, CodeTable};
-use command_core::{Outcome, done, out_of_memory};
+use command_core::{Outcome, out_of_memory, write_output};
 use daap_outside::Sink;
 use dmap_show::show_code;
 use fault_lines::push_number;
@@ -22,7 +22,7 @@ pub fn list_codes<W: Sink>(alloc: Global, output: &mut W) -> Outcome
         result }
 {
     match standard_lines(alloc) {
-        Ok(lines) => done(output, lines.as_slice(), None),
+        Ok(lines) => write_output(output, lines.as_slice(), None),
         Err(AllocError) => out_of_memory(output, None),
     }
 }

@@ -11,7 +11,7 @@ use crate::codes::lines_of;
 use crate::counting::{Counter, PIECE, TAG_LIMIT};
 use crate::tags_fault::broken_line;
 use code_table::{CodeError, CodeTable};
-use command_core::{Fault, Outcome, Refusal, written};
+use command_core::{Fault, Outcome, Refusal, write_result};
 use daap_outside::{Failed, Sink, Source};
 use dmap_stream::{Limits, StreamError, read_tag};
 use fault_lines::push_number;
@@ -94,7 +94,7 @@ pub fn learn_codes<I: Source, W: Sink>(alloc: Global, input: &mut I, output: &mu
         result }
 {
     let answer = learned(alloc, input);
-    written(alloc, output, answer)
+    write_result(alloc, output, answer)
 }
 
 /// The beginning of a reply: its bytes, and a reader that was fed them and reports a malformed tag as soon as it comes.

@@ -10,7 +10,7 @@ ghost use Rattle.tag_commands.specs.Showing.{HasShown, IsShowing, ShowsSome, IsL
 
 use crate::counting::{Counter, PIECE};
 use crate::tags_fault::{TagsFault, tags_fault};
-use command_core::{Fault, Outcome, refused};
+use command_core::{Fault, Outcome, write_error};
 use daap_outside::{Failed, Sink, Source, put_all};
 use dmap_show::show_event;
 use dmap_stream::StreamError;
@@ -36,7 +36,7 @@ pub fn show_tags<I: Source, W: Sink>(alloc: Global, input: &mut I, output: &mut 
             status: 0,
             history: None,
         },
-        Err(Stop::Input(fault)) => refused(alloc, output, &fault),
+        Err(Stop::Input(fault)) => write_error(alloc, output, &fault),
         Err(Stop::Output) => Outcome {
             status: 5,
             history: None,

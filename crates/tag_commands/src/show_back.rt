@@ -11,7 +11,7 @@ ghost use Rattle.command_core.specs.Endings.{IsAnswered};
 ghost use Rattle.tag_commands.specs.ShowBack.{text_limit, text_line, text_status, line_at, IsShownBack, IsTextFault, StopsReading, show_fault, show_back_meaning};
 
 use code_table::CodeTable;
-use command_core::{Fault, Outcome, Refusal, read_fault, written};
+use command_core::{Fault, Outcome, Refusal, read_fault, write_result};
 use daap_outside::{Sink, Source, read_within};
 use dmap_show::{ShowError, read_show};
 use dmap_tags::{Tag, TagError, Tags, encode_into};
@@ -81,7 +81,7 @@ pub fn read_shown<I: Source, W: Sink>(alloc: Global, input: &mut I, output: &mut
         result }
 {
     let answer = unshown(alloc, input);
-    written(alloc, output, answer)
+    write_result(alloc, output, answer)
 }
 
 /// Reads the input to its end, and returns the bytes of the tags that it shows.

@@ -67,7 +67,7 @@ fn response(alloc: Global, codes: &[[u8; 4]]) -> Result<Tag, AllocError> {
     Ok(tag(Code(*b"mccr"), Value::List(members)))
 }
 
-/// The table that a response states, or why it states none.
+/// Returns the table that a response states, or the error if it states none.
 fn table_of(alloc: Global, response: &Tag) -> Result<CodeTable, CodeError> {
     CodeTable::from_reply(alloc, response)
 }
@@ -76,13 +76,13 @@ const ASDM_IS_DATE: [KindOf; 1] = [(None, b"asdm", Kind::Date)];
 
 const ZZZZ_IS_U16: [KindOf; 1] = [(None, b"zzzz", Kind::U16)];
 
-/// The table that the response of the standard table states.
+/// Returns the table of the response for the standard table.
 fn standard_again(alloc: Global) -> Result<CodeTable, CodeError> {
     let response = standard(alloc)?.reply()?;
     table_of(alloc, &response)
 }
 
-/// The table of a response with these entries.
+/// Returns the table of a response with these entries.
 fn stated(alloc: Global, codes: &[[u8; 4]]) -> Result<CodeTable, CodeError> {
     let response = response(alloc, codes)?;
     table_of(alloc, &response)
@@ -105,7 +105,7 @@ fn a_response_is_read_as_the_table_that_it_states(rt: HostRuntime) -> Result<(),
     Ok(())
 }
 
-/// A response with `count` entries, whose codes are the numbers from 0.
+/// Returns a response with `count` entries, whose codes are the numbers from 0.
 fn numbered_response(alloc: Global, count: u32) -> Result<Tag, AllocError> {
     let mut members = Tags::new(alloc);
     for number in 0..count {
@@ -147,7 +147,7 @@ enum Member {
     NoEntry,
 }
 
-/// The parts of a list by number.
+/// Returns a part of an entry, by its number.
 fn part(alloc: Global, number: usize) -> Result<Tag, AllocError> {
     Ok(match number {
         0 => tag(Code(*b"mcnm"), Value::U32(0x7a7a_7a7a)),
@@ -180,7 +180,7 @@ fn tag_of(alloc: Global, member: Member) -> Result<Tag, AllocError> {
     }
 }
 
-/// A list of members under a code.
+/// Returns a list of members under a code.
 fn response_of(alloc: Global, code: Code, members: &[Member]) -> Result<Tag, AllocError> {
     let mut tags = Tags::new(alloc);
     for member in members {
@@ -205,7 +205,7 @@ const ONE_ROW: [(&[Member], Kind); 9] = [
     (&[Member::Typed(65_535)], Kind::Opaque),
 ];
 
-/// The kind of a table's only row.
+/// Returns the kind in a table with one row.
 fn only_kind(table: &CodeTable) -> Option<Kind> {
     match table.rows() {
         [row] => Some(row.kind),

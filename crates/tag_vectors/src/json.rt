@@ -1,4 +1,4 @@
-//! `dmap_json`: tags, by the lines that show them, with their JSON texts, and texts with the reason why they are refused.
+//! `dmap_json`: tags, by the lines that show them, with their JSON texts, and texts with the errors that they get.
 
 use crate::tables::{learned, standard, tag};
 use code_table::CodeTable;
@@ -133,13 +133,13 @@ const NO_TAG: [&str; 18] = [
     "{\"code\":\"mlcl\",\"kind\":\"list\",\"value\":\"\"}",
 ];
 
-/// The lines of the tag that a text is read as.
+/// Returns the lines of the tag that a text reads as.
 fn lines_of(alloc: Global, table: &CodeTable, json: &str) -> Result<Text, Fail> {
     let tag = from_json(alloc, json, table)?;
     Ok(show(alloc, &[tag])?)
 }
 
-/// Each text is read as the tag of its lines.
+/// Checks that each text reads as the tag of its lines.
 fn all_are_read(
     rt: &impl Abort,
     alloc: Global,
@@ -153,7 +153,7 @@ fn all_are_read(
     Ok(())
 }
 
-/// Each tag of these lines is written as its text.
+/// Checks that each tag of these lines is written as its text.
 fn all_are_written(
     rt: &impl Abort,
     alloc: Global,
@@ -170,7 +170,7 @@ fn all_are_written(
     Ok(())
 }
 
-/// Each text is refused so.
+/// Checks that each text is refused with this error.
 fn all_are_refused(
     rt: &impl Abort,
     alloc: Global,
@@ -187,7 +187,7 @@ fn all_are_refused(
     Ok(())
 }
 
-/// Lists in one another.
+/// Returns the text of `levels` lists, each in the one before.
 fn nested(alloc: Global, levels: u32) -> Result<String, AllocError> {
     let mut text = String::new(alloc);
     for _ in 0..levels {
@@ -199,7 +199,7 @@ fn nested(alloc: Global, levels: u32) -> Result<String, AllocError> {
     Ok(text)
 }
 
-/// Why a text is not read.
+/// Returns the error of a text.
 fn refusal(alloc: Global, table: &CodeTable, text: &str) -> Option<JsonError> {
     from_json(alloc, text, table).err()
 }
@@ -216,7 +216,7 @@ fn tags_of_each_kind_go_there_and_back(rt: HostRuntime) -> Result<(), Fail> {
     all_are_read(&rt, alloc, &table, &LEARNED)
 }
 
-/// A text of members that are tags, in part of the second, and not at all.
+/// A list whose first member is a tag, whose second has a value outside its kind, and whose third is not an object.
 const BAD_MEMBERS: &str =
     "{\"code\":\"mlog\",\"kind\":\"list\",\"value\":[{\"code\":\"mlcl\",\"kind\":\"list\",\"value\":[{\"code\":\"mstt\",\"kind\":\"u32\",\"value\":1}]},{\"code\":\"mlid\",\"kind\":\"u32\",\"value\":-1},7]}";
 
@@ -231,20 +231,20 @@ fn other_texts_are_refused_at_their_first_error(rt: HostRuntime) -> Result<(), F
     Ok(())
 }
 
-/// The text of the tag that a text is read as.
+/// Returns the text of the tag that a text reads as.
 fn written_again(alloc: Global, table: &CodeTable, text: &str) -> Result<Text, JsonError> {
     let tag = from_json(alloc, text, table)?;
     to_json(alloc, &tag, table)
 }
 
-/// The text of a list of the tag that a text is read as.
+/// Returns the text of a list around the tag that a text reads as, or the error of writing it.
 fn written_deeper(alloc: Global, table: &CodeTable, text: &str) -> Result<Text, JsonError> {
     let mut members = Tags::new(alloc);
     members.push(from_json(alloc, text, table)?)?;
     to_json(alloc, &tag(Code(*b"mlcl"), Value::List(members)), table)
 }
 
-/// Texts of lists of these levels are refused so.
+/// Checks that texts of lists of these levels are refused with this error.
 fn levels_are_refused(
     rt: &impl Abort,
     alloc: Global,

@@ -1,5 +1,4 @@
-//! `dmap_show`: tags with the lines that they are known to be shown as, and texts with the line at which they are
-//! refused.
+//! `dmap_show`: tags with the lines that show them, and texts with the line at which they are refused.
 
 use crate::tables::{code_of, learned, standard};
 use code_table::CodeTable;
@@ -10,13 +9,13 @@ use std::alloc::{AllocError, Global};
 use std::process::Abort;
 use std::test::Fail;
 
-/// The text of the tag that bytes encode.
+/// Returns the text of the tag that bytes encode.
 fn text_of(alloc: Global, bytes: &[u8], table: &CodeTable) -> Result<Text, Fail> {
     let (tag, _) = read_tag(alloc, bytes, table, Limits { top: 1000 })?;
     Ok(show(alloc, &[tag])?)
 }
 
-/// The bytes of the tags that a text shows.
+/// Returns the bytes of the tags that a text shows.
 fn bytes_of(alloc: Global, text: &str, table: &CodeTable) -> Result<Vec<u8>, Fail> {
     let tags = read_show(alloc, text, table)?;
     let mut bytes = Vec::new(alloc);
@@ -63,8 +62,8 @@ const OF_EACH_KIND: [(&str, &[u8]); 18] = [
     ),
 ];
 
-/// Texts of tags of the standard table, with the bytes of the tags: payloads without a meaning, and the listing of one
-/// item with id 7 and name `A`, at revision 3.
+/// Texts of tags of the standard table, with the bytes of the tags: opaque payloads, and the listing of one item with
+/// id 7 and name `A`, at revision 3.
 const STANDARD: [(&str, &[u8]); 7] = [
     ("miid opaque #000001\n", b"miid\0\0\0\x03\0\0\x01"),
     ("minm opaque #ff\n", b"minm\0\0\0\x01\xff"),
@@ -78,7 +77,7 @@ const STANDARD: [(&str, &[u8]); 7] = [
     ),
 ];
 
-/// Bytes are shown as these texts, and the texts are read back as the bytes.
+/// Checks that bytes are shown as these texts, and that the texts are read back as the bytes.
 fn go_there_and_back(
     rt: &impl Abort,
     alloc: Global,
@@ -101,7 +100,7 @@ fn tags_are_shown_and_read_back(rt: HostRuntime) -> Result<(), Fail> {
     go_there_and_back(&rt, alloc, &standard(alloc)?, &STANDARD)
 }
 
-/// Codes as lines have them, after a word.
+/// Codes as lines have them, after some text.
 const SHOWN_CODES: [(&[u8; 4], &str); 5] = [
     (b"mlcl", "code mlcl"),
     (b"!~09", "code !~09"),
@@ -152,7 +151,7 @@ fn an_event_s_line_is_added_at_its_level(rt: HostRuntime) -> Result<(), Fail> {
     Ok(())
 }
 
-/// Texts that are the texts of tags.
+/// Texts that show tags.
 const READABLE: [&str; 6] = [
     "",
     "zzzz opaque #\nx61206221 opaque #00ff\nmlcl list\n",
@@ -162,7 +161,7 @@ const READABLE: [&str; 6] = [
     "mcon list\n  mcon list\n    muty u8 255\n  muty u8 0\nasyr u16 65535\n",
 ];
 
-/// The text of the tags that a text shows.
+/// Returns the text of the tags that a text shows.
 fn shown_again(alloc: Global, table: &CodeTable, text: &str) -> Result<Text, Fail> {
     let tags = read_show(alloc, text, table)?;
     Ok(show(alloc, tags.as_slice())?)
@@ -181,7 +180,7 @@ fn a_shown_text_is_read_and_shown_again(rt: HostRuntime) -> Result<(), Fail> {
     are_shown_again(&rt, rt.alloc(), &READABLE)
 }
 
-/// Why a text is not read.
+/// Returns the error of a text.
 fn refusal(alloc: Global, text: &str, table: &CodeTable) -> Option<ShowError> {
     read_show(alloc, text, table).err()
 }
@@ -249,7 +248,7 @@ fn a_text_is_refused_at_its_first_bad_line(rt: HostRuntime) -> Result<(), Fail> 
     are_refused(&rt, alloc, &learned(alloc)?, &UNREADABLE_AS_LEARNED)
 }
 
-/// Lists in one another, a line for each.
+/// Returns the lines of `count` lists, each in the one before.
 fn nested(alloc: Global, count: u32) -> Result<String, AllocError> {
     let mut text = String::new(alloc);
     for level in 0..count {

@@ -1,4 +1,4 @@
-//! `dmap_stream`: bytes with the events and the ends that they are known to have.
+//! `dmap_stream`: bytes with their events and ends.
 
 ghost use Rattle.std.specs.Prelude.{◌≡◌, ◌<◌, ◌≤◌, ◌+◌, ◌^◌, IfOk, MatchResult, None, Some, length};
 ghost use Rattle.dmap_stream.specs.Reader.{taken};
@@ -11,7 +11,8 @@ use dmap_tags::{Code, Tag, Value, encode_into};
 use std::alloc::{AllocError, Global};
 use std::test::Fail;
 
-/// What a reader returned, what it held at last, and the error that stopped it or that the end gave.
+/// The events of a reader, how many bytes it buffered at the end, and the error that stopped it or that the end
+/// returned.
 #[derive(Debug, Drop)]
 struct Reading {
     events: Vec<Event>,
@@ -37,7 +38,7 @@ fn take_ready(reader: &mut DmapReader, events: &mut Vec<Event>) -> Result<(), Al
     Ok(())
 }
 
-/// A reader of the standard table.
+/// Returns a reader of the standard table.
 fn new_reader(alloc: Global) -> Result<DmapReader, AllocError>
     ensures error { IfOk result (λ reader. reader.error ≡ None) }
     ensures count { IfOk result (λ reader. taken reader ≡ 0) }
@@ -45,7 +46,7 @@ fn new_reader(alloc: Global) -> Result<DmapReader, AllocError>
     DmapReader::new(alloc, &standard(alloc)?, limits())
 }
 
-/// Feeds a piece. Of what that promises a test owes the counts alone.
+/// Feeds a chunk. Of the contract of `feed` a test's proof needs only the counts.
 fn fed(reader: &mut DmapReader, piece: &[u8]) -> Result<usize, StreamError>
     requires { reader.old.error ≡ None → taken reader.old + length piece.now < 2 ^ 64 }
     ensures error { MatchResult result (λ _. reader.new.error ≡ None) (λ e. reader.new.error ≡ Some e) }
@@ -55,7 +56,7 @@ fn fed(reader: &mut DmapReader, piece: &[u8]) -> Result<usize, StreamError>
     reader.feed(piece)
 }
 
-/// Whether a reader that an error stopped returns it at each call.
+/// Returns whether a stopped reader returns its error at each call.
 fn stays_stopped(mut reader: DmapReader, error: &StreamError) -> bool
     requires { reader.error ≡ Some error.now }
 {
@@ -63,7 +64,7 @@ fn stays_stopped(mut reader: DmapReader, error: &StreamError) -> bool
     is_stopped && reader.finish() == Err(error.copy())
 }
 
-/// The length of the next piece by the cut, if `left` of `all` bytes are left: `size` at most, and not past the cut.
+/// Returns the length of the next chunk, if `left` of `all` bytes are left: at most `size`, and not across `cut`.
 fn len_up_to_cut(all: usize, left: usize, cut: usize, size: usize) -> usize {
     let before_cut = cut.saturating_sub(all.saturating_sub(left));
     if before_cut > 0 {
@@ -73,14 +74,14 @@ fn len_up_to_cut(all: usize, left: usize, cut: usize, size: usize) -> usize {
     }
 }
 
-/// The length of the next piece, which is no more than is left.
+/// Returns the length of the next chunk, which is at most `left`.
 fn piece_len(all: usize, left: usize, cut: usize, size: usize) -> usize
     ensures { result ≤ left }
 {
     len_up_to_cut(all, left, cut, size).min(left)
 }
 
-/// What a reader returned that an error stopped.
+/// Returns the reading of a reader that an error stopped.
 fn stopped(reader: DmapReader, events: Vec<Event>, error: StreamError) -> Result<Reading, Fail>
     requires { reader.error ≡ Some error }
 {
@@ -96,7 +97,7 @@ fn stopped(reader: DmapReader, events: Vec<Event>, error: StreamError) -> Result
     })
 }
 
-/// What a reader returned that was fed all.
+/// Returns the reading of a reader that was fed all bytes.
 fn ended(reader: DmapReader, events: Vec<Event>) -> Reading {
     let held = reader.held();
     let error = reader.finish().err();
@@ -107,7 +108,7 @@ fn ended(reader: DmapReader, events: Vec<Event>) -> Reading {
     }
 }
 
-/// Reads bytes in pieces of `size` bytes at most, none of which goes past the cut.
+/// Reads bytes in chunks of at most `size` bytes, none of which crosses `cut`.
 fn read(alloc: Global, bytes: &[u8], cut: usize, size: usize) -> Result<Reading, Fail> {
     let mut reader = new_reader(alloc)?;
     let mut events = Vec::new(alloc);
@@ -151,7 +152,7 @@ fn is_step(event: &Event, step: &Step) -> bool {
     sort == step.0 && code == *step.1 && at == step.2
 }
 
-/// The sizes of pieces in which bytes are read.
+/// The sizes of chunks in which bytes are read.
 const SIZES: [usize; 3] = [1, 3, 100];
 
 /// Bytes with their events.
@@ -190,7 +191,7 @@ const WHOLE: [(&[u8], &[Step]); 5] = [
     (b"", &[]),
 ];
 
-/// Whether events are these.
+/// Returns whether events are these.
 fn are_steps(events: &[Event], steps: &[Step]) -> bool {
     events.len() == steps.len()
         && events
@@ -199,7 +200,7 @@ fn are_steps(events: &[Event], steps: &[Step]) -> bool {
             .all(|(event, step)| is_step(event, step))
 }
 
-/// Whether bytes in pieces of each size have these events, and end between two tags.
+/// Returns whether bytes in chunks of each size have these events, and end between two tags.
 fn have_steps(alloc: Global, bytes: &[u8], steps: &[Step], sizes: &[usize]) -> Result<bool, Fail> {
     for size in sizes {
         let reading = read(alloc, bytes, 0, *size)?;
@@ -247,12 +248,12 @@ const BROKEN: [(&[u8], usize, &str); 9] = [
     ),
 ];
 
-/// An error as it is shown.
+/// Returns an error as it is shown.
 fn shown(alloc: Global, error: &Option<StreamError>) -> Result<String, AllocError> {
     format!(in alloc; "{error:?}")
 }
 
-/// Whether bytes in pieces of each size have so many events before this error.
+/// Returns whether bytes in chunks of each size have `events` events before this error.
 fn are_refused(
     alloc: Global,
     bytes: &[u8],
@@ -281,18 +282,18 @@ fn the_first_error_is_returned_after_the_events_before_it(rt: HostRuntime) -> Re
     Ok(())
 }
 
-/// A list with a value of each kind, and values that are none of theirs.
+/// A list with a value of each kind, and with payloads that do not fit their kinds.
 const EACH_KIND: &[u8] =
     b"mlit\0\0\0\x80mikd\0\0\0\x01\x02asyr\0\0\0\x02\x07\xcfmiid\0\0\0\x04\0\0\0\x07mper\0\0\0\x08\0\0\0\0\0\0\0\x09minm\0\0\0\x03Ann\
 asda\0\0\0\x04\x38\x6d\x43\x80mpro\0\0\0\x04\0\x02\0\0mlcl\0\0\0\0zzzz\0\0\0\x02\x01\x02miid\0\0\0\x03\0\0\x01minm\0\0\0\x01\xffminm\0\0\0\0";
 
-/// The events as they are shown.
+/// Returns the events as they are shown.
 fn transcript(alloc: Global, reading: &Reading) -> Result<String, AllocError> {
     let events = reading.events.as_slice();
     format!(in alloc; "{events:?}")
 }
 
-/// The events of bytes that are whole, as they are shown, if they are so many.
+/// Returns the events as they are shown, if there are `events` of them and no error.
 fn told(alloc: Global, bytes: &[u8], cut: usize, events: usize) -> Result<Option<String>, Fail> {
     let reading = read(alloc, bytes, cut, 200)?;
     if reading.error.is_some() || reading.events.len() != events {
@@ -301,7 +302,7 @@ fn told(alloc: Global, bytes: &[u8], cut: usize, events: usize) -> Result<Option
     Ok(Some(transcript(alloc, &reading)?))
 }
 
-/// Whether bytes that are cut anywhere have the events of the whole.
+/// Returns whether bytes that are split at any offset have the events of the whole.
 fn read_alike(alloc: Global, bytes: &[u8], events: usize) -> Result<bool, Fail> {
     let whole = told(alloc, bytes, 0, events)?;
     for cut in 1..bytes.len() {
@@ -318,7 +319,7 @@ fn a_tag_that_is_cut_reads_as_the_whole_one(rt: HostRuntime) -> Result<(), Fail>
     Ok(())
 }
 
-/// Bytes that end too early or are refused, with what is held of them, and the error.
+/// Bytes that end too early or are refused, with the number of buffered bytes, and the error.
 const UNFINISHED: [(&[u8], u64, &str); 6] = [
     (b"mlcl\x40\0\0\0", 0, "Some(Truncated { at: 8 })"),
     (b"mlcl\x40\0\0\x01", 0, "Some(TooLarge { at: 0 })"),
@@ -338,7 +339,7 @@ const UNFINISHED: [(&[u8], u64, &str); 6] = [
 
 const SHORT_AND_LONG: [usize; 2] = [1, 100];
 
-/// Whether so many bytes are held when bytes in pieces of each size end with this error.
+/// Returns whether `held` bytes are buffered when bytes in chunks of each size end with this error.
 fn are_held(
     alloc: Global,
     bytes: &[u8],
@@ -380,7 +381,7 @@ fn is_status(event: &Option<Event>) -> bool {
     }
 }
 
-/// Whether a reader has no event before the last piece, and then a status and no more.
+/// Returns whether a reader has no event before the last chunk, and then a status and no more.
 fn is_ready_at(reader: &mut DmapReader, front: &[u8], back: &[u8]) -> bool
     requires none { reader.old.error ≡ None }
     requires count { taken reader.old + (length front.now + length back.now) < 2 ^ 64 }
@@ -392,7 +393,7 @@ fn is_ready_at(reader: &mut DmapReader, front: &[u8], back: &[u8]) -> bool
         && reader.next().is_none()
 }
 
-/// Whether the status is ready with its last byte, and not before.
+/// Returns whether the status is ready with its last byte, and not before.
 fn comes_at_once(alloc: Global, cut: usize) -> Result<bool, AllocError>
     requires { cut ≤ 12 }
 {
@@ -409,7 +410,7 @@ fn a_leaf_comes_with_its_last_byte(rt: HostRuntime) -> Result<(), Fail> {
     Ok(())
 }
 
-/// The opaque payload of the first event.
+/// Returns the opaque payload of the first event.
 fn first_opaque(reading: &Reading) -> Option<&[u8]> {
     match reading.events.first() {
         Some(
@@ -434,7 +435,7 @@ fn first_text(reading: &Reading) -> Option<&str> {
     }
 }
 
-/// Tags whose payloads are no values of their kinds, with the payloads.
+/// Tags whose payloads do not fit their kinds, with the payloads.
 const OPAQUE: [(&[u8], &[u8]); 4] = [
     (b"miid\0\0\0\x03\0\0\x01", b"\0\0\x01"),
     (b"minm\0\0\0\x01\xff", b"\xff"),
@@ -461,7 +462,7 @@ fn a_payload_that_encodes_no_value_is_opaque(rt: HostRuntime) -> Result<(), Fail
     Ok(())
 }
 
-/// Lists, each of which holds only the next.
+/// Returns the bytes of `levels` lists, each in the one before.
 fn nested(alloc: Global, levels: u8) -> Result<Vec<u8>, AllocError> {
     let mut bytes = Vec::new(alloc);
     for inner in (0..levels).rev() {
@@ -471,7 +472,7 @@ fn nested(alloc: Global, levels: u8) -> Result<Vec<u8>, AllocError> {
     Ok(bytes)
 }
 
-/// Whether so many lists and one more byte behind them have so many events before this error.
+/// Returns whether `levels` lists and then these bytes have `events` events before this error.
 fn nests(
     alloc: Global,
     levels: u8,
@@ -503,12 +504,12 @@ const FIRST_TAGS: [(&[u8], usize); 5] = [
     (ROW_OF_A, 29),
 ];
 
-/// The tag at the start of bytes, and its length.
+/// Returns the tag at the start of bytes, and its length.
 fn first_tag(alloc: Global, table: &CodeTable, bytes: &[u8]) -> Result<(Tag, usize), StreamError> {
     read_tag(alloc, bytes, table, limits())
 }
 
-/// Whether bytes begin with a tag of this length, which is encoded as they are.
+/// Returns whether bytes begin with a tag of this length, whose encoding they are.
 fn begins_with_tag(
     alloc: Global,
     table: &CodeTable,
@@ -550,7 +551,7 @@ fn a_list_is_read_with_its_members(rt: HostRuntime) -> Result<(), Fail> {
     Ok(())
 }
 
-/// Whether no tag is read, for this reason, or one for none.
+/// Returns whether no tag is read and the error is this, or one is read and no error is expected.
 fn refuses(
     alloc: Global,
     table: &CodeTable,
@@ -561,7 +562,7 @@ fn refuses(
     Ok(told.as_str() == error)
 }
 
-/// The same of so many lists in one another.
+/// The same for `levels` lists, each in the one before.
 fn refuses_nested(
     alloc: Global,
     table: &CodeTable,
@@ -585,7 +586,7 @@ fn a_malformed_tag_is_refused(rt: HostRuntime) -> Result<(), Fail> {
     Ok(())
 }
 
-/// Whether the tag is written to a sink so that it takes these bytes.
+/// Returns whether writing the tag to a sink writes these bytes.
 fn writes(
     alloc: Global,
     tag: &Tag,

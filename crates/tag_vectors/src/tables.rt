@@ -13,12 +13,12 @@ pub(crate) fn code_of(bytes: &[u8; 4]) -> Code {
     Code([a, b, c, d])
 }
 
-/// The standard table. Without clauses, so that a test's proof carries no 73 rows.
+/// Returns the standard table. It has no clauses, so that a test's proof carries no 73 rows.
 pub(crate) fn standard(alloc: Global) -> Result<CodeTable, AllocError> {
     CodeTable::standard(alloc)
 }
 
-/// The entry of a response to `/content-codes` for a code, with a name and the number of a kind.
+/// Returns the entry of a response to `/content-codes` for a code, with a name and the number of a kind.
 pub(crate) fn entry(
     alloc: Global,
     code: &[u8; 4],
@@ -57,7 +57,7 @@ fn table_of(alloc: Global, codes: &[(&[u8; 4], u16)]) -> Result<CodeTable, CodeE
     CodeTable::from_reply(alloc, &tag(Code(*b"mccr"), Value::List(members)))
 }
 
-/// The table of a response that has a code of each kind.
+/// Returns the table of a response that has a code of each kind.
 pub(crate) fn learned(alloc: Global) -> Result<CodeTable, CodeError> {
     table_of(alloc, &OF_EACH_KIND)
 }

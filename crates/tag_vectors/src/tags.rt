@@ -59,7 +59,7 @@ const PAYLOADS: [(Kind, &[u8]); 11] = [
     (Kind::Opaque, b"\x01\x02"),
 ];
 
-/// A payload typed by a kind is written back as it was.
+/// Checks that a payload's value under a kind is written back as the payload.
 fn is_written_back(rt: &impl Abort, alloc: Global, kind: Kind, payload: &[u8]) -> Result<(), Fail> {
     if kind == Kind::List {
         return Err(Fail::new("a list has no payload of its own"));
@@ -93,7 +93,7 @@ fn is_opaque(alloc: Global, payload: &[u8]) -> Result<bool, AllocError> {
     Ok(matches!(value, Value::Opaque(_)))
 }
 
-/// Whether bytes are no text, and are returned then.
+/// Returns whether bytes are not a text, and are returned then.
 fn stay_bytes(alloc: Global, bytes: &[u8]) -> Result<bool, AllocError> {
     match Text::from_utf8(Vec::from_slice(alloc, bytes)?) {
         Ok(_) => Ok(false),

@@ -1,12 +1,12 @@
-//! The places that a net in memory was asked for.
+//! The addresses requested of a network in memory.
 ghost use Rattle.std.specs.Prelude.{◌≡◌, ◌≤◌, length};
 
 use std::marker::Model;
 
-/// The most bytes of a place that is told: a host's name of 253, a colon, and a port of five digits.
+/// Most bytes of a known address: a host name of 253, a colon, and a port of five digits.
 pub(crate) const PLACE_ROOM: usize = 259;
 
-/// A place that was asked for, with the number of doors, or 0 for a connection.
+/// A requested address, with the number of listeners, or 0 for a connection.
 #[derive(Drop)]
 pub struct Asked {
     text: [u8; PLACE_ROOM],
@@ -38,14 +38,14 @@ impl Asked {
         }
     }
 
-    /// The place, as it was given.
+    /// Returns the address, as it was passed.
     pub fn place(&self) -> &[u8]
         ensures { result.now ≡ self.now.0 }
     {
         &self.text[..self.len]
     }
 
-    /// The number of doors, or 0 for a connection.
+    /// Returns the number of listeners, or 0 for a connection.
     pub fn doors(&self) -> u32
         ensures { result ≡ self.now.1 }
     {

@@ -1,4 +1,4 @@
-//! A door in memory.
+//! A listener in memory.
 ghost use Rattle.std.specs.Prelude.{◌≡◌, ◌↔◌, ◌∷◌, ◌++◌, ◌-◌, ◌+◌, ◌^◌, ℕ, min, [], Some, nat_lt, IfOk, IfSome, IsErr, option_to_list, OnOk, OnErr, All, Contains};
 ghost use Rattle.std.specs.Option.{option_copied};
 ghost use Rattle.daap_outside.specs.Counts.{CountsFaults};
@@ -7,23 +7,23 @@ ghost use Rattle.daap_outside.specs.Places.{Accepts, returned};
 ghost use Rattle.daap_outside.specs.MemLink.{IsNew};
 
 use crate::memory::copied;
-use crate::memory::kept::Kept;
+use crate::memory::kept::BoundedLog;
 use crate::memory::link::{MemLink, Returned};
 use crate::net::Door;
 use outside_disks::{Failed, Faulted, counted};
 use std::alloc::{AllocError, Global};
 use std::collections::VecDeque;
 
-/// A door at which the links come that were put there, in order, and then no more.
+/// A listener that accepts the connections that were added to it, in order, and then no more.
 ///
-/// It tells the links given back for as long as it has room for them. Some of its waits may be
-/// set to fail; the first wait has the number 1.
+/// It knows the returned connections up to its capacity. Some of its waits may be set to fail; the first wait has the
+/// number 1.
 #[derive(Drop)]
 pub struct MemDoor {
     coming: VecDeque<MemLink>,
     failing: Vec<u64>,
     calls: u64,
-    written: Kept<Returned>,
+    written: BoundedLog<Returned>,
     faults: u64,
     ghost new_links: { All IsNew coming.items },
 }
@@ -31,8 +31,8 @@ pub struct MemDoor {
 impl MemDoor {
     ghost use Rattle.daap_outside.specs.MemDoor.{coming_links, written_of, faults_of, room_of, failing_calls, next_call};
 
-    /// A door at which no link will come, with room for so many links that are given back. The
-    /// waits with the numbers `failing` fail.
+    /// Returns a listener without connections, with capacity for `room` returned ones. The waits with the numbers
+    /// `failing` fail.
     pub fn new(alloc: Global, failing: &[u64], room: usize) -> Result<MemDoor, AllocError>
         ensures coming { IfOk result (λ door. coming_links door ≡ []) }
         ensures written { IfOk result (λ door. written_of door ≡ Some []) }
@@ -45,12 +45,12 @@ impl MemDoor {
             coming: VecDeque::new(alloc),
             failing: copied(alloc, failing)?,
             calls: 0,
-            written: Kept::with_room(alloc, room)?,
+            written: BoundedLog::with_room(alloc, room)?,
             faults: 0,
         })
     }
 
-    /// Lets a link come behind the others.
+    /// Adds a connection that will come after the others.
     pub fn add(&mut self, link: MemLink) -> Result<(), AllocError>
         requires { IsNew link }
         ensures ok { OnOk result (coming_links self.new ≡ coming_links self.old ++ link ∷ []) }
@@ -65,7 +65,7 @@ impl MemDoor {
         Ok(())
     }
 
-    /// The links given back so far, where they are told.
+    /// Returns the connections returned so far, if they are known.
     pub fn written(&self) -> Option<&[Returned]>
         ensures { option_copied result ≡ written_of self.now }
     {
@@ -78,8 +78,8 @@ impl MemDoor {
         self.faults > 0
     }
 
-    // The links given back so far, for the net that opened the door.
-    pub(crate) fn into_written(self) -> Kept<Returned>
+    // Returns the connections returned so far, for the network that opened the listener.
+    pub(crate) fn into_written(self) -> BoundedLog<Returned>
         ensures { result ≡ self.written }
     {
         self.written

@@ -1,34 +1,34 @@
-//! Lists in room that was taken when they were made.
+//! Lists with capacity that was allocated beforehand.
 ghost use Rattle.std.specs.Prelude.{◌≡◌, ◌∷◌, ◌-◌, [], IfOk, None, Some};
 ghost use Rattle.std.specs.Prelude.{option_and_then, option_copied};
 ghost use Rattle.daap_outside.specs.Kept.{kept_items, kept_room, keeps};
 
 use std::alloc::{AllocError, Global};
 
-/// A list that grows at its end without memory. Where an item finds no room, the list is told no more.
+/// A list that grows at its end and does not allocate. After an item that exceeds its capacity, it is unknown.
 #[derive(Drop)]
-pub(crate) struct Kept<T> {
+pub(crate) struct BoundedLog<T> {
     items: Vec<T>,
     is_told: bool,
 }
 
-impl<T: Drop> Kept<T> {
-    /// An empty list without room.
-    pub(crate) fn new(alloc: Global) -> Kept<T>
+impl<T: Drop> BoundedLog<T> {
+    /// Returns an empty list without capacity.
+    pub(crate) fn new(alloc: Global) -> BoundedLog<T>
         ensures { kept_items result ≡ Some [] }
     {
-        Kept {
+        BoundedLog {
             items: Vec::new(alloc),
             is_told: true,
         }
     }
 
-    /// An empty list with room for so many items.
-    pub(crate) fn with_room(alloc: Global, room: usize) -> Result<Kept<T>, AllocError>
+    /// Returns an empty list with capacity for `room` items.
+    pub(crate) fn with_room(alloc: Global, room: usize) -> Result<BoundedLog<T>, AllocError>
         ensures items { IfOk result (λ kept. kept_items kept ≡ Some []) }
         ensures room { IfOk result (λ kept. kept_room kept ≡ room) }
     {
-        Ok(Kept {
+        Ok(BoundedLog {
             items: Vec::with_capacity(alloc, room)?,
             is_told: true,
         })
@@ -45,7 +45,7 @@ impl<T: Drop> Kept<T> {
         }
     }
 
-    /// Tells the list no more.
+    /// Makes the list unknown.
     pub(crate) fn end(&mut self)
         ensures items { kept_items self.new ≡ None }
         ensures room { kept_room self.new ≡ kept_room self.old }
@@ -53,8 +53,8 @@ impl<T: Drop> Kept<T> {
         self.is_told = false;
     }
 
-    /// Keeps all items of a list. One that is told no more ends this one.
-    pub(crate) fn keep_all(&mut self, mut more: Kept<T>)
+    /// Appends all items of a list. An unknown one makes this one unknown.
+    pub(crate) fn keep_all(&mut self, mut more: BoundedLog<T>)
         ensures items { kept_items self.new
             ≡ option_and_then (keeps (kept_items self.old) (kept_room self.old)) (kept_items more) }
     {
@@ -65,7 +65,7 @@ impl<T: Drop> Kept<T> {
         }
     }
 
-    /// The items, where they are told.
+    /// Returns the items, if they are known.
     pub(crate) fn items(&self) -> Option<&[T]>
         ensures { option_copied result ≡ kept_items self.now }
     {

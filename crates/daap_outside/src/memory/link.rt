@@ -1,4 +1,4 @@
-//! A link in memory.
+//! A connection in memory.
 ghost use Rattle.std.specs.Prelude.{◌≡◌, ◌↔◌, ◌⊎◌, ◌<◌, ◌≤◌, ◌+◌, ℕ, min, [], Some, IfOk, IsOk, IsErr, MatchResult, Contains, length, refl};
 ghost use Rattle.std.specs.Io.{ReadsAtMost};
 ghost use Rattle.std.specs.Io.KnownBytes.{ReadConsumes, WriteAppends};
@@ -15,9 +15,8 @@ use outside_disks::{Failed, Faulted, counted};
 use std::alloc::{AllocError, Global};
 use std::marker::Model;
 
-/// Gives the bytes of a source, takes bytes into the room of a sink, and tells both.
-/// Which reads and which writes fail is set by the two, and which probes by a list of the link's
-/// own. The first probe has the number 1.
+/// Reads from a source, and writes to a sink; the bytes of both are known. Source and sink say which reads and which
+/// writes fail, and the connection has a list of the probes that fail. The first probe has the number 1.
 #[derive(Drop)]
 pub struct MemLink {
     input: MemSource,
@@ -30,7 +29,7 @@ pub struct MemLink {
 impl MemLink {
     ghost use Rattle.daap_outside.specs.MemLink.{input_of, output_of, failing_probes, next_probe, returned_link};
 
-    /// A link with no fault counted, of which no probe fails.
+    /// Returns a connection whose error counter is 0 and whose probes succeed.
     pub fn new(input: MemSource, output: MemSink) -> MemLink
         ensures input { input_of result ≡ input }
         ensures output { output_of result ≡ output }
@@ -47,7 +46,7 @@ impl MemLink {
         }
     }
 
-    /// A link with no fault counted. The probes with the numbers `failing` fail.
+    /// Returns a connection whose error counter is 0. The probes with the numbers `failing` fail.
     pub fn with_failing_probes(
         alloc: Global,
         input: MemSource,
@@ -65,7 +64,7 @@ impl MemLink {
         Ok(link)
     }
 
-    // The numbers of the probes that fail.
+    // Returns the numbers of the probes that fail.
     fn failing(&self) -> &[u64]
         ensures { result.now ≡ failing_probes self.now }
     {
@@ -75,14 +74,14 @@ impl MemLink {
         }
     }
 
-    /// The bytes that it has taken.
+    /// Returns the bytes that were written to it.
     pub fn taken(&self) -> &[u8]
         ensures { Some result.now ≡ ⟦<MemLink as Sink>⟧.taken self.now }
     {
         self.output.taken()
     }
 
-    /// What is told of it once it is given back.
+    /// Returns what is known of it after it is returned.
     pub(crate) fn returned(self) -> Returned
         ensures { result ≡ returned_link self }
     {
@@ -186,7 +185,7 @@ impl Link for MemLink {
     ghost write_leaves_left = { λ _. refl };
 }
 
-/// What is told of a link that was given back.
+/// What is known of a connection that was returned.
 #[derive(Drop)]
 pub struct Returned {
     /// The bytes that were written to it.

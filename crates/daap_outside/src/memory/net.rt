@@ -1,4 +1,4 @@
-//! A net in memory.
+//! A network in memory.
 ghost use Rattle.std.specs.Prelude.{◌≡◌, ◌↔◌, ◌⊎◌, ◌∷◌, ◌++◌, ◌-◌, ◌+◌, ◌^◌, ◌<◌, ◌≤◌, ℕ, min, [], Some, None, IfOk, IfSome, IsErr, IsErrOf, OnOk, OnErr, All, Contains, map, length, take, drop, option_and_then};
 ghost use Rattle.std.specs.Option.{option_copied};
 ghost use Rattle.daap_outside.specs.Counts.{CountsFaults, RisesWith};
@@ -12,7 +12,7 @@ ghost use Rattle.daap_outside.specs.MemDoor.{IsNew as is_new_door};
 use crate::memory::asked::{Asked, PLACE_ROOM};
 use crate::memory::copied;
 use crate::memory::door::MemDoor;
-use crate::memory::kept::Kept;
+use crate::memory::kept::BoundedLog;
 use crate::memory::link::{MemLink, Returned};
 use crate::net::{Net, NetError};
 use outside_disks::{Failed, Faulted, counted};
@@ -20,19 +20,19 @@ use std::alloc::{AllocError, Global};
 use std::collections::VecDeque;
 use std::mem;
 
-/// A net whose doors and links were put there. Each is given once, in order, whatever the place.
-/// Where too few are left, or more would be open than `u64` counts, the call fails.
+/// A network of listeners and connections that were added to it. Each is returned once, in order, whatever the
+/// address. If too few are left, or more would be open than `u64` counts, the call fails.
 ///
-/// It tells the places asked for and the links given back for as long as it has room for them.
-/// Some of its calls of `listen` and `connect` may be set to fail; the first has the number 1.
+/// It knows the requested addresses and the returned connections up to its capacity. Some of its calls of `listen`
+/// and `connect` may be set to fail; the first has the number 1.
 #[derive(Drop)]
 pub struct MemNet {
     doors: Vec<MemDoor>,
     links: VecDeque<MemLink>,
     failing: Vec<u64>,
     calls: u64,
-    asked: Kept<Asked>,
-    written: Kept<Returned>,
+    asked: BoundedLog<Asked>,
+    written: BoundedLog<Returned>,
     open_count: u64,
     faults: u64,
     ghost new_doors: { All is_new_door doors.items },
@@ -42,7 +42,7 @@ pub struct MemNet {
 impl MemNet {
     ghost use Rattle.daap_outside.specs.MemNet.{doors_of, links_of, asked_of, asked_room, written_of, written_room, open_of, failing_calls, next_call, with_place, CountsCall, IsSetAlike};
 
-    /// A net that reaches nothing, without room for what it tells.
+    /// Returns a network that reaches nothing, without capacity for known lists.
     pub fn new(alloc: Global) -> MemNet
         ensures doors { doors_of result ≡ [] }
         ensures links { links_of result ≡ [] }
@@ -58,15 +58,15 @@ impl MemNet {
             links: VecDeque::new(alloc),
             failing: Vec::new(alloc),
             calls: 0,
-            asked: Kept::new(alloc),
-            written: Kept::new(alloc),
+            asked: BoundedLog::new(alloc),
+            written: BoundedLog::new(alloc),
             open_count: 0,
             faults: 0,
         }
     }
 
-    /// A net that reaches nothing yet, with room for so many places asked for and so many links
-    /// given back. The calls with the numbers `failing` fail.
+    /// Returns a network that reaches nothing yet, with capacity for `places` requested addresses and `links`
+    /// returned connections. The calls with the numbers `failing` fail.
     pub fn with_room(
         alloc: Global,
         failing: &[u64],
@@ -86,12 +86,12 @@ impl MemNet {
     {
         let mut net = MemNet::new(alloc);
         net.failing = copied(alloc, failing)?;
-        net.asked = Kept::with_room(alloc, places)?;
-        net.written = Kept::with_room(alloc, links)?;
+        net.asked = BoundedLog::with_room(alloc, places)?;
+        net.written = BoundedLog::with_room(alloc, links)?;
         Ok(net)
     }
 
-    /// Adds a door to be opened behind the others.
+    /// Adds a listener that is opened after the others.
     pub fn add_door(&mut self, door: MemDoor) -> Result<(), AllocError>
         requires { is_new_door door }
         ensures ok { OnOk result (doors_of self.new ≡ doors_of self.old ++ door ∷ []) }
@@ -103,7 +103,7 @@ impl MemNet {
         Ok(())
     }
 
-    /// Adds a link to be connected behind the others.
+    /// Adds a connection that is made after the others.
     pub fn add_link(&mut self, link: MemLink) -> Result<(), AllocError>
         requires { is_new_link link }
         ensures ok { OnOk result (links_of self.new ≡ links_of self.old ++ link ∷ []) }
@@ -115,7 +115,7 @@ impl MemNet {
         Ok(())
     }
 
-    // Counts a call, and tells the place. The call fails where it is set to.
+    // Counts a call, and records the address. Fails if the call is set to.
     fn ask(&mut self, place: &str, doors: u32) -> Result<(), Failed>
         ensures fails { IsErr result ↔ Contains (failing_calls self.old) (next_call self.old) }
         ensures told { asked_of self.new ≡ with_place (asked_of self.old) (asked_room self.old) place.now doors }
@@ -139,14 +139,14 @@ impl MemNet {
         Ok(())
     }
 
-    /// The places asked for so far, where they are told.
+    /// Returns the addresses requested so far, if they are known.
     pub fn asked(&self) -> Option<&[Asked]>
         ensures { option_copied result ≡ asked_of self.now }
     {
         self.asked.items()
     }
 
-    /// The links given back so far, where they are told.
+    /// Returns the connections returned so far, if they are known.
     pub fn written(&self) -> Option<&[Returned]>
         ensures { option_copied result ≡ written_of self.now }
     {

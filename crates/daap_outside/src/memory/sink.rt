@@ -1,4 +1,4 @@
-//! A sink over room in memory.
+//! A sink over a buffer in memory.
 ghost use Rattle.std.specs.Prelude.{◌≡◌, ◌↔◌, ◌⊎◌, ◌<◌, ◌≤◌, ◌+◌, ℕ, min, [], Some, None, IfOk, IsOk, IsErr, MatchResult, Contains, length, vec_len, vec_capacity};
 ghost use Rattle.std.specs.Io.KnownBytes.{WriteAppends};
 ghost use Rattle.daap_outside.specs.Counts.{CountsFaults};
@@ -8,8 +8,8 @@ use crate::sink::Sink;
 use outside_disks::{Failed, Faulted, counted};
 use std::alloc::{AllocError, Global};
 
-/// Takes bytes into room that was taken when it was made, and tells them.
-/// Some of its calls may be set to fail; the first call has the number 1.
+/// Writes bytes to a buffer that was allocated when the sink was made, and knows them. Some of its calls may be set
+/// to fail; the first call has the number 1.
 #[derive(Drop)]
 pub struct MemSink {
     taken: Vec<u8>,
@@ -26,8 +26,8 @@ pub struct MemSink {
 impl MemSink {
     ghost use Rattle.daap_outside.specs.MemSink.{room_left, per_call as pieces_of, failing_calls, next_call};
 
-    /// A sink with room for so many bytes. One write takes at most `per_call` of them, and the
-    /// calls with the numbers `failing` fail.
+    /// Returns a sink with capacity for `room` bytes. One write takes at most `per_call` of them, and the calls with
+    /// the numbers `failing` fail.
     pub fn new(
         alloc: Global,
         room: usize,
@@ -38,7 +38,7 @@ impl MemSink {
         ensures taken { IfOk result (λ sink. ⟦<MemSink as Sink>⟧.taken sink ≡ Some []) }
         ensures faults { IfOk result (λ sink. ⟦<MemSink as Faulted>⟧.faults sink ≡ 0) }
         ensures room { IfOk result (λ sink. room_left sink ≡ room) }
-        // With no call that fails, a write into its room is sure to be taken.
+        // If no call is set to fail, a write within the capacity succeeds.
         ensures sure { IfOk result (λ sink. failing.now ≡ [] → ⟦<MemSink as Sink>⟧.sure_room sink ≡ room) }
         ensures pieces { IfOk result (λ sink. pieces_of sink ≡ per_call) }
         ensures failing_calls { IfOk result (λ sink. failing_calls sink ≡ failing.now) }
@@ -54,14 +54,14 @@ impl MemSink {
         })
     }
 
-    /// The bytes that it has taken.
+    /// Returns the bytes that were written to it.
     pub fn taken(&self) -> &[u8]
         ensures { Some result.now ≡ ⟦<MemSink as Sink>⟧.taken self.now }
     {
         self.taken.as_slice()
     }
 
-    /// The bytes that it has taken, without a copy.
+    /// Returns the bytes that were written to it, without a copy.
     pub fn into_taken(self) -> Vec<u8>
         ensures { Some result.items ≡ ⟦<MemSink as Sink>⟧.taken self }
     {

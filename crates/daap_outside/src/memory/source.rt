@@ -10,8 +10,8 @@ use crate::source::Source;
 use outside_disks::{Failed, Faulted, counted};
 use std::alloc::{AllocError, Global};
 
-/// Gives the bytes that it was made with, and tells those that are left.
-/// Some of its calls may be set to fail; the first call has the number 1.
+/// Reads the bytes that it was made with, and knows those that are left. Some of its calls may be set to fail; the
+/// first call has the number 1.
 #[derive(Drop)]
 pub struct MemSource {
     bytes: Vec<u8>,
@@ -27,8 +27,8 @@ pub struct MemSource {
 impl MemSource {
     ghost use Rattle.daap_outside.specs.MemSource.{per_call as pieces_of, failing_calls, next_call};
 
-    /// A source over a copy of the bytes. One read gives at most `per_call` of them, and the
-    /// calls with the numbers `failing` fail.
+    /// Returns a source over a copy of the bytes. One read returns at most `per_call` of them, and the calls with the
+    /// numbers `failing` fail.
     pub fn new(
         alloc: Global,
         bytes: &[u8],

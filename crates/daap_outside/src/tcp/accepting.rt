@@ -1,24 +1,24 @@
-//! Waiting for a link at a listener, over errors that end no more than one link.
+//! Waits for a connection at a listener, and continues after errors that end at most one connection.
 use crate::tcp::link::{READ_SECONDS, set_options};
 use std::net::{TcpListener, TcpStream};
 use std::time::{Clock, Duration};
 use std::{io, thread};
 
-// How often in a row it is tried again where the system lacks descriptors, buffers or memory.
+// Most retries in a row if the system lacks descriptors, buffers or memory.
 const MOST_PAUSES: u32 = 60;
 
-// How long each of these pauses is.
+// The length of each of these pauses.
 const PAUSE_SECONDS: u64 = 1;
 
-// Linux's numbers of errors that belong to one link, or to none: EINTR, EPERM (a rule of the
-// firewall), ENONET, EPROTO, ENOPROTOOPT, EOPNOTSUPP, ENETDOWN, ENETUNREACH, ECONNABORTED,
-// ECONNRESET, ETIMEDOUT, EHOSTDOWN, EHOSTUNREACH.
+// Linux's numbers of errors that concern one connection, or none: EINTR, EPERM (a rule of the firewall), ENONET,
+// EPROTO, ENOPROTOOPT, EOPNOTSUPP, ENETDOWN, ENETUNREACH, ECONNABORTED, ECONNRESET, ETIMEDOUT, EHOSTDOWN,
+// EHOSTUNREACH.
 static LINK_ERRORS: [i32; 13] = [1, 4, 64, 71, 92, 95, 100, 101, 103, 104, 110, 112, 113];
 
-// Those for want of memory, descriptors or buffers: ENOMEM, ENFILE, EMFILE, ENOBUFS.
+// Those for a lack of memory, descriptors or buffers: ENOMEM, ENFILE, EMFILE, ENOBUFS.
 static WANTS: [i32; 4] = [12, 23, 24, 105];
 
-// What an error of `accept` asks for.
+// What to do after an error of `accept`.
 #[derive(Clone, Copy, Debug, PartialEq, Eq)]
 pub(super) enum Remedy {
     TryAgain,
@@ -34,7 +34,7 @@ pub(super) fn remedy_of(error: &io::Error) -> Remedy {
     }
 }
 
-// The next link that comes and takes its options, or none where the listener fails.
+// Returns the next connection whose options can be set, or `None` if the listener fails.
 pub(super) fn next_stream(clock: &impl Clock, listener: &TcpListener) -> Option<TcpStream> {
     let mut pauses = 0u32;
     for _ in 0..u64::MAX {

@@ -13,39 +13,39 @@ use std::sync::Arc;
 use std::sync::atomic::{AtomicU64, Ordering};
 use std::time::{Clock, Duration, Instant};
 
-/// How long a read of an accepted link waits for the peer, in seconds. It is what `/server-info`
-/// announces as the time after which a silent client is let go, so that none which keeps to it is
-/// cut off, and one that has gone without a word frees its worker.
+/// How long a read of an accepted connection waits for the peer, in seconds. `/server-info` announces this as the
+/// time after which a silent client is disconnected. So no client that keeps to it is cut off, and one that left
+/// silently frees its worker.
 pub const READ_SECONDS: u64 = 1_800;
 
-/// How long a write waits for the peer to take anything, in seconds. Whoever asked for a reply and
-/// takes no byte of it for a minute has gone or is stuck, and frees its worker.
+/// How long a write waits for the peer to take anything, in seconds. A client that takes no byte of a reply for a
+/// minute has left or is stuck, and frees its worker.
 pub const WRITE_SECONDS: u64 = 60;
 
 // How long `goodbye` reads what a peer still sends.
 const GOODBYE_SECONDS: u64 = 2;
 
-// How many bytes `goodbye` reads at most, but for one read: 8 MiB.
+// The most bytes that `goodbye` reads, 8 MiB, except that it finishes its last read.
 const GOODBYE_BYTES: usize = 8_388_608;
 
-// How many bytes one read of `goodbye` asks for.
+// The most bytes of one read of `goodbye`.
 const GOODBYE_PIECE: usize = 32_768;
 
-// How long an update is held while no door of the link's place waits, and how many doors do.
+// How long an update may be pending while no listener of the connection's address waits, and how many listeners wait.
 #[derive(Drop)]
 pub(super) struct Holding {
     pub(super) waiting: Arc<AtomicU64, Global>,
     pub(super) limit: Duration,
 }
 
-/// A connection over TCP. A read or a write that waits too long counts a fault.
+/// A connection over TCP. A read or a write that waits too long counts an error.
 #[derive(Drop)]
 pub struct TcpLink<R> {
     pub(super) rt: R,
     pub(super) stream: TcpStream,
-    // None for a link that was connected.
+    // `None` for a connection that this program made.
     pub(super) holding: Option<Holding>,
-    // When it was first probed since the last read or write.
+    // The time of the first probe since the last read or write.
     pub(super) held_since: Option<Instant>,
     pub(super) faults: u64,
 }
@@ -64,16 +64,16 @@ impl<R> TcpLink<R> {
     }
 }
 
-// What is written goes out at once, so that the body of a reply never waits until its head is
-// acknowledged. A connected link waits for its peer as long as that takes.
+// Sends what is written at once, so that the body of a reply never waits until its head is acknowledged. A connection
+// that this program made waits for its peer without a limit.
 pub(super) fn set_options(stream: &TcpStream, reads_wait: Option<Duration>) -> io::Result<()> {
     stream.set_nodelay(true)?;
     stream.set_read_timeout(reads_wait)?;
     stream.set_write_timeout(Some(Duration::from_secs(WRITE_SECONDS)))
 }
 
-// Whether the peer may still be there: neither an end nor an error has come from it. The call
-// doesn't wait, and leaves the bytes that have come. They hide an end that has come behind them.
+// Returns whether the peer may still be there: neither an end nor an error has come from it. Does not wait, and
+// leaves the bytes that have come. They hide an end that came after them.
 fn is_there(stream: &TcpStream) -> io::Result<bool> {
     stream.set_nonblocking(true)?;
     let peeked = stream.peek(&mut [0]);
@@ -85,8 +85,8 @@ fn is_there(stream: &TcpStream) -> io::Result<bool> {
 }
 
 impl<R: Clock> TcpLink<R> {
-    // Whether the probes since the last read or write go back as far as the limit, and no door
-    // of the place waits for a link. Where the clock can't be read, it isn't known, and false.
+    // Returns whether the probes since the last read or write span the limit, and no listener of the address waits
+    // for a connection. If the clock can't be read, this is not known, and false.
     fn is_held_too_long(&mut self) -> bool
         ensures { self.new.faults ≡ self.old.faults }
     {
@@ -106,8 +106,8 @@ impl<R: Clock> TcpLink<R> {
         }
     }
 
-    // Ends the writing side, and drops what the peer still sends until it ends: a peer that was
-    // still sending would lose the last reply to a reset.
+    // Ends the writing side, and discards what the peer still sends until it ends. Otherwise a reset would make a
+    // peer that is still sending lose the last reply.
     pub(super) fn goodbye(&mut self) {
         let limit = Duration::from_secs(GOODBYE_SECONDS);
         let Ok(start) = Instant::now(&self.rt) else {
@@ -143,7 +143,7 @@ impl<R> Source for TcpLink<R> {
 
     ghost beside_left = { λ _. None };
 
-    // A program that was stopped and goes on finds its waits interrupted: they begin again.
+    // A stopped program that continues finds its waits interrupted: they begin again.
     fn read(&mut self, room: &mut [u8]) -> Result<usize, Failed> {
         self.held_since = None;
         for _ in 0..u64::MAX {

@@ -11,7 +11,7 @@ use std::test::Fail;
 use std::thread;
 use std::thread::Threads;
 
-// A net, a door and the others of its place, and both ends of a link that came to that door.
+// A network, a listener and the others of its address, and both ends of a connection that came to that listener.
 #[derive(Drop)]
 struct Meeting<R> {
     net: TcpNet<R>,
@@ -21,7 +21,7 @@ struct Meeting<R> {
     near: TcpLink<R>,
 }
 
-// The address at which the door listens.
+// The address of the listener.
 fn place_of<R>(alloc: Global, door: &TcpDoor<R>) -> Result<String, AllocError> {
     match door.places.last() {
         Some(place) => format!(in alloc; "127.0.0.1:{}", place.port()),
@@ -29,7 +29,7 @@ fn place_of<R>(alloc: Global, door: &TcpDoor<R>) -> Result<String, AllocError> {
     }
 }
 
-// The next link that comes to the door.
+// The next connection that comes to the listener.
 fn next_link<D: Door>(door: &mut D) -> Result<D::L, Failed> {
     match door.accept()? {
         Some(link) => Ok(link),
@@ -66,7 +66,7 @@ where
     })
 }
 
-// Whether a place in use, and texts that are no place, are refused.
+// Whether an address in use, and texts that are not addresses, are refused.
 fn refuses<N: Net>(net: &mut N, in_use: &str) -> bool {
     matches!(net.listen(in_use, 1), Err(NetError::Failed))
         && matches!(net.listen("no place", 1), Err(NetError::Failed))
@@ -83,7 +83,7 @@ fn a_place_is_listened_at_once(rt: HostRuntime) -> Result<(), Fail> {
     Ok(())
 }
 
-// Whether a link gives what was written at its other end.
+// Whether a connection returns what was written at its other end.
 fn hears<R>(met: &mut Meeting<R>) -> Result<bool, Failed> {
     put_all(&mut met.far, b"hello")?;
     let mut room = [0; 3];
@@ -91,7 +91,7 @@ fn hears<R>(met: &mut Meeting<R>) -> Result<bool, Failed> {
     Ok(first && met.near.read(&mut room)? == 2 && room == *b"lol")
 }
 
-// Whether a link sends at once, and how long it waits to read and to write.
+// Whether a connection sends at once, and how long it waits to read and to write.
 fn options_of<R>(link: &TcpLink<R>) -> io::Result<(bool, Option<Duration>, Option<Duration>)> {
     let stream = &link.stream;
     Ok((
@@ -101,7 +101,7 @@ fn options_of<R>(link: &TcpLink<R>) -> io::Result<(bool, Option<Duration>, Optio
     ))
 }
 
-// Whether a read that waits too long is a fault.
+// Whether a read that waits too long is an error.
 fn waits_no_longer<R>(link: &mut TcpLink<R>) -> io::Result<bool> {
     let limit = Some(Duration::from_millis(10));
     link.stream.set_read_timeout(limit)?;
@@ -120,10 +120,10 @@ fn a_link_gives_what_was_written_and_waits_no_longer_than_it_may(
     Ok(())
 }
 
-// How many bytes are more than a socket keeps for a reader that pauses.
+// More bytes than a socket buffers for a reader that pauses.
 const LONG: usize = 16_777_216;
 
-// Reads the link to its end after a pause, and answers how many bytes came, if they change as they should.
+// Reads the connection to its end after a pause, and returns the number of bytes, if they change as they should.
 fn read_changing<C: Clock, I: Source>(clock: &C, link: &mut I) -> Option<usize> {
     thread::sleep(clock, Duration::from_millis(300));
     let mut room = [0; 32_768];
@@ -143,7 +143,7 @@ fn read_changing<C: Clock, I: Source>(clock: &C, link: &mut I) -> Option<usize> 
     None
 }
 
-// Writes all in two calls or more, and answers how many bytes the first one took while nobody read.
+// Writes all in two calls or more, and returns how many bytes the first one wrote while nobody read.
 fn write_cut<R>(link: &mut TcpLink<R>, bytes: &[u8]) -> Option<usize> {
     if bytes.is_empty() {
         return None;
@@ -157,7 +157,7 @@ fn write_cut<R>(link: &mut TcpLink<R>, bytes: &[u8]) -> Option<usize> {
     Some(n)
 }
 
-// So many bytes that change.
+// `LONG` bytes that change.
 fn changing(alloc: Global) -> Result<Vec<u8>, AllocError> {
     let mut bytes = Vec::with_capacity(alloc, LONG)?;
     for i in 0..LONG {
@@ -166,7 +166,7 @@ fn changing(alloc: Global) -> Result<Vec<u8>, AllocError> {
     Ok(bytes)
 }
 
-// What a write that was cut took at first, and what was read at the other end.
+// The number of bytes that a short write wrote at first, and the number read at the other end.
 fn cut<R, T>(
     rt: &R,
     alloc: Global,
@@ -198,8 +198,8 @@ fn a_write_that_is_cut_short_goes_on(rt: HostRuntime) -> Result<(), Fail> {
     Ok(())
 }
 
-// Probes a link that is held for longer than its limit while another door waits, and answers
-// whether it was still there. Then it lets a link come to that door.
+// Probes a connection that is held for longer than its limit while another listener waits. Returns whether it was
+// still there, and then lets a connection come to that listener.
 fn probe_held<R: Clock, L: Link, N: Net>(rt: &R, link: &mut L, net: &mut N, place: &str) -> bool {
     let began = link.probe().is_ok();
     thread::sleep(rt, Duration::from_millis(60));
@@ -212,7 +212,7 @@ fn probe_held<R: Clock, L: Link, N: Net>(rt: &R, link: &mut L, net: &mut N, plac
     began && stayed && is_called
 }
 
-// Waits until a door of the link's place waits.
+// Waits until a listener of the connection's address waits.
 fn waits<C: Clock, R>(clock: &C, link: &TcpLink<R>) -> bool {
     let Some(holding) = &link.holding else {
         return false;
@@ -226,12 +226,12 @@ fn waits<C: Clock, R>(clock: &C, link: &TcpLink<R>) -> bool {
     false
 }
 
-// Whether a link comes to the door.
+// Whether a connection comes to the listener.
 fn comes<D: Door>(door: &mut D) -> bool {
     next_link(door).is_ok()
 }
 
-// Whether a link is there, once a door of its place waits, after it was held for too long.
+// Whether a connection is there, once a listener of its address waits, after it was held for too long.
 fn stays_held<R: Clock, T: Clock, N: Net>(
     clock: &R,
     near: &mut TcpLink<T>,
@@ -241,7 +241,7 @@ fn stays_held<R: Clock, T: Clock, N: Net>(
     waits(clock, near) && probe_held(clock, near, net, place)
 }
 
-// Whether a link is there as long as a door of its place waits, however long it is held.
+// Whether a connection is there as long as a listener of its address waits, however long it is held.
 fn stays<R, D, T, N>(rt: &R, door: &mut D, near: &mut TcpLink<T>, net: &mut N, place: &str) -> bool
 where
     R: Threads + Wait + Clock + Sync,
@@ -287,7 +287,7 @@ fn probes_leave_bytes<R: Clock>(met: &mut Meeting<R>) -> Result<bool, Failed> {
     Ok(has_come && is_read)
 }
 
-// Whether a probe is a fault once the peer's end has come, and the counts of the net.
+// Whether a probe fails once the peer's end has come, and the network's error counter and open count.
 fn probed_at_an_end<R>(met: Meeting<R>) -> (bool, u64, u64)
 where
     R: net::Net<Listener = TcpListener, Stream = TcpStream> + Clock + Copy + Send,
@@ -332,7 +332,7 @@ fn an_error_of_one_link_ends_no_door(rt: HostRuntime) {
     }
 }
 
-// Writes until a write fails, as it does once the peer's answer to an earlier one has come.
+// Writes until a write fails, as it does once the peer's response to an earlier one has come.
 fn fails_to_write<W: Sink>(sink: &mut W) -> bool {
     for _ in 0..100 {
         if sink.write(b"x").is_err() {
@@ -342,7 +342,7 @@ fn fails_to_write<W: Sink>(sink: &mut W) -> bool {
     false
 }
 
-// Whether a write at one end fails once the other is closed, and the faults of the net.
+// Whether a write at one end fails once the other is closed, and the network's error counter.
 fn closed<R>(met: Meeting<R>) -> (bool, u64)
 where
     R: net::Net<Listener = TcpListener, Stream = TcpStream> + Clock + Copy + Send,

@@ -1,8 +1,8 @@
-//! What a stranger in the house may send.
+//! What a hostile peer may send.
 
 use share_server::LinkEnd;
 
-/// A text, another so many times, and a last one.
+/// A text, a second one with its number of repetitions, and a last one.
 pub(super) type Coming = (&'static [u8], &'static [u8], usize, &'static [u8]);
 
 /// Bytes that are refused at once, and the status.
@@ -194,7 +194,7 @@ pub(super) const CONNECTIONS: [(Coming, usize, LinkEnd); 20] = [
     ),
 ];
 
-/// Requests of a player, one behind the other, and the status of each.
+/// Requests of a player, one after another, and the status of each.
 pub(super) const ODD_REQUESTS: [(&'static [u8], u16); 40] = [
     (b"GET /login HTTP/1.1\r\n\r\n", 200),
     (b"GET /databases?session-id=1 HTTP/1.1\r\n\r\n", 200),
@@ -280,7 +280,7 @@ pub(super) const ODD_REQUESTS: [(&'static [u8], u16); 40] = [
 /// Records of an item with a name of 255 letters.
 pub(super) const ITEM_7: Coming = (b"op,kind,id,dmap.itemname\nput,item,7,", b"a", 255, b"\n");
 
-/// What a player asks of the items behind that, and what the reply ends with.
+/// Parameters of a listing of the items after that edit, and the end of the reply.
 pub(super) const QUERIES: [(Coming, &'static [u8]); 9] = [
     ((b"query='a:", b"b", 4092, b"'"), b"mlcl\0\0\0\0"),
     ((b"query='a:", b"b", 4093, b"'"), b"query: too long\n"),
@@ -310,7 +310,7 @@ pub(super) const QUERIES: [(Coming, &'static [u8]); 9] = [
     ),
 ];
 
-/// Records that an editor sends behind that, and what the reply ends with.
+/// Records that an editor sends after that edit, and the end of the reply.
 pub(super) const RECORDS: [(Coming, &'static [u8]); 6] = [
     (
         (b"op,kind,id\n", b"drop,item,1\n", 65536, b""),

@@ -1,5 +1,5 @@
-//! As many players as a share has workers for them, and an editor, all connected at once: the updates of all are held
-//! until an edit, and again until a stop.
+//! One player for each worker of a share, and an editor, all connected at once: the updates of all are pending until an
+//! edit, and again until a stop.
 
 use crate::loopback::{await_open, brings, free_place, player, serves};
 use daap_outside::{Link, MemSink, Net, TcpNet, put_all};
@@ -20,7 +20,7 @@ const EDIT: &[u8] =
 
 const STOP: &[u8] = b"POST /stop HTTP/1.1\r\n\r\n";
 
-// What the edit is answered with, and each update that was held until then.
+// The reply to the edit, and to each update that was pending until then.
 const REVISED: &[u8] =
     b"HTTP/1.1 200 OK\r\nContent-Type: application/x-dmap-tagged\r\nContent-Length: 32\r\n\r\n\
 mupd\0\0\0\x18mstt\0\0\0\x04\0\0\0\xc8musr\0\0\0\x04\0\0\0\x04";
@@ -30,7 +30,7 @@ const STOPPED: &[u8] = b"HTTP/1.1 204 No Content\r\nConnection: close\r\n\r\n";
 const REFUSED: &[u8] =
     b"HTTP/1.1 503 Service Unavailable\r\nContent-Length: 0\r\nConnection: close\r\n\r\n";
 
-/// Five players that logged in, and asked for an update.
+/// Connects five players that log in and request an update.
 fn five_players<N: Net>(alloc: Global, net: &mut N, place: &str) -> Option<Vec<N::L>> {
     let mut players = Vec::new(alloc);
     for session in 1..6 {
@@ -40,7 +40,7 @@ fn five_players<N: Net>(alloc: Global, net: &mut N, place: &str) -> Option<Vec<N
     Some(players)
 }
 
-/// Whether each link brings these bytes. Then more is asked on each.
+/// Returns whether the next bytes of each connection are `bytes`. Writes `more` on each.
 fn all_bring<K: Link>(links: &mut [K], bytes: &[u8], more: &[u8]) -> bool {
     for link in links {
         if !brings(link, bytes) || put_all(link, more).is_err() {
@@ -50,12 +50,12 @@ fn all_bring<K: Link>(links: &mut [K], bytes: &[u8], more: &[u8]) -> bool {
     true
 }
 
-/// Whether a link brings these bytes once it was asked.
+/// Writes `request` on `link`. Returns whether the next bytes from it are `bytes`.
 fn replies<K: Link>(link: &mut K, request: &[u8], bytes: &[u8]) -> bool {
     put_all(link, request).is_ok() && brings(link, bytes)
 }
 
-/// Whether five players hear of an edit and of a stop, with the editor connected before they are.
+/// Returns whether five players get the replies of an edit and of a stop. The editor connects first.
 fn all_hear<C: Clock, N: Net>(
     clock: &C,
     alloc: Global,
@@ -72,7 +72,7 @@ fn all_hear<C: Clock, N: Net>(
     Some(edited && stopped)
 }
 
-/// The same, over sockets.
+/// Does so over sockets.
 fn hear_all<R>(rt: &R, alloc: Global, listen: &str, edit: &str) -> Option<bool>
 where
     R: net::Net<Listener = TcpListener, Stream = TcpStream> + Clock + Sync,
@@ -80,7 +80,7 @@ where
     all_hear(rt, alloc, &mut TcpNet::new(rt, alloc), listen, edit)
 }
 
-/// Whether five players of a share with five workers hear of an edit and a stop.
+/// Returns whether five players of a share with five workers get the replies of an edit and of a stop.
 fn five_hear<R>(rt: &R, alloc: Global, listen: &str, edit: &str) -> Result<bool, AllocError>
 where
     R: net::Net<Listener = TcpListener, Stream = TcpStream> + Threads + Wait + Clock + Sync,

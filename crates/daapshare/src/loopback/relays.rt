@@ -1,5 +1,5 @@
-//! A share and a relay of it, each a run of the program in a thread of its own, and one who watches the relay: a player that
-//! waits for each revision, and a mirror that follows the relay.
+//! A share and its relay, each a run of the program in its own thread, and a third thread that watches the relay: a
+//! player waits for each revision, and a mirror follows the relay.
 
 use crate::loopback::{CHANGE, await_open, brings, free_place, player, serves, status_of};
 use daap_outside::{Link, MemSink, Net, TcpNet, put_all};
@@ -18,7 +18,7 @@ const BEFORE_FIRST: &[u8] = b"GET /update?session-id=1&revision-number=2 HTTP/1.
 
 const BEHIND_FIRST: &[u8] = b"GET /update?session-id=1&revision-number=3 HTTP/1.1\r\n\r\n";
 
-// The reply to an update, up to the last byte of the revision.
+// The reply to an update, without the last byte of the revision.
 const UPDATED: &[u8] =
     b"HTTP/1.1 200 OK\r\nContent-Type: application/x-dmap-tagged\r\nContent-Length: 32\r\n\r\n\
 mupd\0\0\0\x18mstt\0\0\0\x04\0\0\0\xc8musr\0\0\0\x04\0\0\0";
@@ -32,7 +32,7 @@ upstream 4 delta puts 1 drops 1 revision 4\n\
 upstream 5 delta puts 0 drops 1 revision 5\n\
 ended at revision 5, links ";
 
-/// The places of a share, for players and for editors, and that of its relay.
+/// The addresses of a share, for players and for editors, and that of its relay.
 #[derive(Drop)]
 struct Places<'a> {
     share: &'a str,
@@ -40,7 +40,7 @@ struct Places<'a> {
     relay: &'a str,
 }
 
-/// Whether the share takes a change and has this revision then.
+/// Sends `change` to the share. Returns whether the output of `edit` is `told`.
 fn takes<R: Threads + Wait + Clock + Sync, N: Net>(
     rt: &R,
     alloc: Global,
@@ -56,7 +56,7 @@ fn takes<R: Threads + Wait + Clock + Sync, N: Net>(
     status == Some(0) && answer.taken() == told
 }
 
-/// Whether the relay sends its first revision to a player, and the next one after the share was changed.
+/// Returns whether the relay sends its first revision to a player, and the next one after the share was changed.
 fn sends_both<R: Threads + Wait + Clock + Sync, N: Net, K: Link>(
     rt: &R,
     alloc: Global,
@@ -72,7 +72,7 @@ fn sends_both<R: Threads + Wait + Clock + Sync, N: Net, K: Link>(
         && brings(link, b"\x04")
 }
 
-/// Whether a mirror of the relay has the share's item.
+/// Returns whether a mirror of the relay has the share's item.
 fn shows<R: Threads + Wait + Clock + Sync, N: Net>(
     rt: &R,
     alloc: Global,
@@ -86,7 +86,7 @@ fn shows<R: Threads + Wait + Clock + Sync, N: Net>(
     status == Some(0) && rows.taken() == FOLLOWED
 }
 
-/// Whether the relay has what the share has, change by change, until its last round.
+/// Returns whether the relay has what the share has, change by change, until its last round.
 fn keeps_up<R: Threads + Wait + Clock + Sync, N: Net>(
     rt: &R,
     alloc: Global,
@@ -103,7 +103,7 @@ fn keeps_up<R: Threads + Wait + Clock + Sync, N: Net>(
         && takes(rt, alloc, net, places.edit, LAST_CHANGE, b"revision 5\n")
 }
 
-/// The status of the editor that stops the share.
+/// Stops the share. Returns the status of `edit`.
 fn stops<R>(rt: &R, alloc: Global, edit: &str) -> Option<u8>
 where
     R: net::Net<Listener = TcpListener, Stream = TcpStream> + Threads + Wait + Clock + Sync,
@@ -120,7 +120,7 @@ where
     )
 }
 
-/// The same over sockets. A share whose relay is not as it should be is stopped, so that the relay ends.
+/// Does so over sockets. If the relay is not as expected, stops the share, so that the relay ends.
 fn watches<R>(rt: &R, alloc: Global, places: &Places<'_>) -> bool
 where
     R: net::Net<Listener = TcpListener, Stream = TcpStream> + Threads + Wait + Clock + Sync,
@@ -132,7 +132,7 @@ where
     is_well
 }
 
-/// The status of the relay, which begins once the share is open.
+/// Runs the relay, once the share is open. Returns its status.
 fn relays<R>(rt: &R, alloc: Global, places: &Places<'_>, lines: &mut MemSink) -> Option<u8>
 where
     R: net::Net<Listener = TcpListener, Stream = TcpStream> + Threads + Wait + Clock + Sync,
@@ -150,7 +150,7 @@ where
     status_of(rt, alloc, &mut net, &words, b"", lines)
 }
 
-/// What the relay ends with, whether it kept up, and the status of the editor that stops the share behind it.
+/// Returns the status of the relay, whether it kept up, and the status of the editor that stops the share after it.
 fn relayed<R>(
     rt: &R,
     alloc: Global,
@@ -168,7 +168,7 @@ where
     (relayed, is_well, stops(rt, alloc, places.edit))
 }
 
-/// Whether a share, its relay and a mirror of the relay end as they should.
+/// Returns whether a share, its relay and a mirror of the relay end as they should.
 fn is_relayed<R>(rt: &R, alloc: Global, places: &Places<'_>) -> Result<bool, AllocError>
 where
     R: net::Net<Listener = TcpListener, Stream = TcpStream> + Threads + Wait + Clock + Sync,

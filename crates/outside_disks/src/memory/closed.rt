@@ -1,9 +1,9 @@
-//! The files that were closed, in room that each disk brings with it.
+//! The files that were closed, in memory that each disk brings with it.
 ghost use Rattle.std.specs.Prelude.{◌≡◌, ◌∷◌, [], unwrap_or};
 
 use std::mem;
 
-/// The names and the bytes of closed files, the one that was closed last first.
+/// The names and the bytes of closed files; the one that was closed last comes first.
 pub(crate) enum ClosedFiles {
     Empty,
     File {
@@ -32,7 +32,7 @@ impl ClosedFiles {
     ghost use Rattle.std.specs.FinMap as finite;
     ghost use Rattle.outside_disks.specs.Closed.{entries_of, contents_of};
 
-    /// Puts a file first. The others move into the room, so nothing is allocated.
+    /// Puts a file first. The others move into `room`, so nothing is allocated.
     pub(crate) fn push(&mut self, name: Vec<u8>, bytes: Vec<u8>, mut room: Box<ClosedFiles>)
         ensures { entries_of self.new ≡ (name.items, bytes.items) ∷ entries_of self.old }
     {
@@ -44,7 +44,7 @@ impl ClosedFiles {
         };
     }
 
-    /// The bytes of a name, and none where no file was closed under it.
+    /// Returns the bytes of a name; none if no file was closed under it.
     pub(crate) fn bytes_of(&self, name: &[u8]) -> &[u8]
         ensures { result.now ≡ unwrap_or (finite.get (contents_of self.now) name.now) [] }
     {

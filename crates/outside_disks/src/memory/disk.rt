@@ -14,7 +14,7 @@ use std::snapshot::Snapshot;
 /// The most bytes of a name of a file in memory.
 pub(crate) const NAME_ROOM: usize = 255;
 
-/// What is asked of a disk.
+/// An operation of a disk.
 #[derive(Clone, Copy, Debug, PartialEq, Eq)]
 pub enum DiskOp {
     Len,
@@ -28,21 +28,20 @@ pub enum DiskOp {
 #[derive(Drop)]
 pub struct DiskCall {
     pub op: DiskOp,
-    /// The place of a read or a write, or the length of a cut.
+    /// The offset of a read or a write, or the length of a truncation.
     pub at: u64,
-    /// The number of bytes of the room or the piece.
+    /// The number of bytes of the buffer or the piece.
     pub len: usize,
-    /// Whether it was answered `Ok`.
+    /// Whether it returned `Ok`.
     pub done: bool,
     before: Snapshot<Stand>,
 }
 
-/// Bytes in memory, with a record of all calls. The room for both is taken when it is made, and a
-/// call that finds none left does nothing and counts a fault. What files need to keep the disk
-/// once it is closed is taken then too.
+/// Bytes in memory, with a record of all calls. Both have capacity that is allocated at the start. A call that lacks
+/// capacity does nothing and counts an error. What files need to keep the closed disk is allocated at the start too.
 ///
-/// Some of its calls may be set to fail; the first recorded call has the number 1. A write or a
-/// cut that is set to fail leaves the bytes, but a crash may then leave it done or half done.
+/// Some of its calls may be set to fail; the first recorded call has the number 1. A write or a truncation that is
+/// set to fail leaves the bytes, but a crash may then leave it done or half done.
 #[derive(Drop)]
 pub struct MemDisk {
     name: Vec<u8>,
@@ -51,7 +50,7 @@ pub struct MemDisk {
     pieces: Vec<u8>,
     failing: Vec<u64>,
     faults: u64,
-    // The room that files need to keep it once it is closed.
+    // The memory that files need to keep it once it is closed.
     closed_room: Box<ClosedFiles>,
     ghost has_name_room: { 255 ≤ vec_capacity name },
 }
@@ -61,13 +60,12 @@ impl MemDisk {
     ghost use Rattle.outside_disks.specs.Closed.{entries_of};
     ghost use Rattle.outside_disks.specs.Calls.{AddsCall, calls_of, failing_calls, bytes_of, name_of, images_of, call_seen};
 
-    /// A disk with a copy of the bytes, all safe from a crash. It has room for at least `room`
-    /// bytes, for `calls` calls, and for `pieces` bytes of what is written. The calls with the
-    /// numbers `failing` fail.
+    /// Returns a disk with a copy of the bytes, all safe from a crash. It has capacity for at least `room` bytes, for
+    /// `calls` calls, and for `pieces` bytes of what is written. The calls with the numbers `failing` fail.
     ///
     /// # Errors
     ///
-    /// Returns `AllocError` if memory is short.
+    /// Returns `AllocError` if an allocation fails.
     pub fn new(
         alloc: Global,
         start: &[u8],
@@ -96,26 +94,26 @@ impl MemDisk {
         })
     }
 
-    /// The bytes that reads give.
+    /// Returns the bytes that reads return.
     pub fn bytes(&self) -> &[u8]
         ensures { result.now ≡ bytes_of self.now }
     {
         self.stand.bytes.as_slice()
     }
 
-    /// The calls so far.
+    /// Returns the calls so far.
     pub fn calls(&self) -> &[DiskCall]
         ensures { map call_seen result.now ≡ calls_of self.now }
     {
         self.calls.as_slice()
     }
 
-    /// The bytes of all writes so far, one behind the other.
+    /// Returns the bytes of all writes so far, one after the other.
     pub fn pieces(&self) -> &[u8] {
         self.pieces.as_slice()
     }
 
-    // Takes the name and the bytes, all safe, where there is room for them, and forgets its faults.
+    // Takes the name and the bytes, all safe, if the capacity is enough, and resets the error counter.
     pub(crate) fn begin(&mut self, name: &str, bytes: &[u8]) -> bool
         ensures name { result ≡ true → name_of self.new ≡ name.now }
         ensures bytes { result ≡ true → bytes_of self.new ≡ bytes.now }
@@ -132,7 +130,7 @@ impl MemDisk {
         true
     }
 
-    // Ends, and leaves its name and its bytes to the closed files.
+    // Closes the disk, and moves its name and its bytes to the closed files.
     pub(crate) fn close(self, closed: &mut ClosedFiles)
         ensures { entries_of closed.new ≡ (name_of self, bytes_of self) ∷ entries_of closed.old }
     {
@@ -152,7 +150,7 @@ impl MemDisk {
         self.faults > 0
     }
 
-    // Whether there is room for a call more, which writes so many bytes.
+    // Returns whether there is capacity for one more call, which writes `len` bytes.
     fn has_record(&self, len: usize) -> bool
         ensures calls { result ≡ true → vec_len self.now.calls < vec_capacity self.now.calls }
         ensures pieces { result ≡ true → vec_len self.now.pieces + len ≤ vec_capacity self.now.pieces }
@@ -161,7 +159,7 @@ impl MemDisk {
             && len <= self.pieces.capacity() - self.pieces.len()
     }
 
-    // Records a call, and counts a fault where it is set to fail.
+    // Records a call, and counts an error if it is set to fail.
     fn record(&mut self, op: DiskOp, at: u64, len: usize, piece: &[u8]) -> Result<(), Failed>
         requires calls { vec_len self.old.calls < vec_capacity self.old.calls }
         requires pieces { vec_len self.old.pieces + length piece.now ≤ vec_capacity self.old.pieces }

@@ -8,11 +8,10 @@ use crate::memory::disk::MemDisk;
 use crate::memory::shelf::Shelf;
 use std::alloc::{AllocError, Global};
 
-/// Files whose disks were put there. Each is given once, in order, under whatever name is opened,
-/// with a copy of the bytes that were closed under that name last. Where no disk is left that has
-/// room for them, the call fails.
+/// Files whose disks were given to them. Each is opened once, in order, under whatever name, with a copy of the bytes
+/// that were closed under that name last. If no disk is left with the capacity for them, the call fails.
 ///
-/// It tells the bytes of each name always, and the names asked for as long as it has room for them.
+/// The bytes of each name are always known, and the requested names up to their capacity.
 #[derive(Drop)]
 pub struct MemFiles {
     shelf: Option<Shelf>,
@@ -23,7 +22,7 @@ impl MemFiles {
     ghost use Rattle.std.specs.FinMap as finite;
     ghost use Rattle.outside_disks.specs.Shelf.{files_asked, files_contents};
 
-    /// Files without disks, so that none can be opened. They tell nothing.
+    /// Returns files without disks, so that none can be opened. Nothing of them is known.
     pub fn new() -> MemFiles
         ensures { ⟦<MemFiles as Faulted>⟧.faults result ≡ 0 }
     {
@@ -33,11 +32,11 @@ impl MemFiles {
         }
     }
 
-    /// Files with the disks, to be opened in order, and with room for so many names asked for.
+    /// Returns files with these disks, to be opened in order, and capacity for `opens` requested names.
     ///
     /// # Errors
     ///
-    /// Returns `AllocError` if memory is short.
+    /// Returns `AllocError` if an allocation fails.
     pub fn with_disks(
         alloc: Global,
         disks: Vec<MemDisk>,

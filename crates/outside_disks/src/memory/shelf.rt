@@ -7,7 +7,7 @@ use std::alloc::{AllocError, Global};
 use std::collections::VecDeque;
 use std::marker::Model;
 
-/// A name that was asked for.
+/// A name that was requested.
 #[derive(Drop)]
 pub(crate) struct FileName {
     text: [u8; NAME_ROOM],
@@ -38,8 +38,8 @@ impl FileName {
     }
 }
 
-/// The disks of files in memory. The room for the names asked for is taken when it is made, and the
-/// room to keep a closed disk comes with the disk.
+/// The disks of files in memory. The capacity for requested names is allocated at the start, and each disk brings the
+/// memory to keep it once it is closed.
 #[derive(Drop)]
 pub(crate) struct Shelf {
     spare: VecDeque<MemDisk>,
@@ -54,7 +54,7 @@ impl Shelf {
     ghost use Rattle.outside_disks.specs.Calls.{name_of, bytes_of};
     ghost use Rattle.outside_disks.specs.Shelf.{contents_in, asked_in, spare_in};
 
-    /// The disks, to be opened in order, and room for so many names asked for.
+    /// Returns the disks, to be opened in order, with capacity for `opens` requested names.
     pub(crate) fn new(alloc: Global, disks: Vec<MemDisk>, opens: usize) -> Result<Shelf, AllocError>
         ensures asked { IfOk result (λ shelf. asked_in shelf ≡ Some []) }
         ensures contents { IfOk result (λ shelf. contents_in shelf ≡ finite.empty) }
@@ -68,7 +68,7 @@ impl Shelf {
         })
     }
 
-    /// Tells the name.
+    /// Records the requested name.
     pub(crate) fn ask(&mut self, name: &str)
         ensures asks { Grows (asked_in self.old) (asked_in self.new) (name.now ∷ []) }
         ensures contents_stay { contents_in self.new ≡ contents_in self.old }
@@ -81,7 +81,7 @@ impl Shelf {
         }
     }
 
-    /// The next disk, with the bytes of the name, where there is one that has room for them.
+    /// Returns the next disk with the bytes of the name, if its capacity is enough for them.
     pub(crate) fn take(&mut self, name: &str) -> Option<MemDisk>
         ensures opened { IfSome result (λ disk. (name_of disk ≡ name.now)
             × (bytes_of disk ≡ unwrap_or (finite.get (contents_in self.old) name.now) [])) }

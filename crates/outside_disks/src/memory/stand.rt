@@ -1,4 +1,4 @@
-//! What a disk in memory holds, and what a crash may leave of it.
+//! What a disk in memory has, and what a crash may leave of it.
 ghost use Rattle.std.specs.Prelude.{◌≡◌, ◌≤◌, ◌<◌, ◌+◌, ◌-◌, ◌++◌, ◌∷◌, ◌^◌, [], ℕ, length, take, IfOk, if◌then◌else◌, vec_len, vec_capacity, true, false};
 ghost use Rattle.outside_disks.specs.Disks.{overlaid};
 
@@ -9,19 +9,19 @@ use std::alloc::{AllocError, Global};
 pub enum Change {
     /// Bytes were written.
     Write {
-        /// The place of the first.
+        /// The offset of the first.
         at: u64,
-        /// How many.
+        /// The number of bytes.
         len: usize,
     },
-    /// The bytes behind a length were cut off.
+    /// The bytes past a length were truncated.
     Cut {
         /// That length.
         len: u64,
     },
 }
 
-/// The bytes, those at the last sync, and the changes since, in room that was taken beforehand.
+/// The bytes, those at the last sync, and the changes since, in capacity that was allocated beforehand.
 #[derive(Drop)]
 pub(crate) struct Stand {
     pub(crate) bytes: Vec<u8>,
@@ -37,7 +37,7 @@ pub(crate) struct Stand {
     ghost synced_are_short: { length synced.items < 2 ^ 63 },
 }
 
-// Puts the piece at its place: over what stands there, and behind the end.
+// Puts the piece at offset `at`: over the old bytes there, and past the end.
 fn put(bytes: &mut Vec<u8>, at: usize, piece: &[u8])
     requires inside { at ≤ length bytes.old.items }
     requires room { at + length piece.now ≤ vec_capacity bytes.old }
@@ -54,7 +54,7 @@ impl Stand {
     ghost use Rattle.outside_disks.specs.Disks.{ReadsFrom, Torn, CutShort, Follows, NoMore};
     ghost use Rattle.outside_disks.specs.MemDisk.{IsImage, bytes_in, room_in, pending_room};
 
-    /// A copy of the bytes, all safe, with room for so many bytes and for so many changes.
+    /// Returns a copy of the bytes, all safe, with capacity for `room` bytes and `changes` changes.
     pub(crate) fn new(
         alloc: Global,
         start: &[u8],
@@ -79,7 +79,7 @@ impl Stand {
         })
     }
 
-    /// Holds other bytes instead, all safe, where there is room for them.
+    /// Replaces the bytes by `start`, all safe, if the capacity is enough.
     pub(crate) fn restart(&mut self, start: &[u8]) -> bool
         ensures bytes { result ≡ true → bytes_in self.new ≡ start.now }
         ensures safe { result ≡ true → (image : _) → IsImage self.new image → image ≡ start.now }
@@ -93,7 +93,7 @@ impl Stand {
         true
     }
 
-    /// Whether there is room for bytes from a place on, and for a change.
+    /// Returns whether there is capacity for `len` bytes at offset `at`, and for a change.
     pub(crate) fn has_room_for(&self, at: u64, len: usize) -> bool
         ensures room { result ≡ true → at + len ≤ room_in self.now }
         ensures changes { result ≡ true → 0 < pending_room self.now }
@@ -103,7 +103,7 @@ impl Stand {
             && self.pending.len() < self.pending.capacity()
     }
 
-    /// Reads into the front of the room.
+    /// Reads into the start of `room`.
     pub(crate) fn read(&self, at: u64, room: &mut [u8]) -> usize
         requires some { 0 < length room.old }
         ensures within { result ≤ length room.new }
@@ -116,7 +116,7 @@ impl Stand {
         n
     }
 
-    /// Writes, or begins to and fails.
+    /// Writes; if not `is_done`, begins to write and fails.
     pub(crate) fn write(&mut self, at: u64, piece: &[u8], is_done: bool)
         requires inside { at ≤ length (bytes_in self.old) }
         requires room { at + length piece.now ≤ room_in self.old }
@@ -133,7 +133,7 @@ impl Stand {
         }
     }
 
-    /// Cuts, or begins to and fails.
+    /// Truncates; if not `is_done`, begins to truncate and fails.
     pub(crate) fn cut(&mut self, len: u64, is_done: bool)
         requires inside { len ≤ length (bytes_in self.old) }
         requires changes { 0 < pending_room self.old }
@@ -146,7 +146,7 @@ impl Stand {
         }
     }
 
-    /// Makes all that was changed safe.
+    /// Makes all changes safe.
     pub(crate) fn sync(&mut self)
         ensures bytes { bytes_in self.new ≡ bytes_in self.old }
         ensures safe { (image : _) → IsImage self.new image → image ≡ bytes_in self.old }

@@ -1,4 +1,4 @@
-//! How a connection ends that cannot go on.
+//! Ends of a connection that cannot continue.
 
 ghost use Rattle.std.specs.Prelude.{◌≡◌, ◌≢◌, false};
 ghost use Rattle.share_server.specs.Losses.{is_loss};
@@ -11,8 +11,8 @@ use http_heads::HeadError;
 use reply_bytes::{ReplyError, status_of, write_failure, write_refusal};
 use std::alloc::Global;
 
-/// Ends a connection for want of memory, of which it is told. It takes none.
-pub(crate) fn given_up<K: Link>(link: &mut K) -> LinkEnd
+/// Ends a connection after a failed allocation, and writes the 500. Does not allocate.
+pub(crate) fn end_out_of_memory<K: Link>(link: &mut K) -> LinkEnd
     ensures told { IsGivenUp (K.taken link.old) (K.taken link.new) result }
     ensures beside { K.beside_taken link.new ≡ K.beside_taken link.old }
     ensures count { CountsEnd (K.faults link.old) (K.faults link.new) result }
@@ -24,8 +24,8 @@ pub(crate) fn given_up<K: Link>(link: &mut K) -> LinkEnd
     }
 }
 
-/// Ends a connection whose bytes gave this error.
-pub(crate) fn unread<K: Link>(alloc: Global, link: &mut K, error: HeadError) -> LinkEnd
+/// Ends a connection whose bytes made the reader return `error`.
+pub(crate) fn end_on_head_error<K: Link>(alloc: Global, link: &mut K, error: HeadError) -> LinkEnd
     ensures memory { error ≡ HeadError.Memory → IsGivenUp (K.taken link.old) (K.taken link.new) result }
     ensures refused { error ≢ HeadError.Memory → IsRefused error (K.taken link.old) (K.taken link.new) result }
     ensures beside { K.beside_taken link.new ≡ K.beside_taken link.old }
@@ -33,15 +33,15 @@ pub(crate) fn unread<K: Link>(alloc: Global, link: &mut K, error: HeadError) -> 
     ensures goes_on { is_loss result ≡ false }
 {
     match error {
-        HeadError::Memory => given_up(link),
+        HeadError::Memory => end_out_of_memory(link),
         HeadError::Head | HeadError::Length | HeadError::BodyTooLarge | HeadError::HeadTooLarge => {
-            refused(alloc, link, &error)
+            end_with_refusal(alloc, link, &error)
         }
     }
 }
 
-// The bytes are no request, and no further ones mend that.
-fn refused<K: Link>(alloc: Global, link: &mut K, error: &HeadError) -> LinkEnd
+// Writes the refusal: the bytes cannot be continued to a request.
+fn end_with_refusal<K: Link>(alloc: Global, link: &mut K, error: &HeadError) -> LinkEnd
     ensures refused { IsRefused error.now (K.taken link.old) (K.taken link.new) result }
     ensures beside { K.beside_taken link.new ≡ K.beside_taken link.old }
     ensures count { CountsEnd (K.faults link.old) (K.faults link.new) result }
@@ -52,6 +52,6 @@ fn refused<K: Link>(alloc: Global, link: &mut K, error: &HeadError) -> LinkEnd
             status: status_of(error),
         },
         Err(ReplyError::Failed) => LinkEnd::LinkFault,
-        Err(ReplyError::Memory) => given_up(link),
+        Err(ReplyError::Memory) => end_out_of_memory(link),
     }
 }

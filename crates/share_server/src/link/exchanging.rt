@@ -13,7 +13,7 @@ ghost use Rattle.share_server.specs.Kept.{Keeping};
 ghost use Rattle.share_server.specs.Written.{CountsMaybe, IsCalm, IsSayable};
 ghost use Rattle.share_server.specs.Steps.{Goes, Exchanges};
 
-use crate::link::ending::given_up;
+use crate::link::ending::end_out_of_memory;
 use crate::link::writing::reply;
 use crate::report::{LinkEnd, Served};
 use crate::turns::{Answered, Unanswered, answer_request};
@@ -26,7 +26,7 @@ use std::alloc::Global;
 use std::sync::Wait;
 use std::time::Clock;
 
-/// What a connection is served with, for at most `limit` requests.
+/// The constants of serving one connection, for at most `limit` requests.
 #[derive(Drop)]
 pub(crate) struct Service<'a, R> {
     pub rt: &'a R,
@@ -36,9 +36,9 @@ pub(crate) struct Service<'a, R> {
     pub limit: u32,
 }
 
-/// Answers a request, and writes the reply. The room for its report is taken first, so that what was answered is
-/// reported. A peer that went while its update was held is a fault of the link, and an edit that was lost one of the
-/// keeper's file.
+/// Answers a request, and writes the reply. Reserves capacity for its report first, so that what was answered is
+/// reported. A peer that left while its update was pending is an error of the connection; a lost edit is an error of
+/// the keeper's file.
 pub(crate) fn exchange<K: Link, F: Keeps, R: Wait + Clock>(
     service: &Service<'_, R>,
     pass: &mut Pass<Share>,
@@ -59,7 +59,7 @@ pub(crate) fn exchange<K: Link, F: Keeps, R: Wait + Clock>(
     ensures count { CountsMaybe (K.faults link.old) (K.faults link.new) result }
 {
     if served.reserve(1).is_err() {
-        return Some(given_up(link));
+        return Some(end_out_of_memory(link));
     }
     match answer_request(
         service.rt,
@@ -77,7 +77,7 @@ pub(crate) fn exchange<K: Link, F: Keeps, R: Wait + Clock>(
     }
 }
 
-// Reports a request that was answered, for which there is room, and writes the reply.
+// Reports an answered request, in capacity that the caller reserved, and writes the reply.
 fn tell<K: Link, R>(
     service: &Service<'_, R>,
     link: &mut K,
@@ -105,7 +105,7 @@ fn tell<K: Link, R>(
     reply(service.alloc, link, said, request.added, due)
 }
 
-// The end that comes behind the `n`-th reply, if one does.
+// Returns how the connection ends after the `n`-th reply, if it does.
 fn end_behind(limit: u32, n: usize, close: bool, stopped: bool) -> Option<LinkEnd>
     ensures end { result ≡ end_behind limit n close stopped }
     ensures calm { IsCalm result }

@@ -1,4 +1,4 @@
-//! The reading of requests off a connection.
+//! Reads requests off a connection.
 
 ghost use Rattle.std.specs.Prelude.{◌≡◌, ◌≢◌, ◌≤◌, ◌<◌, ℕ, List, [], None, Some, false, length, Option, IfOk, IfErr, MatchResult};
 ghost use Rattle.share_asks.specs.declared.ask.Role.{Role as RoleSeen};
@@ -10,7 +10,7 @@ ghost use Rattle.share_server.specs.Serving.{CountsEnd};
 ghost use Rattle.share_server.specs.Written.{CountsMaybe, IsCalm};
 ghost use Rattle.share_server.specs.Steps.{Midway, Steps, Feeds, Underway, Pumps, EndsInput};
 
-use crate::link::ending::unread;
+use crate::link::ending::end_on_head_error;
 use crate::link::exchanging::{Service, exchange};
 use crate::report::{LinkEnd, Served};
 use daap_outside::{Failed, Link};
@@ -21,7 +21,7 @@ use share_lock::Pass;
 use std::sync::Wait;
 use std::time::Clock;
 
-// How many bytes one read asks for.
+// The most bytes of one read.
 const PIECE: usize = 8_192;
 
 /// What was read off a connection, and what was served on it.
@@ -31,7 +31,7 @@ pub(crate) struct Serving {
     pub served: Vec<Served>,
 }
 
-/// Reads once, and serves what is then whole. An answer is the end of the connection.
+/// Reads once, and serves the requests that are then complete. Returns the end of the connection, if it ended.
 pub(crate) fn pump<K: Link, F: Keeps, R: Wait + Clock>(
     service: &Service<'_, R>,
     pass: &mut Pass<Share>,
@@ -63,7 +63,7 @@ pub(crate) fn pump<K: Link, F: Keeps, R: Wait + Clock>(
     feed(service, pass, link, keeper, serving, piece)
 }
 
-// The input ended, behind so many bytes.
+// Returns the end of an input of `consumed` bytes.
 fn end_of_input(serving: &Serving, consumed: u64) -> LinkEnd
     ensures end { serving.now.reader.error ≡ None → EndsInput serving.now.reader consumed result }
     ensures calm { IsCalm (Some result) }
@@ -76,7 +76,7 @@ fn end_of_input(serving: &Serving, consumed: u64) -> LinkEnd
     }
 }
 
-// Serves the requests that are whole in a piece.
+// Serves the requests that are complete in a chunk.
 fn feed<K: Link, F: Keeps, R: Wait + Clock>(
     service: &Service<'_, R>,
     pass: &mut Pass<Share>,
@@ -107,7 +107,8 @@ fn feed<K: Link, F: Keeps, R: Wait + Clock>(
     None
 }
 
-// Reads up to the end of the next request, and serves it where it is whole. An error is the end of the connection.
+// Reads to the end of the next request, and serves it if it is complete. Returns the number of bytes read, or the end
+// of the connection as an error.
 fn step<K: Link, F: Keeps, R: Wait + Clock>(
     service: &Service<'_, R>,
     pass: &mut Pass<Share>,
@@ -132,7 +133,7 @@ fn step<K: Link, F: Keeps, R: Wait + Clock>(
 {
     let taken = match serving.reader.feed(piece) {
         Ok(taken) => taken,
-        Err(error) => return Err(unread(service.alloc, link, error)),
+        Err(error) => return Err(end_on_head_error(service.alloc, link, error)),
     };
     let Some(ask) = serving.reader.next() else {
         return Ok(taken);

@@ -1,4 +1,4 @@
-//! Serving one connection.
+//! Serves one connection.
 
 ghost use Rattle.std.specs.Prelude.{◌≡◌, ◌++◌, List, false};
 ghost use Rattle.item_model.specs.declared.changes.Edit.{Edit};
@@ -10,7 +10,7 @@ ghost use Rattle.share_server.specs.Kept.{Keeping};
 ghost use Rattle.share_server.specs.Links.{LinkEnded};
 ghost use Rattle.share_server.specs.Serving.{LinkServed, CountsEnd, limit_of};
 
-use crate::link::ending::given_up;
+use crate::link::ending::end_out_of_memory;
 use crate::link::exchanging::Service;
 use crate::link::reading::{Serving, pump};
 use crate::report::{LinkEnd, LinkReport, Served, ServedRequests};
@@ -24,7 +24,7 @@ use std::alloc::Global;
 use std::sync::Wait;
 use std::time::Clock;
 
-// How many requests are served on one connection at most.
+// The most requests on one connection.
 const MAX_REQUESTS: u32 = 65_536;
 
 /// Serves a connection to its end, as `keep_link` does, with a keeper that keeps nothing.
@@ -47,11 +47,10 @@ pub fn serve_link<K: Link, R: Wait + Clock>(
     keep_link(rt, alloc, lock, bell, pass, link, &mut Unkept, role, budget)
 }
 
-/// Serves a connection to its end, for at most `budget` requests and never more than 65,536, as a pass of the share's
-/// lock. Requests that came at once are answered in their order, each in a turn of its own; an update that is yet to
-/// come is waited for at the bell, at which each added entry is rung. Each edit is kept in the turn that adds it, before
-/// its reply is written; where one is lost, the share is stopped behind it, and the connection ends without a reply to
-/// it. The link stays the caller's, who ends it.
+/// Serves a connection to its end, for at most `budget` requests and never more than 65,536. Answers its requests in
+/// order, each in its own turn. A pending update waits at the bell, which each added entry rings. The keeper gets
+/// each edit in the turn that adds it, before the reply is written. If it loses one, the same turn stops the share,
+/// and the connection ends without a reply to the edit. The caller keeps the connection, and closes it.
 pub fn keep_link<K: Link, F: Keeps, R: Wait + Clock>(
     rt: &R,
     alloc: Global,
@@ -67,7 +66,7 @@ pub fn keep_link<K: Link, F: Keeps, R: Wait + Clock>(
     requires going { F.is_lost keeper.old ≡ false }
     ensures ready { IsReady (lock_id lock.now) pass.new }
     ensures served { LinkServed role budget (known pass.old) (known pass.new) (K.left link.old) (K.taken link.old) (K.taken link.new) result }
-    // What the keeper kept before, and behind it the edits of the requests that were served.
+    // The keeper keeps what it kept before, and then the edits of the served requests.
     ensures kept { (bs : List (List Edit)) → F.keeps keeper.old bs → F.keeps keeper.new (bs ++ batches (added_entries (known pass.new).seen result.served)) }
     ensures keeping { Keeping (F.keeps keeper.old) (F.keeps keeper.new) (F.is_lost keeper.new) (F.faults keeper.old) (F.faults keeper.new) (known pass.old) (known pass.new) (is_loss result.end) }
     ensures count { CountsEnd (K.faults link.old) (K.faults link.new) result.end }
@@ -107,7 +106,7 @@ fn serve_to_end<K: Link, F: Keeps, R: Wait + Clock>(
         return (served, LinkEnd::Spent);
     }
     let Ok(reader) = HeadReader::new(service.alloc, role) else {
-        return (served, given_up(link));
+        return (served, end_out_of_memory(link));
     };
     let mut serving = Serving { reader, served };
     let mut consumed = 0;

@@ -1,4 +1,4 @@
-//! The writing of one reply.
+//! Writes one reply.
 
 ghost use Rattle.std.specs.Prelude.{◌≡◌, Some, false, is_some};
 ghost use Rattle.http_front.specs.ReplyHeads.{HasReason};
@@ -8,7 +8,7 @@ ghost use Rattle.share_server.specs.Losses.{is_loss, is_loss_if};
 ghost use Rattle.share_server.specs.Serving.{CountsEnd};
 ghost use Rattle.share_server.specs.Written.{WasWritten, IsSayable, said_bytes, CountsMaybe, IsCalm};
 
-use crate::link::ending::given_up;
+use crate::link::ending::end_out_of_memory;
 use crate::report::LinkEnd;
 use daap_outside::{Failed, Link};
 use listing_plan::Plan;
@@ -17,8 +17,8 @@ use share_asks::BodyForm;
 use share_core::Said;
 use std::alloc::Global;
 
-/// Writes the reply to a request that added an entry or did not. Behind it the end comes that is due, if one is, and
-/// its head says so.
+/// Writes the reply to a request; `added` says whether the request added an entry. The connection ends with `due`
+/// after the reply, if given, and the head says so. Returns the end, if the connection ends.
 pub(crate) fn reply<K: Link>(
     alloc: Global,
     link: &mut K,
@@ -75,12 +75,12 @@ fn whole<K: Link>(
     match write_reply(alloc, status, form, &plan, due.is_some(), link) {
         Ok(()) => due,
         Err(ReplyError::Failed) => Some(LinkEnd::LinkFault),
-        Err(ReplyError::Memory) => Some(unwritten(link, added)),
+        Err(ReplyError::Memory) => Some(end_without_head(link, added)),
     }
 }
 
-// There was no memory for the head of a reply. Who was answered by an entry more is not told otherwise.
-fn unwritten<K: Link>(link: &mut K, added: bool) -> LinkEnd
+// Allocating the head failed. Never writes a 500 if the request added an entry.
+fn end_without_head<K: Link>(link: &mut K, added: bool) -> LinkEnd
     ensures written { (bytes : _) (due : _) → WasWritten bytes added due (K.taken link.old) (K.taken link.new) (Some result) }
     ensures beside { K.beside_taken link.new ≡ K.beside_taken link.old }
     ensures count { CountsEnd (K.faults link.old) (K.faults link.new) result }
@@ -89,5 +89,5 @@ fn unwritten<K: Link>(link: &mut K, added: bool) -> LinkEnd
     if added {
         return LinkEnd::Memory;
     }
-    given_up(link)
+    end_out_of_memory(link)
 }

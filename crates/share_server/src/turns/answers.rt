@@ -1,4 +1,4 @@
-//! Turns until a request is answered.
+//! Takes turns until a request is answered.
 
 ghost use Rattle.std.specs.Prelude.{◌≡◌, false};
 ghost use Rattle.http_front.specs.Readable.{IsReadableWant};
@@ -8,7 +8,7 @@ ghost use Rattle.share_server.specs.Answering.{IsOutcome, CountsOutcome, loses};
 ghost use Rattle.share_server.specs.Kept.{Keeping};
 
 use crate::turns::looks::turn;
-use crate::turns::outcome::{Answered, Look, Unanswered};
+use crate::turns::outcome::{Answered, TurnOutcome, Unanswered};
 use daap_outside::Link;
 use edit_keeping::Keeps;
 use share_asks::Ask;
@@ -18,19 +18,19 @@ use std::alloc::Global;
 use std::sync::Wait;
 use std::time::{Clock, Duration, Instant};
 
-/// How long an update is held at most before its link is probed, in seconds.
+/// The longest wait of a pending update, in seconds, before its connection is probed.
 pub const PROBE_SECONDS: u64 = 5;
 
-/// Answers a request of a pass. The share is held for the answer alone, and nothing of it is written here. An update
-/// that is yet to come waits at the bell, outside any turn, for at most `PROBE_SECONDS`; then its link is probed, and it
-/// looks at the share again. An answer that adds an entry rings the bell. An edit that adds one is kept in its turn: the
-/// keeper makes it ready before. Where there is no memory for that or for the answer the share stays as it was, and the
-/// status is 500. The call takes no memory beside what these take.
+/// Answers a request. Takes a turn for the answer only, and writes nothing to the connection. A pending update waits
+/// at the bell, outside any turn, for at most `PROBE_SECONDS`. Then its connection is probed, and it takes another
+/// turn. An answer that adds an entry rings the bell. The keeper gets an edit in the turn that adds it, and makes it
+/// ready before. If an allocation for either fails, the share is unchanged, and the status is 500. Nothing else
+/// allocates.
 ///
 /// # Errors
 ///
-/// Returns `Gone` if the link's probe failed while the update was held. Nothing was served then. Returns `Lost` if the
-/// keeper lost the edit. Then it was added, and the share was stopped in the same turn.
+/// Returns `Gone` if the probe failed while the update was pending; nothing was served. Returns `Lost` if the keeper
+/// lost the edit; it was added, and the share was stopped in the same turn.
 pub fn answer_request<K: Link, F: Keeps, R: Wait + Clock>(
     rt: &R,
     alloc: Global,
@@ -54,19 +54,19 @@ pub fn answer_request<K: Link, F: Keeps, R: Wait + Clock>(
 {
     for _ in rt.forever() {
         match turn(rt, alloc, lock, pass, keeper, ask) {
-            Look::Answered(answered) => {
+            TurnOutcome::Answered(answered) => {
                 if answered.served.added {
                     bell.ring(rt, answered.served.point);
                 }
                 return Ok(answered);
             }
-            Look::Held { point } => {
+            TurnOutcome::Held { point } => {
                 wait_held(rt, bell, point);
                 if link.probe().is_err() {
                     return Err(Unanswered::Gone);
                 }
             }
-            Look::Lost { point } => {
+            TurnOutcome::Lost { point } => {
                 bell.ring(rt, point);
                 return Err(Unanswered::Lost);
             }
@@ -75,8 +75,8 @@ pub fn answer_request<K: Link, F: Keeps, R: Wait + Clock>(
     unreachable!()
 }
 
-// Waits at the bell for as long as an update may be held before its link is probed. Where the clock can't be read,
-// nobody would end the wait but the bell: without that, an update that is held would take turn after turn.
+// Waits at the bell until the next probe. If the clock can't be read, no time ends the wait: otherwise a pending
+// update would take turn after turn.
 fn wait_held<R: Wait + Clock>(rt: &R, bell: &Bell, point: u64) {
     match Instant::now(rt) {
         Ok(_) => bell.wait_for(rt, point, Duration::from_secs(PROBE_SECONDS)),

@@ -1,4 +1,4 @@
-//! What is asked of the share in a turn, and kept in it.
+//! Answers a request within a turn, and keeps its edit.
 
 ghost use Rattle.std.specs.Prelude.{◌≡◌, ◌<◌, ◌++◌, ◌∷◌, [], false};
 ghost use Rattle.item_model.specs.declared.changes.Entry.TheVariants as entry;
@@ -7,11 +7,11 @@ ghost use Rattle.share_history.specs.Sessions.{is_stopped};
 ghost use Rattle.share_lock.specs.Known.{after_turn};
 ghost use Rattle.share_core.specs.Laws.{Grows};
 ghost use Rattle.share_server.specs.Passes.{Pass as Known};
-ghost use Rattle.share_server.specs.Answering.{IsLooked, Finds, HasAdded, has_added, look_of, loses_in};
+ghost use Rattle.share_server.specs.Answering.{IsTurnOutcome, Finds, HasAdded, has_added, turn_outcome, loses_in};
 ghost use Rattle.share_server.specs.Kept.{IsReadyFor, Keeping, edits_wanted};
 
 use crate::report::Served;
-use crate::turns::outcome::{Answered, Look};
+use crate::turns::outcome::{Answered, TurnOutcome};
 use edit_keeping::Keeps;
 use share_asks::{Ask, Role, Want};
 use share_core::{Answer, Share};
@@ -19,16 +19,16 @@ use song_query::Steps;
 use std::alloc::AllocError;
 use std::sync::ledger::{Blank, Ledger};
 
-/// Asks the share, for the pass of a number that found it so. An edit that was added is kept before anyone sees it;
-/// where it is lost, the share is stopped behind it. Looks of queries at items are not counted.
-pub(crate) fn asked<L: Ledger, F: Keeps>(
+/// Answers the request for handle `by`. An edit that was added is kept before anyone sees it; if it is lost, the
+/// share is stopped after it. Evaluations of queries are not counted.
+pub(crate) fn ask_share<L: Ledger, F: Keeps>(
     blank: Blank,
     share: &mut Share,
     by: u32,
     keeper: &mut F,
     ask: &Ask,
     ready: Option<F::Ready>,
-) -> Look
+) -> TurnOutcome
     requires name { blank.name ≡ L.name }
     requires parts { blank.parts ≡ L.parts }
     requires any { 0 < blank.parts }
@@ -36,30 +36,30 @@ pub(crate) fn asked<L: Ledger, F: Keeps>(
     requires made { IsReadyFor F.is_for (edits_wanted ask.now.want) ready }
     requires going { F.is_lost keeper.old ≡ false }
     ensures grows { Grows share.old by share.new }
-    ensures looked { (k : Known) → k.number ≡ by → Finds k share.old → IsLooked k (after_turn k share.new.history) ask.now result }
+    ensures looked { (k : Known) → k.number ≡ by → Finds k share.old → IsTurnOutcome k (after_turn k share.new.history) ask.now result }
     ensures keeping { (k : Known) → k.number ≡ by → Finds k share.old
         → Keeping (F.keeps keeper.old) (F.keeps keeper.new) (F.is_lost keeper.new) (F.faults keeper.old) (F.faults keeper.new) k (after_turn k share.new.history) (loses_in result) }
 {
     let mut steps = Steps::<L>::open(blank);
-    let look = told(share, by, ask, &mut steps);
-    if !look.has_added() {
-        return look;
+    let outcome = answer_ask(share, by, ask, &mut steps);
+    if !outcome.has_added() {
+        return outcome;
     }
     let Some(ready) = ready else {
-        return look;
+        return outcome;
     };
     if keeper.keep(ready).is_ok() {
-        return look;
+        return outcome;
     }
     stop(share, by, &mut steps);
-    Look::Lost { point: share.len() }
+    TurnOutcome::Lost { point: share.len() }
 }
 
-// What the share answers.
-fn told<L: Ledger>(share: &mut Share, by: u32, ask: &Ask, steps: &mut Steps<L>) -> Look
+// Answers the request.
+fn answer_ask<L: Ledger>(share: &mut Share, by: u32, ask: &Ask, steps: &mut Steps<L>) -> TurnOutcome
     requires valid { IsValidWant ask.now.want }
     ensures grows { Grows share.old by share.new }
-    ensures looked { (k : Known) → k.number ≡ by → Finds k share.old → IsLooked k (after_turn k share.new.history) ask.now result }
+    ensures looked { (k : Known) → k.number ≡ by → Finds k share.old → IsTurnOutcome k (after_turn k share.new.history) ask.now result }
     ensures added { HasAdded (has_added result) share.old.history by ask.now.want share.new.history }
     ensures goes_on { loses_in result ≡ false }
 {
@@ -67,10 +67,10 @@ fn told<L: Ledger>(share: &mut Share, by: u32, ask: &Ask, steps: &mut Steps<L>) 
     let stopped = share.stopped();
     let revision = share.revision();
     let end = share.len();
-    look_of(answer, stopped, revision, end)
+    turn_outcome(answer, stopped, revision, end)
 }
 
-// Stops the share, for which there is always room.
+// Stops the share, which always has capacity for it.
 fn stop<L: Ledger>(share: &mut Share, by: u32, steps: &mut Steps<L>)
     requires going { is_stopped share.old.history ≡ false }
     ensures settings { share.new.settings ≡ share.old.settings }
@@ -84,17 +84,17 @@ fn stop<L: Ledger>(share: &mut Share, by: u32, steps: &mut Steps<L>)
     let _ = share.answer(by, &ask, steps);
 }
 
-/// What is told of an answer, or of want of memory at the end of the history, where the share has this revision.
-pub(crate) fn look_of(
+/// Returns the outcome of a turn: the reply, or a 500 at history length `end`. `revision` is the share's.
+pub(crate) fn turn_outcome(
     answer: Result<Answer, AllocError>,
     stopped: bool,
     revision: u32,
     end: u64,
-) -> Look
-    ensures { result ≡ look_of answer stopped revision end }
+) -> TurnOutcome
+    ensures { result ≡ turn_outcome answer stopped revision end }
 {
     match answer {
-        Ok(Answer::Reply(reply)) => Look::Answered(Answered {
+        Ok(Answer::Reply(reply)) => TurnOutcome::Answered(Answered {
             served: Served {
                 session: reply.session,
                 seen: reply.seen,
@@ -106,8 +106,8 @@ pub(crate) fn look_of(
             stopped,
             revision,
         }),
-        Ok(Answer::Wait { point, .. }) => Look::Held { point },
-        Err(_) => Look::Answered(Answered {
+        Ok(Answer::Wait { point, .. }) => TurnOutcome::Held { point },
+        Err(_) => TurnOutcome::Answered(Answered {
             served: Served {
                 session: 0,
                 seen: 0,

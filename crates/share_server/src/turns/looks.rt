@@ -1,4 +1,4 @@
-//! One turn at the share.
+//! One turn of a request.
 
 ghost use Rattle.std.specs.Prelude.{◌≡◌, false, IfOk, OnErr, []};
 ghost use Rattle.http_front.specs.Readable.{IsReadableWant};
@@ -7,11 +7,11 @@ ghost use Rattle.share_asks.specs.Valid.{IsValidWant};
 ghost use Rattle.share_lock.specs.Passes.{lock_id, known, IsReady};
 ghost use Rattle.share_core.specs.Wants.{is_free};
 ghost use Rattle.share_server.specs.Passes.{Serves};
-ghost use Rattle.share_server.specs.Answering.{IsLooked, loses_in};
+ghost use Rattle.share_server.specs.Answering.{IsTurnOutcome, loses_in};
 ghost use Rattle.share_server.specs.Kept.{IsReadyFor, Keeping, edits_wanted};
 
-use crate::turns::keeping::{asked, look_of};
-use crate::turns::outcome::Look;
+use crate::turns::keeping::{ask_share, turn_outcome};
+use crate::turns::outcome::TurnOutcome;
 use edit_keeping::Keeps;
 use share_asks::{Ask, Want};
 use share_core::Share;
@@ -21,8 +21,8 @@ use std::marker::Brand;
 use std::sync::Wait;
 use std::sync::ledger::Blank;
 
-/// Takes a turn for a request. An edit is made ready to be kept before it; where there is no memory for that, the turn
-/// only looks.
+/// Takes a turn for a request. The keeper makes an edit ready before it. If that fails to allocate, the turn only
+/// reads the history.
 pub(crate) fn turn<F: Keeps, R: Wait>(
     rt: &R,
     alloc: Global,
@@ -30,22 +30,22 @@ pub(crate) fn turn<F: Keeps, R: Wait>(
     pass: &mut Pass<Share>,
     keeper: &mut F,
     ask: &Ask,
-) -> Look
+) -> TurnOutcome
     requires ready { IsReady (lock_id lock.now) pass.old }
     requires valid { IsValidWant ask.now.want }
     requires readable { IsReadableWant ask.now.want }
     requires going { F.is_lost keeper.old ≡ false }
     ensures ready { IsReady (lock_id lock.now) pass.new }
-    ensures looked { IsLooked (known pass.old) (known pass.new) ask.now result }
+    ensures looked { IsTurnOutcome (known pass.old) (known pass.new) ask.now result }
     ensures keeping { Keeping (F.keeps keeper.old) (F.keeps keeper.new) (F.is_lost keeper.new) (F.faults keeper.old) (F.faults keeper.new) (known pass.old) (known pass.new) (loses_in result) }
 {
     match ready_for(alloc, keeper, &ask.want) {
-        Ok(ready) => looked(rt, lock, pass, keeper, ask, ready),
-        Err(AllocError) => passed_over(rt, lock, pass),
+        Ok(ready) => answer_in_turn(rt, lock, pass, keeper, ask, ready),
+        Err(AllocError) => fail_in_turn(rt, lock, pass),
     }
 }
 
-// What the keeper makes ready for a want: an edit, where it has one.
+// Returns what the keeper makes ready for the edits of an operation, if it has any.
 fn ready_for<F: Keeps>(
     alloc: Global,
     keeper: &F,
@@ -65,46 +65,46 @@ fn ready_for<F: Keeps>(
     Ok(Some(ready))
 }
 
-// Takes a turn, and gives it back before anything is written.
-fn looked<F: Keeps, R: Wait>(
+// Takes a turn, and ends it before anything is written.
+fn answer_in_turn<F: Keeps, R: Wait>(
     rt: &R,
     lock: &ShareLock<Share>,
     pass: &mut Pass<Share>,
     keeper: &mut F,
     ask: &Ask,
     ready: Option<F::Ready>,
-) -> Look
+) -> TurnOutcome
     requires ready { IsReady (lock_id lock.now) pass.old }
     requires valid { IsValidWant ask.now.want }
     requires made { IsReadyFor F.is_for (edits_wanted ask.now.want) ready }
     requires going { F.is_lost keeper.old ≡ false }
     ensures ready { IsReady (lock_id lock.now) pass.new }
-    ensures looked { IsLooked (known pass.old) (known pass.new) ask.now result }
+    ensures looked { IsTurnOutcome (known pass.old) (known pass.new) ask.now result }
     ensures keeping { Keeping (F.keeps keeper.old) (F.keeps keeper.new) (F.is_lost keeper.new) (F.faults keeper.old) (F.faults keeper.new) (known pass.old) (known pass.new) (loses_in result) }
 {
     let by = pass.number();
     let mut turn = lock.take(rt, pass);
-    let look = asked::<Brand, F>(Blank::new(1), turn.state(), by, keeper, ask, ready);
+    let outcome = ask_share::<Brand, F>(Blank::new(1), turn.state(), by, keeper, ask, ready);
     lock.give(turn);
-    look
+    outcome
 }
 
-// A turn in which nothing is asked, since there was no memory: the request is told so.
-fn passed_over<R: Wait>(rt: &R, lock: &ShareLock<Share>, pass: &mut Pass<Share>) -> Look
+// A turn that answers a request with 500, because an allocation failed before.
+fn fail_in_turn<R: Wait>(rt: &R, lock: &ShareLock<Share>, pass: &mut Pass<Share>) -> TurnOutcome
     requires ready { IsReady (lock_id lock.now) pass.old }
     ensures ready { IsReady (lock_id lock.now) pass.new }
-    ensures looked { (ask : AskSeen) → is_free ask.want ≡ false → IsLooked (known pass.old) (known pass.new) ask result }
+    ensures looked { (ask : AskSeen) → is_free ask.want ≡ false → IsTurnOutcome (known pass.old) (known pass.new) ask result }
     ensures quiet { Serves (known pass.old) (known pass.new) [] [] }
     ensures goes_on { loses_in result ≡ false }
 {
     let mut turn = lock.take(rt, pass);
     let share = turn.state();
-    let look = look_of(
+    let outcome = turn_outcome(
         Err(AllocError),
         share.stopped(),
         share.revision(),
         share.len(),
     );
     lock.give(turn);
-    look
+    outcome
 }

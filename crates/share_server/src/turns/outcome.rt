@@ -1,4 +1,4 @@
-//! What a request is answered.
+//! The outcomes of a request.
 
 ghost use Rattle.std.specs.Prelude.{◌≡◌};
 ghost use Rattle.share_server.specs.Answering.{has_added};
@@ -6,46 +6,46 @@ ghost use Rattle.share_server.specs.Answering.{has_added};
 use crate::report::Served;
 use share_core::Said;
 
-/// A request that was served, and what is to be written to it.
+/// A request that was served, and what is to be written for it.
 #[derive(Debug, Drop)]
 pub struct Answered {
     pub served: Served,
-    /// The status and the body, which are written without the share at any later time; `None` where there was no
-    /// memory for the answer, and the status is 500.
+    /// Status and body, which can be written later without the share. `None` if allocating the answer failed; the
+    /// status is then 500.
     pub said: Option<Said>,
-    /// Whether the share was stopped at the point of the answer.
+    /// Whether the share was stopped at the history length of the answer.
     pub stopped: bool,
-    /// The share's revision at the point of the answer.
+    /// The share's revision at the history length of the answer.
     pub revision: u32,
 }
 
 /// Why a request was not answered.
 #[derive(Debug, Drop)]
 pub enum Unanswered {
-    /// Its peer went while the update was held.
+    /// Its peer left while the update was pending.
     Gone,
-    /// Its edit was added and may not have been kept. The share was stopped behind it, before anyone saw it.
+    /// Its edit was added and may not have been kept. The same turn stopped the share, before anyone saw the edit.
     Lost,
 }
 
-/// What one look at the share gives.
+/// The outcome of one turn.
 #[derive(Debug, Drop)]
-pub(crate) enum Look {
+pub(crate) enum TurnOutcome {
     Answered(Answered),
-    /// The request is held until the history has more entries than this.
+    /// The request is pending until the history has more than `point` entries.
     Held { point: u64 },
-    /// The request's edit may not have been kept. Behind the stop the history has so many entries.
+    /// The request's edit may not have been kept. `point` is the history length after the stop.
     Lost { point: u64 },
 }
 
-impl Look {
-    /// Whether the answer added an entry.
+impl TurnOutcome {
+    /// Returns whether the answer added an entry.
     pub(crate) fn has_added(&self) -> bool
         ensures { result ≡ has_added self.now }
     {
         match self {
-            Look::Answered(answered) => answered.served.added,
-            Look::Held { .. } | Look::Lost { .. } => false,
+            TurnOutcome::Answered(answered) => answered.served.added,
+            TurnOutcome::Held { .. } | TurnOutcome::Lost { .. } => false,
         }
     }
 }

@@ -1,4 +1,4 @@
-//! Updates that are held, edits that are lost, want of memory, and two passes at one share.
+//! Pending updates, lost edits, failed allocations, and two handles of one share.
 
 ghost use Rattle.std.specs.Prelude.{◌≡◌, IfOk, false};
 ghost use Rattle.http_front.specs.Readable.{IsReadableWant};
@@ -7,9 +7,9 @@ ghost use Rattle.share_lock.specs.Passes.{lock_id, IsReady};
 
 use crate::report::Served;
 use crate::turns::answers::{PROBE_SECONDS, answer_request};
-use crate::turns::keeping::look_of;
+use crate::turns::keeping::turn_outcome;
 use crate::turns::looks::turn;
-use crate::turns::outcome::{Answered, Look, Unanswered};
+use crate::turns::outcome::{Answered, TurnOutcome, Unanswered};
 use daap_outside::{MemLink, MemSink, MemSource};
 use edit_keeping::{Keeps, Lost, Unkept};
 use item_model::{Batch, Edits, Entry};
@@ -22,7 +22,7 @@ use std::sync::Wait;
 use std::test::Fail;
 use std::time::{Clock, Duration};
 
-// A share without items, for two passes.
+// A share without items, for two handles.
 fn opened(alloc: Global) -> Result<(ShareLock<Share>, Pass<Share>), AllocError>
     ensures { IfOk result (λ r. IsReady (lock_id r.0) r.1) }
 {
@@ -88,10 +88,10 @@ impl Keeps for Losing {
     }
 }
 
-// The status, the point, whether an entry was added, and whether the share was stopped.
-type Told = (u16, u64, bool, bool);
+// The status, the history length, whether an entry was added, and whether the share was stopped.
+type Summary = (u16, u64, bool, bool);
 
-// A link without bytes of which these probes fail.
+// A connection without bytes on which the probes `failing` fail.
 fn linked(alloc: Global, failing: &[u64]) -> Result<MemLink, AllocError> {
     let input = MemSource::new(alloc, b"", 1, &[])?;
     let output = MemSink::new(alloc, 0, 1, &[])?;
@@ -105,7 +105,7 @@ fn read_clock<C: Clock>(clock: &C) -> Result<Duration, AllocError> {
     }
 }
 
-// The answer to a request on a link of which no probe fails, or that its edit was lost.
+// The answer to a request on a connection whose probes succeed; `None` if its edit was lost.
 fn kept<F: Keeps, R: Wait + Clock>(
     rt: &R,
     alloc: Global,
@@ -129,7 +129,7 @@ fn kept<F: Keeps, R: Wait + Clock>(
     }
 }
 
-// The same where nothing is kept.
+// The same with a keeper that keeps nothing.
 fn answered<R: Wait + Clock>(
     rt: &R,
     alloc: Global,
@@ -149,14 +149,14 @@ fn answered<R: Wait + Clock>(
     }
 }
 
-fn told<R: Wait + Clock>(
+fn answer_last<R: Wait + Clock>(
     rt: &R,
     alloc: Global,
     lock: &ShareLock<Share>,
     bell: &Bell,
     pass: Pass<Share>,
     want: Want,
-) -> Result<Told, AllocError>
+) -> Result<Summary, AllocError>
     requires ready { IsReady (lock_id lock.now) pass }
     requires valid { IsValidWant want }
     requires readable { IsReadableWant want }
@@ -167,7 +167,7 @@ fn told<R: Wait + Clock>(
     Ok((served.status, served.point, served.added, answered.stopped))
 }
 
-// Of session 1, for the revision behind the first one.
+// An update of session 1 at the first revision.
 fn update() -> Want
     ensures valid { IsValidWant result }
     ensures readable { IsReadableWant result }
@@ -178,7 +178,7 @@ fn update() -> Want
     }
 }
 
-// Logs in, and tells from which length of the history on an update is held, where it is.
+// Logs in, and returns the history length at which an update is pending, if it is.
 fn held_from<R: Wait + Clock>(
     rt: &R,
     alloc: Global,
@@ -191,17 +191,17 @@ fn held_from<R: Wait + Clock>(
 {
     answered(rt, alloc, lock, bell, pass, Want::Login)?;
     match turn(rt, alloc, lock, pass, &mut Unkept, &asks(update())) {
-        Look::Held { point } => Ok(Some(point)),
-        Look::Answered(_) | Look::Lost { .. } => Ok(None),
+        TurnOutcome::Held { point } => Ok(Some(point)),
+        TurnOutcome::Answered(_) | TurnOutcome::Lost { .. } => Ok(None),
     }
 }
 
-// Pass 0 asks for an update, which is held, then pass 1 for something else, and then pass 0 again.
+// Handle 0 requests an update, which is pending, then handle 1 something else, and then handle 0 the update again.
 fn held_before<R: Wait + Clock>(
     rt: &R,
     alloc: Global,
     other: Want,
-) -> Result<(Option<u64>, Told, Told), AllocError>
+) -> Result<(Option<u64>, Summary, Summary), AllocError>
     requires valid { IsValidWant other }
     requires readable { IsReadableWant other }
 {
@@ -209,8 +209,8 @@ fn held_before<R: Wait + Clock>(
     let bell = Bell::new();
     let second = lock.split(rt, &mut first)?;
     let point = held_from(rt, alloc, &lock, &bell, &mut first)?;
-    let other = told(rt, alloc, &lock, &bell, second, other)?;
-    let held = told(rt, alloc, &lock, &bell, first, update())?;
+    let other = answer_last(rt, alloc, &lock, &bell, second, other)?;
+    let held = answer_last(rt, alloc, &lock, &bell, first, update())?;
     Ok((point, held, other))
 }
 
@@ -231,12 +231,12 @@ fn a_stop_ends_what_holds_an_update(rt: HostRuntime) -> Result<(), Fail> {
     Ok(())
 }
 
-// Pass 0 asks for an update, which is held, then pass 1 for an edit, which is lost, and then pass 0 again. How many entries
-// the history has in the end is told, too.
+// Handle 0 requests an update, which is pending, then handle 1 an edit, which is lost, and then handle 0 the update
+// again. Also returns the history length at the end.
 fn held_before_a_loss<R: Wait + Clock>(
     rt: &R,
     alloc: Global,
-) -> Result<(bool, Told, u64), AllocError> {
+) -> Result<(bool, Summary, u64), AllocError> {
     let (lock, mut first) = opened(alloc)?;
     let bell = Bell::new();
     let mut second = lock.split(rt, &mut first)?;
@@ -254,7 +254,7 @@ fn held_before_a_loss<R: Wait + Clock>(
         &mut keeper,
         edit(alloc)?,
     )?;
-    let held = told(rt, alloc, &lock, &bell, first, update())?;
+    let held = answer_last(rt, alloc, &lock, &bell, first, update())?;
     Ok((lost.is_none(), held, second.seen()))
 }
 
@@ -272,7 +272,8 @@ fn logged_in<R: Wait + Clock>(rt: &R, alloc: Global) -> Result<Answered, AllocEr
     answered(rt, alloc, &lock, &Bell::new(), &mut pass, Want::Login)
 }
 
-// An update that nobody ends, on a link whose second probe fails: whether its peer was seen to go, and for how long it was held.
+// A pending update that no entry answers, on a connection whose second probe fails: whether that ended it, and how
+// long it was pending.
 fn held_alone<R: Wait + Clock>(rt: &R, alloc: Global) -> Result<(bool, Duration), AllocError> {
     let (lock, mut pass) = opened(alloc)?;
     let bell = Bell::new();
@@ -294,7 +295,7 @@ fn held_alone<R: Wait + Clock>(rt: &R, alloc: Global) -> Result<(bool, Duration)
     Ok((gone, ended_at.saturating_sub(begun)))
 }
 
-// Two probes are two waits of five seconds: between them nobody looks at the share.
+// Two probes are two waits of five seconds: between them no turn is taken.
 #[test]
 fn a_peer_that_went_ends_what_holds_an_update(rt: HostRuntime) -> Result<(), Fail> {
     let (gone, held) = held_alone(&rt, rt.alloc())?;
@@ -322,7 +323,7 @@ fn a_request_is_told_with_what_is_to_be_written(rt: HostRuntime) -> Result<(), F
 
 #[test]
 fn want_of_memory_is_told_at_the_end_of_the_history(rt: HostRuntime) -> Result<(), Fail> {
-    let Look::Answered(answered) = look_of(Err(AllocError), true, 2, 5) else {
+    let TurnOutcome::Answered(answered) = turn_outcome(Err(AllocError), true, 2, 5) else {
         return Err(Fail::from(AllocError));
     };
     let served = Served {
@@ -337,7 +338,7 @@ fn want_of_memory_is_told_at_the_end_of_the_history(rt: HostRuntime) -> Result<(
     Ok(())
 }
 
-// Who added the one entry, where there is one, and how many edits it has.
+// The handle that added the entry, and its number of edits.
 fn edits_of(entry: Option<&Entry>) -> Option<(u32, usize)> {
     match entry {
         Some(Entry::Edits { by, batch }) => Some((*by, batch.edits.as_slice().len())),
@@ -345,7 +346,7 @@ fn edits_of(entry: Option<&Entry>) -> Option<(u32, usize)> {
     }
 }
 
-// Pass 0 is split, pass 1 puts an item, pass 0 looks, takes pass 1 in, and takes the share out.
+// Handle 0 is split, handle 1 puts an item, handle 0 takes a turn, joins handle 1, and takes the share out.
 fn two_passes<R: Wait + Clock>(
     rt: &R,
     alloc: Global,

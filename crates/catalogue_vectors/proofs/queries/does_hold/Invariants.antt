@@ -1,4 +1,4 @@
--- The counter of the call is the one that is made for it.
+-- The call counts with the counter that is made for it.
 use Rattle.catalogue_vectors.proofs.queries.does_hold.Given as goal
 
 abbrev pub ghosts-does_hold_by : goal.ghosts-does_hold_by

@@ -2,7 +2,7 @@ use Rattle.std.proofs.Common.{arith}
 use Rattle.daap_outside.proofs.Moving.{ConsumesUpTo-next}
 use Rattle.daap_outside.proofs.reading.read_within.Goals as goal
 
--- what was held and what this read gave were read
+-- what was read before and in this read was read
 pub returns-then-n-most-clause-part : goal.returns-then-n-most-clause-part
 returns-then-n-most-clause-part g c =
     ConsumesUpTo-next _ _ _ _ _ _ _ (omega (arith, c.loop-all.invariant.within)) (omega (arith, c.in_ok-n.ensures.within))

@@ -2,7 +2,7 @@ use Rattle.std.proofs.Common.{◌≡◌, ◌-◌, ◌≤◌, vec_len}
 use Rattle.std.specs.Io.KnownBytes.{Consumes}
 use Rattle.daap_outside.proofs.reading.read_within.Given as goal
 
--- what is held was read, within the limit, and no fault was counted
+-- these bytes were read, within the limit, and no error was counted
 abbrev pub invariant-loop-all : goal.invariant-loop-all
 invariant-loop-all g l = record {
   within : vec_len l.all ≤ l.most;

@@ -2,7 +2,7 @@ use Rattle.std.proofs.Common.{◌∙◌, arith}
 use Rattle.daap_outside.proofs.Moving.{Appends-next}
 use Rattle.daap_outside.proofs.sink.put_all.Goals as goal
 
--- what this write took stands behind what was taken before it
+-- what this write wrote follows what was written before
 pub loop-done-preserved : goal.loop-done-preserved
 loop-done-preserved g c = record {
   within = omega (arith, c.split_at.ensures.back_len, c.in_ok-done.ensures.within);

@@ -2,7 +2,7 @@ use Rattle.std.proofs.Common.{◌≡◌, ◌+◌, ◌-◌, ◌≤◌, length, ta
 use Rattle.std.specs.Io.KnownBytes.{Appends}
 use Rattle.daap_outside.proofs.sink.put_all.Given as goal
 
--- the bytes that are done were taken out of the sure room, and no fault was counted
+-- the first `done` bytes were written, the guaranteed capacity fell by at most `done`, and no error was counted
 abbrev pub invariant-loop-done : goal.invariant-loop-done
 invariant-loop-done g l = record {
   within : l.done ≤ length l.bytes;

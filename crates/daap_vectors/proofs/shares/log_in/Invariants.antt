@@ -1,4 +1,4 @@
--- The counter of the call is the one that is made for it.
+-- The call uses the counter that is made for it.
 use Rattle.daap_vectors.proofs.shares.log_in.Given as goal
 
 abbrev pub ghosts-answered : goal.ghosts-answered

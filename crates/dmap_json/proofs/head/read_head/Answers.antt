@@ -1,4 +1,4 @@
--- The parts of an object say what its tag is.
+-- The parts of an object determine its tag.
 use Rattle.std.proofs.Common.{◌≡◌, Some, sym, ap, ◌∙◌, rules}
 use Rattle.std.proofs.lemmas.Bool.{true≢false}
 use Rattle.std.proofs.lemmas.Result.{IfOk-weaker}

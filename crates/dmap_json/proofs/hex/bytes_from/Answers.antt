@@ -1,4 +1,4 @@
--- Digits that do not begin with those of a byte are no bytes'.
+-- Digits that do not begin with those of a byte are not those of any bytes.
 use Rattle.std.proofs.Common.{rules, ◌<◌, length, sym, ◌∙◌, arith}
 use Rattle.std.proofs.lemmas.Bool.Decides.{nat_tests}
 use Rattle.dmap_json.proofs.Hexed.{no_bytes}

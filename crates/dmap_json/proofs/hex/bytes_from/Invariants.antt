@@ -3,7 +3,7 @@ use Rattle.dmap_show.specs.Readable.{AreBytes}
 use Rattle.dmap_show.specs.Shown.{hex}
 use Rattle.dmap_json.proofs.hex.bytes_from.Given as goal
 
--- the digits are those of the bytes so far and those that are left
+-- the digits are those of the bytes so far and the digits left
 abbrev pub invariant-loop-left : goal.invariant-loop-left
 invariant-loop-left l = record {
   small : AreBytes l.bytes.items;

@@ -1,4 +1,4 @@
--- Four characters show their code if all are from ! to ~.
+-- A text of four characters is a code's if all are from ! to ~.
 use Rattle.std.proofs.Common.{◌≡◌, length, sym, ◌∙◌, arith}
 use Rattle.dmap_tags.specs.Codes.{code_of, four_again}
 use Rattle.dmap_json.proofs.Hexed.{graphic_case}

@@ -1,4 +1,4 @@
--- A code is shown in UTF-8.
+-- The text of a code is UTF-8.
 use Rattle.std.proofs.Common.{◌≡◌, ◌++◌, [], ℕ, List, sym, ap, ◌∙◌, rules}
 use Rattle.std.proofs.lemmas.Bool.{true≢false}
 use Rattle.std.specs.Str.{is_utf8}

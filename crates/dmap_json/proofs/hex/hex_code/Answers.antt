@@ -1,4 +1,4 @@
--- A code that is shown as it is has no hex digits.
+-- A code written as its characters is never written as hex digits.
 use Rattle.std.proofs.Common.{sym, ◌∙◌}
 use Rattle.dmap_json.proofs.Hexed.{graphic_hex}
 use Rattle.dmap_json.proofs.hex.hex_code.Goals as goal

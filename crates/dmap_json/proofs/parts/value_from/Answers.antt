@@ -1,4 +1,4 @@
--- Each kind has a function of its own.
+-- Each kind has its own function.
 use Rattle.dmap_json.proofs.parts.value_from.Goals as goal
 
 pub returns-in-U8 : goal.returns-in-U8

@@ -12,7 +12,7 @@ decreases-read_held l = 3 * (34 - l.level)
 abbrev pub decreases-read_tags : goal.decreases-read_tags
 decreases-read_tags l = 3 * (34 - l.level) + 2
 
--- what was read, and what a fault among the values that are left means
+-- what was read, and what an error among the values left says of all
 abbrev pub invariant-read_tags-loop-member : goal.invariant-read_tags-loop-member
 invariant-read_tags-loop-member l =
     IsAt l.table l.parent l.level l.fn.count l.count (items_view l.members) (items_view (drop l.member-index l.members)) l.tags.items

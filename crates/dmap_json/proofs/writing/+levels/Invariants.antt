@@ -9,6 +9,6 @@ decreases-has_levels l = size_of l.tag.now
 abbrev pub decreases-all_have_levels : goal.decreases-all_have_levels
 decreases-all_have_levels l = sizes_of (trees_of l.tags.now)
 
--- the tags that are left answer as all of them do
+-- the result for the tags left is the result for all
 abbrev pub invariant-all_have_levels-loop-tag : goal.invariant-all_have_levels-loop-tag
 invariant-all_have_levels-loop-tag l = nat_le (levels_in (trees_of (drop l.tag-index l.tags))) l.most ≡ nat_le (levels_in (trees_of l.tags)) l.most

@@ -16,7 +16,7 @@ decreases-send_value g l = 2 * size_of (tree_with l.code l.value.now)
 abbrev pub decreases-send_tags : goal.decreases-send_tags
 decreases-send_tags g l = 2 * sizes_of (trees_of l.tags.now) + 2
 
--- whatever ends the list well from here ends it well from the start
+-- what ends the list correctly from here ends it correctly from the start
 abbrev pub invariant-send_tags-loop-tag : goal.invariant-send_tags-loop-tag
 invariant-send_tags-loop-tag g l = record {
   sent : (end : Log) → SendsItems (json_items (trees_of (drop l.tag-index l.tags))) (g.S.Serializer.written l.out) end → SendsItems (json_items (trees_of l.tags)) (g.S.Serializer.written l.fn.out) end;

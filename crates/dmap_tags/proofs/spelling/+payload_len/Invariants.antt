@@ -10,7 +10,7 @@ decreases-payload_len l = size_of l.tag.now
 abbrev pub decreases-members_len : goal.decreases-members_len
 decreases-members_len l = sizes_of (trees_of l.tags.now)
 
--- the members so far and those that are left have the length of all
+-- the length so far and that of the members left make the length of all
 abbrev pub invariant-members_len-loop-tag : goal.invariant-members_len-loop-tag
 invariant-members_len-loop-tag l = record {
   sum : length_from l.total (trees_of (drop l.tag-index l.tags)) ≡ length_from 0 (trees_of l.tags);

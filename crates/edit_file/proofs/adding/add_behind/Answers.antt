@@ -1,4 +1,4 @@
--- The closing byte stands until what follows it is safe.
+-- The closing byte stays until what follows it is safe.
 use Rattle.std.proofs.Common.{◌≡◌, ℕ, ◌+◌, List, [], ◌∷◌, ◌++◌, length, ap, ◌∙◌, option_map, Some, append_assoc, length-append, arith}
 use Rattle.outside_disks.specs.Disks.{overlaid, Torn}
 use Rattle.edit_file.specs.Adding.{IsClosedOrFramed}

@@ -1,4 +1,4 @@
--- Each way through a finished file changes nothing, or cuts off what follows the closing byte.
+-- Each way through a finished file changes nothing, or truncates it after the closing byte.
 use Rattle.std.proofs.Common.{rules, ◌≡◌, ◌+◌, ◌≤◌, length, Err, true, false, sym, ◌∙◌, inl, inr}
 use Rattle.edit_file.specs.Standing.{FileStands}
 use Rattle.edit_file.proofs.Opened.{head_is, head_is_wrong, cut_leaves, cut_is_rest}

@@ -1,4 +1,4 @@
--- What stands at the offset, by the five bytes there and the payload behind them.
+-- What is at the offset, by the five bytes there and the payload after them.
 use Rattle.std.proofs.Common.{◌≡◌, ◌+◌, ◌^◌, ◌<◌, ◌≤◌, length, take, drop, get_or, option_map, ◌∙◌, subst, arith}
 use Rattle.std.proofs.lemmas.Grind.{common_steps}
 use Rattle.edit_file.specs.Reading.{IsPayload, IsBatchIn}

@@ -2,7 +2,7 @@ use Rattle.std.proofs.Common.{◌≡◌, ◌≤◌, ◌-◌, length, take, drop,
 use Rattle.edit_file.specs.Moments.{IsQuiet}
 use Rattle.edit_file.proofs.reading.read_fully.Given as goal
 
--- so many bytes of the room are the disk's, and nothing was changed
+-- the first `done` bytes of the buffer are the disk's, and nothing was changed
 abbrev pub invariant-loop-done : goal.invariant-loop-done
 invariant-loop-done g l = record {
   within : l.done ≤ length l.room;

@@ -1,4 +1,4 @@
--- Each batch takes a place, and there are few places.
+-- Each batch counts for the limit on entries, which is small.
 use Rattle.plain_share.proofs.LoginFacts.{few_revisions, few_edits}
 use Rattle.history_vectors.proofs.histories.is_small.Goals as goal
 

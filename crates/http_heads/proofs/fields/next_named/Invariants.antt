@@ -3,7 +3,7 @@ use Rattle.httparse.specs.Spans.{header_bytes, IsHeaderWithin}
 use Rattle.http_heads.specs.Fields.{values}
 use Rattle.http_heads.proofs.fields.next_named.Given as goal
 
--- no field of the name stands before the rest
+-- no field with the name precedes the rest
 abbrev pub invariant-loop-rest : goal.invariant-loop-rest
 invariant-loop-rest l = record {
   within : All (IsHeaderWithin (length l.bytes)) l.rest;

@@ -3,7 +3,7 @@ use Rattle.std.specs.Option.{option_map_or}
 use Rattle.item_model.specs.Names.{parts, parts_behind, with_names}
 use Rattle.item_model.proofs.names.read_names.Given as goal
 
--- the names that are left give what is missing
+-- the properties so far and those of the names left are those of all names
 abbrev pub invariant-loop-rest : goal.invariant-loop-rest
 invariant-loop-rest l = with_names l.properties (parts_behind (option_copied l.rest)) ≡ with_names [] (parts l.text)
 

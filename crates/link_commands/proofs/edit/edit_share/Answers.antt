@@ -23,10 +23,10 @@ returns-in-Ok-clause-answered g c =
     λ files.
     let told : Told = told_over files (input_seen (g.I.Source.left c.args.input.now) (g.I.Faulted.faults c.args.input.now))
     (input_seen (g.I.Source.left c.sent-answer.new.input) (g.I.Faulted.faults c.sent-answer.new.input)) before after
-    (output_seen (g.W.Sink.taken c.args.output.now) (g.W.Faulted.faults c.args.output.now)) (output_seen (g.W.Sink.taken c.written.new.output) (g.W.Faulted.faults c.written.new.output)) in
-    by_answer (edit_meaning host c.args.stop) (edit_promised host c.args.stop) told c.written.result c.sent-answer.result
+    (output_seen (g.W.Sink.taken c.args.output.now) (g.W.Faulted.faults c.args.output.now)) (output_seen (g.W.Sink.taken c.write_result.new.output) (g.W.Faulted.faults c.write_result.new.output)) in
+    by_answer (edit_meaning host c.args.stop) (edit_promised host c.args.stop) told c.write_result.result c.sent-answer.result
     (edit_done host c.args.stop told.before told.after link c.sent-answer.result made c.sent-answer.ensures.sent)
-    (edit_stops host c.args.stop told.before told.after link c.sent-answer.result made c.sent-answer.ensures.stops) c.written.ensures
+    (edit_stops host c.args.stop told.before told.after link c.sent-answer.result made c.sent-answer.ensures.stops) c.write_result.ensures
 
 pub returns-in-Err-clause-answered : goal.returns-in-Err-clause-answered
 returns-in-Err-clause-answered g c =
@@ -36,6 +36,6 @@ returns-in-Err-clause-answered g c =
     λ files.
     let told : Told = told_over files input input (net_seen (g.N.Net.asked old) (g.N.Net.written old) (g.N.Net.door_links old) (g.N.Net.next_input old) (g.N.Faulted.faults old))
     (net_seen (g.N.Net.asked new) (g.N.Net.written new) (g.N.Net.door_links new) (g.N.Net.next_input new) (g.N.Faulted.faults new))
-    (output_seen (g.W.Sink.taken c.args.output.now) (g.W.Faulted.faults c.args.output.now)) (output_seen (g.W.Sink.taken c.refused.new.output) (g.W.Faulted.faults c.refused.new.output)) in
-    edit_unlinked c.args.place.now c.args.stop told c.refused.result (record { left = refl; faults = refl })
-    (record { asked = c.connect.ensures.asks; written = c.connect.ensures.written_stays; doors = c.connect.ensures.links_stay; rose = c.in-Err.ensures.count }) c.refused.ensures
+    (output_seen (g.W.Sink.taken c.args.output.now) (g.W.Faulted.faults c.args.output.now)) (output_seen (g.W.Sink.taken c.write_error.new.output) (g.W.Faulted.faults c.write_error.new.output)) in
+    edit_unlinked c.args.place.now c.args.stop told c.write_error.result (record { left = refl; faults = refl })
+    (record { asked = c.connect.ensures.asks; written = c.connect.ensures.written_stays; doors = c.connect.ensures.links_stay; rose = c.in-Err.ensures.count }) c.write_error.ensures

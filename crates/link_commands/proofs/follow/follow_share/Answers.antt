@@ -12,9 +12,9 @@ returns-in-Err-clause-answered g c =
     let net : NetSeen = net_seen (g.N.Net.asked old) (g.N.Net.written old) (g.N.Net.door_links old) (g.N.Net.next_input old) (g.N.Faulted.faults old) in
     λ files input.
     let told : Told = told_over files input input net net (output_seen (g.W.Sink.taken c.args.output.now) (g.W.Faulted.faults c.args.output.now))
-    (output_seen (g.W.Sink.taken c.refused.new.output) (g.W.Faulted.faults c.refused.new.output)) in
-    look_ends c.args.place.now c.args.rounds (option_copied c.args.query) (option_copied c.args.meta) c.args.target told c.refused.result c.in-Err.fault refl c.in-Err.ensures.refused
-    c.refused.ensures
+    (output_seen (g.W.Sink.taken c.write_error.new.output) (g.W.Faulted.faults c.write_error.new.output)) in
+    look_ends c.args.place.now c.args.rounds (option_copied c.args.query) (option_copied c.args.meta) c.args.target told c.write_error.result c.in-Err.fault refl c.in-Err.ensures.refused
+    c.write_error.ensures
 
 pub returns-in-Ok-connect-clause-answered : goal.returns-in-Ok-connect-clause-answered
 returns-in-Ok-connect-clause-answered g c =
@@ -41,7 +41,7 @@ returns-in-Ok-connect-clause-answered g c =
     finished host c.args.rounds query meta c.args.target told mid c.ended.result c.in-Ok.mirror c.follow_rounds-end.new.mirror link c.follow_rounds-end.result
     (record { asks = c.in-Ok.ensures.asks; unread = record { left = refl; faults = refl }; linked = made }) c.follow_rounds-end.ensures.followed c.follow_rounds-end.ensures.ends c.ended.ensures
 
--- no link was made
+-- no connection was made
 pub returns-clause-answered : goal.returns-clause-answered
 returns-clause-answered g c =
     let old = c.args.net.now in
@@ -50,8 +50,8 @@ returns-clause-answered g c =
     let told : Told = told_over files input input (net_seen (g.N.Net.asked old) (g.N.Net.written old) (g.N.Net.door_links old) (g.N.Net.next_input old) (g.N.Faulted.faults old))
     (net_seen (g.N.Net.asked new) (g.N.Net.written new) (g.N.Net.door_links new) (g.N.Net.next_input new) (g.N.Faulted.faults new))
     (output_seen (g.W.Sink.taken c.args.output.now) (g.W.Faulted.faults c.args.output.now))
-    (output_seen (g.W.Sink.taken c.refused-in-Err-connect.new.output) (g.W.Faulted.faults c.refused-in-Err-connect.new.output)) in
-    unlinked_ends c.args.place.now c.args.rounds (option_copied c.args.query) (option_copied c.args.meta) c.args.target told c.refused-in-Err-connect.result c.in-Ok.mirror
+    (output_seen (g.W.Sink.taken c.write_error-in-Err-connect.new.output) (g.W.Faulted.faults c.write_error-in-Err-connect.new.output)) in
+    unlinked_ends c.args.place.now c.args.rounds (option_copied c.args.query) (option_copied c.args.meta) c.args.target told c.write_error-in-Err-connect.result c.in-Ok.mirror
     c.in-Ok.ensures.asks (record { left = refl; faults = refl })
     (record { asked = c.connect.ensures.asks; written = c.connect.ensures.written_stays; doors = c.connect.ensures.links_stay; rose = c.in-Err-connect.ensures.count })
-    c.refused-in-Err-connect.ensures
+    c.write_error-in-Err-connect.ensures

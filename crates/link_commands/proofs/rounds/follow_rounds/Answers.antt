@@ -12,7 +12,7 @@ use Rattle.link_commands.specs.declared.rounds.Stop.TheVariants.{Link}
 use Rattle.link_commands.proofs.RoundFacts.{closing_ends, line_written, opening_ends, round_ends, round_on}
 use Rattle.link_commands.proofs.rounds.follow_rounds.Goals as goal
 
--- the table was not learned, or nobody logged in
+-- the table was not learned, or the login failed
 pub returns-in-Err-clause-ends : goal.returns-in-Err-clause-ends
 returns-in-Err-clause-ends g c =
     let link : LinkSeen = link_seen (g.K.Sink.taken c.args.link.now) (g.K.Source.left c.args.link.now) (g.K.Sink.taken c.open.new.link) (g.K.Faulted.faults c.open.new.link) in

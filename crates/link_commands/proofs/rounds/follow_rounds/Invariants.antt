@@ -8,7 +8,7 @@ use Rattle.mirror_client.specs.Steps.{with_listings}
 use Rattle.link_commands.specs.FollowShare.{lines_of}
 use Rattle.link_commands.proofs.rounds.follow_rounds.Given as goal
 
--- so many listings were taken in and told, and the client holds them
+-- one listing for each round was applied, and its line written; the client holds them
 abbrev pub invariant-loop-round : goal.invariant-loop-round
 invariant-loop-round g l = record {
   listings : List Listing;

@@ -1,20 +1,22 @@
-use Rattle.std.proofs.Common.{◌≡◌, ◌++◌, ◌∙◌, length, rules}
+use Rattle.std.proofs.Common.{◌≡◌, ◌++◌, ◌∙◌, length, arith, rules}
 use Rattle.std.specs.Int.{w32, to_be_bytes}
 use Rattle.std.proofs.lemmas.List.{at_drop_more}
 use Rattle.dmap_tags.specs.Codes.{code_bytes}
 use Rattle.dmap_tags.specs.Spelling.{spellings, payload}
 use Rattle.dmap_tags.specs.Tree.{tree_code, trees_of}
+use Rattle.dmap_tags.proofs.Lengths.{spellable_at}
+use Rattle.dmap_tags.proofs.Sizes.{member_falls}
 use Rattle.listing_plan.proofs.Moves.{less_left, cut_left, pushes_then, pushes_cut}
 use Rattle.listing_plan.proofs.tags.+push_tag.Goals as goal
 
-pub push_tag-returns-in_err-push_head-clause-pushes : goal.push_tag-returns-in_err-push_head-clause-pushes
-push_tag-returns-in_err-push_head-clause-pushes g t c =
-    let head : code_bytes c.tag.inside.code ++ to_be_bytes w32 c.payload_len.result ≡ code_bytes (tree_code c.args.tag.now) ++ to_be_bytes w32 (length (payload c.args.tag.now)) = search rules in
+pub push_measured-returns-in_err-push_head-clause-pushes : goal.push_measured-returns-in_err-push_head-clause-pushes
+push_measured-returns-in_err-push_head-clause-pushes g t c =
+    let head : code_bytes c.tag.inside.code ++ to_be_bytes w32 c.args.len ≡ code_bytes (tree_code c.args.tag.now) ++ to_be_bytes w32 (length (payload c.args.tag.now)) = search rules in
     pushes_cut _ (payload c.args.tag.now) _ _ _ _ _ _ _ _ _ c.from_residual.ensures.0 (rw head at c.in_err-push_head.ensures.pushes)
 
-pub push_tag-returns-clause-pushes : goal.push_tag-returns-clause-pushes
-push_tag-returns-clause-pushes g t c =
-    let head : code_bytes c.tag.inside.code ++ to_be_bytes w32 c.payload_len.result ≡ code_bytes (tree_code c.args.tag.now) ++ to_be_bytes w32 (length (payload c.args.tag.now)) = search rules in
+pub push_measured-returns-clause-pushes : goal.push_measured-returns-clause-pushes
+push_measured-returns-clause-pushes g t c =
+    let head : code_bytes c.tag.inside.code ++ to_be_bytes w32 c.args.len ≡ code_bytes (tree_code c.args.tag.now) ++ to_be_bytes w32 (length (payload c.args.tag.now)) = search rules in
     pushes_then _ _ _ _ _ _ _ _ _ _ _ _ (rw head at c.in_ok-push_head.ensures.pushes) c.push_payload.ensures.pushes
 
 pub push_tags-returns-in_err-push_tag-clause-pushes : goal.push_tags-returns-in_err-push_tag-clause-pushes
@@ -29,3 +31,11 @@ push_tags-loop-tag-preserved g t c =
       left = less_left _ _ _ _ _ _ _ _ _ _ _ _ (rw (at, ← c.tag-item.is) at c.loop-tag.invariant.left) c.in_ok-push_tag.ensures.pushes;
       beside = c.in_ok-push_tag.ensures.beside ∙ c.loop-tag.invariant.beside;
     }
+
+pub push_tags-push_tag-requires : goal.push_tags-push_tag-requires
+push_tags-push_tag-requires g t c κs within =
+    let tags = c.args.tags.now in
+    let i = c.loop-tag.tag-index in
+    let smaller = rw (← c.tag-item.is) at (member_falls tags i c.tag-item.result c.loop-tag-test.true) in
+    let spellable = rw (← c.tag-item.is) at (spellable_at tags i c.tag-item.result c.requires.spellable c.loop-tag-test.true) in
+    (omega (arith, smaller), (search rules, (search rules, search (rules, spellable))))

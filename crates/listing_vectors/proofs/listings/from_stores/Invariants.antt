@@ -1,4 +1,4 @@
--- The counter of the call is the one that is made for it.
+-- The call counts with the counter that is made for it.
 use Rattle.listing_vectors.proofs.listings.from_stores.Given as goal
 
 abbrev pub ghosts-from_stores_by : goal.ghosts-from_stores_by

@@ -1,4 +1,4 @@
--- The counter of the call is the one that is made for it.
+-- The call counts with the counter that is made for it.
 use Rattle.listing_vectors.proofs.stores.next.Given as goal
 
 abbrev pub ghosts-next_by : goal.ghosts-next_by

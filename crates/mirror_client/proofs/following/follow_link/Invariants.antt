@@ -5,7 +5,7 @@ use Rattle.mirror_client.specs.Stages.{Begun, Holding, Walks}
 use Rattle.mirror_client.specs.Steps.{all_applied, with_listings}
 use Rattle.mirror_client.proofs.following.follow_link.Given as goal
 
--- so many listings were taken in, and the client holds them
+-- `round` listings were applied, and the client holds them
 abbrev pub invariant-loop-round : goal.invariant-loop-round
 invariant-loop-round g l = record {
   listings : List Listing;

@@ -5,18 +5,20 @@ use Rattle.mirror_client.proofs.PushFacts.{asked_as, stopped_as}
 use Rattle.mirror_client.proofs.pushing.push_stop.Goals as goal
 
 pub returns-in-Ok-clause-pushed : goal.returns-in-Ok-clause-pushed
+unfolding push_text
 returns-in-Ok-clause-pushed g c = (
   (c.in-Ok.status, c.in-Ok.text),
   place (g.K.Sink.taken c.exchange.new.link) (g.K.Source.left c.exchange.new.link) c.exchange.new.incoming,
   asked_as c.as_slice.result.now (push_text None c.args.host.now)
       (g.K.Sink.taken c.args.link.now) (g.K.Source.left c.args.link.now) c.new-incoming.result
       (place (g.K.Sink.taken c.exchange.new.link) (g.K.Source.left c.exchange.new.link) c.exchange.new.incoming)
-      (c.in-Ok.status, c.in-Ok.text) (c.as_slice.ensures.value ∙ c.in_ok-request.ensures) c.new-incoming.ensures c.in-Ok.ensures.exchanged,
+      (c.in-Ok.status, c.in-Ok.text) (c.as_slice.ensures ∙ c.in_ok-request.ensures) c.new-incoming.ensures c.in-Ok.ensures.exchanged,
   refl,
   c.stopped.ensures,
 )
 
 pub returns-clause-stops : goal.returns-clause-stops
+unfolding push_text
 returns-clause-stops g c =
     stopped_as c.as_slice.result.now (push_text None c.args.host.now) (UnduePush None) (g.K.Sink.taken c.args.link.now) (g.K.Source.left c.args.link.now) (g.K.Sink.taken c.exchange.new.link)
-    c.new-incoming.result c.in-Err.error (c.as_slice.ensures.value ∙ c.in_ok-request.ensures) c.new-incoming.ensures c.in-Err.ensures.stops
+    c.new-incoming.result c.in-Err.error (c.as_slice.ensures ∙ c.in_ok-request.ensures) c.new-incoming.ensures c.in-Err.ensures.stops

@@ -3,7 +3,8 @@ use Rattle.std.specs.Io.KnownBytes.{Consumes, prepend_known}
 use Rattle.mirror_client.specs.Readers.{IsBegun}
 use Rattle.mirror_client.proofs.receiving.next_reply.Given as goal
 
--- what the reader keeps was taken off what was owed, no reply was whole, nothing was written, and no fault was counted
+-- what the reader keeps was consumed from what was owed, no response was complete, nothing was written, and no error
+-- was counted
 abbrev pub invariant-loop-incoming : goal.invariant-loop-incoming
 invariant-loop-incoming g l = record {
   begun : IsBegun l.reader;
@@ -15,6 +16,6 @@ invariant-loop-incoming g l = record {
   faultless : g.K.Faulted.faults l.link ≡ g.K.Faulted.faults l.initial.link;
 }
 
--- each piece lengthens what is kept, and a reader keeps no more than so many bytes
+-- each chunk lengthens what is kept, which has a maximum
 abbrev pub decreases-loop-incoming : goal.decreases-loop-incoming
 decreases-loop-incoming g l = 1073758217 - length l.reader.kept

@@ -1,4 +1,4 @@
--- The rows that are kept, merged with the changes, are those that the listing leaves.
+-- Merging the rows that stay with the changes gives the rows after the listing.
 use Rattle.std.proofs.Common.{◌++◌, [], map, cond, ap, ◌∙◌}
 use Rattle.mirror_core.specs.Reading.{row_of, key_of}
 use Rattle.mirror_core.specs.Changes.{merged}

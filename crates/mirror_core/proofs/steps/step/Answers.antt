@@ -1,4 +1,4 @@
--- What each function does is the step where its member is due.
+-- Each function does the step of its expected member.
 use Rattle.std.proofs.Common.{sym, ap, ◌∙◌}
 use Rattle.mirror_core.specs.Reading.{step}
 use Rattle.mirror_core.specs.ToldSeen.{told_of}

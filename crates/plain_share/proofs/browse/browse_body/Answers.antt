@@ -1,4 +1,4 @@
--- There are no more values than edits.
+-- There are at most as many values as edits.
 use Rattle.std.proofs.Common.{arith}
 use Rattle.std.specs.Option.{option_copied}
 use Rattle.share_history.specs.Histories.{all_edits}

@@ -1,4 +1,4 @@
--- The tags of the row of then and of the row of now are compared.
+-- The tags of the earlier row and of the present one are compared.
 use Rattle.std.proofs.Common.{not, Some, None, option_copied, sym, ap, ◌∙◌}
 use Rattle.dmap_tags.specs.SameTags.{is_same_tag}
 use Rattle.item_model.specs.Projection.{listed_row}

@@ -1,4 +1,4 @@
--- Where the entries end before so many batches, all of them are the history at the revision.
+-- If the entries end before the wanted batches, the history at the revision is all of them.
 use Rattle.std.proofs.Common.{sym, ◌∙◌}
 use Rattle.plain_share.proofs.LoopFacts.{until_end}
 use Rattle.plain_share.proofs.revisions.at_revision.Goals as goal

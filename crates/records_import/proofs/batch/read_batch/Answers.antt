@@ -5,7 +5,7 @@ use Rattle.records_import.proofs.Answering.{Told, whole_told}
 use Rattle.records_import.proofs.ValidEdits.{read_few, read_valid}
 use Rattle.records_import.proofs.batch.read_batch.Goals as goal
 
--- the first rows tell what all rows do
+-- the result of the first rows is that of all
 told : (c : goal.After-drop-rows) → Told (table_of c.args.bytes.now) c.read_rows.result
 told c =
     whole_told (table_of c.args.bytes.now) (map fields_of c.in_ok-rows.rows.items) c.read_rows.result c.in_ok-rows.ensures

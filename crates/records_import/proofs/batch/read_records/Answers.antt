@@ -3,7 +3,7 @@ use Rattle.std.proofs.lemmas.Result.{err_from_is_err_and}
 use Rattle.records_import.proofs.Answering.{edit_more, edits_all, fault_here}
 use Rattle.records_import.proofs.batch.read_records.Goals as goal
 
--- the first record at fault
+-- the first malformed record
 pub returns-in_err-read_record : goal.returns-in_err-read_record
 returns-in_err-read_record c =
     let p = err_from_is_err_and c.from_residual.result c.from_residual.ensures.1 in

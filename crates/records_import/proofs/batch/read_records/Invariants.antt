@@ -6,7 +6,7 @@ use Rattle.records_import.specs.declared.refusal.RecordError.{RecordError}
 use Rattle.records_import.proofs.Answering.{behind}
 use Rattle.records_import.proofs.batch.read_records.Given as goal
 
--- what the records that are left answer, behind the edits so far, all records answer
+-- the result of all records is that of the records left, after the edits so far
 abbrev pub invariant-loop-place : goal.invariant-loop-place
 invariant-loop-place l =
     (answer : Result (List Edit) RecordError) → RecordsAnswer l.columns (l.place + 1) (map fields_of (drop l.place l.records)) answer

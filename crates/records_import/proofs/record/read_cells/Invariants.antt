@@ -6,7 +6,7 @@ use Rattle.records_import.specs.declared.refusal.RecordError.{RecordError}
 use Rattle.records_import.specs.declared.values.Values.{Values}
 use Rattle.records_import.proofs.record.read_cells.Given as goal
 
--- what the cells that are left give from the values so far, all cells give; the same of the leftmost fault
+-- the values of all cells are those of the cells left after the values so far; the same for the leftmost error
 abbrev pub invariant-loop-place : goal.invariant-loop-place
 invariant-loop-place l = record {
   walked : (after : Values) → Walked l.action (drop l.place l.columns) (drop (l.place + 3) (fields_of l.cells)) l.values after

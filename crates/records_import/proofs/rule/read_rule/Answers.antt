@@ -6,7 +6,7 @@ use Rattle.song_query.specs.Answers.{Answers}
 use Rattle.records_import.specs.Rules.{RuleReads}
 use Rattle.records_import.proofs.rule.read_rule.Goals as goal
 
--- any answer but want of memory is what the text reads as
+-- any result but out of memory is what the text reads as
 told : (text : List ℕ) (answer : Result Query QueryError) → Answers text answer
     → MatchResult answer (λ rule. RuleReads text (Ok rule)) (λ e. e ≢ Memory → RuleReads text (Err e))
 told text (Ok rule) h = (λ e. absurd (cc e), h)

@@ -49,7 +49,7 @@ returns-in-Ok-false c =
     few_rows (reader_state c.rows.reader) c.args.text.now inv.4 (map fields_of c.rows.rows.items) c.args.most few inv.6
     (rows-end (λ (s : Bor (List ℕ)). Some s.now) c.rows.reader c.read_byte_record.new.self (fields_of c.read_byte_record.new.row) default_config inv.4 inv.2 inv.5 read)
 
--- as many as were asked for
+-- all the rows that were requested
 pub returns : goal.returns
 returns c =
     let inv = c.rows.invariant in

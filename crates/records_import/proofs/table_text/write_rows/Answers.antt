@@ -25,7 +25,7 @@ loop-row-preserved c =
     ∙ ap (λ row. table_text (map fields_of (take i rows)) ++ row_text default_writer (fields_of row)) (sym c.row-item.is) in
     rw more told
 
--- what is the rows' text reads back as the rows
+-- the rows' text reads back as the rows
 back : {E : Type 0} (result : Result (Vec ℕ Global) E) (rows : List Cells) → IfOk result (λ v. v.items ≡ table_text rows)
     → IfOk result (λ v. All HasCell rows → IsUnmarked v.items → table_of v.items ≡ rows)
 back (Ok v) rows written = λ celled unmarked. rw written (reads_back rows celled (rw written at unmarked))

@@ -11,7 +11,7 @@ returns-in-Ok-clause-ends g c = λ start opens new.
     let first : OutputSeen = output_seen (g.W.Sink.taken c.begin.new.output) (g.W.Faulted.faults c.begin.new.output) in
     served (c.relay_begun.ensures.serves start old first (relaying_line c.args.relaying.now.name) c.in-Ok.ensures opens new c.in-Ok.ensures.written)
 
--- the share did not come under its lock
+-- the share was not put under its lock
 pub returns-in-Err-clause-ends : goal.returns-in-Err-clause-ends
 returns-in-Err-clause-ends g c = λ start opens new.
     let old : OutputSeen = output_seen (g.W.Sink.taken c.args.output.now) (g.W.Faulted.faults c.args.output.now) in

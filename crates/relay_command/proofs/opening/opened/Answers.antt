@@ -8,7 +8,7 @@ use Rattle.relay_command.specs.Terms.{places_of}
 use Rattle.relay_command.proofs.Nets.{stops_opening, unused_back}
 use Rattle.relay_command.proofs.opening.opened.Goals as goal
 
--- the link was hung up
+-- the connection was closed
 pub returns-in-Err-listen-clause-failed : goal.returns-in-Err-listen-clause-failed
 returns-in-Err-listen-clause-failed g c =
     let s = c.args.relaying.now in

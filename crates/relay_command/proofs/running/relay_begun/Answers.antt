@@ -35,18 +35,18 @@ returns-clause-serves g c = λ start before first front begun opens new wrote.
     let faults = g.N.D.Faulted.faults in
     let relaying = c.args.relaying.now in
     let settings = settings_of relaying in
-    let r = c.staffed-begun.result in
-    let e = c.staffed-begun.ensures in
+    let r = c.assign_workers-begun.result in
+    let e = c.assign_workers-begun.ensures in
     let crew = r.0.room.crew.items in
-    let after = c.worked-lock.new.partner in
-    let w = c.worked-lock.ensures.partner in
+    let after = c.run_workers-lock.new.partner in
+    let w = c.run_workers-lock.ensures.partner in
     let k0 = known r.1 in
     let k1 = known after.pass in
     let all_doors : AreNew written faults start.written (map (λ w. w.door) crew ++ r.2 ∷ []) = subst (AreNew written faults start.written) e.doors new in
     let crew_doors = front_of (IsNew written faults start.written) (map (λ w. w.door) crew) r.2 all_doors in
     let last_door = last_of_all (IsNew written faults start.written) (map (λ w. w.door) crew) r.2 all_doors in
     let began : known r.0.first ≡ fresh 0 settings [] = e.pass ∙ begun.pass in
-    let all = c.worked-lock.ensures.gathered settings [] start.written began crew_doors in
+    let all = c.run_workers-lock.ensures.gathered settings [] start.written began crew_doors in
     let fresh_pass : k0 ≡ fresh k0.number settings [] = e.relay_pass ∙ ap (λ (p : Pass). fresh k0.number p.settings p.seen) begun.pass in
     let link : LinkSeen = link_seen (g.N.L.Sink.taken c.args.places.link) (g.N.L.Source.left c.args.places.link) (g.N.L.Sink.taken after.link) (g.N.L.Faulted.faults after.link) in
     let stays = relay_stays relaying.upstream relaying.rounds (start_of link) link.taken k0 k1 after.report w.1 in
@@ -55,7 +55,7 @@ returns-clause-serves g c = λ start before first front begun opens new wrote.
     let members = passes_in all.crew ++ k1 ∷ [] in
     let history = c.share_of-share.result.history in
     let joined : HasJoined (fresh 0 settings []) (known c.join.new.pass) members =
-    join_more (fresh 0 settings []) (known c.worked-lock.result.first) (known c.join.new.pass) k1 (passes_in all.crew) all.joined alone c.join.ensures.pass c.join.ensures.first
+    join_more (fresh 0 settings []) (known c.run_workers-lock.result.first) (known c.join.new.pass) k1 (passes_in all.crew) all.joined alone c.join.ensures.pass c.join.ensures.first
     c.join.ensures.second c.join.ensures.apart in
     let doors_count : length crew + 1 ≡ relaying.workers + 1 =
     sym (length-append (map (λ w. w.door) crew) (r.2 ∷ []) ∙ ap (λ n. n + 1) (length-map crew (λ w. w.door))) ∙ ap length (sym e.doors) ∙ c.requires.doors in
@@ -63,39 +63,39 @@ returns-clause-serves g c = λ start before first front begun opens new wrote.
     let stint_count : length (passes_in all.crew) ≡ length crew =
     length-map all.crew (λ s. s.pass) ∙ sym (length-map all.crew (λ s. s.role)) ∙ ap length all.roles_are ∙ length-map crew (λ w. w.role) in
     let member_count : length members ≡ relaying.workers + 1 = length-append (passes_in all.crew) (k1 ∷ []) ∙ ap (λ n. n + 1) (stint_count ∙ crew_count) in
-    let passes : passes_of c.worked-lock.result.lock ≡ relaying.workers + 2 = ap (λ l. l.1) c.worked-lock.ensures.lock ∙ (ap (λ l. l.1) e.lock ∙ begun.passes) in
-    let same_passes : passes_of r.0.lock ≡ passes_of c.worked-lock.result.lock = sym (ap (λ l. l.1) c.worked-lock.ensures.lock) in
-    let begun_passes : passes_of c.args.begun.lock ≡ passes_of c.worked-lock.result.lock = sym (ap (λ l. l.1) e.lock) ∙ same_passes in
+    let passes : passes_of c.run_workers-lock.result.lock ≡ relaying.workers + 2 = ap (λ l. l.1) c.run_workers-lock.ensures.lock ∙ (ap (λ l. l.1) e.lock ∙ begun.passes) in
+    let same_passes : passes_of r.0.lock ≡ passes_of c.run_workers-lock.result.lock = sym (ap (λ l. l.1) c.run_workers-lock.ensures.lock) in
+    let begun_passes : passes_of c.args.begun.lock ≡ passes_of c.run_workers-lock.result.lock = sym (ap (λ l. l.1) e.lock) ∙ same_passes in
     let some = e.relay_some in
     let few = e.relay_few in
-    let mine : IsNumbered (passes_of c.worked-lock.result.lock) k1 = (omega (arith, number, some), omega (arith, number, few, begun_passes)) in
-    let numbered : AllByRecursion (IsNumbered (passes_of c.worked-lock.result.lock)) members =
-    all_push (IsNumbered (passes_of c.worked-lock.result.lock)) (passes_in all.crew) k1
+    let mine : IsNumbered (passes_of c.run_workers-lock.result.lock) k1 = (omega (arith, number, some), omega (arith, number, few, begun_passes)) in
+    let numbered : AllByRecursion (IsNumbered (passes_of c.run_workers-lock.result.lock)) members =
+    all_push (IsNumbered (passes_of c.run_workers-lock.result.lock)) (passes_in all.crew) k1
     (subst (λ n. AllByRecursion (IsNumbered n) (passes_in all.crew)) same_passes all.numbered) mine in
     let one : IsHistoryOf (length members) history all.crew (k1 ∷ []) =
     c.share_of-share.ensures settings [] all.crew (k1 ∷ []) (λ k d less. absurd (omega (arith, less))) joined numbered (omega (arith, passes, member_count)) in
     let history_of : IsHistoryOf (relaying.workers + 1) history all.crew (k1 ∷ []) = subst (λ n. IsHistoryOf n history all.crew (k1 ∷ [])) member_count one in
     let ends = map (λ stint. stint.end) all.crew in
     let old = c.args.net.now in
-    let n1 = c.worked-lock.new.net in
+    let n1 = c.run_workers-lock.new.net in
     let n2 = c.shut.new.self in
     let n3 = c.hang_up.new.self in
     let fault = worse (crew_fault (verdict_of ends)) (end_fault after.report.end) in
     let ruled : c.ruling.result ≡ fault = c.ruling.ensures ∙ ap (λ v. worse (crew_fault v) (end_fault after.report.end)) all.verdict_is in
     let at_line : OutputSeen = output_seen (g.W.Sink.taken c.args.output.now) (g.W.Faulted.faults c.args.output.now) in
-    let ending : OutputSeen = output_seen (g.W.Sink.taken c.closed.new.output) (g.W.Faulted.faults c.closed.new.output) in
-    let told : TellsEnd (last_lines (revision (batches history)) c.closed.result.links after.report.rounds.items fault) fault at_line ending c.closed.result.status =
-    subst (λ f. TellsEnd (last_lines (revision (batches history)) c.closed.result.links after.report.rounds.items f) f at_line ending c.closed.result.status) ruled
-    (subst (λ l. TellsEnd (last_lines (revision (batches history)) l after.report.rounds.items c.ruling.result) c.ruling.result at_line ending c.closed.result.status) (sym c.closed.ensures.links)
-    (subst (λ rs. TellsEnd (last_lines (revision (batches history)) c.worked-lock.result.links rs c.ruling.result) c.ruling.result at_line ending c.closed.result.status) c.as_slice.ensures.value
-    c.closed.ensures.told)) in
+    let ending : OutputSeen = output_seen (g.W.Sink.taken c.finish.new.output) (g.W.Faulted.faults c.finish.new.output) in
+    let told : TellsEnd (last_lines (revision (batches history)) c.finish.result.links after.report.rounds.items fault) fault at_line ending c.finish.result.status =
+    subst (λ f. TellsEnd (last_lines (revision (batches history)) c.finish.result.links after.report.rounds.items f) f at_line ending c.finish.result.status) ruled
+    (subst (λ l. TellsEnd (last_lines (revision (batches history)) l after.report.rounds.items c.ruling.result) c.ruling.result at_line ending c.finish.result.status) (sym c.finish.ensures.links)
+    (subst (λ rs. TellsEnd (last_lines (revision (batches history)) c.run_workers-lock.result.links rs c.ruling.result) c.ruling.result at_line ending c.finish.result.status) c.as_slice.ensures.value
+    c.finish.ensures.told)) in
     record {
       history = history;
-      history_is = c.closed.ensures.history;
-      whole_history = c.closed.ensures.whole;
+      history_is = c.finish.ensures.history;
+      whole_history = c.finish.ensures.whole;
       crew = all.crew;
       roles = all.roles_are ∙ (e.roles ∙ sym (splat_is_map crew relaying.workers role.Listen crew_count));
-      links = c.closed.ensures.links ∙ all.links_are;
+      links = c.finish.ensures.links ∙ all.links_are;
       relay = record { pass = k1; link = link; report = after.report };
       one = history_of;
       begun = opens.begun;
@@ -109,7 +109,7 @@ returns-clause-serves g c = λ start before first front begun opens new wrote.
           (subst (HaveLinks start.door_links)
           (ap (map coming) e.doors ∙ (map-append coming (map (λ w. w.door) crew) (r.2 ∷ []) ∙ ap (λ l. l ++ coming r.2 ∷ []) (map-map coming (λ w. w.door) crew))) opens.links));
       asked =
-          subst (λ a. Grows start.asked a (places_of relaying)) (sym (c.hang_up.ensures.asked_stays ∙ (c.shut.ensures.asked_stays ∙ c.worked-lock.ensures.asked))) opens.asked;
+          subst (λ a. Grows start.asked a (places_of relaying)) (sym (c.hang_up.ensures.asked_stays ∙ (c.shut.ensures.asked_stays ∙ c.run_workers-lock.ensures.asked))) opens.asked;
       written =
           linked_behind start.written (g.N.Net.written n2) (g.N.Net.written n3) (flat_map returns_of all.crew) link.taken link.faults
           (shut_behind start.written (g.N.Net.written n1) (g.N.Net.written n2) (written after.door) (flat_map returns_of all.crew)
@@ -124,12 +124,12 @@ returns-clause-serves g c = λ start before first front begun opens new wrote.
       told = told;
       whole = λ success.
           wholes_by history all.crew history_of.parts
-          (crew_done (verdict_of ends) (end_fault after.report.end) (end_none (last_lines (revision (batches history)) c.closed.result.links after.report.rounds.items fault) fault at_line ending c.closed.result.status told success));
+          (crew_done (verdict_of ends) (end_fault after.report.end) (end_none (last_lines (revision (batches history)) c.finish.result.links after.report.rounds.items fault) fault at_line ending c.finish.result.status told success));
     }
 
 pub returns-clause-closes : goal.returns-clause-closes
 returns-clause-closes g c =
-    let doors = ap length c.staffed-begun.ensures.doors in
-    let crew = length-append (map (λ w. w.door) c.staffed-begun.result.0.room.crew.items) (c.staffed-begun.result.2 ∷ []) in
-    let count = length-map c.staffed-begun.result.0.room.crew.items (λ w. w.door) in
-    omega (arith, doors, crew, count, c.worked-lock.ensures.closes, c.shut.ensures.closes, c.hang_up.ensures.closes)
+    let doors = ap length c.assign_workers-begun.ensures.doors in
+    let crew = length-append (map (λ w. w.door) c.assign_workers-begun.result.0.room.crew.items) (c.assign_workers-begun.result.2 ∷ []) in
+    let count = length-map c.assign_workers-begun.result.0.room.crew.items (λ w. w.door) in
+    omega (arith, doors, crew, count, c.run_workers-lock.ensures.closes, c.shut.ensures.closes, c.hang_up.ensures.closes)

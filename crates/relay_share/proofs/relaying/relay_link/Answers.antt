@@ -1,4 +1,4 @@
--- The rounds end somehow, and a stop is asked for behind them.
+-- The rounds end somehow, and then a stop is requested.
 use Rattle.std.proofs.Common.{subst}
 use Rattle.mirror_client.specs.Points.{nothing_read, place}
 use Rattle.share_lock.specs.Passes.{known}

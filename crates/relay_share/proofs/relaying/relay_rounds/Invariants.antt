@@ -6,7 +6,7 @@ use Rattle.share_lock.specs.Passes.{IsReady, known, lock_id}
 use Rattle.relay_share.specs.Steps.{Stands}
 use Rattle.relay_share.proofs.relaying.relay_rounds.Given as goal
 
--- so many listings were relayed, and the client holds them
+-- `round` listings were relayed, and the client holds them
 abbrev pub invariant-loop-round : goal.invariant-loop-round
 invariant-loop-round g l = record {
   listings : List Listing;

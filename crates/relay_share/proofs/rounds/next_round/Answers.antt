@@ -1,4 +1,4 @@
--- Behind another revision a round is gone through, or ends the relay.
+-- After another revision a round is done, or ends the relay.
 use Rattle.std.proofs.Common.{sym, subst}
 use Rattle.mirror_client.specs.Points.{place}
 use Rattle.share_lock.specs.Passes.{known}

@@ -1,4 +1,4 @@
--- The body that answers is taken, or ends the relay.
+-- The body of the answer is applied, or ends the relay.
 use Rattle.std.proofs.Common.{sym, subst}
 use Rattle.mirror_client.specs.Points.{place}
 use Rattle.mirror_client.specs.Steps.{held_after}

@@ -1,4 +1,4 @@
--- The tag is a listing at the revision that is held, or is refused there.
+-- The tag is a listing at the held revision, or is refused there.
 use Rattle.std.proofs.Common.{ap, ◌∙◌}
 use Rattle.mirror_core.specs.Reading.{listing_of}
 use Rattle.mirror_core.specs.ToldSeen.{told_of}

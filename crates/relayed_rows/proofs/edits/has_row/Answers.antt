@@ -1,4 +1,4 @@
--- A listing of all properties has no key beside the id.
+-- A listing of all properties has no key besides the id.
 use Rattle.std.proofs.Common.{◌≡◌, false, Some, None, sym, ap, ◌∙◌}
 use Rattle.std.specs.Option.{option_map_or}
 use Rattle.share_history.specs.Keyed.{at}

@@ -1,4 +1,4 @@
--- One change more was looked at.
+-- One change more.
 use Rattle.std.proofs.Common.{◌≡◌, ◌++◌, ◌∷◌, rules, sym, ap, ◌∙◌}
 use Rattle.relayed_rows.specs.Differences.{new_rows}
 use Rattle.relayed_rows.specs.Changes.{rows_in}

@@ -27,7 +27,7 @@ returns-in-Ok-listen-clause-opened g c =
       faultless = two.count ∙ one.count;
     }
 
--- the doors of the first place were given back
+-- the listeners of the first address were closed
 pub returns-in-Err-listen-clause-failed : goal.returns-in-Err-listen-clause-failed
 returns-in-Err-listen-clause-failed g c =
     let s = c.args.serving.now in

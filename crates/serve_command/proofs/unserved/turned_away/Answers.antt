@@ -6,5 +6,5 @@ use Rattle.serve_command.proofs.unserved.turned_away.Goals as goal
 pub returns-clause-told : goal.returns-clause-told
 returns-clause-told g c =
     let old : OutputSeen = output_seen (g.W.Sink.taken c.args.output.now) (g.W.Faulted.faults c.args.output.now) in
-    let new : OutputSeen = output_seen (g.W.Sink.taken c.refused-status.new.output) (g.W.Faulted.faults c.refused-status.new.output) in
-    subst (TellsFault g.E.Refusal.told_line g.E.Refusal.told_status c.args.stop.now old new) (sym c.unserved.ensures.status) c.refused-status.ensures.told
+    let new : OutputSeen = output_seen (g.W.Sink.taken c.write_error-status.new.output) (g.W.Faulted.faults c.write_error-status.new.output) in
+    subst (TellsFault g.E.Refusal.told_line g.E.Refusal.told_status c.args.stop.now old new) (sym c.unserved.ensures.status) c.write_error-status.ensures.told

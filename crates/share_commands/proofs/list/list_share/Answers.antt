@@ -14,14 +14,14 @@ returns-in-Err g c =
     let input : InputSeen = input_seen (g.I.Source.left c.args.input.now) (g.I.Faulted.faults c.args.input.now) in
     λ around.
     let told : Told = told_beside around input input
-    (output_seen (g.W.Sink.taken c.args.output.now) (g.W.Faulted.faults c.args.output.now)) (output_seen (g.W.Sink.taken c.refused.new.output) (g.W.Faulted.faults c.refused.new.output)) in
-    by_refusal (list_meaning query meta c.args.target) (list_sense query meta c.args.target) told c.refused.result c.in-Err.fault (c.in-Err.ensures.refused c.args.target input) c.refused.ensures
+    (output_seen (g.W.Sink.taken c.args.output.now) (g.W.Faulted.faults c.args.output.now)) (output_seen (g.W.Sink.taken c.write_error.new.output) (g.W.Faulted.faults c.write_error.new.output)) in
+    by_refusal (list_meaning query meta c.args.target) (list_sense query meta c.args.target) told c.write_error.result c.in-Err.fault (c.in-Err.ensures.refused c.args.target input) c.write_error.ensures
 
 pub returns-in-Err-opened : goal.returns-in-Err-opened
 returns-in-Err-opened g c =
     let query = option_copied c.args.query in
     let meta = option_copied c.args.meta in
-    let refused = c.refused-in-Err-opened in
+    let refused = c.write_error-in-Err-opened in
     λ around.
     let told : Told = told_beside around
     (input_seen (g.I.Source.left c.args.input.now) (g.I.Faulted.faults c.args.input.now)) (input_seen (g.I.Source.left c.opened.new.input) (g.I.Faulted.faults c.opened.new.input))

@@ -1,4 +1,4 @@
--- The counter of the call is the one that is made for it.
+-- The call uses the counter that is made for it.
 use Rattle.share_commands.proofs.opening.lists_of.Given as goal
 
 abbrev pub ghosts-lists_by : goal.ghosts-lists_by

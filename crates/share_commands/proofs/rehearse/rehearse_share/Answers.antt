@@ -17,9 +17,9 @@ returns-then-batches-size-gt-MAX_EDITS-clause-answered g c =
     let many : most_edits < a.batches * a.size = omega (arith, c.if-batches-size-gt-MAX_EDITS.true) in
     λ around input.
     let told : Told = told_beside around input input
-    (output_seen (g.W.Sink.taken a.output.now) (g.W.Faulted.faults a.output.now)) (output_seen (g.W.Sink.taken c.refused.new.output) (g.W.Faulted.faults c.refused.new.output)) in
-    by_refusal (rehearse_meaning a.number a.batches a.size a.keep) (rehearse_sense a.number a.batches a.size a.keep) told c.refused.result (Own TooMany)
-    (many, record { left = refl; faults = refl }) c.refused.ensures
+    (output_seen (g.W.Sink.taken a.output.now) (g.W.Faulted.faults a.output.now)) (output_seen (g.W.Sink.taken c.write_error.new.output) (g.W.Faulted.faults c.write_error.new.output)) in
+    by_refusal (rehearse_meaning a.number a.batches a.size a.keep) (rehearse_sense a.number a.batches a.size a.keep) told c.write_error.result (Own TooMany)
+    (many, record { left = refl; faults = refl }) c.write_error.ensures
 
 pub returns-in-Ok-clause-answered : goal.returns-in-Ok-clause-answered
 returns-in-Ok-clause-answered g c =
@@ -27,13 +27,13 @@ returns-in-Ok-clause-answered g c =
     let few : a.batches * a.size ≤ most_edits = omega (arith, c.if-batches-size-gt-MAX_EDITS.false) in
     λ around input.
     let told : Told = told_beside around input input
-    (output_seen (g.W.Sink.taken a.output.now) (g.W.Faulted.faults a.output.now)) (output_seen (g.W.Sink.taken c.done.new.output) (g.W.Faulted.faults c.done.new.output)) in
-    by_output (rehearse_meaning a.number a.batches a.size a.keep) (rehearse_sense a.number a.batches a.size a.keep) told c.done.result (Some c.in-Ok.rehearsed.history) c.as_slice.result.now (record {
+    (output_seen (g.W.Sink.taken a.output.now) (g.W.Faulted.faults a.output.now)) (output_seen (g.W.Sink.taken c.write_output.new.output) (g.W.Faulted.faults c.write_output.new.output)) in
+    by_output (rehearse_meaning a.number a.batches a.size a.keep) (rehearse_sense a.number a.batches a.size a.keep) told c.write_output.result (Some c.in-Ok.rehearsed.history) c.as_slice.result.now (record {
       unread = record { left = refl; faults = refl };
       within = few;
       opened = ap share_with c.in-Ok.ensures.history;
       written = c.as_slice.ensures.value ∙ c.in-Ok.ensures.summary;
-    }) c.done.ensures
+    }) c.write_output.ensures
 
 pub returns-in-Err-clause-answered : goal.returns-in-Err-clause-answered
 returns-in-Err-clause-answered g c =
@@ -53,13 +53,13 @@ pub returns-then-batches-size-gt-MAX_EDITS-clause-opened : goal.returns-then-bat
 returns-then-batches-size-gt-MAX_EDITS-clause-opened g c =
     let a = c.args in
     let many : most_edits < a.batches * a.size = omega (arith, c.if-batches-size-gt-MAX_EDITS.true) in
-    not_opened a.number a.batches a.size c.refused.result many c.refused.ensures.unopened
+    not_opened a.number a.batches a.size c.write_error.result many c.write_error.ensures.unopened
 
 pub returns-in-Ok-clause-opened : goal.returns-in-Ok-clause-opened
 returns-in-Ok-clause-opened g c =
     let a = c.args in
     let few : a.batches * a.size ≤ most_edits = omega (arith, c.if-batches-size-gt-MAX_EDITS.false) in
-    opened a.number a.batches a.size c.done.result c.in-Ok.rehearsed.history few c.done.ensures.history
+    opened a.number a.batches a.size c.write_output.result c.in-Ok.rehearsed.history few c.write_output.ensures.history
     (has_all (rehearsed a.number a.batches a.size) c.in-Ok.rehearsed.history c.in-Ok.ensures.history)
 
 pub returns-in-Err-clause-opened : goal.returns-in-Err-clause-opened

@@ -17,16 +17,16 @@ returns-in-Err-clause-answered g c = λ around.
     let name = c.args.name.now in
     let told : Told = told_beside around
     (input_seen (g.I.Source.left c.args.input.now) (g.I.Faulted.faults c.args.input.now)) (input_seen (g.I.Source.left c.script_of.new.input) (g.I.Faulted.faults c.script_of.new.input))
-    (output_seen (g.W.Sink.taken c.args.output.now) (g.W.Faulted.faults c.args.output.now)) (output_seen (g.W.Sink.taken c.refused.new.output) (g.W.Faulted.faults c.refused.new.output)) in
-    by_fault (replay_meaning keep name) (replay_sense keep name) told told.output_before c.refused.result [] c.in-Err.fault c.in-Err.ensures.cause
-    (unopened keep name told.before told.after c.in-Err.fault) (unwritten keep name told.before told.after c.in-Err.fault) (none_written told.output_before) c.refused.ensures
+    (output_seen (g.W.Sink.taken c.args.output.now) (g.W.Faulted.faults c.args.output.now)) (output_seen (g.W.Sink.taken c.write_error.new.output) (g.W.Faulted.faults c.write_error.new.output)) in
+    by_fault (replay_meaning keep name) (replay_sense keep name) told told.output_before c.write_error.result [] c.in-Err.fault c.in-Err.ensures.cause
+    (unopened keep name told.before told.after c.in-Err.fault) (unwritten keep name told.before told.after c.in-Err.fault) (none_written told.output_before) c.write_error.ensures
 
 pub returns-in-Err-clause-played : goal.returns-in-Err-clause-played
 returns-in-Err-clause-played g c =
     unplayed (settings_of c.args.keep c.args.name.now)
     (input_seen (g.I.Source.left c.args.input.now) (g.I.Faulted.faults c.args.input.now)) (input_seen (g.I.Source.left c.script_of.new.input) (g.I.Faulted.faults c.script_of.new.input))
-    (output_seen (g.W.Sink.taken c.args.output.now) (g.W.Faulted.faults c.args.output.now)) (output_seen (g.W.Sink.taken c.refused.new.output) (g.W.Faulted.faults c.refused.new.output))
-    c.refused.result c.in-Err.fault c.refused.ensures
+    (output_seen (g.W.Sink.taken c.args.output.now) (g.W.Faulted.faults c.args.output.now)) (output_seen (g.W.Sink.taken c.write_error.new.output) (g.W.Faulted.faults c.write_error.new.output))
+    c.write_error.result c.in-Err.fault c.write_error.ensures
 
 pub returns-in-Ok-opened-clause-answered : goal.returns-in-Ok-opened-clause-answered
 returns-in-Ok-opened-clause-answered g c = λ around.

@@ -5,7 +5,7 @@ use mir.Syntax.{of_param}
 use Rattle.share_crew.proofs.Crossing.{taken_send}
 use Rattle.share_crew.proofs.beside.work_beside.Goals as goal
 
--- the crew may go to a thread, as its doors may
+-- the workers may go to a thread, as their listeners may
 pub join_mut-requires-send-F : goal.join_mut-requires-send-F
 join_mut-requires-send-F g c κs within =
     let taken = taken_send (param 2 g.row.R) (param 0 g.row.D) κs.1.1.1.1.1.1.1.1.0 κs.1.1.1.1.1.1.1.1.1.0 κs.1.1.1.1.1.1.1.1.1.1.0 κs.1.1.1.1.1.1.1.1.1.1.1.0 κs.1.1.1.1.1.1.1.1.1.1.1.1.0

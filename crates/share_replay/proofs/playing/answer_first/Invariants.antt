@@ -2,7 +2,7 @@ use Rattle.std.proofs.Common.{◌≡◌, drop}
 use Rattle.share_replay.specs.Machine.{first_due}
 use Rattle.share_replay.proofs.playing.answer_first.Given as goal
 
--- nothing is due on the connections so far, and nothing has changed
+-- the connections so far cannot be answered, and nothing has changed
 abbrev pub invariant-loop-other : goal.invariant-loop-other
 invariant-loop-other g l = record {
   first :

@@ -3,7 +3,7 @@ use Rattle.share_replay.specs.Machine.{most_connections, most_left, turn_place}
 use Rattle.share_replay.proofs.MachineFacts.{Leads}
 use Rattle.share_replay.proofs.playing.settle.Given as goal
 
--- so many answers led here, and the last look found nothing due where the loop ends
+-- some number of answers led here; when the loop ends, no connection can be answered
 abbrev pub invariant-loop-is_due : goal.invariant-loop-is_due
 invariant-loop-is_due g l = record {
   leads : Leads l.initial.share.settings l.place l.initial.share.history l.initial.connections (g.W.Sink.taken l.initial.sink) l.share.history l.connections (g.W.Sink.taken l.sink);

@@ -3,7 +3,7 @@ use Rattle.share_replay.specs.Machine.{begin, most_connections, played}
 use Rattle.share_replay.specs.Played.{IsAt}
 use Rattle.share_replay.proofs.replaying.replay.Given as goal
 
--- the machine stands behind the lines so far
+-- the machine has played the lines so far
 abbrev pub invariant-loop-line : goal.invariant-loop-line
 invariant-loop-line g l = record {
   at :

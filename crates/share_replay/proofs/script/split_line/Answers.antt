@@ -1,4 +1,4 @@
--- The line that stands before the line feed.
+-- The line before the line feed.
 use Rattle.share_replay.proofs.Texts.{lines_by, shorter_by}
 use Rattle.share_replay.proofs.script.split_line.Goals as goal
 

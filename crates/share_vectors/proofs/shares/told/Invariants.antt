@@ -1,4 +1,4 @@
--- The counter of the call is the one that is made for it.
+-- The call uses the counter that is made for it.
 use Rattle.share_vectors.proofs.shares.told.Given as goal
 
 abbrev pub ghosts-answered : goal.ghosts-answered

@@ -3,7 +3,7 @@ use Rattle.item_model.specs.Folding.{lowered}
 use Rattle.song_query.specs.Glob.{joins, from_some}
 use Rattle.song_query.proofs.globs.are_behind.Given as goal
 
--- the pieces are found where those that are left are found in the rest
+-- the parts are found exactly if those left are found in the rest
 abbrev pub invariant-loop-left : goal.invariant-loop-left
 invariant-loop-left l =
     from_some (joins (map lowered l.pieces)) (lowered l.text) ≡ from_some (joins (map lowered l.left)) (lowered l.rest)

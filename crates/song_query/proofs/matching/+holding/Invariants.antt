@@ -13,12 +13,12 @@ decreases-do_all_hold l = query_sizes (queries_of (map tree_of l.members.now))
 abbrev pub decreases-does_one_hold : goal.decreases-does_one_hold
 decreases-does_one_hold l = query_sizes (queries_of (map tree_of l.members.now))
 
--- all hold where those that are left do
+-- all members match if those left do
 abbrev pub invariant-do_all_hold-loop-member : goal.invariant-do_all_hold-loop-member
 invariant-do_all_hold-loop-member l =
     all_hold (queries_of (map tree_of (drop l.member-index l.members))) l.row ≡ all_hold (queries_of (map tree_of l.members)) l.row
 
--- one holds where one of those that are left does
+-- one member matches if one of those left does
 abbrev pub invariant-does_one_hold-loop-member : goal.invariant-does_one_hold-loop-member
 invariant-does_one_hold-loop-member l =
     some_hold (queries_of (map tree_of (drop l.member-index l.members))) l.row ≡ some_hold (queries_of (map tree_of l.members)) l.row

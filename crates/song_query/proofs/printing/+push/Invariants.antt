@@ -28,7 +28,7 @@ decreases-push_or l = 2 * query_sizes (queries_of (map tree_of l.members.now)) +
 abbrev pub decreases-push_more_members : goal.decreases-push_more_members
 decreases-push_more_members l = 2 * query_sizes (queries_of (map tree_of l.members.now))
 
--- what is pushed and what is left are the text of all
+-- the text so far and that of the units left are the text of all
 abbrev pub invariant-push_more_units-loop-unit : goal.invariant-push_more_units-loop-unit
 invariant-push_more_units-loop-unit l =
     string_bytes l.out ++ printed_and_more (queries_of (map tree_of (drop l.unit-index l.units)))

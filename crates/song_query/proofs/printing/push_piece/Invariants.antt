@@ -3,7 +3,7 @@ use Rattle.std.specs.Str.Iter.{chars_rest}
 use Rattle.song_query.specs.Printing.{printed_piece}
 use Rattle.song_query.proofs.printing.push_piece.Given as goal
 
--- what is pushed and what is left are the text of all
+-- the text so far and that of the characters left are the text of all
 abbrev pub invariant-loop-c : goal.invariant-loop-c
 invariant-loop-c l = record {
   next : (goal.iterator-loop-c).can_next l.rest;

@@ -4,7 +4,7 @@ use Rattle.song_query.specs.Seen.{state_of}
 use Rattle.song_query.proofs.Reached.{Reached}
 use Rattle.song_query.proofs.reading.read_short.Given as goal
 
--- the text is read up to the place, and the rest is left
+-- the text is read up to the offset, and the rest is left
 abbrev pub invariant-loop-c : goal.invariant-loop-c
 invariant-loop-c l = record {
   next : (goal.iterator-loop-c).can_next l.rest;

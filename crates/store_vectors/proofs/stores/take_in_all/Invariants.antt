@@ -1,4 +1,4 @@
--- Each store keeps as many revisions as at first.
+-- Both stores keep the window that they began with.
 use Rattle.std.proofs.Common.{◌≡◌}
 use Rattle.store_vectors.proofs.stores.take_in_all.Given as goal
 

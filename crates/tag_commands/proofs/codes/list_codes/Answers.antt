@@ -9,9 +9,9 @@ pub returns-in-Ok : goal.returns-in-Ok
 returns-in-Ok g c =
     λ around input.
     let told : Told = told_beside around input input
-    (output_seen (g.W.Sink.taken c.args.output.now) (g.W.Faulted.faults c.args.output.now)) (output_seen (g.W.Sink.taken c.done.new.output) (g.W.Faulted.faults c.done.new.output)) in
-    by_output codes_meaning codes_sense told c.done.result None c.as_slice.result.now
-    (record { unread = record { left = refl; faults = refl }; unopened = refl; written = c.as_slice.ensures.value ∙ c.in-Ok.ensures }) c.done.ensures
+    (output_seen (g.W.Sink.taken c.args.output.now) (g.W.Faulted.faults c.args.output.now)) (output_seen (g.W.Sink.taken c.write_output.new.output) (g.W.Faulted.faults c.write_output.new.output)) in
+    by_output codes_meaning codes_sense told c.write_output.result None c.as_slice.result.now
+    (record { unread = record { left = refl; faults = refl }; unopened = refl; written = c.as_slice.ensures.value ∙ c.in-Ok.ensures }) c.write_output.ensures
 
 pub returns-in-Err : goal.returns-in-Err
 returns-in-Err g c =

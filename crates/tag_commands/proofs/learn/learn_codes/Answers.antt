@@ -10,5 +10,5 @@ returns g c =
     λ around.
     let told : Told = told_beside around
     (input_seen (g.I.Source.left c.args.input.now) (g.I.Faulted.faults c.args.input.now)) (input_seen (g.I.Source.left answer.new.input) (g.I.Faulted.faults answer.new.input))
-    (output_seen (g.W.Sink.taken c.args.output.now) (g.W.Faulted.faults c.args.output.now)) (output_seen (g.W.Sink.taken c.written.new.output) (g.W.Faulted.faults c.written.new.output)) in
-    by_answer learn_meaning learn_sense told c.written.result answer.result answer.ensures.learned answer.ensures.cause c.written.ensures
+    (output_seen (g.W.Sink.taken c.args.output.now) (g.W.Faulted.faults c.args.output.now)) (output_seen (g.W.Sink.taken c.write_result.new.output) (g.W.Faulted.faults c.write_result.new.output)) in
+    by_answer learn_meaning learn_sense told c.write_result.result answer.result answer.ensures.learned answer.ensures.cause c.write_result.ensures

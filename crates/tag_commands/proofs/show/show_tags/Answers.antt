@@ -22,10 +22,10 @@ returns-in-Err-Input-clause-answered g c =
     λ around.
     let told : Told = told_beside around
     (input_seen (g.I.Source.left c.args.input.now) (g.I.Faulted.faults c.args.input.now)) (input_seen (g.I.Source.left c.shown.new.input) (g.I.Faulted.faults c.shown.new.input))
-    (output_seen (g.W.Sink.taken c.args.output.now) (g.W.Faulted.faults c.args.output.now)) (output_seen (g.W.Sink.taken c.refused.new.output) (g.W.Faulted.faults c.refused.new.output)) in
+    (output_seen (g.W.Sink.taken c.args.output.now) (g.W.Faulted.faults c.args.output.now)) (output_seen (g.W.Sink.taken c.write_error.new.output) (g.W.Faulted.faults c.write_error.new.output)) in
     let mid : OutputSeen = output_seen (g.W.Sink.taken c.shown.new.output) (g.W.Faulted.faults c.shown.new.output) in
     let stops = subst (ShowStops told.before.input told.after.input told.output_before mid) c.in-Err-Input.field-0-is c.in-Err-Input.ensures.stopped in
-    by_fault show_meaning show_sense told mid c.refused.result stops.1.0 c.in-Err-Input.fault stops.0 refl stops.1.1 stops.1.2 c.refused.ensures
+    by_fault show_meaning show_sense told mid c.write_error.result stops.1.0 c.in-Err-Input.fault stops.0 refl stops.1.1 stops.1.2 c.write_error.ensures
 
 pub returns-in-Err-Output-clause-answered : goal.returns-in-Err-Output-clause-answered
 returns-in-Err-Output-clause-answered g c =
@@ -42,5 +42,5 @@ returns-in-Err-Input-clause-in_step g c =
     let after : InputSeen = input_seen (g.I.Source.left c.shown.new.input) (g.I.Faulted.faults c.shown.new.input) in
     let output : OutputSeen = output_seen (g.W.Sink.taken c.args.output.now) (g.W.Faulted.faults c.args.output.now) in
     let mid : OutputSeen = output_seen (g.W.Sink.taken c.shown.new.output) (g.W.Faulted.faults c.shown.new.output) in
-    let output' : OutputSeen = output_seen (g.W.Sink.taken c.refused.new.output) (g.W.Faulted.faults c.refused.new.output) in
-    step_fault tags_line tags_status c.in-Err-Input.fault before after output mid output' c.refused.result c.shown.ensures.in_step c.refused.ensures
+    let output' : OutputSeen = output_seen (g.W.Sink.taken c.write_error.new.output) (g.W.Faulted.faults c.write_error.new.output) in
+    step_fault tags_line tags_status c.in-Err-Input.fault before after output mid output' c.write_error.result c.shown.ensures.in_step c.write_error.ensures

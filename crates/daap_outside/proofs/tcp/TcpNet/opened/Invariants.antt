@@ -1,7 +1,7 @@
 use Rattle.std.proofs.Common.{◌≡◌, All, vec_len, vec_capacity}
 use Rattle.daap_outside.proofs.tcp.TcpNet.opened.Given as goal
 
--- so many doors are made, none with a fault, and there is room for all of them
+-- `counter` listeners are made, none with an error, and there is capacity for all of them
 abbrev pub invariant-loop : goal.invariant-loop
 invariant-loop g l = record {
   made : vec_len l.doors ≡ l.counter;

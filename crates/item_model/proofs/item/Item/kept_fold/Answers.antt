@@ -4,7 +4,7 @@ use Rattle.item_model.specs.Folds.{kept_for, ServesIfAny}
 use Rattle.item_model.proofs.KeptFolds.{folds_at}
 use Rattle.item_model.proofs.item.Item.kept_fold.Goals as goal
 
--- what is kept for the property serves its value
+-- the text stored for the property serves its value
 pub returns-in-Some : goal.returns-in-Some
 returns-in-Some c =
     let p = c.args.property in

@@ -1,20 +1,19 @@
-use Rattle.std.proofs.Common.{◌+◌, ◌-◌, ℕ, List, Vec, Global, map, drop, sym, ap, subst, ◌∙◌}
-use Rattle.std.proofs.lemmas.List.{drop-map}
+use Rattle.std.proofs.Common.{sym, ap, subst, ◌∙◌}
+use Rattle.row_sheets.specs.Changes.{AreChanges}
+use Rattle.share_history.specs.Keyed.{at}
 use Rattle.item_store.specs.Stands.{StandsFor}
-use Rattle.item_store.proofs.StandFacts.{applied, not_applied}
+use Rattle.item_store.proofs.StandFacts.{present_more, said_own}
 use Rattle.item_store.proofs.store.ItemStore.apply.Goals as goal
 
-abbrev ids_in : Vec ℕ Global → List ℕ
-ids_in ids = ids.items
+pub with_changes-requires : goal.with_changes-requires
+with_changes-requires c =
+    subst AreChanges (sym c.as_slice.ensures.value)
+    (record {
+      ascending = c.in_ok-changes.ensures.ascending;
+      own = λ id row is. said_own id row c.args.edits.now (sym (c.in_ok-changes.ensures.said id) ∙ is);
+    })
 
-pub returns-in-Ok-clause-stands : goal.returns-in-Ok-clause-stands
-returns-in-Ok-clause-stands c = λ bs h.
-    let passed : ℕ = c.floor-low.result - c.self.inside.low in
-    applied bs c.args.edits.now _ c.args.revision c.floor-low.result c.in-Ok.count _ c.take_in_batch-taken.new.held c.prune_to.new.held
-    (subst (StandsFor bs) (sym c.self.view_is) h) c.requires.valid (c.requires.next ∙ ap (λ s. s.revision + 1) (sym c.self.view_is)) c.floor-low.ensures
-    (ap (map ids_in) c.prune_to.ensures.named ∙ sym (drop-map ids_in passed c.take_in_batch-taken.new.named.items) ∙ ap (drop passed) c.in-Ok.ensures.named)
-    c.in-Ok.ensures.items c.in-Ok.ensures.before c.prune_to.ensures.rows
-
-pub returns-in-Err-clause-unchanged : goal.returns-in-Err-clause-unchanged
-returns-in-Err-clause-unchanged c =
-    not_applied c.self.view_is c.args.revision _ c.take_in_batch-taken.new.held c.requires.next c.in-Err.ensures.named_left c.in-Err.ensures.rows_left
+pub take_in-requires-clause-present : goal.take_in-requires-clause-present
+take_in-requires-clause-present c = λ bs h.
+    present_more bs c.args.edits.now c.self.inside.present c.in_ok-present.present c.as_slice.result.now (subst (StandsFor bs) (sym c.self.view_is) h).present
+    (λ id. ap (at id) c.as_slice.ensures.value ∙ c.in_ok-changes.ensures.said id) c.in_ok-present.ensures.ascending c.in_ok-present.ensures.each

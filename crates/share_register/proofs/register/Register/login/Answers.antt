@@ -25,7 +25,7 @@ append-requires-clause-few c =
     let e = Login c.args.by (c.self.inside.logins + 1) in
     subst (λ (h : List Entry). revision (batches (h ++ e ∷ [])) < 4294967296) (sym c.in_ok-reserve.ensures.list) (few_after c.self.inside.log.entries e _ _ _ _ c.self.invariant.counts)
 
--- the marks that are left
+-- the last-answered lengths after the login
 left : (marks put gone : Marks) (x k len point : ℕ) → gone ≡ taken_out put k → put ≡ put_in marks (x, point) → k ≡ x - 64 → point ≡ len + 1 → gone ≡ taken_out (put_in marks (x, len + 1)) (x - 64)
 left marks put gone x k len point out in_put key at_end = out ∙ (λ i. taken_out ((in_put ∙ ap (λ n. put_in marks (x, n)) at_end) i) (key i))
 

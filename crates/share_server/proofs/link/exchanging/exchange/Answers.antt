@@ -15,16 +15,16 @@ use Rattle.share_server.proofs.Requests.{gone, sayable, unkept, unserved}
 use Rattle.share_server.proofs.Waiting.{keeping_yet}
 use Rattle.share_server.proofs.link.exchanging.exchange.Goals as goal
 
--- there was no room for the report
+-- reserving capacity for the report failed
 pub returns-then-is_err-clause-exchanges : goal.returns-then-is_err-clause-exchanges
 returns-then-is_err-clause-exchanges g c = λ k taken asks goes.
     subst
-    (λ (served : List Served). Exchanges c.args.service.now.limit k (known c.args.pass.now) taken (g.K.Sink.taken c.given_up.new.link) asks c.args.ask.now served (Some c.given_up.result))
+    (λ (served : List Served). Exchanges c.args.service.now.limit k (known c.args.pass.now) taken (g.K.Sink.taken c.end_out_of_memory.new.link) asks c.args.ask.now served (Some c.end_out_of_memory.result))
     (sym c.reserve.ensures.items)
-    (unserved c.args.service.now.limit k (known c.args.pass.now) taken (g.K.Sink.taken c.args.link.now) (g.K.Sink.taken c.given_up.new.link) asks c.args.ask.now
-    c.args.served.now.items c.given_up.result goes c.given_up.ensures.told)
+    (unserved c.args.service.now.limit k (known c.args.pass.now) taken (g.K.Sink.taken c.args.link.now) (g.K.Sink.taken c.end_out_of_memory.new.link) asks c.args.ask.now
+    c.args.served.now.items c.end_out_of_memory.result goes c.end_out_of_memory.ensures.told)
 
--- what is said of an answer can be written
+-- the answer can be written
 pub tell-requires-clause-sayable : goal.tell-requires-clause-sayable
 tell-requires-clause-sayable g c = sayable (known c.args.pass.now).settings (at_point (known c.answer_request.new.pass).seen c.in-Ok.answered.served) c.args.ask.now c.in-Ok.answered.served
     c.in-Ok.answered.said c.in-Ok.ensures.outcome.said
@@ -66,7 +66,7 @@ returns-in-Err-Lost-clause-exchanges g c = λ k taken asks goes.
 pub returns-then-is_err-clause-keeping : goal.returns-then-is_err-clause-keeping
 returns-then-is_err-clause-keeping g c =
     keeping_yet (g.F.Keeps.keeps c.args.keeper.now) (g.F.Keeps.is_lost c.args.keeper.now) (g.F.Keeps.faults c.args.keeper.now) (known c.args.pass.now)
-    (is_loss c.given_up.result) c.requires.going c.given_up.ensures.goes_on
+    (is_loss c.end_out_of_memory.result) c.requires.going c.end_out_of_memory.ensures.goes_on
 
 pub returns-in-Ok-clause-keeping : goal.returns-in-Ok-clause-keeping
 returns-in-Ok-clause-keeping g c =

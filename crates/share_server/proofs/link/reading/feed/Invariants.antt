@@ -6,7 +6,7 @@ use Rattle.share_server.specs.Kept.{Keeping}
 use Rattle.share_server.specs.Steps.{Midway}
 use Rattle.share_server.proofs.link.reading.feed.Given as goal
 
--- so many bytes of the piece were fed, the keeper lost nothing, and the connection goes on
+-- `done` bytes of the chunk were fed, the keeper lost nothing, and the connection stays open
 abbrev pub invariant-loop-done : goal.invariant-loop-done
 invariant-loop-done g l = record {
   within : l.done ≤ length l.piece;

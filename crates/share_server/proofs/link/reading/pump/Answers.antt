@@ -18,7 +18,7 @@ returns-then-n-eq0-clause-pumps g c = λ role k left taken under.
     (subst (λ (n : ℕ). Consumes (g.K.Source.left c.args.link.now) (g.K.Source.left c.read.new.self) (take n c.read.new.room)) none c.in-Ok.ensures.moved.0)
     (c.in-Ok.ensures.moved.1 none room) c.end_of_input.result (c.end_of_input.ensures.end under.midway.fine)
 
--- a piece was read
+-- a chunk was read
 pub returns-clause-pumps : goal.returns-clause-pumps
 returns-clause-pumps g c = λ role k left taken under.
     let untouched : g.K.Sink.taken c.read.new.self ≡ g.K.Sink.taken c.args.link.now =

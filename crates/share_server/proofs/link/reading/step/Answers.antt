@@ -7,9 +7,9 @@ use Rattle.share_server.proofs.link.reading.step.Goals as goal
 -- the reader refused
 pub returns-in-Err-clause-steps : goal.returns-in-Err-clause-steps
 returns-in-Err-clause-steps g c = λ role bytes k taken midway.
-    was_unread role bytes c.args.piece.now c.args.service.now.limit k (known c.args.pass.now) taken (g.K.Sink.taken c.args.link.now) (g.K.Sink.taken c.unread.new.link)
-    c.args.serving.now.reader c.feed.new.self c.args.serving.now.served.items c.in-Err.error c.unread.result midway c.in-Err.ensures.role c.in-Err.ensures.error
-    c.in-Err.ensures.read c.unread.ensures.memory c.unread.ensures.refused
+    was_unread role bytes c.args.piece.now c.args.service.now.limit k (known c.args.pass.now) taken (g.K.Sink.taken c.args.link.now) (g.K.Sink.taken c.end_on_head_error.new.link)
+    c.args.serving.now.reader c.feed.new.self c.args.serving.now.served.items c.in-Err.error c.end_on_head_error.result midway c.in-Err.ensures.role c.in-Err.ensures.error
+    c.in-Err.ensures.read c.end_on_head_error.ensures.memory c.end_on_head_error.ensures.refused
 
 -- no request is whole yet
 pub returns-in_default-clause-steps : goal.returns-in_default-clause-steps
@@ -18,7 +18,7 @@ returns-in_default-clause-steps g c = λ role bytes k taken midway.
     c.args.serving.now.reader c.feed.new.self c.next.new.self c.args.serving.now.served.items c.next.result midway c.in-Ok.ensures.role c.in-Ok.ensures.error
     c.in-Ok.ensures.read c.next.ensures.result c.next.ensures.rest c.next.ensures.read c.in_default.is
 
--- the connection goes on behind a request
+-- the connection stays open after a request
 pub returns-in-None-clause-steps : goal.returns-in-None-clause-steps
 returns-in-None-clause-steps g c = λ role bytes k taken midway.
     took_one role bytes c.args.piece.now c.in-Ok.taken c.args.service.now.limit k (known c.args.pass.now) taken (g.K.Sink.taken c.args.link.now)
@@ -37,4 +37,4 @@ returns-clause-steps g c = λ role bytes k taken midway.
 pub returns-in-Err-clause-keeping : goal.returns-in-Err-clause-keeping
 returns-in-Err-clause-keeping g c =
     keeping_yet (g.F.Keeps.keeps c.args.keeper.now) (g.F.Keeps.is_lost c.args.keeper.now) (g.F.Keeps.faults c.args.keeper.now) (known c.args.pass.now)
-    (is_loss c.unread.result) c.requires.going c.unread.ensures.goes_on
+    (is_loss c.end_on_head_error.result) c.requires.going c.end_on_head_error.ensures.goes_on

@@ -25,10 +25,10 @@ pub returns-in_default-clause-ended : goal.returns-in_default-clause-ended
 returns-in_default-clause-ended g c =
     let some : 0 < c.args.service.now.limit = search rules in
     subst
-    (λ (served : List Served). LinkEnded c.args.role c.args.service.now.limit (known c.args.pass.now) (known c.args.pass.now) (g.K.Source.left c.args.link.now) (g.K.Sink.taken c.args.link.now) (g.K.Sink.taken c.given_up.new.link) served c.given_up.result)
+    (λ (served : List Served). LinkEnded c.args.role c.args.service.now.limit (known c.args.pass.now) (known c.args.pass.now) (g.K.Source.left c.args.link.now) (g.K.Sink.taken c.args.link.now) (g.K.Sink.taken c.end_out_of_memory.new.link) served c.end_out_of_memory.result)
     (sym c.new-served.ensures.items)
-    (unbegun c.args.role c.args.service.now.limit (known c.args.pass.now) (g.K.Source.left c.args.link.now) (g.K.Sink.taken c.args.link.now) (g.K.Sink.taken c.given_up.new.link)
-    c.given_up.result some c.given_up.ensures.told)
+    (unbegun c.args.role c.args.service.now.limit (known c.args.pass.now) (g.K.Source.left c.args.link.now) (g.K.Sink.taken c.args.link.now) (g.K.Sink.taken c.end_out_of_memory.new.link)
+    c.end_out_of_memory.result some c.end_out_of_memory.ensures.told)
 
 pub loop-init : goal.loop-init
 loop-init g c =
@@ -82,7 +82,7 @@ returns-then-service-eq0-clause-keeping g c =
 pub returns-in_default-clause-keeping : goal.returns-in_default-clause-keeping
 returns-in_default-clause-keeping g c =
     keeping_yet (g.F.Keeps.keeps c.args.keeper.now) (g.F.Keeps.is_lost c.args.keeper.now) (g.F.Keeps.faults c.args.keeper.now) (known c.args.pass.now)
-    (is_loss c.given_up.result) c.requires.going c.given_up.ensures.goes_on
+    (is_loss c.end_out_of_memory.result) c.requires.going c.end_out_of_memory.ensures.goes_on
 
 pub returns-in-Some-pump-clause-keeping : goal.returns-in-Some-pump-clause-keeping
 returns-in-Some-pump-clause-keeping g c =

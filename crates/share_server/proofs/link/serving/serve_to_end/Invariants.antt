@@ -4,7 +4,7 @@ use Rattle.share_server.specs.Kept.{Keeping}
 use Rattle.share_server.specs.Steps.{Underway}
 use Rattle.share_server.proofs.link.serving.serve_to_end.Given as goal
 
--- all that was read was served, the keeper lost nothing, and the connection goes on
+-- all that was read was served, the keeper lost nothing, and the connection stays open
 abbrev pub invariant-loop : goal.invariant-loop
 invariant-loop g l = record {
   ready : IsReady (lock_id l.service.lock.now) l.pass;

@@ -5,7 +5,7 @@ use Rattle.reply_bytes.specs.declared.writing.ReplyError.TheVariants.{Memory}
 use Rattle.share_server.specs.Written.{WasWritten, CountsMaybe}
 use Rattle.share_server.proofs.link.writing.whole.Goals as goal
 
--- the end that is due is no failure
+-- the end after the reply is not a failure
 pub returns-in-Ok-clause-count : goal.returns-in-Ok-clause-count
 returns-in-Ok-clause-count g c =
     subst (λ (n : ℕ). CountsMaybe (g.K.Faulted.faults c.args.link.now) n c.args.due) (sym c.in-Ok.ensures.count)
@@ -18,6 +18,6 @@ returns-clause-written g c =
     let same : c.write_reply.new.sink ≡ c.args.link.now = c.in-Err-Memory.ensures.unchanged (cc) in
     let bytes : List ℕ = with_head c.args.status c.args.form (plan_bytes c.args.plan) (is_some c.args.due) in
     subst
-    (λ (taken : Option (List ℕ)). WasWritten bytes c.args.added c.args.due taken (g.K.Sink.taken c.unwritten.new.link) (Some c.unwritten.result))
+    (λ (taken : Option (List ℕ)). WasWritten bytes c.args.added c.args.due taken (g.K.Sink.taken c.end_without_head.new.link) (Some c.end_without_head.result))
     (ap g.K.Sink.taken same)
-    (c.unwritten.ensures.written bytes c.args.due)
+    (c.end_without_head.ensures.written bytes c.args.due)

@@ -1,4 +1,4 @@
--- The turn was given back, the pass served nothing yet, the keeper lost nothing, and the link is as it was.
+-- The turn has ended, the handle served nothing yet, the keeper lost nothing, and the connection is unchanged.
 use Rattle.std.specs.Prelude.{◌≡◌, [], false}
 use Rattle.share_lock.specs.Passes.{lock_id, known, IsReady}
 use Rattle.share_server.specs.Passes.{Serves}

@@ -1,4 +1,4 @@
--- Pass 0 changes nothing in its turn.
+-- Handle 0 changes nothing in its turn.
 use Rattle.std.proofs.Common.{sym, ap, ◌∙◌}
 use Rattle.share_lock.specs.Passes.{found_of}
 use Rattle.share_replies.specs.Answers.{Shared}

@@ -3,7 +3,7 @@ use Rattle.std.proofs.lemmas.List.{nil_from_length}
 use Rattle.daap_outside.proofs.Moving.{moved_front}
 use Rattle.daap_outside.proofs.memory.source.MemSourceSource.read.Goals as goal
 
--- the bytes that were copied are the first that were left, and none only where none were left
+-- the bytes that were copied are the first that were left, and there are none only if none were left
 pub returns-clause-moved : goal.returns-clause-moved
 returns-clause-moved c =
     let rest : c.split_at.result.1.now ≡ drop c.args.self.now.given c.args.self.now.bytes.items =

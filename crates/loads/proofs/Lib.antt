@@ -1,0 +1,2 @@
+mod FirstRows
+mod Written

@@ -1,0 +1,42 @@
+//! Requests that are fed to a reader over and over.
+
+use anyhow::bail;
+use http_front::{HeadReader, Role};
+use std::alloc::{AllocError, Global};
+
+/// The sizes of requests and of the pieces in which they are fed, in bytes, if no argument says them.
+pub const LOADS: [(usize, usize); 4] = [(200, 200), (200, 1), (16_000, 16_000), (16_000, 1)];
+
+/// Returns how many asks come when a request of `size` bytes is fed `times` times, in pieces of `piece` bytes.
+pub fn asks_fed(alloc: Global, size: usize, piece: usize, times: u32) -> anyhow::Result<u32> {
+    if piece == 0 {
+        bail!("no pieces");
+    }
+    let request = request_of(alloc, size)?;
+    let mut reader = HeadReader::new(alloc, Role::Listen)?;
+    let mut asks: u32 = 0;
+    for _ in 0..times {
+        for part in request.as_slice().chunks(piece) {
+            if reader.feed(part).is_err() {
+                bail!("refused");
+            }
+            if reader.next().is_some() {
+                asks = asks.saturating_add(1);
+            }
+        }
+    }
+    Ok(asks)
+}
+
+/// A request of `size` bytes, at least 120: a header field of no meaning fills it up.
+fn request_of(alloc: Global, size: usize) -> Result<Vec<u8>, AllocError> {
+    let mut text = Vec::from_slice(
+        alloc,
+        b"GET /databases/1/items?session-id=1&delta=2&meta=dmap.itemname HTTP/1.1\r\nHost: share.local:3689\r\nFiller: ",
+    )?;
+    for _ in text.len()..size.saturating_sub(4) {
+        text.push(b'a')?;
+    }
+    text.extend_from_slice(b"\r\n\r\n")?;
+    Ok(text)
+}

@@ -1,0 +1,112 @@
+//! Plans, indexes and lists of many songs, and stores that are edited.
+
+mod changing;
+mod edits;
+mod finding;
+mod matching;
+mod planning;
+mod song;
+mod stores;
+
+use crate::store::changing::{deltas_len, revision_after};
+use crate::store::edits::Kind;
+use crate::store::finding::{candidates_found, ids_found, look_ups, values_found};
+use crate::store::matching::{Letters, matched, named_songs};
+use crate::store::planning::{planned, rows, written};
+use std::alloc::Global;
+use std::marker::Brand;
+use std::sync::ledger::Blank;
+
+/// What is counted.
+#[derive(Clone, Copy)]
+pub enum Step {
+    /// A row for each song is made.
+    Rows,
+    /// A plan of them is made, and a sink in memory with space for its bytes.
+    Plan,
+    /// The plan is written to the sink.
+    Write,
+    /// An index of all songs is made.
+    Index,
+    /// The ids of a thousand artists are looked up.
+    Ids,
+    /// The candidates of a thousand queries are looked up.
+    Candidates,
+    /// All artists are listed.
+    Values,
+    /// The songs are made, with names in these letters.
+    Named(Letters),
+    /// A query with wildcards is evaluated for each, `times` times.
+    Matches(Letters),
+    /// A share of lists of the songs is edited.
+    Edit(Kind),
+    /// The deltas of its lists are planned.
+    Deltas,
+}
+
+pub const STEPS: [(&str, Step); 15] = [
+    ("rows", Step::Rows),
+    ("plan", Step::Plan),
+    ("write", Step::Write),
+    ("index", Step::Index),
+    ("ids", Step::Ids),
+    ("candidates", Step::Candidates),
+    ("values", Step::Values),
+    ("named", Step::Named(Letters::Latin)),
+    ("matches", Step::Matches(Letters::Latin)),
+    ("cyrillic", Step::Named(Letters::Cyrillic)),
+    ("folded", Step::Matches(Letters::Cyrillic)),
+    ("songs", Step::Edit(Kind::Songs)),
+    ("members", Step::Edit(Kind::Members)),
+    ("rules", Step::Edit(Kind::Rules)),
+    ("deltas", Step::Deltas),
+];
+
+/// How much of a step is done.
+#[derive(Clone, Copy)]
+pub struct Load {
+    pub songs: u32,
+    /// How many batches of edits, or how often the deltas or the query.
+    pub times: u32,
+    /// The edits of a batch.
+    pub size: u32,
+}
+
+/// What is done of each step if no argument says it.
+pub const FEW: Load = Load {
+    songs: 100,
+    times: 2,
+    size: 3,
+};
+
+pub fn step_named(word: &str) -> Option<Step> {
+    for (name, step) in STEPS {
+        if name == word {
+            return Some(step);
+        }
+    }
+    None
+}
+
+/// Takes a step, and returns how many rows, bytes, ids, texts or revisions it led to.
+pub fn taken(alloc: Global, step: Step, load: Load) -> anyhow::Result<u64> {
+    let Load { songs, times, size } = load;
+    match step {
+        Step::Rows => Ok(rows(alloc, songs)?.len() as u64),
+        Step::Plan => Ok(planned(alloc, songs)?.plan_len()),
+        Step::Write => written(planned(alloc, songs)?),
+        Step::Index => Ok(look_ups(alloc, songs)?.names.len() as u64),
+        Step::Ids => ids_found(&look_ups(alloc, songs)?),
+        Step::Candidates => candidates_found(&look_ups(alloc, songs)?),
+        Step::Values => values_found(&look_ups(alloc, songs)?),
+        Step::Named(letters) => Ok(named_songs(alloc, songs, letters)?.len()),
+        Step::Matches(letters) => {
+            let searched = named_songs(alloc, songs, letters)?;
+            matched::<Brand>(Blank::new(1), alloc, &searched, times)
+        }
+        Step::Edit(kind) => {
+            revision_after::<Brand>(Blank::new(1), alloc, songs, kind, times, size)
+        }
+        Step::Deltas => deltas_len::<Brand>(Blank::new(1), alloc, songs, times),
+    }
+}

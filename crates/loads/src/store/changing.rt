@@ -1,0 +1,95 @@
+//! A share of many songs and a thousand lists, which is edited and then asked for deltas.
+
+ghost use Rattle.std.specs.Prelude.{◌≡◌, ◌<◌, IfOk};
+ghost use Rattle.share_listings.specs.Answers.{HaveEdits};
+
+use crate::store::edits::{FIRST_LIST, Kind, LISTS, Series};
+use crate::store::stores::{KEEP, Stores, delta_len, next, no_stores};
+use song_query::Steps;
+use std::alloc::Global;
+use std::sync::ledger::{Blank, Ledger};
+
+/// How many edits the first batches have.
+const AT_ONCE: u32 = 1000;
+/// How many edits the last batches have that come before a step.
+const FEW: u32 = 10;
+
+/// Returns the revision after `times` batches of edits of a kind.
+pub fn revision_after<L: Ledger>(
+    blank: Blank,
+    alloc: Global,
+    songs: u32,
+    kind: Kind,
+    batches: u32,
+    size: u32,
+) -> anyhow::Result<u64>
+    requires name { blank.name ≡ L.name }
+    requires parts { blank.parts ≡ L.parts }
+    requires any { 0 < blank.parts }
+{
+    let mut steps = Steps::<L>::open(blank);
+    let stores = settled(alloc, songs, &mut steps)?;
+    let mut series = Series::new(kind, songs, songs.saturating_mul(2));
+    let stores = edited(alloc, stores, &mut series, batches, size, &mut steps)?;
+    Ok(u64::from(stores.items.revision()))
+}
+
+/// Returns how many bytes the deltas of all lists have, planned `times` times.
+pub fn deltas_len<L: Ledger>(
+    blank: Blank,
+    alloc: Global,
+    songs: u32,
+    times: u32,
+) -> anyhow::Result<u64>
+    requires name { blank.name ≡ L.name }
+    requires parts { blank.parts ≡ L.parts }
+    requires any { 0 < blank.parts }
+{
+    let mut steps = Steps::<L>::open(blank);
+    let stores = settled(alloc, songs, &mut steps)?;
+    let mut bytes = 0u64;
+    for _ in 0..times {
+        for list in 0..LISTS {
+            let more = delta_len(alloc, &stores, FIRST_LIST + list, &mut steps)?;
+            bytes = bytes.saturating_add(more);
+        }
+    }
+    Ok(bytes)
+}
+
+/// Applies the next batches of a series.
+fn edited<L: Ledger>(
+    alloc: Global,
+    stores: Stores,
+    series: &mut Series,
+    batches: u32,
+    size: u32,
+    steps: &mut Steps<L>,
+) -> anyhow::Result<Stores>
+    requires { HaveEdits stores.edits stores.items stores.lists }
+    ensures { IfOk result (λ s. HaveEdits s.edits s.items s.lists) }
+{
+    let mut stores = stores;
+    for _ in 0..batches {
+        let batch = series.batch(alloc, size)?;
+        stores = next(stores, batch.as_slice(), steps)?;
+    }
+    Ok(stores)
+}
+
+/// The stores of a share of `songs` songs, each a member of a plain list. Small batches come last, so that only they are in
+/// the delta window: one half of them puts members, and the other half songs.
+fn settled<L: Ledger>(alloc: Global, songs: u32, steps: &mut Steps<L>) -> anyhow::Result<Stores>
+    ensures { IfOk result (λ s. HaveEdits s.edits s.items s.lists) }
+{
+    let size = songs.clamp(1, AT_ONCE);
+    let batches = songs / size;
+    let mut lists = Series::new(Kind::Lists, songs, 0);
+    let mut put_songs = Series::new(Kind::Songs, songs, 0);
+    let mut members = Series::new(Kind::Members, songs, 0);
+    let stores = edited(alloc, no_stores(alloc), &mut lists, 1, LISTS, steps)?;
+    let stores = edited(alloc, stores, &mut put_songs, batches, size, steps)?;
+    let stores = edited(alloc, stores, &mut members, batches, size, steps)?;
+    let stores = edited(alloc, stores, &mut members, KEEP, FEW, steps)?;
+    edited(alloc, stores, &mut put_songs, KEEP / 2, FEW, steps)
+}

@@ -1,0 +1,68 @@
+//! Look-ups in an index of many songs.
+
+use crate::store::song::{SONGS_EACH, artist, song};
+use item_model::{Browse, Query};
+use prop_index::PropIndex;
+use song_query::read;
+use std::alloc::Global;
+
+/// How many artists are looked up.
+const LOOK_UPS: u32 = 1000;
+
+/// An index, and artists to look up in it, by name and by query.
+#[derive(Drop)]
+pub struct LookUps {
+    index: PropIndex,
+    pub names: Vec<String>,
+    queries: Vec<Query>,
+}
+
+/// An index of the first songs, with nothing looked up yet.
+pub fn look_ups(alloc: Global, songs: u32) -> anyhow::Result<LookUps> {
+    let mut index = PropIndex::new(alloc);
+    for id in 0..songs {
+        index.apply(None, Some(&song(alloc, id)?))?;
+    }
+    let artists = (songs / SONGS_EACH).max(1);
+    let mut names = Vec::new(alloc);
+    let mut queries = Vec::new(alloc);
+    for look_up in 0..LOOK_UPS {
+        // from all over the index
+        let name = artist(alloc, look_up * 7919 % artists)?;
+        let query = format!(in alloc; "'daap.songartist:{name}'")?;
+        queries.push(read(alloc, query.as_str())?)?;
+        names.push(name)?;
+    }
+    Ok(LookUps {
+        index,
+        names,
+        queries,
+    })
+}
+
+/// Returns how many ids the index has under the names.
+pub fn ids_found(look_ups: &LookUps) -> anyhow::Result<u64> {
+    let mut found = 0u64;
+    for name in &look_ups.names {
+        let ids = look_ups.index.ids_of(Browse::Artists, name.as_str())?;
+        found = found.saturating_add(ids.len() as u64);
+    }
+    Ok(found)
+}
+
+/// Returns how many candidates the queries have.
+pub fn candidates_found(look_ups: &LookUps) -> anyhow::Result<u64> {
+    let mut found = 0u64;
+    for query in &look_ups.queries {
+        if let Some(ids) = look_ups.index.candidates(query)? {
+            found = found.saturating_add(ids.len() as u64);
+        }
+    }
+    Ok(found)
+}
+
+/// Returns how many artists there are.
+pub fn values_found(look_ups: &LookUps) -> anyhow::Result<u64> {
+    let texts = look_ups.index.values(Browse::Artists)?;
+    Ok(texts.as_slice().len() as u64)
+}

@@ -1,0 +1,83 @@
+//! The cells of a sheet: the encoded tags of its rows in one buffer.
+
+ghost use Rattle.std.specs.Prelude.{◌≡◌, ◌≤◌, ◌<◌, ◌+◌, ◌-◌, ◌*◌, ◌++◌, ◌∷◌, [], ℕ, List, length, map, take, drop, slice_index, All, IfOk, OnOk};
+ghost use Rattle.row_sheets.specs.Cells.{cell, row_cells, cells_of, AreCells, HasValue};
+
+use crate::tags::push_cell;
+use item_model::{Item, Property, SharedRow};
+use std::alloc::{AllocError, Global};
+
+// The cells one after the other, and where each one starts and the last one ends.
+#[derive(Debug, Drop)]
+pub(crate) struct Cells {
+    bytes: Vec<u8>,
+    starts: Vec<u32>,
+}
+
+impl Cells {
+    // The cells of all rows, one for each property.
+    pub(crate) fn of(
+        alloc: Global,
+        rows: &[SharedRow],
+        properties: &[Property],
+    ) -> Result<Cells, AllocError>
+        ensures cells { IfOk result (λ cells. AreCells (cells_of properties.now rows.now) cells.bytes.items cells.starts.items) }
+        ensures values { IfOk result (λ _. All (λ row. All (HasValue row.item) properties.now) rows.now) }
+    {
+        let mut cells = Cells::new(alloc)?;
+        for row in rows {
+            cells.push_row(&row.row().item, properties)?;
+        }
+        cells.bytes.shrink_to_fit();
+        cells.starts.shrink_to_fit();
+        Ok(cells)
+    }
+
+    fn new(alloc: Global) -> Result<Cells, AllocError>
+        ensures { IfOk result (λ cells. AreCells [] cells.bytes.items cells.starts.items) }
+    {
+        let mut starts = Vec::new(alloc);
+        starts.push(0)?;
+        Ok(Cells {
+            bytes: Vec::new(alloc),
+            starts,
+        })
+    }
+
+    fn push_row(&mut self, item: &Item, properties: &[Property]) -> Result<(), AllocError>
+        ensures cells { OnOk result ((done : List (List ℕ)) → AreCells done self.old.bytes.items self.old.starts.items → AreCells (done ++ map (cell item.now) properties.now) self.new.bytes.items self.new.starts.items) }
+        ensures values { OnOk result (All (HasValue item.now) properties.now) }
+    {
+        for property in properties {
+            self.push(item, *property)?;
+        }
+        Ok(())
+    }
+
+    fn push(&mut self, item: &Item, property: Property) -> Result<(), AllocError>
+        ensures cells { OnOk result ((done : List (List ℕ)) → AreCells done self.old.bytes.items self.old.starts.items → AreCells (done ++ cell item.now property ∷ []) self.new.bytes.items self.new.starts.items) }
+        ensures value { HasValue item.now property }
+    {
+        push_cell(&mut self.bytes, item, property)?;
+        let Ok(end) = u32::try_from(self.bytes.len()) else {
+            return Err(AllocError);
+        };
+        self.starts.push(end)?;
+        Ok(())
+    }
+
+    // The bytes of the cells from `from` up to `to` in a row of `wide` cells.
+    pub(crate) fn part(&self, wide: usize, row: usize, from: usize, to: usize) -> &[u8]
+        requires order { from ≤ to }
+        requires within { row * wide + to < length self.now.starts.items }
+        requires begin { slice_index self.now.starts.items (row * wide + from) ≤ slice_index self.now.starts.items (row * wide + to) }
+        requires end { slice_index self.now.starts.items (row * wide + to) ≤ length self.now.bytes.items }
+        ensures { let begin = slice_index self.now.starts.items (row * wide + from) in result.now ≡ take (slice_index self.now.starts.items (row * wide + to) - begin) (drop begin self.now.bytes.items) }
+    {
+        let starts = self.starts.as_slice();
+        let count = starts.len();
+        let begin = starts[row * wide + from] as usize;
+        let end = starts[row * wide + to] as usize;
+        &self.bytes.as_slice()[begin..end]
+    }
+}
