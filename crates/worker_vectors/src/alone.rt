@@ -1,8 +1,8 @@
-//! One worker: connection after connection, and how it ends.
+//! One worker: link after link, and how it ends.
 ghost use Rattle.std.specs.Prelude.{◌≡◌, ◌<◌, [], IfOk};
 ghost use Rattle.daap_outside.specs.MemLink.{IsNew};
 
-use crate::hiring::{INFO, STOP, TWO_INFOS, new_share, worker_at};
+use crate::hiring::{INFO, STOP, TWO_INFOS, new_share};
 use daap_outside::{MemDoor, MemLink, MemSink, MemSource};
 use share_asks::Role;
 use share_lock::{Bell, ShareLock};
@@ -20,7 +20,7 @@ fn link(alloc: Global, input: &str) -> Result<MemLink, AllocError>
     Ok(MemLink::new(source, MemSink::new(alloc, 4096, 4096, &[])?))
 }
 
-/// Returns a listener at which connections with these inputs come, and whose waits with the numbers `failing` fail.
+/// A door to which links with these inputs come, and whose waits with the numbers `failing` fail.
 fn door(alloc: Global, inputs: &[&str], failing: &[u64]) -> Result<MemDoor, AllocError> {
     let mut door = MemDoor::new(alloc, failing, 8)?;
     for input in inputs {
@@ -29,7 +29,7 @@ fn door(alloc: Global, inputs: &[&str], failing: &[u64]) -> Result<MemDoor, Allo
     Ok(door)
 }
 
-/// Returns a worker that served the connections with these inputs.
+/// A worker that served the links at this door.
 fn served_in_turn<R: Wait + Clock>(
     rt: &R,
     alloc: Global,
@@ -38,7 +38,13 @@ fn served_in_turn<R: Wait + Clock>(
 ) -> Result<Worker<MemDoor>, AllocError> {
     let door = door(alloc, inputs, failing)?;
     let (lock, mut first) = ShareLock::open(alloc, new_share(alloc)?, 2)?;
-    let mut worker = worker_at(rt, alloc, &lock, &mut first, Role::Edit, door);
+    let mut worker = Worker {
+        pass: lock.split(rt, &mut first)?,
+        door,
+        role: Role::Edit,
+        reports: Vec::new(alloc),
+        end: WorkerEnd::Running,
+    };
     serve_worker(rt, alloc, &lock, &Bell::new(), &mut worker);
     Ok(worker)
 }

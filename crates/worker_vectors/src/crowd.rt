@@ -1,5 +1,5 @@
-//! Connections in memory of many workers, of which one read each may wait for what was done on the connections of all, and
-//! listeners at which one such connection comes. Contracts know nothing of their bytes.
+//! Links in memory of many workers, of which one read each may wait for what was done on the links of all, and doors at
+//! which one such link comes. They tell contracts nothing.
 ghost use Rattle.std.specs.Prelude.{◌≡◌, ◌+◌, ◌<◌, ◌≤◌, ◌^◌, min, None, refl};
 ghost use Rattle.daap_outside.specs.Counts.{Rose};
 
@@ -11,19 +11,19 @@ use std::thread::Threads;
 use std::time::{Clock, Duration, Instant};
 use std::{io, thread};
 
-// The longest wait of a read before it fails, so that the tests end if what they wait for never comes. It is 25 seconds of
-// the machine's clock.
+// How long a read waits at most, before it fails: the tests end though what they wait for never comes. That is 25 seconds
+// of the machine's clock.
 const PATIENCE_MILLIS: u64 = 5_000;
 
-// The wait of a read that lets others fall asleep: one second of the machine's clock.
+// How long a read stays that lets others fall asleep: one second of the machine's clock.
 const STAY_MILLIS: u64 = 200;
 
 const PAUSE_MILLIS: u64 = 2;
 
-// `Slowed` divides the machine's time by this.
+// How much slower `Slowed` goes than the clock of the machine.
 const PACE: u32 = 5;
 
-/// A runtime whose time is slow: on a loaded machine too, a test ends before a long poll was pending for five seconds.
+/// A runtime whose time goes slowly: on a loaded machine too, a test is done before an update was held for five seconds.
 #[derive(Drop)]
 pub struct Slowed<'a, R> {
     pub rt: &'a R,
@@ -48,7 +48,7 @@ impl<R: Clock> Clock for Slowed<'_, R> {
     }
 }
 
-/// A runtime whose clock can't be read: a long poll that is pending there waits only for the bell, however long.
+/// A runtime whose clock can't be read: an update that is held there waits for the bell alone, however long.
 #[derive(Drop)]
 pub struct Unclocked<'a, R> {
     pub rt: &'a R,
@@ -68,15 +68,15 @@ impl<R> Clock for Unclocked<'_, R> {
     }
 }
 
-/// What was done on all connections so far.
+/// What was done on all links so far.
 #[derive(Drop)]
 pub struct Scene {
-    /// The number of reads that returned bytes.
+    /// How many reads gave bytes.
     reads: AtomicU64,
-    /// The number of connections on which something was written.
+    /// On how many links something was written.
     answered: AtomicU64,
     probes: AtomicU64,
-    /// The number of reads that waited in vain. After the first no other read waits.
+    /// How many reads waited in vain. Then no other waits.
     vain: AtomicU64,
 }
 
@@ -90,7 +90,7 @@ impl Scene {
         }
     }
 
-    /// Returns how often a connection was probed: for a pending long poll, once for each turn but the last.
+    /// How often a link was probed: of an update that is held, once for each turn but the last.
     pub fn probes(&self) -> u64 {
         self.probes.load(Ordering::SeqCst)
     }
@@ -100,7 +100,7 @@ impl Scene {
             && self.answered.load(Ordering::SeqCst) >= wanted.answered
     }
 
-    /// Waits until `wanted` was done, but at most `PATIENCE_MILLIS`. Returns whether it was.
+    /// Waits until so much was done, or as long as it has patience. Tells which.
     fn came<C: Clock>(&self, clock: &C, wanted: &Wanted) -> bool {
         let Ok(begun) = Instant::now(clock) else {
             return false;
@@ -118,7 +118,7 @@ impl Scene {
         false
     }
 
-    /// Waits for `STAY_MILLIS`, or until a connection was probed.
+    /// Waits for a moment, or until a link was probed.
     fn stay<C: Clock>(&self, clock: &C) {
         let Ok(begun) = Instant::now(clock) else {
             return;
@@ -139,18 +139,18 @@ fn is_over<C: Clock>(clock: &C, begun: Instant, millis: u64) -> bool {
     }
 }
 
-/// What a read waits for.
+/// For what a read waits.
 #[derive(Clone, Copy)]
 pub struct Wanted {
-    /// The number of the read, counted from 0.
+    /// The number of the read, from 0 on.
     pub at: usize,
     pub reads: u64,
     pub answered: u64,
-    /// Whether it then waits for `STAY_MILLIS` more.
+    /// Whether it stays for a moment then.
     pub stays: bool,
 }
 
-/// A connection that is to come.
+/// A link that is to come.
 #[derive(Drop)]
 pub struct Coming<'a, C> {
     link: MemLink,
@@ -160,7 +160,7 @@ pub struct Coming<'a, C> {
 }
 
 impl<'a, C> Coming<'a, C> {
-    /// Returns a connection over `input`, of which a read returns at most `per_read` bytes.
+    /// A link over these bytes, of which a read gives so many at most.
     pub fn new(
         alloc: Global,
         input: &[u8],
@@ -183,7 +183,7 @@ impl<'a, C> Coming<'a, C> {
 }
 
 impl<C: Clock> Coming<'_, C> {
-    /// Waits before the read that has to wait. Returns whether what it waited for came.
+    /// Waits before the read that is to, and tells whether what it waited for came.
     fn may_read(&self, read: usize) -> bool {
         if read != self.wanted.at {
             return true;
@@ -272,7 +272,7 @@ impl<C: Clock> Link for CrowdLink<'_, C> {
     ghost write_leaves_left = { λ _. refl };
 }
 
-/// A listener at which one connection comes, and then no more.
+/// A door at which one link comes, and then no more.
 #[derive(Drop)]
 pub struct CrowdDoor<'a, C> {
     pub coming: Option<Coming<'a, C>>,

@@ -1,5 +1,5 @@
-//! Connections in memory whose calls wait for bytes on the connections of another worker, and listeners at which such
-//! connections come. Contracts know nothing of their bytes.
+//! Links in memory whose calls wait for what stands on the links of another worker, and doors at which such links come. They
+//! tell contracts nothing.
 ghost use Rattle.std.specs.Prelude.{◌≡◌, ◌+◌, ◌<◌, ◌≤◌, ◌^◌, min, None, refl};
 ghost use Rattle.daap_outside.specs.Counts.{Rose};
 
@@ -8,33 +8,25 @@ use std::collections::VecDeque;
 use std::sync::atomic::{AtomicU64, Ordering};
 use std::thread;
 
-/// What the calls on a worker's connections wait for.
-#[derive(Clone, Copy)]
-pub struct Watch<'a> {
-    /// How many bytes were written on the worker's own connections, and on those of the other worker: `u64::MAX` once a
-    /// write failed.
-    pub own: &'a AtomicU64,
-    pub other: &'a AtomicU64,
-    /// How often a call checks `other` before it gives up and counts an error.
-    pub looks: u64,
-}
-
-/// A connection that is to come: what it reads and writes, and what its calls wait for.
+/// A link that is to come: what it reads and writes, and how it goes with the links of another worker.
 #[derive(Drop)]
 pub struct Gated<'a> {
     pub link: MemLink,
-    /// For how many bytes on the other worker's connections the first read waits, the second and so on. Further reads do
-    /// not wait.
+    /// For how many bytes on the other worker's links the first read waits, the second and so on. Further ones do not wait.
     pub reads_wait: &'static [u64],
     pub writes_wait: &'static [u64],
-    pub watch: Watch<'a>,
+    /// How many bytes stand on the other worker's links, and on this one's: all there can be, once a write failed.
+    pub other: &'a AtomicU64,
+    pub own: &'a AtomicU64,
+    /// How often a call looks before it gives up, and counts a fault.
+    pub looks: u64,
 }
 
 impl Gated<'_> {
-    /// Returns whether `wanted` bytes were written on the other worker's connections.
+    /// Whether so many bytes stand on the other worker's links by now.
     fn may_go_on(&self, wanted: u64) -> bool {
-        for _ in 0..self.watch.looks {
-            if self.watch.other.load(Ordering::SeqCst) >= wanted {
+        for _ in 0..self.looks {
+            if self.other.load(Ordering::SeqCst) >= wanted {
                 return true;
             }
             thread::yield_now();
@@ -43,14 +35,13 @@ impl Gated<'_> {
     }
 
     fn wrote(&self, n: usize) {
-        let before = self.watch.own.load(Ordering::SeqCst);
-        self.watch
-            .own
+        let before = self.own.load(Ordering::SeqCst);
+        self.own
             .store(before.saturating_add(n as u64), Ordering::SeqCst);
     }
 }
 
-/// Returns for how many bytes a call waits that comes after `calls` others.
+/// For how many bytes a call waits that comes behind so many.
 fn wanted(waits: &[u64], calls: usize) -> u64 {
     match waits.get(calls) {
         Some(bytes) => *bytes,
@@ -132,11 +123,11 @@ impl Link for GatedLink<'_> {
     ghost write_leaves_left = { λ _. refl };
 }
 
-/// A listener at which these connections come, one after the other, and then no more.
+/// A door at which these links come, one behind the other, and then no more.
 #[derive(Drop)]
 pub struct GatedDoor<'a> {
     pub coming: VecDeque<Gated<'a>>,
-    /// The connections that were returned, as far as allocations succeeded.
+    /// What stands on the links that were given back, as far as there was memory for it.
     pub given_back: Vec<MemLink>,
 }
 

@@ -1,11 +1,13 @@
-//! A player whose long polls are pending, and an editor, each in its own thread, with calls that fail.
+//! A player whose updates are held, and an editor, each in a thread of its own, with calls that fail.
+ghost use Rattle.share_lock.specs.Passes.{lock_id, IsReady};
 
 use crate::gated::GatedDoor;
-use crate::hiring::{LinkPlan, STOP, WorkerPlan, Written, of_one, plain, served_in_threads};
+use crate::hiring::{LinkPlan, STOP, WorkerPlan, Written, hired, new_share, of_one, plain};
 use item_model::Entry;
 use share_asks::Role;
+use share_lock::{Bell, ShareLock};
 use share_server::{LinkEnd, LinkReport};
-use share_workers::{Worker, WorkerEnd};
+use share_workers::{Worker, WorkerEnd, serve_all};
 use std::alloc::{AllocError, Global};
 use std::process::Abort;
 use std::sync::Wait;
@@ -26,12 +28,12 @@ pub const EDITORS_REQUESTS: &str =
 pub const TWO_EDITS: &str =
     "POST /edit HTTP/1.1\r\nContent-Length: 38\r\n\r\nop,kind,id,dmap.itemname\nput,item,7,A\nPOST /edit HTTP/1.1\r\nContent-Length: 38\r\n\r\nop,kind,id,dmap.itemname\nput,item,7,A\n";
 
-// The number of bytes of the player's replies: up to the one before the edit, and with the one after it.
+// How many bytes the player's replies are: up to the one before the edit, and with the one after it.
 pub const BEFORE_EDIT: u64 = 224;
 
 pub const AFTER_EDIT: u64 = 336;
 
-// The statuses of the player's requests.
+// What the player's requests are answered.
 pub const ALL_HEARD: [u16; 4] = [200, 200, 200, 503];
 
 /// What a worker leaves.
@@ -39,15 +41,15 @@ pub const ALL_HEARD: [u16; 4] = [200, 200, 200, 503];
 pub struct Told {
     pub end: WorkerEnd,
     pub reports: Vec<LinkReport>,
-    /// The bytes written on its first connection.
+    /// The bytes on its first link.
     bytes: Vec<u8>,
-    /// The history lengths at which the share's history has entries of its number.
+    /// The points at which the share's history has entries of its number.
     pub own: Vec<u64>,
-    /// The history lengths of those requests in its reports that added an entry.
+    /// The points of those requests in its reports that added an entry.
     pub named: Vec<u64>,
 }
 
-/// Returns the player, of whose writes one may fail.
+/// The player, of whose writes one may fail.
 pub fn player(failing_write: u64) -> WorkerPlan {
     of_one(
         Role::Listen,
@@ -58,8 +60,7 @@ pub fn player(failing_write: u64) -> WorkerPlan {
     )
 }
 
-/// Returns the editor, of whose calls on its first connection some may fail. The stop on its second connection waits for
-/// bytes on the player's.
+/// The editor, of whose calls on its first link some may fail. The stop on its second link waits for so much of the player's.
 fn editor(failing_read: u64, failing_write: u64, stop_waits: &'static [u64]) -> WorkerPlan {
     WorkerPlan {
         role: Role::Edit,
@@ -85,7 +86,7 @@ fn maker(entry: &Entry) -> u32 {
     }
 }
 
-/// Returns the history lengths at which the history has entries of a number.
+/// The points at which the history has entries of a number.
 fn points_of(alloc: Global, history: &[Entry], number: u32) -> Result<Vec<u64>, AllocError> {
     let mut points = Vec::new(alloc);
     let mut point: u64 = 0;
@@ -98,7 +99,7 @@ fn points_of(alloc: Global, history: &[Entry], number: u32) -> Result<Vec<u64>, 
     Ok(points)
 }
 
-/// Returns the history lengths of the requests that added an entry.
+/// The points of the requests that added an entry.
 fn named_points(alloc: Global, reports: &[LinkReport]) -> Result<Vec<u64>, AllocError> {
     let mut points = Vec::new(alloc);
     for report in reports {
@@ -138,14 +139,18 @@ pub fn told_of(
     })
 }
 
-/// Lets a player and an editor serve at one share, each in its own thread. Returns what both leave.
+/// A player and an editor at one share, each in a thread of its own.
 fn served<R: Threads + Wait + Clock + Sync>(
     rt: &R,
     alloc: Global,
     plans: &(WorkerPlan, WorkerPlan),
 ) -> Result<(Told, Told), AllocError> {
+    let (lock, mut first) = ShareLock::open(alloc, new_share(alloc)?, 3)?;
     let written = Written::new();
-    let (mut workers, history) = served_in_threads(rt, alloc, plans, &written)?;
+    let mut workers = hired(rt, alloc, &lock, &mut first, plans, &written)?;
+    serve_all(rt, alloc, &lock, &Bell::new(), &mut workers);
+    let turn = lock.take(rt, &mut first);
+    let history = lock.end(turn).into_history();
     let (Some(editor), Some(player)) = (workers.pop(), workers.pop()) else {
         return Err(AllocError);
     };
@@ -155,7 +160,7 @@ fn served<R: Threads + Wait + Clock + Sync>(
     ))
 }
 
-/// Returns whether a report has these statuses and this end.
+/// Whether a report tells these statuses, and this end.
 pub fn tells(report: Option<&LinkReport>, statuses: &[u16], end: LinkEnd) -> bool {
     match report {
         Some(report) => {
@@ -171,7 +176,7 @@ pub fn tells(report: Option<&LinkReport>, statuses: &[u16], end: LinkEnd) -> boo
     }
 }
 
-/// Returns whether the history has entries of the worker at just these history lengths, and its reports name them.
+/// Whether the history has entries of the worker at these points alone, and its reports name them.
 fn owns(told: &Told, points: &[u64]) -> bool {
     told.own.as_slice() == points && told.named.as_slice() == points
 }
@@ -187,8 +192,7 @@ fn read_clock<C: Clock>(clock: &C) -> Result<Duration, AllocError> {
     }
 }
 
-/// Does the same. Returns also whether it took less than the five seconds after which a pending long poll checks without
-/// a bell.
+/// The same, and whether it took less than the five seconds after which a held update looks without a bell.
 fn woken<R: Threads + Wait + Clock + Sync>(
     rt: &R,
     alloc: Global,
@@ -234,8 +238,8 @@ fn a_logout_wakes_what_is_held(rt: HostRuntime) -> Result<(), Fail> {
     Ok(())
 }
 
-/// A call on the editor's first connection that fails, and the result: the statuses on this connection, the number of
-/// connections that the editor serves, and the statuses on the player's.
+/// A call on the editor's first link that fails, and what comes of it: the statuses on this link, how many links the editor
+/// then serves, and the statuses on the player's.
 #[derive(Clone, Copy)]
 struct Failure {
     read: u64,
@@ -246,7 +250,7 @@ struct Failure {
     heard: &'static [u16],
 }
 
-/// A read that fails before the edit is whole: the player hears only of the stop on the second connection.
+/// A read that fails before the edit is whole: the stop on the second link is all that the player hears.
 fn before_edit(read: u64) -> Failure {
     Failure {
         read,
@@ -258,7 +262,7 @@ fn before_edit(read: u64) -> Failure {
     }
 }
 
-/// A read or a write that fails after the edit: the player hears of the edit, and of the stop on the second connection.
+/// A read or a write that fails after the edit: the player hears of the edit, and of the stop on the second link.
 fn after_edit(read: u64, write: u64) -> Failure {
     Failure {
         read,
@@ -270,7 +274,7 @@ fn after_edit(read: u64, write: u64) -> Failure {
     }
 }
 
-// The first connection has four reads, three writes of the edit's reply and one of the stop's.
+// Of the first link there are four reads, three writes of the edit's reply and one of the stop's.
 fn failures() -> [Failure; 8] {
     [
         before_edit(1),
@@ -288,7 +292,7 @@ fn failures() -> [Failure; 8] {
     ]
 }
 
-/// Lets a call on the editor's first connection fail, and compares what the editor and the player leave.
+/// Lets a call on the editor's first link fail, and compares what the editor and the player leave.
 fn fails<R: Threads + Wait + Clock + Sync + Abort>(
     rt: &R,
     alloc: Global,
@@ -347,7 +351,7 @@ const UNWRITTEN: [(u64, &[u16]); 11] = [
     (11, &ALL_HEARD),
 ];
 
-/// Lets a write of the player's connection fail, and compares what the player and the editor leave.
+/// Lets a write of the player's link fail, and compares what the player and the editor leave.
 fn is_unwritten<R: Threads + Wait + Clock + Sync + Abort>(
     rt: &R,
     alloc: Global,

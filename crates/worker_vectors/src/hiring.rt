@@ -1,23 +1,21 @@
-//! Shares, connections that may wait for another worker's, and workers that have not begun.
-ghost use Rattle.std.specs.Prelude.{◌≡◌, ◌<◌, [], All, IfOk};
+//! Shares, links that may wait for another worker's links, and workers that have not begun.
+ghost use Rattle.std.specs.Prelude.{◌≡◌, ◌<◌, [], All, IfOk, OnOk};
 ghost use Rattle.share_lock.specs.Passes.{lock_id, IsReady};
 ghost use Rattle.share_replies.specs.Laws.{maker};
 
-use crate::gated::{Gated, GatedDoor, Watch};
+use crate::gated::{Gated, GatedDoor};
 use daap_outside::{MemLink, MemSink, MemSource};
-use item_model::{Batch, Edits, Entry};
+use item_model::{Batch, Edits};
 use share_asks::Role;
 use share_core::Share;
-use share_lock::{Bell, Pass, ShareLock};
-use share_workers::{Worker, WorkerEnd, serve_all};
+use share_lock::{Pass, ShareLock};
+use share_workers::{Worker, WorkerEnd};
 use std::alloc::{AllocError, Global};
 use std::collections::VecDeque;
 use std::sync::Wait;
 use std::sync::atomic::AtomicU64;
-use std::thread::Threads;
-use std::time::Clock;
 
-/// The maximum number of bytes of one read: the length of a request for the server's info.
+/// How many bytes one read gives at most: as many as a request for the server's info has.
 pub const PIECE: usize = 29;
 
 pub const INFO: &str = "GET /server-info HTTP/1.1\r\n\r\n";
@@ -26,12 +24,12 @@ pub const TWO_INFOS: &str = "GET /server-info HTTP/1.1\r\n\r\nGET /server-info H
 
 pub const STOP: &str = "POST /stop HTTP/1.1\r\n\r\n";
 
-/// How often a call checks whether it may continue, if it should never give up: this takes longer than any turn, and less
-/// than a test may.
+/// How often a call checks whether it may go on, if it should never give up: longer than any turn takes, and not as long as
+/// a test may take.
 pub const MANY_LOOKS: u64 = 10_000_000;
 
-/// A connection that comes to a worker: its input; for how many bytes on the other worker's connections each read and each
-/// write waits; and which read and which write fail, counted from 1.
+/// A link that comes to a worker: what comes on it; for how many bytes on the other worker's links each read waits, and each
+/// write; and which read and which write fail, counted from 1.
 #[derive(Clone, Copy)]
 pub struct LinkPlan {
     pub input: &'static str,
@@ -41,7 +39,7 @@ pub struct LinkPlan {
     pub failing_write: u64,
 }
 
-/// A worker: its role, and the one or two connections that come.
+/// A worker: what its links may ask, and the one or two links that come.
 #[derive(Clone, Copy)]
 pub struct WorkerPlan {
     pub role: Role,
@@ -49,7 +47,7 @@ pub struct WorkerPlan {
     pub second: Option<LinkPlan>,
 }
 
-/// The number of bytes written on the connections of one worker, and of the other.
+/// How many bytes were written on the links of one worker, and of the other.
 #[derive(Drop)]
 pub struct Written {
     pub first: AtomicU64,
@@ -61,24 +59,6 @@ impl Written {
         Written {
             first: AtomicU64::new(0),
             second: AtomicU64::new(0),
-        }
-    }
-
-    /// Returns what the calls of the first worker wait for. Each checks `looks` times.
-    pub fn watch_of_first(&self, looks: u64) -> Watch<'_> {
-        Watch {
-            own: &self.first,
-            other: &self.second,
-            looks,
-        }
-    }
-
-    /// Returns what the calls of the second worker wait for.
-    pub fn watch_of_second(&self, looks: u64) -> Watch<'_> {
-        Watch {
-            own: &self.second,
-            other: &self.first,
-            looks,
         }
     }
 }
@@ -95,7 +75,7 @@ pub fn new_share(alloc: Global) -> Result<Share, AllocError>
     }
 }
 
-/// Returns a connection that does not wait and does not fail.
+/// A link that waits for nobody, and does not fail.
 pub fn plain(input: &'static str) -> LinkPlan {
     LinkPlan {
         input,
@@ -106,7 +86,7 @@ pub fn plain(input: &'static str) -> LinkPlan {
     }
 }
 
-/// Returns a worker of one connection.
+/// A worker of one link.
 pub fn of_one(role: Role, first: LinkPlan) -> WorkerPlan {
     WorkerPlan {
         role,
@@ -118,7 +98,9 @@ pub fn of_one(role: Role, first: LinkPlan) -> WorkerPlan {
 fn coming_link<'a>(
     alloc: Global,
     plan: &LinkPlan,
-    watch: Watch<'a>,
+    looks: u64,
+    own: &'a AtomicU64,
+    other: &'a AtomicU64,
 ) -> Result<Gated<'a>, AllocError> {
     let source = MemSource::new(alloc, plan.input.as_bytes(), PIECE, &[plan.failing_read])?;
     let sink = MemSink::new(alloc, 4096, 50, &[plan.failing_write])?;
@@ -126,20 +108,24 @@ fn coming_link<'a>(
         link: MemLink::new(source, sink),
         reads_wait: plan.reads_wait,
         writes_wait: plan.writes_wait,
-        watch,
+        other,
+        own,
+        looks,
     })
 }
 
-/// Returns the listener at which the connections of a worker come.
+/// The door to which the links of a worker come.
 fn door_of<'a>(
     alloc: Global,
     plan: &WorkerPlan,
-    watch: Watch<'a>,
+    looks: u64,
+    own: &'a AtomicU64,
+    other: &'a AtomicU64,
 ) -> Result<GatedDoor<'a>, AllocError> {
     let mut coming = VecDeque::new(alloc);
-    coming.push_back(coming_link(alloc, &plan.first, watch)?)?;
+    coming.push_back(coming_link(alloc, &plan.first, looks, own, other)?)?;
     if let Some(second) = &plan.second {
-        coming.push_back(coming_link(alloc, second, watch)?)?;
+        coming.push_back(coming_link(alloc, second, looks, own, other)?)?;
     }
     Ok(GatedDoor {
         coming,
@@ -147,7 +133,7 @@ fn door_of<'a>(
     })
 }
 
-/// Returns a lock handle for a worker that has not begun.
+/// Its own pass for a worker that has not begun.
 fn drawn<R: Wait>(rt: &R, lock: &ShareLock<Share>, first: &mut Pass<Share>) -> Pass<Share>
     requires ready { IsReady (lock_id lock.now) first.old }
     ensures first { IsReady (lock_id lock.now) first.new }
@@ -156,7 +142,7 @@ fn drawn<R: Wait>(rt: &R, lock: &ShareLock<Share>, first: &mut Pass<Share>) -> P
     lock.split(rt, first).unwrap()
 }
 
-/// Returns a worker at `door` that has not begun.
+/// A worker at a door, which has not begun.
 pub fn worker_at<D: Drop, R: Wait>(
     rt: &R,
     alloc: Global,
@@ -180,14 +166,39 @@ pub fn worker_at<D: Drop, R: Wait>(
     }
 }
 
-/// Returns a worker whose connections may wait for those of another worker.
+/// Adds a worker at a door.
+pub fn hire<D: Drop, R: Wait>(
+    rt: &R,
+    alloc: Global,
+    lock: &ShareLock<Share>,
+    first: &mut Pass<Share>,
+    role: Role,
+    door: D,
+    workers: &mut Vec<Worker<D>>,
+) -> Result<(), AllocError>
+    requires first { IsReady (lock_id lock.now) first.old }
+    requires ready { All (λ w. IsReady (lock_id lock.now) w.pass) workers.old.items }
+    requires running { All (λ w. w.end ≡ WorkerEnd.Running) workers.old.items }
+    requires unreported { All (λ w. w.reports.items ≡ []) workers.old.items }
+    ensures first { IsReady (lock_id lock.now) first.new }
+    ensures ready { OnOk result (All (λ w. IsReady (lock_id lock.now) w.pass) workers.new.items) }
+    ensures running { OnOk result (All (λ w. w.end ≡ WorkerEnd.Running) workers.new.items) }
+    ensures unreported { OnOk result (All (λ w. w.reports.items ≡ []) workers.new.items) }
+{
+    workers.push(worker_at(rt, alloc, lock, first, role, door))?;
+    Ok(())
+}
+
+/// A worker whose links may wait for those of another one.
 pub fn planned<'a, R: Wait>(
     rt: &R,
     alloc: Global,
     lock: &ShareLock<Share>,
     first: &mut Pass<Share>,
     plan: &WorkerPlan,
-    watch: Watch<'a>,
+    looks: u64,
+    own: &'a AtomicU64,
+    other: &'a AtomicU64,
 ) -> Result<Worker<GatedDoor<'a>>, AllocError>
     requires first { IsReady (lock_id lock.now) first.old }
     ensures first { IsReady (lock_id lock.now) first.new }
@@ -195,12 +206,37 @@ pub fn planned<'a, R: Wait>(
     ensures running { IfOk result (λ w. w.end ≡ WorkerEnd.Running) }
     ensures unreported { IfOk result (λ w. w.reports.items ≡ []) }
 {
-    let door = door_of(alloc, plan, watch)?;
+    let door = door_of(alloc, plan, looks, own, other)?;
     Ok(worker_at(rt, alloc, lock, first, plan.role, door))
 }
 
-/// Returns two workers whose connections may wait for each other.
-fn hired<'a, R: Wait>(
+/// Adds a worker whose links may wait for those of another one.
+pub fn hire_planned<'a, R: Wait>(
+    rt: &R,
+    alloc: Global,
+    lock: &ShareLock<Share>,
+    first: &mut Pass<Share>,
+    plan: &WorkerPlan,
+    looks: u64,
+    own: &'a AtomicU64,
+    other: &'a AtomicU64,
+    workers: &mut Vec<Worker<GatedDoor<'a>>>,
+) -> Result<(), AllocError>
+    requires first { IsReady (lock_id lock.now) first.old }
+    requires ready { All (λ w. IsReady (lock_id lock.now) w.pass) workers.old.items }
+    requires running { All (λ w. w.end ≡ WorkerEnd.Running) workers.old.items }
+    requires unreported { All (λ w. w.reports.items ≡ []) workers.old.items }
+    ensures first { IsReady (lock_id lock.now) first.new }
+    ensures ready { OnOk result (All (λ w. IsReady (lock_id lock.now) w.pass) workers.new.items) }
+    ensures running { OnOk result (All (λ w. w.end ≡ WorkerEnd.Running) workers.new.items) }
+    ensures unreported { OnOk result (All (λ w. w.reports.items ≡ []) workers.new.items) }
+{
+    let door = door_of(alloc, plan, looks, own, other)?;
+    hire(rt, alloc, lock, first, plan.role, door, workers)
+}
+
+/// Two workers, whose links may wait for each other.
+pub fn hired<'a, R: Wait>(
     rt: &R,
     alloc: Global,
     lock: &ShareLock<Share>,
@@ -214,26 +250,29 @@ fn hired<'a, R: Wait>(
     ensures running { IfOk result (λ ws. All (λ w. w.end ≡ WorkerEnd.Running) ws.items) }
     ensures unreported { IfOk result (λ ws. All (λ w. w.reports.items ≡ []) ws.items) }
 {
-    let watch = written.watch_of_first(MANY_LOOKS);
-    let one = planned(rt, alloc, lock, first, &plans.0, watch)?;
-    let watch = written.watch_of_second(MANY_LOOKS);
-    let two = planned(rt, alloc, lock, first, &plans.1, watch)?;
     let mut workers = Vec::new(alloc);
-    workers.push(one)?;
-    workers.push(two)?;
+    let (one, two) = (&written.first, &written.second);
+    hire_planned(
+        rt,
+        alloc,
+        lock,
+        first,
+        &plans.0,
+        MANY_LOOKS,
+        one,
+        two,
+        &mut workers,
+    )?;
+    hire_planned(
+        rt,
+        alloc,
+        lock,
+        first,
+        &plans.1,
+        MANY_LOOKS,
+        two,
+        one,
+        &mut workers,
+    )?;
     Ok(workers)
-}
-
-/// Lets two workers serve at one share, each in its own thread. Returns both, and the share's history.
-pub fn served_in_threads<'a, R: Threads + Wait + Clock + Sync>(
-    rt: &R,
-    alloc: Global,
-    plans: &(WorkerPlan, WorkerPlan),
-    written: &'a Written,
-) -> Result<(Vec<Worker<GatedDoor<'a>>>, Vec<Entry>), AllocError> {
-    let (lock, mut first) = ShareLock::open(alloc, new_share(alloc)?, 3)?;
-    let mut workers = hired(rt, alloc, &lock, &mut first, plans, written)?;
-    serve_all(rt, alloc, &lock, &Bell::new(), &mut workers);
-    let turn = lock.take(rt, &mut first);
-    Ok((workers, lock.end(turn).into_history()))
 }

@@ -1,10 +1,12 @@
-//! An editor whose edits are kept in memory, and a player whose long poll is pending.
+//! An editor whose edits are kept in memory, beside a player whose update is held.
 ghost use Rattle.std.specs.Prelude.{◌≡◌, ⊤, false, None, IfOk};
 
 use crate::held::{
     AFTER_EDIT, ALL_HEARD, BEFORE_EDIT, EDITORS_REQUESTS, TWO_EDITS, Told, player, tells, told_of,
 };
-use crate::hiring::{LinkPlan, MANY_LOOKS, Written, new_share, of_one, plain, planned};
+use crate::hiring::{
+    LinkPlan, MANY_LOOKS, Written, hire_planned, new_share, of_one, plain, planned,
+};
 use edit_keeping::{Keeps, Lost};
 use item_model::Batch;
 use share_asks::Role;
@@ -18,7 +20,7 @@ use std::test::Fail;
 use std::thread::Threads;
 use std::time::Clock;
 
-/// Keeps the number of edits of each batch, for `most` batches, and fails at the next one.
+/// Keeps how many edits each batch has, for so many batches, and fails at the next one.
 #[derive(Drop)]
 struct Counted {
     edits: Vec<usize>,
@@ -68,26 +70,26 @@ impl Keeps for Counted {
     }
 }
 
-/// The result of edits for which the keeper has space, and of the first for which it has none.
+/// What comes of edits for which the keeper has room, and of the first for which it has none.
 #[derive(Clone, Copy)]
 struct Case {
     input: &'static str,
-    /// The number of batches for which the keeper has space.
+    /// For how many batches the keeper has room.
     room: usize,
-    /// The number of edits of each batch that was kept.
+    /// How many edits each batch has that was kept.
     kept: &'static [usize],
-    /// The statuses on the editor's connection, how it ended, and how its worker did.
+    /// The statuses on the editor's link, how it ended, and how its worker did.
     statuses: &'static [u16],
     link: LinkEnd,
     end: WorkerEnd,
-    /// The history lengths of the entries that the editor added, and of those that its report names.
+    /// The points of the entries that the editor added, and those of which its report tells.
     own: &'static [u64],
     named: &'static [u64],
-    /// The statuses on the player's connection.
+    /// The statuses on the player's link.
     heard: &'static [u16],
 }
 
-// The edit is kept; it is lost; the second edit is lost. What is lost is in the history, and the stop after it.
+// The edit is kept; it is lost; the second one is. What is lost is in the history, and the stop behind it.
 fn cases() -> [Case; 3] {
     [
         Case {
@@ -126,8 +128,7 @@ fn cases() -> [Case; 3] {
     ]
 }
 
-/// Lets a player and an editor with a keeper serve at one share. Returns what the player leaves, what the editor leaves,
-/// and what was kept.
+/// A player, and beside it an editor with a keeper. What the player leaves, what the editor leaves, and what was kept.
 fn kept<R: Threads + Wait + Clock + Sync>(
     rt: &R,
     alloc: Global,
@@ -135,9 +136,20 @@ fn kept<R: Threads + Wait + Clock + Sync>(
 ) -> Result<(Told, Told, Counted), AllocError> {
     let (lock, mut first) = ShareLock::open(alloc, new_share(alloc)?, 3)?;
     let written = Written::new();
+    let (one, two) = (&written.first, &written.second);
     let mut workers = Vec::new(alloc);
-    let watch = written.watch_of_first(MANY_LOOKS);
-    workers.push(planned(rt, alloc, &lock, &mut first, &player(0), watch)?)?;
+    let plan = player(0);
+    hire_planned(
+        rt,
+        alloc,
+        &lock,
+        &mut first,
+        &plan,
+        MANY_LOOKS,
+        one,
+        two,
+        &mut workers,
+    )?;
     let plan = of_one(
         Role::Edit,
         LinkPlan {
@@ -145,8 +157,7 @@ fn kept<R: Threads + Wait + Clock + Sync>(
             ..plain(case.input)
         },
     );
-    let watch = written.watch_of_second(MANY_LOOKS);
-    let mut editor = planned(rt, alloc, &lock, &mut first, &plan, watch)?;
+    let mut editor = planned(rt, alloc, &lock, &mut first, &plan, MANY_LOOKS, two, one)?;
     let mut keeper = Counted::new(alloc, case.room)?;
     serve_kept(
         rt,

@@ -1,4 +1,4 @@
-//! Tests of workers, alone and in threads. Nothing here is for other crates.
+//! Tests of workers, alone and in threads of their own. Nothing here is for other crates.
 #![tactic(auto)]
 
 #[cfg(test)]

@@ -1,7 +1,7 @@
-//! The maximum number of connections of a worker.
+//! As many links as a worker serves.
 ghost use Rattle.std.specs.Prelude.{◌≡◌, ◌<◌, ◌≤◌, None, refl};
 
-use crate::hiring::{new_share, worker_at};
+use crate::hiring::new_share;
 use daap_outside::{Door, Failed, Faulted, Link, Sink, Source};
 use share_asks::Role;
 use share_lock::{Bell, ShareLock};
@@ -12,7 +12,7 @@ use std::sync::Wait;
 use std::test::Fail;
 use std::time::Clock;
 
-/// A connection that has ended before any byte came. Contracts know nothing of its bytes, and it does not allocate.
+/// A link that has ended before anything came. Contracts know nothing of its bytes, and it does not allocate.
 #[derive(Drop)]
 struct SilentLink {}
 
@@ -50,7 +50,7 @@ impl Link for SilentLink {
     ghost write_leaves_left = { λ _. refl };
 }
 
-/// A listener at which `coming` such connections are to come.
+/// A door at which `coming` such links are to come.
 #[derive(Drop)]
 struct SilentDoor {
     coming: u32,
@@ -80,15 +80,20 @@ impl Door for SilentDoor {
     fn done(&mut self, _link: SilentLink) {}
 }
 
-/// Returns a worker at whose listener `coming` silent connections came.
+/// A worker to whose door `coming` silent links came.
 fn served<R: Wait + Clock>(
     rt: &R,
     alloc: Global,
     coming: u32,
 ) -> Result<Worker<SilentDoor>, AllocError> {
     let (lock, mut first) = ShareLock::open(alloc, new_share(alloc)?, 2)?;
-    let door = SilentDoor { coming };
-    let mut worker = worker_at(rt, alloc, &lock, &mut first, Role::Listen, door);
+    let mut worker = Worker {
+        pass: lock.split(rt, &mut first)?,
+        door: SilentDoor { coming },
+        role: Role::Listen,
+        reports: Vec::new(alloc),
+        end: WorkerEnd::Running,
+    };
     serve_worker(rt, alloc, &lock, &Bell::new(), &mut worker);
     Ok(worker)
 }

@@ -1,11 +1,10 @@
-//! Two workers whose connections wait for each other, in two threads and in one.
+//! Two workers whose links wait for each other, in two threads and in one.
 ghost use Rattle.std.specs.Prelude.{◌≡◌, [], All, IfOk};
 ghost use Rattle.share_lock.specs.Passes.{lock_id, IsReady};
 
 use crate::gated::GatedDoor;
 use crate::hiring::{
-    INFO, LinkPlan, TWO_INFOS, WorkerPlan, Written, new_share, of_one, plain, planned,
-    served_in_threads,
+    INFO, LinkPlan, TWO_INFOS, WorkerPlan, Written, hire_planned, hired, new_share, of_one, plain,
 };
 use share_asks::Role;
 use share_lock::{Bell, ShareLock};
@@ -17,13 +16,13 @@ use std::test::Fail;
 use std::thread::Threads;
 use std::time::Clock;
 
-/// How often a call checks whether it may continue, if nothing that it waits for can come.
+/// How often a call checks whether it may go on, if nothing that it waits for can come.
 const FEW_LOOKS: u64 = 10;
 
 const EDIT: &str =
     "POST /edit HTTP/1.1\r\nContent-Length: 45\r\n\r\nop,kind,id,dmap.itemname\nput,item,7,Hey Jude\n";
 
-/// How a worker and its first connection ended, and the number of requests served on that connection.
+/// How a worker and its first link ended, and how many requests were served on that link.
 #[derive(Clone, Copy, Debug, PartialEq, Eq)]
 struct Told {
     end: WorkerEnd,
@@ -60,18 +59,20 @@ fn told_of_only(workers: &[Worker<GatedDoor<'_>>]) -> Result<Told, AllocError> {
     }
 }
 
-/// Lets two workers serve, each in its own thread. Returns how both ended.
+/// Two workers, each in a thread of its own.
 fn in_threads<R: Threads + Wait + Clock + Sync>(
     rt: &R,
     alloc: Global,
     plans: &(WorkerPlan, WorkerPlan),
 ) -> Result<(Told, Told), AllocError> {
+    let (lock, mut first) = ShareLock::open(alloc, new_share(alloc)?, 3)?;
     let written = Written::new();
-    let (workers, _) = served_in_threads(rt, alloc, plans, &written)?;
+    let mut workers = hired(rt, alloc, &lock, &mut first, plans, &written)?;
+    serve_all(rt, alloc, &lock, &Bell::new(), &mut workers);
     told_of_both(workers.as_slice())
 }
 
-/// Lets the same two workers serve one after the other: the second begins when the first has ended.
+/// The same two workers in at most one thread at a time: the second begins when the first has ended.
 fn in_one_thread<R: Threads + Wait + Clock + Sync>(
     rt: &R,
     alloc: Global,
@@ -79,11 +80,14 @@ fn in_one_thread<R: Threads + Wait + Clock + Sync>(
 ) -> Result<(Told, Told), AllocError> {
     let (lock, mut first) = ShareLock::open(alloc, new_share(alloc)?, 3)?;
     let written = Written::new();
+    let (one, two) = (&written.first, &written.second);
     let (mut front, mut back) = (Vec::new(alloc), Vec::new(alloc));
-    let watch = written.watch_of_first(FEW_LOOKS);
-    front.push(planned(rt, alloc, &lock, &mut first, &plans.0, watch)?)?;
-    let watch = written.watch_of_second(FEW_LOOKS);
-    back.push(planned(rt, alloc, &lock, &mut first, &plans.1, watch)?)?;
+    hire_planned(
+        rt, alloc, &lock, &mut first, &plans.0, FEW_LOOKS, one, two, &mut front,
+    )?;
+    hire_planned(
+        rt, alloc, &lock, &mut first, &plans.1, FEW_LOOKS, two, one, &mut back,
+    )?;
     let bell = Bell::new();
     serve_all(rt, alloc, &lock, &bell, &mut front);
     serve_all(rt, alloc, &lock, &bell, &mut back);
@@ -93,7 +97,7 @@ fn in_one_thread<R: Threads + Wait + Clock + Sync>(
     ))
 }
 
-/// Returns a worker whose second read waits until something was written on the other connection.
+/// The second read waits until the other link has taken anything.
 fn meets() -> WorkerPlan {
     of_one(
         Role::Listen,
@@ -104,7 +108,7 @@ fn meets() -> WorkerPlan {
     )
 }
 
-/// Returns a worker whose first write waits so.
+/// The first write waits so.
 fn slow() -> WorkerPlan {
     of_one(
         Role::Listen,

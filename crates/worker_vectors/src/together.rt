@@ -1,11 +1,11 @@
-//! Eight workers at one share, or two: each waits for all others, and those with a pending long poll sleep until a stop
-//! wakes them all.
+//! Eight workers at one share, or two: each waits for all others, and those whose updates are held sleep until a stop wakes
+//! them all.
 ghost use Rattle.std.specs.Prelude.{◌≡◌, ◌<◌, [], All, IfOk, OnOk};
 ghost use Rattle.share_lock.specs.Passes.{lock_id, IsReady};
 
 use crate::crowd::{Coming, CrowdDoor, Scene, Slowed, Unclocked, Wanted};
 use crate::held::tells;
-use crate::hiring::{PIECE, STOP, TWO_INFOS, new_share, worker_at};
+use crate::hiring::{PIECE, STOP, TWO_INFOS, hire, new_share};
 use share_asks::Role;
 use share_core::Share;
 use share_lock::{Bell, Pass, ShareLock};
@@ -17,16 +17,32 @@ use std::test::Fail;
 use std::thread::Threads;
 use std::time::Clock;
 
-// The maximum number of bytes of one read of a player: the length of a login.
+// So many bytes one read of a player gives at most: those of a login.
 const LOGIN_LEN: usize = 23;
 
 const LOGIN_AND_UPDATE: &[u8] =
     b"GET /login HTTP/1.1\r\n\r\nGET /update?session-id=1&revision-number=2 HTTP/1.1\r\n\r\n";
 
-// The number of reads in which a login and an update come.
+// In so many reads a login and an update come.
 const READS: u64 = 4;
 
-/// A worker, and the connection that comes to it.
+/// How many players come.
+#[derive(Clone, Copy)]
+enum Players {
+    Two,
+    Eight,
+}
+
+impl Players {
+    fn count(self) -> u64 {
+        match self {
+            Players::Two => 2,
+            Players::Eight => 8,
+        }
+    }
+}
+
+/// A worker, and the link that comes to it.
 #[derive(Clone, Copy)]
 struct Plan<'a> {
     role: Role,
@@ -35,7 +51,7 @@ struct Plan<'a> {
     wanted: Wanted,
 }
 
-/// Returns a player that logs in, and sends its next request once `answered` connections were answered.
+/// A player that logs in, and asks for more once so many links were answered.
 fn player(more: &[u8], answered: u64) -> Plan<'_>
     ensures { 0 < result.per_read }
 {
@@ -65,14 +81,12 @@ fn editor(input: &[u8], wanted: Wanted) -> Plan<'_>
 
 type Crew<'a, R> = Vec<Worker<CrowdDoor<'a, R>>>;
 
-/// Adds `count` workers, to each of which a connection of this plan comes.
 fn add<'a, R: Wait + Clock + Sync>(
     rt: &'a R,
     alloc: Global,
     lock: &ShareLock<Share>,
     first: &mut Pass<Share>,
     plan: &Plan<'_>,
-    count: u64,
     scene: &'a Scene,
     workers: &mut Crew<'a, R>,
 ) -> Result<(), AllocError>
@@ -86,23 +100,71 @@ fn add<'a, R: Wait + Clock + Sync>(
     ensures running { OnOk result (All (λ w. w.end ≡ WorkerEnd.Running) workers.new.items) }
     ensures unreported { OnOk result (All (λ w. w.reports.items ≡ []) workers.new.items) }
 {
-    for _ in 0..count {
-        let coming = Coming::new(alloc, plan.input, plan.per_read, plan.wanted, scene, rt)?;
-        let door = CrowdDoor {
-            coming: Some(coming),
-        };
-        workers.push(worker_at(rt, alloc, lock, first, plan.role, door))?;
-    }
-    Ok(())
+    let coming = Coming::new(alloc, plan.input, plan.per_read, plan.wanted, scene, rt)?;
+    let door = CrowdDoor {
+        coming: Some(coming),
+    };
+    hire(rt, alloc, lock, first, plan.role, door, workers)
 }
 
-/// Returns whether each of some workers ended so, and its one connection ended so, with these statuses.
+fn add_two<'a, R: Wait + Clock + Sync>(
+    rt: &'a R,
+    alloc: Global,
+    lock: &ShareLock<Share>,
+    first: &mut Pass<Share>,
+    plan: &Plan<'_>,
+    scene: &'a Scene,
+    workers: &mut Crew<'a, R>,
+) -> Result<(), AllocError>
+    requires moves { 0 < plan.now.per_read }
+    requires first { IsReady (lock_id lock.now) first.old }
+    requires ready { All (λ w. IsReady (lock_id lock.now) w.pass) workers.old.items }
+    requires running { All (λ w. w.end ≡ WorkerEnd.Running) workers.old.items }
+    requires unreported { All (λ w. w.reports.items ≡ []) workers.old.items }
+    ensures first { IsReady (lock_id lock.now) first.new }
+    ensures ready { OnOk result (All (λ w. IsReady (lock_id lock.now) w.pass) workers.new.items) }
+    ensures running { OnOk result (All (λ w. w.end ≡ WorkerEnd.Running) workers.new.items) }
+    ensures unreported { OnOk result (All (λ w. w.reports.items ≡ []) workers.new.items) }
+{
+    add(rt, alloc, lock, first, plan, scene, workers)?;
+    add(rt, alloc, lock, first, plan, scene, workers)
+}
+
+fn add_players<'a, R: Wait + Clock + Sync>(
+    rt: &'a R,
+    alloc: Global,
+    lock: &ShareLock<Share>,
+    first: &mut Pass<Share>,
+    players: Players,
+    plan: &Plan<'_>,
+    scene: &'a Scene,
+    workers: &mut Crew<'a, R>,
+) -> Result<(), AllocError>
+    requires moves { 0 < plan.now.per_read }
+    requires first { IsReady (lock_id lock.now) first.old }
+    requires ready { All (λ w. IsReady (lock_id lock.now) w.pass) workers.old.items }
+    requires running { All (λ w. w.end ≡ WorkerEnd.Running) workers.old.items }
+    requires unreported { All (λ w. w.reports.items ≡ []) workers.old.items }
+    ensures first { IsReady (lock_id lock.now) first.new }
+    ensures ready { OnOk result (All (λ w. IsReady (lock_id lock.now) w.pass) workers.new.items) }
+    ensures running { OnOk result (All (λ w. w.end ≡ WorkerEnd.Running) workers.new.items) }
+    ensures unreported { OnOk result (All (λ w. w.reports.items ≡ []) workers.new.items) }
+{
+    let Players::Eight = players else {
+        return add_two(rt, alloc, lock, first, plan, scene, workers);
+    };
+    add_two(rt, alloc, lock, first, plan, scene, workers)?;
+    add_two(rt, alloc, lock, first, plan, scene, workers)?;
+    add_two(rt, alloc, lock, first, plan, scene, workers)?;
+    add_two(rt, alloc, lock, first, plan, scene, workers)
+}
+
+/// Whether each of some workers ended so, its one link did, and these statuses are told of that.
 fn all_told<D>(workers: &[Worker<D>], end: WorkerEnd, link: LinkEnd, statuses: &[u16]) -> bool {
     workers.iter().all(|worker| worker.end == end && tells(worker.reports.first(), statuses, link))
 }
 
-/// Returns whether eight players were served two requests each, if each reads its second request only once all got the
-/// reply to the first.
+/// Whether eight players of which each reads its second request only once all were answered the first were served both.
 fn meet<R: Threads + Wait + Clock + Sync>(rt: &R, alloc: Global) -> Result<bool, AllocError> {
     let (lock, mut first) = ShareLock::open(alloc, new_share(alloc)?, 9)?;
     let scene = Scene::new();
@@ -111,7 +173,16 @@ fn meet<R: Threads + Wait + Clock + Sync>(rt: &R, alloc: Global) -> Result<bool,
         ..player(TWO_INFOS.as_bytes(), 8)
     };
     let mut workers = Vec::new(alloc);
-    add(rt, alloc, &lock, &mut first, &plan, 8, &scene, &mut workers)?;
+    add_players(
+        rt,
+        alloc,
+        &lock,
+        &mut first,
+        Players::Eight,
+        &plan,
+        &scene,
+        &mut workers,
+    )?;
     serve_all(rt, alloc, &lock, &Bell::new(), &mut workers);
     Ok(
         workers.len() == 8
@@ -131,51 +202,43 @@ fn eight_links_meet(rt: HostRuntime) -> Result<(), Fail> {
     Ok(())
 }
 
-/// The result of long polls that were pending until a stop.
+/// What became of updates that were held until a stop.
 #[derive(Clone, Copy, Debug, PartialEq, Eq)]
 struct Held {
     /// Whether each was refused at the stop, and the stop was answered.
     told: bool,
-    /// How often the long polls were checked before they were answered.
+    /// How often the updates were looked at before they were answered.
     waits: u64,
 }
 
-/// Lets players with pending long polls serve, and a stop on another connection once they sleep. Nothing is added after
-/// that. The connections wait for each other by the clock of `host`.
+/// Players whose updates are held, and a stop on another link once they sleep. Nothing is added behind that. The links wait
+/// for each other by the clock of `host`.
 fn held_until_stop<R: Threads + Wait + Clock + Sync, H: Wait + Clock + Sync>(
     rt: &R,
     host: &H,
     alloc: Global,
-    players: u64,
+    players: Players,
 ) -> Result<Held, AllocError> {
     let (lock, mut first) = ShareLock::open(alloc, new_share(alloc)?, 10)?;
     let scene = Scene::new();
+    let count = players.count();
     let stop = Wanted {
         at: 0,
-        reads: READS.saturating_mul(players),
-        answered: players,
+        reads: READS.saturating_mul(count),
+        answered: count,
         stays: true,
     };
     let stop = editor(STOP.as_bytes(), stop);
-    let plan = player(LOGIN_AND_UPDATE, players);
+    let plan = player(LOGIN_AND_UPDATE, count);
     let mut workers = Vec::new(alloc);
-    add(
+    add(host, alloc, &lock, &mut first, &stop, &scene, &mut workers)?;
+    add_players(
         host,
         alloc,
         &lock,
         &mut first,
-        &stop,
-        1,
-        &scene,
-        &mut workers,
-    )?;
-    add(
-        host,
-        alloc,
-        &lock,
-        &mut first,
-        &plan,
         players,
+        &plan,
         &scene,
         &mut workers,
     )?;
@@ -198,11 +261,11 @@ fn stopped<D>(workers: &[Worker<D>]) -> bool {
     }
 }
 
-// No long poll checks without the bell: one that isn't woken sleeps forever, and the test doesn't end.
+// None of them looks without the bell: who isn't woken sleeps for good, and the test doesn't end.
 #[test]
 fn a_stop_wakes_both_of_two_held_updates(rt: HostRuntime) -> Result<(), Fail> {
     let (unclocked, slowed) = (Unclocked { rt: &rt }, Slowed { rt: &rt });
-    let held = held_until_stop(&unclocked, &slowed, rt.alloc(), 2)?;
+    let held = held_until_stop(&unclocked, &slowed, rt.alloc(), Players::Two)?;
     assert_eq!(rt;
         held,
         Held {
@@ -213,11 +276,11 @@ fn a_stop_wakes_both_of_two_held_updates(rt: HostRuntime) -> Result<(), Fail> {
     Ok(())
 }
 
-// Each takes one turn before the stop, and one after it.
+// Each takes one turn before the stop, and one behind it.
 #[test]
 fn eight_held_updates_take_two_turns_each(rt: HostRuntime) -> Result<(), Fail> {
     let slowed = Slowed { rt: &rt };
-    let held = held_until_stop(&slowed, &slowed, rt.alloc(), 8)?;
+    let held = held_until_stop(&slowed, &slowed, rt.alloc(), Players::Eight)?;
     assert_eq!(rt;
         held,
         Held {
