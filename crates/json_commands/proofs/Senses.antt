@@ -8,43 +8,18 @@ use Rattle.dmap_show.specs.TextLines.{before, behind, has}
 use Rattle.dmap_stream.proofs.TagsWalk.{tags_read}
 use Rattle.dmap_stream.specs.Walk.{Walk, between, inside, broken}
 use Rattle.dmap_stream.specs.declared.refusal.StreamError.{StreamError}
-use Rattle.command_core.specs.Seen.{Seen, ShareSeen}
 use Rattle.command_core.specs.Causes.{Says}
-use Rattle.command_core.specs.Meanings.{Meaning, leaves_no_share, may_read, writes_nothing_before}
 use Rattle.command_core.proofs.Reading.{read_whole}
 use Rattle.command_core.proofs.Sensible.{WritesOnce}
 use Rattle.tag_commands.specs.declared.tags_fault.TagsFault.{TagsFault}
 use Rattle.tag_commands.specs.declared.tags_fault.TagsFault.TheVariants as tags
 use Rattle.tag_commands.specs.TopTags.{tags_status}
+use Rattle.tag_commands.proofs.Senses.{reads_once}
 use Rattle.json_commands.specs.declared.json_back.LineFault.{LineFault}
 use Rattle.json_commands.specs.declared.json_back.LineFault.TheVariants.{Line, TooLong}
 use Rattle.json_commands.specs.Whole.{json_limit, IsWithin}
 use Rattle.json_commands.specs.Json.{GivesJson, HasTagsFault, walked, json_cause, json_meaning}
 use Rattle.json_commands.specs.JsonBack.{GivesTags, AreJsonLines, IsJsonLine, IsNoTag, StopsAfter, line_status, line_cause, json_back_meaning}
-
-abbrev reading : Meaning → Meaning
-reading m = record m { is_begun = m.is_done; is_front = writes_nothing_before; leaves = leaves_no_share; may_want = may_read }
-
-reads_once : (m : Meaning) → ((input : List ℕ) (one other : m.fault) → Says (m.cause one) input → Says (m.cause other) input → m.status one ≡ m.status other)
-    → ((input : List ℕ) (own : m.fault) → Says (m.cause own) input → m.gives input → ⊥)
-    → ((input : List ℕ) (before after : Seen) (share : ShareSeen) (output : List ℕ) → before.input.left ≡ Some input → m.is_done before after share output → m.gives input)
-    → WritesOnce (reading m)
-reads_once m one_status not_both given = record {
-  sensible = record {
-    wants = λ before after fault cause. tt;
-    wants_front = λ before after fault front h. h;
-    wants_share = λ before after fault share h. h;
-    idle = λ seen. tt;
-    idle_front = λ seen. refl;
-    idle_share = λ seen. refl;
-    one_status = one_status;
-    not_both = not_both;
-    given = given;
-  };
-  begun = λ before after share output done. done;
-  front = λ before after fault. refl;
-  unopened = λ before after fault. refl;
-}
 
 -- ---- json
 

@@ -1,4 +1,5 @@
--- How a worker ends: exactly one end fits what its links left, but for faults of its door and want of memory.
+-- How a worker ends: exactly one end fits what its connections left, but for errors of its listener and allocation
+-- failures.
 use Rattle.std.specs.Prelude.{◌≡◌, ◌≢◌, ◌⊎◌, ℕ, ◌<◌, ◌≤◌, List, [], ◌∷◌, ◌++◌, length, Bool, true, false, Option}
 use Rattle.item_model.specs.declared.changes.Entry.{Entry}
 use Rattle.daap_outside.specs.Counts.{Rose}
@@ -12,15 +13,15 @@ use Rattle.share_workers.specs.declared.worker.WorkerEnd.{WorkerEnd}
 use Rattle.share_workers.specs.declared.worker.WorkerEnd.TheVariants.{Running, Stopped, NoMoreLinks, Spent, AcceptFault, FileFault, Memory}
 use Rattle.share_workers.specs.Works.{all_served, loses_any, IsLostBy, IsOver, ServesThenLooks, LooksBehind, Works}
 
--- a worker may go on behind these links: it may serve one more link and one more request, saw no stop behind the last, and
--- lost no edit
+-- a worker may continue after these connections: it may serve one more connection and one more request, saw no stop
+-- after the last, and lost no edit
 pub record MayGoOn (k : Pass) (reports : List LinkReport) : Type 0 where
   pub links : length reports < 65536
   pub requests : length (all_served reports) < 262144
   pub going : reports ≢ [] → is_stopped k.seen ≡ false
   pub whole : loses_any reports ≡ false
 
--- it might go on behind all links but the last, and served the last
+-- it could continue after all connections but the last, and served the last
 pub record GoesOnToLast (k k' : Pass) (reports : List LinkReport) : Type 0 where
   pub earlier : List LinkReport
   pub last : LinkReport
@@ -55,7 +56,7 @@ is_worker_loss AcceptFault = false
 is_worker_loss FileFault = true
 is_worker_loss Memory = false
 
--- the count of the door's faults, by the worker's end
+-- the listener's error counter, by the worker's end
 abbrev pub CountsAccepts : ℕ → ℕ → WorkerEnd → Type 0
 CountsAccepts before now AcceptFault = Rose before now
 CountsAccepts before now Running = now ≡ before
@@ -65,11 +66,11 @@ CountsAccepts before now Spent = now ≡ before
 CountsAccepts before now FileFault = now ≡ before
 CountsAccepts before now Memory = now ≡ before
 
--- how much a worker serves at most
+-- the maxima of a worker
 abbrev pub IsWithin : List LinkReport → Type 0
 IsWithin reports = (length reports ≤ 65536) × (length (all_served reports) ≤ 262144)
 
--- a worker that served to its end, from what its pass and its door tell before and after
+-- a worker that served to its end, by its lock handle and its listener before and after
 pub record WorkerServed (role : Role) (k k' : Pass) (coming coming' : Option (List (List ℕ))) (written written' : Option (List Returned)) (faults faults' : ℕ) (reports : List LinkReport) (end : WorkerEnd) : Type 0 where
   pub works : Works role k k' coming coming' written written' reports
   pub ends : EndsWorker k k' coming coming' reports end

@@ -1,4 +1,4 @@
--- What a keeper has of the batches of a history, where its worker alone edits the share.
+-- What a keeper has of the batches of a history, if only its worker edits the share.
 use Rattle.std.specs.Prelude.{◌≡◌, ℕ, List, [], ◌∷◌, ◌++◌, All, Bool, true, false}
 use Rattle.item_model.specs.declared.changes.Edit.{Edit}
 use Rattle.item_model.specs.declared.changes.Entry.{Entry}
@@ -17,8 +17,8 @@ abbrev pub KeepsBut : Bool → (List (List Edit) → Type 0) → List (List Edit
 KeepsBut false keeps bs = keeps bs
 KeepsBut true keeps bs = (earlier : List (List Edit)) × (last : List Edit) × (bs ≡ earlier ++ last ∷ []) × keeps earlier
 
--- A keeper had the batches of what its pass had seen. Then it has those of each history that begins with what the pass has
--- seen by the end, where the edits behind the begin are of the pass and none of those behind the end is.
+-- A keeper had the batches of what its lock handle had seen. Then it has those of each history that begins with what the
+-- handle has seen by the end, if the edits after the beginning are of the handle and none of those after the end is.
 abbrev pub KeepsHistory : (keeps keeps' : List (List Edit) → Type 0) → Bool → ℕ → ℕ → Type 0
 KeepsHistory keeps keeps' is_lost' faults faults' =
     (k k' : Pass) (loses : Bool) (h behind later : List Entry) → Keeping keeps keeps' is_lost' faults faults' k k' loses → keeps (batches k.seen)

@@ -1,4 +1,4 @@
--- One link more of a worker that has not ended.
+-- One more connection of a worker that has not ended.
 use Rattle.std.specs.Prelude.{◌≡◌, ℕ, ◌+◌, List, length, Bool, false, Option, Some, None}
 use Rattle.daap_outside.specs.Places.{Returned, returned}
 use Rattle.daap_outside.specs.Told.{GrowsByTold}
@@ -10,7 +10,7 @@ use Rattle.share_workers.specs.declared.worker.WorkerEnd.{WorkerEnd}
 use Rattle.share_workers.specs.Works.{all_served, Looks, Works}
 use Rattle.share_workers.specs.Ends.{MayGoOn, EndsWorker, IsWithin, is_worker_loss}
 
--- a link with no fault counted was served and given back, and then a turn was taken
+-- a connection with no error counted was served and returned to the listener, and then a turn was taken
 pub record LinkDone (role : Role) (budget : ℕ) (k k' : Pass) (left taken : Option (List ℕ)) (written written' : Option (List Returned)) (report : LinkReport) : Type 0 where
   pub before : Pass
   pub taken' : Option (List ℕ)
@@ -26,7 +26,7 @@ pub record Underway (role : Role) (k k' : Pass) (coming coming' : Option (List (
   pub may : MayGoOn k' reports
   pub left : budget + length (all_served reports) ≡ 262144
 
--- it goes on, or has ended so
+-- it continues, or has ended so
 abbrev pub GoesOnOrEnds : Role → Pass → Pass → Option (List (List ℕ)) → Option (List (List ℕ)) → Option (List Returned) → Option (List Returned) → List LinkReport → ℕ → Option WorkerEnd → Type 0
 GoesOnOrEnds role k k' coming coming' written written' reports budget None = Underway role k k' coming coming' written written' reports budget
 GoesOnOrEnds role k k' coming coming' written written' reports budget (Some end) =

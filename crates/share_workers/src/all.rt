@@ -1,4 +1,4 @@
-//! Many workers at once.
+//! Runs many workers at once.
 ghost use Rattle.std.specs.Prelude.{◌≡◌, ◌<◌, [], All, false, vec_capacity};
 ghost use Rattle.std.specs.List.{AllZip};
 ghost use Rattle.std.specs.Thread.{IsSync};
@@ -18,7 +18,7 @@ use std::thread;
 use std::thread::Threads;
 use std::time::Clock;
 
-/// Lets each worker serve its links in a thread of its own, beside the others, and returns when all have ended.
+/// Lets each worker serve its connections, each in its own thread, and returns when all have ended.
 pub fn serve_all<D: Door + Drop + Send, R: Threads + Wait + Clock + Sync>(
     rt: &R,
     alloc: Global,
@@ -39,8 +39,8 @@ pub fn serve_all<D: Door + Drop + Send, R: Threads + Wait + Clock + Sync>(
     serve_each(rt, alloc, lock, bell, workers.as_mut_slice(), threads);
 }
 
-/// Lets `worker` serve its links as `keep_worker` does, with `keeper`, and beside it each of `workers` as `serve_all` does.
-/// Returns when all have ended.
+/// Lets `worker` serve its connections as `keep_worker` does, with `keeper`, and at the same time each of `workers` as
+/// `serve_all` does. Returns when all have ended.
 pub fn serve_kept<D: Door + Drop + Send, F: Keeps + Send, R: Threads + Wait + Clock + Sync>(
     rt: &R,
     alloc: Global,
@@ -119,7 +119,7 @@ fn serve_beside<D: Door + Drop + Send, F: Keeps + Send, R: Threads + Wait + Cloc
     );
 }
 
-/// The workers' work in at most so many threads.
+/// Lets each worker serve its connections, in at most `threads` threads.
 pub(crate) fn serve_each<D: Door + Drop + Send, R: Threads + Wait + Clock + Sync>(
     rt: &R,
     alloc: Global,

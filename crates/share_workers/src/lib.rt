@@ -1,5 +1,5 @@
-//! Workers that serve a share's links beside each other: each accepts links at its door, serves one after the other with its
-//! own pass of the share's lock, and gives each back. The edits of one of them may be kept.
+//! Workers that serve a share's connections concurrently. Each accepts connections at its listener, serves one after the
+//! other with its own handle of the share's lock, and returns each to the listener. The edits of one worker may be kept.
 #![tactic(auto)]
 
 mod all;

@@ -8,30 +8,30 @@ use share_server::LinkReport;
 /// How a worker ended.
 #[derive(Clone, Copy, Debug, PartialEq, Eq)]
 pub enum WorkerEnd {
-    /// It has not ended: before its work alone.
+    /// It has not ended. Only a worker that has not begun has this end.
     Running,
     /// The share was stopped.
     Stopped,
-    /// No further link will come to its door.
+    /// No further connection will come at its listener.
     NoMoreLinks,
-    /// It served 65,536 links, or 262,144 requests on all of them.
+    /// It served 65,536 connections, or 262,144 requests on all of them.
     Spent,
-    /// Its door could not wait for a link.
+    /// Its listener could not wait for a connection.
     AcceptFault,
-    /// An edit was added and could not be kept. It is in the history, and the stop behind it.
+    /// An edit was added and could not be kept. The history has the edit, and the stop after it.
     FileFault,
-    /// There was no memory for the report of one link more.
+    /// The allocation for the report of one more connection failed.
     Memory,
 }
 
-/// Serves links that come to its door, one after another, with a pass of the share's lock that is its own.
+/// Serves the connections that come at its listener, one after another, with its own handle of the share's lock.
 #[derive(Drop)]
 pub struct Worker<D> {
     pub pass: Pass<Share>,
     pub door: D,
-    /// What may be asked on each of its links.
+    /// Which requests are allowed on each of its connections.
     pub role: Role,
-    /// What is told of its links, in the order in which they came.
+    /// The reports of its connections, in the order in which these came.
     pub reports: Vec<LinkReport>,
     pub end: WorkerEnd,
 }

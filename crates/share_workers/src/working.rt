@@ -22,14 +22,23 @@ use std::alloc::Global;
 use std::sync::Wait;
 use std::time::Clock;
 
-// How many links a worker serves at most.
+// The maximum number of connections that a worker serves.
 const MOST_LINKS: usize = 65_536;
 
-// How many requests a worker serves at most, on all of its links.
+// The maximum number of requests that a worker serves, on all of its connections.
 const MOST_REQUESTS: u32 = 262_144;
 
-/// Serves links until the share is stopped, no more will come, the worker has served as many as it may, its door fails, or
-/// there is no memory. Behind each link it takes one turn that adds nothing. No edit is kept.
+// What a worker serves its connections with.
+#[derive(Drop)]
+struct Service<'a, R> {
+    rt: &'a R,
+    alloc: Global,
+    lock: &'a ShareLock<Share>,
+    bell: &'a Bell,
+}
+
+/// Serves connections until the share is stopped, no more will come, the worker has served its maximum, its listener
+/// fails, or an allocation fails. After each connection it takes one turn that adds nothing. No edit is kept.
 pub fn serve_worker<D: Door, R: Wait + Clock>(
     rt: &R,
     alloc: Global,
@@ -48,9 +57,9 @@ pub fn serve_worker<D: Door, R: Wait + Clock>(
     keep_worker(rt, alloc, lock, bell, worker, &mut Unkept);
 }
 
-/// Serves links as `serve_worker` does, and lets the keeper keep each batch of edits that is added, in order, before its
-/// request is answered. A batch that it could not keep stays in the history: no request is told of it, the share is stopped
-/// behind it, and the worker ends by `FileFault`.
+/// Serves connections as `serve_worker` does, and lets the keeper keep each batch of edits that is added, in order, before
+/// its request is answered. A batch that the keeper could not keep stays in the history: no reply acknowledges it, the
+/// share is stopped after it, and the worker ends by `FileFault`.
 pub fn keep_worker<D: Door, F: Keeps, R: Wait + Clock>(
     rt: &R,
     alloc: Global,
@@ -68,48 +77,49 @@ pub fn keep_worker<D: Door, F: Keeps, R: Wait + Clock>(
     ensures served { WorkerServed worker.old.role (known worker.old.pass) (known worker.new.pass) (D.coming worker.old.door) (D.coming worker.new.door) (D.written worker.old.door) (D.written worker.new.door) (D.faults worker.old.door) (D.faults worker.new.door) worker.new.reports.items worker.new.end }
     ensures keeping { Keeping (F.keeps keeper.old) (F.keeps keeper.new) (F.is_lost keeper.new) (F.faults keeper.old) (F.faults keeper.new) (known worker.old.pass) (known worker.new.pass) (is_worker_loss worker.new.end) }
 {
-    let end = work(rt, alloc, lock, bell, worker, keeper);
+    let service = Service {
+        rt,
+        alloc,
+        lock,
+        bell,
+    };
+    let end = work(&service, worker, keeper);
     worker.end = end;
 }
 
-// Serves links to the worker's end.
+// Serves connections to the worker's end.
 fn work<D: Door, F: Keeps, R: Wait + Clock>(
-    rt: &R,
-    alloc: Global,
-    lock: &ShareLock<Share>,
-    bell: &Bell,
+    service: &Service<'_, R>,
     worker: &mut Worker<D>,
     keeper: &mut F,
 ) -> WorkerEnd
-    requires ready { IsReady (lock_id lock.now) worker.old.pass }
+    requires ready { IsReady (lock_id service.now.lock.now) worker.old.pass }
     requires unreported { worker.old.reports.items ≡ [] }
     requires going { F.is_lost keeper.old ≡ false }
-    ensures ready { IsReady (lock_id lock.now) worker.new.pass }
+    ensures ready { IsReady (lock_id service.now.lock.now) worker.new.pass }
     ensures role { worker.new.role ≡ worker.old.role }
     ensures served { WorkerServed worker.old.role (known worker.old.pass) (known worker.new.pass) (D.coming worker.old.door) (D.coming worker.new.door) (D.written worker.old.door) (D.written worker.new.door) (D.faults worker.old.door) (D.faults worker.new.door) worker.new.reports.items result }
     ensures keeping { Keeping (F.keeps keeper.old) (F.keeps keeper.new) (F.is_lost keeper.new) (F.faults keeper.old) (F.faults keeper.new) (known worker.old.pass) (known worker.new.pass) (is_worker_loss result) }
 {
     let mut budget = MOST_REQUESTS;
     loop {
-        if let Some(end) = serve_next(rt, alloc, lock, bell, worker, keeper, &mut budget) {
+        if let Some(end) = serve_next(service, worker, keeper, &mut budget) {
             return end;
         }
     }
 }
 
-// Waits for a link and serves it. Tells the worker's end, if it has come. Room for the report is taken before the link is.
+// Waits for a connection and serves it. Returns the worker's end, if it has come. The space for the report is allocated
+// before the connection is accepted.
 fn serve_next<D: Door, F: Keeps, R: Wait + Clock>(
-    rt: &R,
-    alloc: Global,
-    lock: &ShareLock<Share>,
-    bell: &Bell,
+    service: &Service<'_, R>,
     worker: &mut Worker<D>,
     keeper: &mut F,
     budget: &mut u32,
 ) -> Option<WorkerEnd>
-    requires ready { IsReady (lock_id lock.now) worker.old.pass }
+    requires ready { IsReady (lock_id service.now.lock.now) worker.old.pass }
     requires going { F.is_lost keeper.old ≡ false }
-    ensures ready { IsReady (lock_id lock.now) worker.new.pass }
+    ensures ready { IsReady (lock_id service.now.lock.now) worker.new.pass }
     ensures role { worker.new.role ≡ worker.old.role }
     ensures grows { IsNone result → vec_len worker.new.reports ≡ vec_len worker.old.reports + 1 }
     ensures served { (k : Seen) (coming : Option (List (List ℕ))) (written : Option (List Returned))
@@ -124,26 +134,23 @@ fn serve_next<D: Door, F: Keeps, R: Wait + Clock>(
     match worker.door.accept() {
         Err(Failed) => Some(WorkerEnd::AcceptFault),
         Ok(None) => Some(WorkerEnd::NoMoreLinks),
-        Ok(Some(link)) => serve_accepted(rt, alloc, lock, bell, worker, keeper, link, budget),
+        Ok(Some(link)) => serve_accepted(service, worker, keeper, link, budget),
     }
 }
 
-// Serves a link that was accepted. A worker that sees a stop lets others stop waiting.
+// Serves a connection that was accepted. A worker that sees a stop lets others stop waiting.
 fn serve_accepted<D: Door, F: Keeps, R: Wait + Clock>(
-    rt: &R,
-    alloc: Global,
-    lock: &ShareLock<Share>,
-    bell: &Bell,
+    service: &Service<'_, R>,
     worker: &mut Worker<D>,
     keeper: &mut F,
     link: D::L,
     budget: &mut u32,
 ) -> Option<WorkerEnd>
-    requires ready { IsReady (lock_id lock.now) worker.old.pass }
+    requires ready { IsReady (lock_id service.now.lock.now) worker.old.pass }
     requires room { vec_len worker.old.reports < vec_capacity worker.old.reports }
     requires fresh { D.L.faults link ≡ 0 }
     requires going { F.is_lost keeper.old ≡ false }
-    ensures ready { IsReady (lock_id lock.now) worker.new.pass }
+    ensures ready { IsReady (lock_id service.now.lock.now) worker.new.pass }
     ensures role { worker.new.role ≡ worker.old.role }
     ensures grows { vec_len worker.new.reports ≡ vec_len worker.old.reports + 1 }
     ensures served { (k : Seen) (coming before : Option (List (List ℕ))) (written : Option (List Returned))
@@ -153,7 +160,7 @@ fn serve_accepted<D: Door, F: Keeps, R: Wait + Clock>(
     ensures count { MatchOption result (D.faults worker.new.door ≡ D.faults worker.old.door) (CountsAccepts (D.faults worker.old.door) (D.faults worker.new.door)) }
     ensures keeping { Keeping (F.keeps keeper.old) (F.keeps keeper.new) (F.is_lost keeper.new) (F.faults keeper.old) (F.faults keeper.new) (known worker.old.pass) (known worker.new.pass) (ends_by_loss result) }
 {
-    let behind = serve_one(rt, alloc, lock, bell, worker, keeper, link, budget);
+    let behind = serve_one(service, worker, keeper, link, budget);
     if behind.lost {
         worker.door.nudge();
         return Some(WorkerEnd::FileFault);
@@ -168,31 +175,28 @@ fn serve_accepted<D: Door, F: Keeps, R: Wait + Clock>(
     None
 }
 
-// What a worker knows behind a link that it gave back.
+// What a worker knows after a connection that it returned to its listener.
 #[derive(Clone, Copy)]
 struct Behind {
-    // The link's edit could not be kept.
+    // The connection's edit could not be kept.
     lost: bool,
     // The share was stopped by then.
     stopped: bool,
 }
 
-// Serves a link, gives it back, and takes a turn.
+// Serves a connection, returns it to the listener, and takes a turn.
 fn serve_one<D: Door, F: Keeps, R: Wait + Clock>(
-    rt: &R,
-    alloc: Global,
-    lock: &ShareLock<Share>,
-    bell: &Bell,
+    service: &Service<'_, R>,
     worker: &mut Worker<D>,
     keeper: &mut F,
     mut link: D::L,
     budget: &mut u32,
 ) -> Behind
-    requires ready { IsReady (lock_id lock.now) worker.old.pass }
-    requires room { vec_len worker.old.reports < vec_capacity worker.old.reports }
     requires fresh { D.L.faults link ≡ 0 }
+    requires ready { IsReady (lock_id service.now.lock.now) worker.old.pass }
+    requires room { vec_len worker.old.reports < vec_capacity worker.old.reports }
     requires going { F.is_lost keeper.old ≡ false }
-    ensures ready { IsReady (lock_id lock.now) worker.new.pass }
+    ensures ready { IsReady (lock_id service.now.lock.now) worker.new.pass }
     ensures role { worker.new.role ≡ worker.old.role }
     ensures coming { D.coming worker.new.door ≡ D.coming worker.old.door }
     ensures count { D.faults worker.new.door ≡ D.faults worker.old.door }
@@ -203,10 +207,10 @@ fn serve_one<D: Door, F: Keeps, R: Wait + Clock>(
         × LinkDone worker.old.role budget.old (known worker.old.pass) (known worker.new.pass) (D.L.left link) (D.L.taken link) (D.written worker.old.door) (D.written worker.new.door) report }
 {
     let report = keep_link(
-        rt,
-        alloc,
-        lock,
-        bell,
+        service.rt,
+        service.alloc,
+        service.lock,
+        service.bell,
         &mut worker.pass,
         &mut link,
         keeper,
@@ -217,7 +221,7 @@ fn serve_one<D: Door, F: Keeps, R: Wait + Clock>(
     let lost = is_loss(report.end);
     *budget -= report.served.as_slice().len() as u32;
     worker.reports.push_reserved(report);
-    let stopped = look(rt, lock, &mut worker.pass);
+    let stopped = look(service.rt, service.lock, &mut worker.pass);
     Behind { lost, stopped }
 }
 
@@ -227,7 +231,7 @@ fn is_loss(end: LinkEnd) -> bool
     matches!(end, LinkEnd::FileFault)
 }
 
-// Takes a turn that adds nothing. Tells whether the share was stopped by then.
+// Takes a turn that adds nothing. Returns whether the share was stopped by then.
 fn look<R: Wait>(rt: &R, lock: &ShareLock<Share>, pass: &mut Pass<Share>) -> bool
     requires ready { IsReady (lock_id lock.now) pass.old }
     ensures ready { IsReady (lock_id lock.now) pass.new }
