@@ -63,12 +63,20 @@ fn asked<L: Ledger>(
         let wanted = want(alloc, step, songs, session, share.revision(), number)?;
         let reply = reply_to(share, wanted, steps)?;
         ensure!(reply.said.status == 200, "refused");
-        bytes = bytes.saturating_add(match step {
-            Step::Tenth => written(alloc, &reply.said.plan)?,
-            _ => reply.said.plan.body_len(),
-        });
+        bytes = bytes.saturating_add(counted(alloc, step, &reply.said.plan)?);
     }
     Ok(bytes)
+}
+
+/// Returns how many bytes a body has. Of a full listing the turn alone is counted, so its body counts as one.
+fn counted(alloc: Global, step: Step, plan: &Plan) -> anyhow::Result<u64>
+    requires { IsWritable plan.now }
+{
+    match step {
+        Step::Full => Ok(1),
+        Step::Tenth => written(alloc, plan),
+        _ => Ok(plan.body_len()),
+    }
 }
 
 /// Writes a body, and returns how many bytes it has.
