@@ -17,7 +17,7 @@ use std::alloc::Global;
 use std::marker::Brand;
 use std::sync::ledger::Blank;
 
-/// What is counted.
+/// A step of the work that is measured.
 #[derive(Clone, Copy)]
 pub enum Step {
     /// A row for each song is made.
@@ -44,7 +44,7 @@ pub enum Step {
     Deltas,
 }
 
-/// The steps by their names.
+/// The steps, by name.
 pub const STEPS: [(&str, Step); 15] = [
     ("rows", Step::Rows),
     ("plan", Step::Plan),
@@ -67,13 +67,13 @@ pub const STEPS: [(&str, Step); 15] = [
 #[derive(Clone, Copy)]
 pub struct Load {
     pub songs: u32,
-    /// How many batches of edits, or how often the deltas or the query.
+    /// How many batches are applied, or how often the deltas are planned or the query is evaluated.
     pub times: u32,
-    /// The edits of a batch.
+    /// The number of edits of a batch.
     pub size: u32,
 }
 
-/// What is done of each step if no argument says it.
+/// The load of each step if no argument gives one.
 pub const FEW: Load = Load {
     songs: 100,
     times: 2,

@@ -1,4 +1,4 @@
-//! One worker: link after link, and how it ends.
+//! One worker: it serves connection after connection, and ends.
 ghost use Rattle.std.specs.Prelude.{◌≡◌, ◌<◌, [], IfOk};
 ghost use Rattle.daap_outside.specs.MemLink.{IsNew};
 
@@ -20,7 +20,7 @@ fn link(alloc: Global, input: &str) -> Result<MemLink, AllocError>
     Ok(MemLink::new(source, MemSink::new(alloc, 4096, 4096, &[])?))
 }
 
-/// A door to which links with these inputs come, and whose waits with the numbers `failing` fail.
+/// Returns a listener at which connections with `inputs` come. Its waits with the numbers `failing` fail.
 fn door(alloc: Global, inputs: &[&str], failing: &[u64]) -> Result<MemDoor, AllocError> {
     let mut door = MemDoor::new(alloc, failing, 8)?;
     for input in inputs {
@@ -29,7 +29,7 @@ fn door(alloc: Global, inputs: &[&str], failing: &[u64]) -> Result<MemDoor, Allo
     Ok(door)
 }
 
-/// A worker that served the links at this door.
+/// Returns a worker that has served connections with `inputs`, at a listener whose waits `failing` fail.
 fn served_in_turn<R: Wait + Clock>(
     rt: &R,
     alloc: Global,

@@ -1,5 +1,5 @@
-//! Links in memory of many workers, of which one read each may wait for what was done on the links of all, and doors at
-//! which one such link comes. They tell contracts nothing.
+//! Connections in memory, for many workers. One read of each may wait until enough was read and written on all. A
+//! listener brings one such connection. Contracts know nothing of their bytes.
 ghost use Rattle.std.specs.Prelude.{◌≡◌, ◌+◌, ◌<◌, ◌≤◌, ◌^◌, min, None, refl};
 ghost use Rattle.daap_outside.specs.Counts.{Rose};
 
@@ -11,19 +11,20 @@ use std::thread::Threads;
 use std::time::{Clock, Duration, Instant};
 use std::{io, thread};
 
-// How long a read waits at most, before it fails: the tests end though what they wait for never comes. That is 25 seconds
-// of the machine's clock.
+// The longest wait of a read before it fails, so that a test ends even if what it waits for never comes. By a `Slowed`
+// clock that is 25 seconds of the machine's.
 const PATIENCE_MILLIS: u64 = 5_000;
 
-// How long a read stays that lets others fall asleep: one second of the machine's clock.
+// How long a read waits to let others fall asleep. By a `Slowed` clock that is one second of the machine's.
 const STAY_MILLIS: u64 = 200;
 
 const PAUSE_MILLIS: u64 = 2;
 
-// How much slower `Slowed` goes than the clock of the machine.
+// How many times slower the clock of `Slowed` is than the machine's.
 const PACE: u32 = 5;
 
-/// A runtime whose time goes slowly: on a loaded machine too, a test is done before an update was held for five seconds.
+/// A runtime whose clock is slow, so that a test ends before a long poll has been pending for five seconds, also on a
+/// loaded machine.
 #[derive(Drop)]
 pub struct Slowed<'a, R> {
     pub rt: &'a R,
@@ -48,7 +49,7 @@ impl<R: Clock> Clock for Slowed<'_, R> {
     }
 }
 
-/// A runtime whose clock can't be read: an update that is held there waits for the bell alone, however long.
+/// A runtime whose clock can't be read: a long poll that is pending there waits only for the bell, however long.
 #[derive(Drop)]
 pub struct Unclocked<'a, R> {
     pub rt: &'a R,
@@ -68,15 +69,15 @@ impl<R> Clock for Unclocked<'_, R> {
     }
 }
 
-/// What was done on all links so far.
+/// Counts what was done on all connections.
 #[derive(Drop)]
 pub struct Scene {
-    /// How many reads gave bytes.
+    /// The number of reads that returned bytes.
     reads: AtomicU64,
-    /// On how many links something was written.
+    /// The number of connections on which something was written.
     answered: AtomicU64,
     probes: AtomicU64,
-    /// How many reads waited in vain. Then no other waits.
+    /// The number of reads that waited in vain. If there is one, no other read waits.
     vain: AtomicU64,
 }
 
@@ -90,7 +91,7 @@ impl Scene {
         }
     }
 
-    /// How often a link was probed: of an update that is held, once for each turn but the last.
+    /// Returns how often connections were probed. A pending long poll probes its own once for each turn but the last.
     pub fn probes(&self) -> u64 {
         self.probes.load(Ordering::SeqCst)
     }
@@ -100,7 +101,8 @@ impl Scene {
             && self.answered.load(Ordering::SeqCst) >= wanted.answered
     }
 
-    /// Waits until so much was done, or as long as it has patience. Tells which.
+    /// Waits until `wanted` is reached, at most for `PATIENCE_MILLIS`, and not after another read has waited in vain.
+    /// Returns whether it was reached.
     fn came<C: Clock>(&self, clock: &C, wanted: &Wanted) -> bool {
         let Ok(begun) = Instant::now(clock) else {
             return false;
@@ -118,7 +120,7 @@ impl Scene {
         false
     }
 
-    /// Waits for a moment, or until a link was probed.
+    /// Waits until a connection was probed, at most for `STAY_MILLIS`.
     fn stay<C: Clock>(&self, clock: &C) {
         let Ok(begun) = Instant::now(clock) else {
             return;
@@ -139,18 +141,18 @@ fn is_over<C: Clock>(clock: &C, begun: Instant, millis: u64) -> bool {
     }
 }
 
-/// For what a read waits.
+/// What one read waits for.
 #[derive(Clone, Copy)]
 pub struct Wanted {
     /// The number of the read, from 0 on.
     pub at: usize,
     pub reads: u64,
     pub answered: u64,
-    /// Whether it stays for a moment then.
+    /// Whether it waits a moment longer, to let others fall asleep.
     pub stays: bool,
 }
 
-/// A link that is to come.
+/// A connection that is to come.
 #[derive(Drop)]
 pub struct Coming<'a, C> {
     link: MemLink,
@@ -160,7 +162,7 @@ pub struct Coming<'a, C> {
 }
 
 impl<'a, C> Coming<'a, C> {
-    /// A link over these bytes, of which a read gives so many at most.
+    /// Returns a connection that brings `input`. A read returns at most `per_read` bytes.
     pub fn new(
         alloc: Global,
         input: &[u8],
@@ -183,7 +185,7 @@ impl<'a, C> Coming<'a, C> {
 }
 
 impl<C: Clock> Coming<'_, C> {
-    /// Waits before the read that is to, and tells whether what it waited for came.
+    /// Waits, if `read` is the number of the read that is to wait. Returns whether that read may be done.
     fn may_read(&self, read: usize) -> bool {
         if read != self.wanted.at {
             return true;
@@ -272,7 +274,7 @@ impl<C: Clock> Link for CrowdLink<'_, C> {
     ghost write_leaves_left = { λ _. refl };
 }
 
-/// A door at which one link comes, and then no more.
+/// A listener at which one connection comes, and then no more.
 #[derive(Drop)]
 pub struct CrowdDoor<'a, C> {
     pub coming: Option<Coming<'a, C>>,

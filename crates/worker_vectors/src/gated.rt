@@ -1,5 +1,5 @@
-//! Links in memory whose calls wait for what stands on the links of another worker, and doors at which such links come. They
-//! tell contracts nothing.
+//! Connections in memory whose calls wait for bytes on the connections of another worker, and listeners at which they
+//! come. Contracts know nothing of their bytes.
 ghost use Rattle.std.specs.Prelude.{◌≡◌, ◌+◌, ◌<◌, ◌≤◌, ◌^◌, min, None, refl};
 ghost use Rattle.daap_outside.specs.Counts.{Rose};
 
@@ -8,22 +8,23 @@ use std::collections::VecDeque;
 use std::sync::atomic::{AtomicU64, Ordering};
 use std::thread;
 
-/// A link that is to come: what it reads and writes, and how it goes with the links of another worker.
+/// A connection that is to come, and how its calls wait for the connections of another worker.
 #[derive(Drop)]
 pub struct Gated<'a> {
     pub link: MemLink,
-    /// For how many bytes on the other worker's links the first read waits, the second and so on. Further ones do not wait.
+    /// How many bytes must be on the other worker's connections before each read, in order. Further reads do not wait.
     pub reads_wait: &'static [u64],
     pub writes_wait: &'static [u64],
-    /// How many bytes stand on the other worker's links, and on this one's: all there can be, once a write failed.
+    /// The number of bytes on the other worker's connections, and on this worker's. A failed write on one of these sets
+    /// the latter to its maximum.
     pub other: &'a AtomicU64,
     pub own: &'a AtomicU64,
-    /// How often a call looks before it gives up, and counts a fault.
+    /// How often a call checks whether it may go on, before it fails and counts an error.
     pub looks: u64,
 }
 
 impl Gated<'_> {
-    /// Whether so many bytes stand on the other worker's links by now.
+    /// Waits until `wanted` bytes are on the other worker's connections. Returns false after `looks` checks.
     fn may_go_on(&self, wanted: u64) -> bool {
         for _ in 0..self.looks {
             if self.other.load(Ordering::SeqCst) >= wanted {
@@ -41,7 +42,7 @@ impl Gated<'_> {
     }
 }
 
-/// For how many bytes a call waits that comes behind so many.
+/// Returns how many bytes a call waits for, after `calls` other calls.
 fn wanted(waits: &[u64], calls: usize) -> u64 {
     match waits.get(calls) {
         Some(bytes) => *bytes,
@@ -123,11 +124,11 @@ impl Link for GatedLink<'_> {
     ghost write_leaves_left = { λ _. refl };
 }
 
-/// A door at which these links come, one behind the other, and then no more.
+/// A listener at which the connections `coming` come, one after another, and then no more.
 #[derive(Drop)]
 pub struct GatedDoor<'a> {
     pub coming: VecDeque<Gated<'a>>,
-    /// What stands on the links that were given back, as far as there was memory for it.
+    /// The connections that were returned. One is missing if its allocation failed.
     pub given_back: Vec<MemLink>,
 }
 

@@ -1,4 +1,4 @@
-//! A player whose updates are held, and an editor, each in a thread of its own, with calls that fail.
+//! A player whose long polls are pending, and an editor, each in its own thread, with calls that fail.
 ghost use Rattle.share_lock.specs.Passes.{lock_id, IsReady};
 
 use crate::gated::GatedDoor;
@@ -15,12 +15,12 @@ use std::test::Fail;
 use std::thread::Threads;
 use std::time::{Clock, Duration};
 
-// A login, and updates for the revisions 1, 2 and 3: the first is answered at once, the second when the edit comes, and the
-// third when the stop does.
+// A login, and long polls for the revisions 1, 2 and 3: the share answers the first at once, the second when the edit
+// comes, and the third when the stop does.
 const PLAYERS_REQUESTS: &str =
     "GET /login HTTP/1.1\r\n\r\nGET /update?session-id=1&revision-number=1 HTTP/1.1\r\n\r\nGET /update?session-id=1&revision-number=2 HTTP/1.1\r\n\r\nGET /update?session-id=1&revision-number=3 HTTP/1.1\r\n\r\n";
 
-// An edit, whose last byte is in the third piece, and a stop, whose last byte is in the fourth.
+// An edit, whose last byte is in the third chunk, and a stop, whose last byte is in the fourth.
 pub const EDITORS_REQUESTS: &str =
     "POST /edit HTTP/1.1\r\nContent-Length: 38\r\n\r\nop,kind,id,dmap.itemname\nput,item,7,A\nPOST /stop HTTP/1.1\r\n\r\n";
 
@@ -28,12 +28,12 @@ pub const EDITORS_REQUESTS: &str =
 pub const TWO_EDITS: &str =
     "POST /edit HTTP/1.1\r\nContent-Length: 38\r\n\r\nop,kind,id,dmap.itemname\nput,item,7,A\nPOST /edit HTTP/1.1\r\nContent-Length: 38\r\n\r\nop,kind,id,dmap.itemname\nput,item,7,A\n";
 
-// How many bytes the player's replies are: up to the one before the edit, and with the one after it.
+// The length of the player's replies in bytes: of those before the edit, and with the one after it.
 pub const BEFORE_EDIT: u64 = 224;
 
 pub const AFTER_EDIT: u64 = 336;
 
-// What the player's requests are answered.
+// The statuses of the replies to all of the player's requests.
 pub const ALL_HEARD: [u16; 4] = [200, 200, 200, 503];
 
 /// What a worker leaves.
@@ -41,15 +41,15 @@ pub const ALL_HEARD: [u16; 4] = [200, 200, 200, 503];
 pub struct Told {
     pub end: WorkerEnd,
     pub reports: Vec<LinkReport>,
-    /// The bytes on its first link.
+    /// The bytes written on its first connection.
     bytes: Vec<u8>,
-    /// The points at which the share's history has entries of its number.
+    /// The history lengths after the entries of its number.
     pub own: Vec<u64>,
-    /// The points of those requests in its reports that added an entry.
+    /// The history lengths that its reports give for the requests that added an entry.
     pub named: Vec<u64>,
 }
 
-/// The player, of whose writes one may fail.
+/// Returns the plan of the player. Its write `failing_write` fails, if that is not 0.
 pub fn player(failing_write: u64) -> WorkerPlan {
     of_one(
         Role::Listen,
@@ -60,7 +60,8 @@ pub fn player(failing_write: u64) -> WorkerPlan {
     )
 }
 
-/// The editor, of whose calls on its first link some may fail. The stop on its second link waits for so much of the player's.
+/// Returns the plan of the editor. On its first connection `failing_read` and `failing_write` fail, if they are not 0.
+/// The reads of the stop on its second connection wait by `stop_waits`.
 fn editor(failing_read: u64, failing_write: u64, stop_waits: &'static [u64]) -> WorkerPlan {
     WorkerPlan {
         role: Role::Edit,
@@ -86,7 +87,7 @@ fn maker(entry: &Entry) -> u32 {
     }
 }
 
-/// The points at which the history has entries of a number.
+/// Returns the history lengths after the entries of the worker `number`.
 fn points_of(alloc: Global, history: &[Entry], number: u32) -> Result<Vec<u64>, AllocError> {
     let mut points = Vec::new(alloc);
     let mut point: u64 = 0;
@@ -99,7 +100,7 @@ fn points_of(alloc: Global, history: &[Entry], number: u32) -> Result<Vec<u64>, 
     Ok(points)
 }
 
-/// The points of the requests that added an entry.
+/// Returns the history lengths in `reports` of the requests that added an entry.
 fn named_points(alloc: Global, reports: &[LinkReport]) -> Result<Vec<u64>, AllocError> {
     let mut points = Vec::new(alloc);
     for report in reports {
@@ -139,7 +140,7 @@ pub fn told_of(
     })
 }
 
-/// A player and an editor at one share, each in a thread of its own.
+/// Runs a player and an editor of one share, each in its own thread. Returns what each leaves.
 fn served<R: Threads + Wait + Clock + Sync>(
     rt: &R,
     alloc: Global,
@@ -160,7 +161,7 @@ fn served<R: Threads + Wait + Clock + Sync>(
     ))
 }
 
-/// Whether a report tells these statuses, and this end.
+/// Returns whether there is a report, and it has `statuses` and `end`.
 pub fn tells(report: Option<&LinkReport>, statuses: &[u16], end: LinkEnd) -> bool {
     match report {
         Some(report) => {
@@ -176,12 +177,12 @@ pub fn tells(report: Option<&LinkReport>, statuses: &[u16], end: LinkEnd) -> boo
     }
 }
 
-/// Whether the history has entries of the worker at these points alone, and its reports name them.
+/// Returns whether the worker's entries in the history are those at `points`, and its reports name them.
 fn owns(told: &Told, points: &[u64]) -> bool {
     told.own.as_slice() == points && told.named.as_slice() == points
 }
 
-// What the player gets last: revision 3, and the refusal of an update at a share that was stopped.
+// What the player gets last: revision 3, and the refusal of a long poll after the stop.
 const WOKEN: &[u8] =
     b"HTTP/1.1 200 OK\r\nContent-Type: application/x-dmap-tagged\r\nContent-Length: 32\r\n\r\nmupd\0\0\0\x18mstt\0\0\0\x04\0\0\0\xc8musr\0\0\0\x04\0\0\0\x03HTTP/1.1 503 Service Unavailable\r\nContent-Length: 0\r\nConnection: close\r\n\r\n";
 
@@ -192,7 +193,8 @@ fn read_clock<C: Clock>(clock: &C) -> Result<Duration, AllocError> {
     }
 }
 
-/// The same, and whether it took less than the five seconds after which a held update looks without a bell.
+/// Returns what `served` does, and whether it took less than the five seconds after which a pending long poll is
+/// checked without a bell.
 fn woken<R: Threads + Wait + Clock + Sync>(
     rt: &R,
     alloc: Global,
@@ -238,8 +240,8 @@ fn a_logout_wakes_what_is_held(rt: HostRuntime) -> Result<(), Fail> {
     Ok(())
 }
 
-/// A call on the editor's first link that fails, and what comes of it: the statuses on this link, how many links the editor
-/// then serves, and the statuses on the player's.
+/// A failing call on the editor's first connection, and what comes of it: the statuses on that connection, how many
+/// connections the editor serves in all, and the statuses on the player's connection.
 #[derive(Clone, Copy)]
 struct Failure {
     read: u64,
@@ -250,7 +252,7 @@ struct Failure {
     heard: &'static [u16],
 }
 
-/// A read that fails before the edit is whole: the stop on the second link is all that the player hears.
+/// Returns a read that fails before the edit is whole: the player hears only of the stop on the second connection.
 fn before_edit(read: u64) -> Failure {
     Failure {
         read,
@@ -262,7 +264,8 @@ fn before_edit(read: u64) -> Failure {
     }
 }
 
-/// A read or a write that fails after the edit: the player hears of the edit, and of the stop on the second link.
+/// Returns a read or a write that fails after the edit: the player hears of the edit, and of the stop on the second
+/// connection.
 fn after_edit(read: u64, write: u64) -> Failure {
     Failure {
         read,
@@ -274,7 +277,7 @@ fn after_edit(read: u64, write: u64) -> Failure {
     }
 }
 
-// Of the first link there are four reads, three writes of the edit's reply and one of the stop's.
+// The first connection has four reads, three writes of the edit's reply and one write of the stop's.
 fn failures() -> [Failure; 8] {
     [
         before_edit(1),
@@ -292,7 +295,7 @@ fn failures() -> [Failure; 8] {
     ]
 }
 
-/// Lets a call on the editor's first link fail, and compares what the editor and the player leave.
+/// Lets a call on the editor's first connection fail, and compares what the editor and the player leave.
 fn fails<R: Threads + Wait + Clock + Sync + Abort>(
     rt: &R,
     alloc: Global,
@@ -335,8 +338,8 @@ fn what_the_editor_added_before_a_call_failed_is_named(rt: HostRuntime) -> Resul
     Ok(())
 }
 
-// The player's writes, and what was served when they failed: three are the login's reply, three each those of the updates, and
-// two the refusal at the stop.
+// The player's writes, and the statuses that were served when each failed. The replies to the login and to the two long
+// polls take three writes each, and the refusal at the stop takes two.
 const UNWRITTEN: [(u64, &[u16]); 11] = [
     (1, &[200]),
     (2, &[200]),
@@ -351,7 +354,7 @@ const UNWRITTEN: [(u64, &[u16]); 11] = [
     (11, &ALL_HEARD),
 ];
 
-/// Lets a write of the player's link fail, and compares what the player and the editor leave.
+/// Lets a write on the player's connection fail, and compares what the player and the editor leave.
 fn is_unwritten<R: Threads + Wait + Clock + Sync + Abort>(
     rt: &R,
     alloc: Global,

@@ -1,4 +1,4 @@
-//! Shares, links that may wait for another worker's links, and workers that have not begun.
+//! Makes shares, connections that may wait for another worker's connections, and workers that have not begun.
 ghost use Rattle.std.specs.Prelude.{◌≡◌, ◌<◌, [], All, IfOk, OnOk};
 ghost use Rattle.share_lock.specs.Passes.{lock_id, IsReady};
 ghost use Rattle.share_replies.specs.Laws.{maker};
@@ -15,7 +15,7 @@ use std::collections::VecDeque;
 use std::sync::Wait;
 use std::sync::atomic::AtomicU64;
 
-/// How many bytes one read gives at most: as many as a request for the server's info has.
+/// The maximum number of bytes that one read returns: the length of a request for the server's info.
 pub const PIECE: usize = 29;
 
 pub const INFO: &str = "GET /server-info HTTP/1.1\r\n\r\n";
@@ -24,12 +24,12 @@ pub const TWO_INFOS: &str = "GET /server-info HTTP/1.1\r\n\r\nGET /server-info H
 
 pub const STOP: &str = "POST /stop HTTP/1.1\r\n\r\n";
 
-/// How often a call checks whether it may go on, if it should never give up: longer than any turn takes, and not as long as
-/// a test may take.
+/// How often a call checks whether it may go on, if it should never give up. These checks take longer than any turn,
+/// and less than a test may take.
 pub const MANY_LOOKS: u64 = 10_000_000;
 
-/// A link that comes to a worker: what comes on it; for how many bytes on the other worker's links each read waits, and each
-/// write; and which read and which write fail, counted from 1.
+/// A connection that comes to a worker: its input; how many bytes on the other worker's connections each read and each
+/// write waits for; and which read and which write fail, counted from 1 (0: no call fails).
 #[derive(Clone, Copy)]
 pub struct LinkPlan {
     pub input: &'static str,
@@ -39,7 +39,7 @@ pub struct LinkPlan {
     pub failing_write: u64,
 }
 
-/// A worker: what its links may ask, and the one or two links that come.
+/// A worker: which requests its connections may make, and the one or two connections that come.
 #[derive(Clone, Copy)]
 pub struct WorkerPlan {
     pub role: Role,
@@ -47,7 +47,7 @@ pub struct WorkerPlan {
     pub second: Option<LinkPlan>,
 }
 
-/// How many bytes were written on the links of one worker, and of the other.
+/// How many bytes were written on the connections of one worker, and of the other.
 #[derive(Drop)]
 pub struct Written {
     pub first: AtomicU64,
@@ -75,7 +75,7 @@ pub fn new_share(alloc: Global) -> Result<Share, AllocError>
     }
 }
 
-/// A link that waits for nobody, and does not fail.
+/// Returns a connection with `input` that never waits, and on which no call fails.
 pub fn plain(input: &'static str) -> LinkPlan {
     LinkPlan {
         input,
@@ -86,7 +86,7 @@ pub fn plain(input: &'static str) -> LinkPlan {
     }
 }
 
-/// A worker of one link.
+/// Returns a worker to which only the connection `first` comes.
 pub fn of_one(role: Role, first: LinkPlan) -> WorkerPlan {
     WorkerPlan {
         role,
@@ -114,7 +114,7 @@ fn coming_link<'a>(
     })
 }
 
-/// The door to which the links of a worker come.
+/// Returns the listener at which the connections of `plan` come.
 fn door_of<'a>(
     alloc: Global,
     plan: &WorkerPlan,
@@ -133,7 +133,7 @@ fn door_of<'a>(
     })
 }
 
-/// Its own pass for a worker that has not begun.
+/// Returns a new handle of the lock, for a worker that has not begun.
 fn drawn<R: Wait>(rt: &R, lock: &ShareLock<Share>, first: &mut Pass<Share>) -> Pass<Share>
     requires ready { IsReady (lock_id lock.now) first.old }
     ensures first { IsReady (lock_id lock.now) first.new }
@@ -142,7 +142,7 @@ fn drawn<R: Wait>(rt: &R, lock: &ShareLock<Share>, first: &mut Pass<Share>) -> P
     lock.split(rt, first).unwrap()
 }
 
-/// A worker at a door, which has not begun.
+/// Returns a worker at `door` that has not begun.
 pub fn worker_at<D: Drop, R: Wait>(
     rt: &R,
     alloc: Global,
@@ -166,7 +166,7 @@ pub fn worker_at<D: Drop, R: Wait>(
     }
 }
 
-/// Adds a worker at a door.
+/// Appends a worker at `door` to `workers`.
 pub fn hire<D: Drop, R: Wait>(
     rt: &R,
     alloc: Global,
@@ -189,7 +189,7 @@ pub fn hire<D: Drop, R: Wait>(
     Ok(())
 }
 
-/// A worker whose links may wait for those of another one.
+/// Returns a worker whose connections may wait for those of another worker.
 pub fn planned<'a, R: Wait>(
     rt: &R,
     alloc: Global,
@@ -210,7 +210,7 @@ pub fn planned<'a, R: Wait>(
     Ok(worker_at(rt, alloc, lock, first, plan.role, door))
 }
 
-/// Adds a worker whose links may wait for those of another one.
+/// Appends a worker whose connections may wait for those of another worker to `workers`.
 pub fn hire_planned<'a, R: Wait>(
     rt: &R,
     alloc: Global,
@@ -235,7 +235,7 @@ pub fn hire_planned<'a, R: Wait>(
     hire(rt, alloc, lock, first, plan.role, door, workers)
 }
 
-/// Two workers, whose links may wait for each other.
+/// Returns two workers whose connections may wait for each other's.
 pub fn hired<'a, R: Wait>(
     rt: &R,
     alloc: Global,

@@ -1,4 +1,4 @@
-//! An editor whose edits are kept in memory, beside a player whose update is held.
+//! An editor whose edits are kept in memory, and at the same time a player whose long poll is pending.
 ghost use Rattle.std.specs.Prelude.{◌≡◌, ⊤, false, None, IfOk};
 
 use crate::held::{
@@ -20,7 +20,7 @@ use std::test::Fail;
 use std::thread::Threads;
 use std::time::Clock;
 
-/// Keeps how many edits each batch has, for so many batches, and fails at the next one.
+/// Keeps the number of edits of each batch, for `most` batches, and fails at the next batch.
 #[derive(Drop)]
 struct Counted {
     edits: Vec<usize>,
@@ -70,26 +70,27 @@ impl Keeps for Counted {
     }
 }
 
-/// What comes of edits for which the keeper has room, and of the first for which it has none.
+/// What comes of edits that the keeper keeps, and of the first edit for which it has no space.
 #[derive(Clone, Copy)]
 struct Case {
     input: &'static str,
-    /// For how many batches the keeper has room.
+    /// How many batches the keeper keeps.
     room: usize,
-    /// How many edits each batch has that was kept.
+    /// The number of edits of each batch that was kept.
     kept: &'static [usize],
-    /// The statuses on the editor's link, how it ended, and how its worker did.
+    /// The statuses on the editor's connection, how it ended, and how its worker ended.
     statuses: &'static [u16],
     link: LinkEnd,
     end: WorkerEnd,
-    /// The points of the entries that the editor added, and those of which its report tells.
+    /// The history lengths after the entries that the editor added, and those that its report names.
     own: &'static [u64],
     named: &'static [u64],
-    /// The statuses on the player's link.
+    /// The statuses on the player's connection.
     heard: &'static [u16],
 }
 
-// The edit is kept; it is lost; the second one is. What is lost is in the history, and the stop behind it.
+// The edit is kept; it is lost; the first of two is kept and the second is lost. A lost edit is in the history, and the
+// stop after it.
 fn cases() -> [Case; 3] {
     [
         Case {
@@ -128,7 +129,8 @@ fn cases() -> [Case; 3] {
     ]
 }
 
-/// A player, and beside it an editor with a keeper. What the player leaves, what the editor leaves, and what was kept.
+/// Runs a player, and at the same time an editor with a keeper. Returns what the player leaves, what the editor leaves,
+/// and the keeper.
 fn kept<R: Threads + Wait + Clock + Sync>(
     rt: &R,
     alloc: Global,

@@ -1,4 +1,4 @@
-//! Tests of workers, alone and in threads of their own. Nothing here is for other crates.
+//! Tests of workers, each by itself and in threads. No other crate uses this one.
 #![tactic(auto)]
 
 #[cfg(test)]

@@ -1,4 +1,4 @@
-//! As many links as a worker serves.
+//! A worker that serves the maximum number of connections.
 ghost use Rattle.std.specs.Prelude.{◌≡◌, ◌<◌, ◌≤◌, None, refl};
 
 use crate::hiring::new_share;
@@ -12,7 +12,7 @@ use std::sync::Wait;
 use std::test::Fail;
 use std::time::Clock;
 
-/// A link that has ended before anything came. Contracts know nothing of its bytes, and it does not allocate.
+/// A connection that ends before any byte comes. Contracts know nothing of its bytes, and it does not allocate.
 #[derive(Drop)]
 struct SilentLink {}
 
@@ -50,7 +50,7 @@ impl Link for SilentLink {
     ghost write_leaves_left = { λ _. refl };
 }
 
-/// A door at which `coming` such links are to come.
+/// A listener at which `coming` such connections are to come.
 #[derive(Drop)]
 struct SilentDoor {
     coming: u32,
@@ -80,7 +80,7 @@ impl Door for SilentDoor {
     fn done(&mut self, _link: SilentLink) {}
 }
 
-/// A worker to whose door `coming` silent links came.
+/// Returns a worker after it ended, at whose listener `coming` silent connections were to come.
 fn served<R: Wait + Clock>(
     rt: &R,
     alloc: Global,

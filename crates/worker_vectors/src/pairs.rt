@@ -1,4 +1,4 @@
-//! Two workers whose links wait for each other, in two threads and in one.
+//! Two workers whose connections wait for each other, in two threads and in one.
 ghost use Rattle.std.specs.Prelude.{◌≡◌, [], All, IfOk};
 ghost use Rattle.share_lock.specs.Passes.{lock_id, IsReady};
 
@@ -22,7 +22,7 @@ const FEW_LOOKS: u64 = 10;
 const EDIT: &str =
     "POST /edit HTTP/1.1\r\nContent-Length: 45\r\n\r\nop,kind,id,dmap.itemname\nput,item,7,Hey Jude\n";
 
-/// How a worker and its first link ended, and how many requests were served on that link.
+/// How a worker and its first connection ended, and how many requests were served on that connection.
 #[derive(Clone, Copy, Debug, PartialEq, Eq)]
 struct Told {
     end: WorkerEnd,
@@ -59,7 +59,7 @@ fn told_of_only(workers: &[Worker<GatedDoor<'_>>]) -> Result<Told, AllocError> {
     }
 }
 
-/// Two workers, each in a thread of its own.
+/// Runs two workers, each in its own thread.
 fn in_threads<R: Threads + Wait + Clock + Sync>(
     rt: &R,
     alloc: Global,
@@ -72,7 +72,7 @@ fn in_threads<R: Threads + Wait + Clock + Sync>(
     told_of_both(workers.as_slice())
 }
 
-/// The same two workers in at most one thread at a time: the second begins when the first has ended.
+/// Runs the same two workers one after the other: the second begins when the first has ended.
 fn in_one_thread<R: Threads + Wait + Clock + Sync>(
     rt: &R,
     alloc: Global,
@@ -97,7 +97,7 @@ fn in_one_thread<R: Threads + Wait + Clock + Sync>(
     ))
 }
 
-/// The second read waits until the other link has taken anything.
+/// Returns a player whose second read waits until something was written on the other connection.
 fn meets() -> WorkerPlan {
     of_one(
         Role::Listen,
@@ -108,7 +108,7 @@ fn meets() -> WorkerPlan {
     )
 }
 
-/// The first write waits so.
+/// Returns a player whose first write waits until something was written on the other connection.
 fn slow() -> WorkerPlan {
     of_one(
         Role::Listen,

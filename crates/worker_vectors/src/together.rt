@@ -1,5 +1,5 @@
-//! Eight workers at one share, or two: each waits for all others, and those whose updates are held sleep until a stop wakes
-//! them all.
+//! Eight players of one share, or two, each with its own worker: each waits for all others, and those whose long polls
+//! are pending sleep until a stop wakes them all.
 ghost use Rattle.std.specs.Prelude.{◌≡◌, ◌<◌, [], All, IfOk, OnOk};
 ghost use Rattle.share_lock.specs.Passes.{lock_id, IsReady};
 
@@ -17,16 +17,16 @@ use std::test::Fail;
 use std::thread::Threads;
 use std::time::Clock;
 
-// So many bytes one read of a player gives at most: those of a login.
+// The maximum number of bytes that one read of a player returns: the length of a login.
 const LOGIN_LEN: usize = 23;
 
 const LOGIN_AND_UPDATE: &[u8] =
     b"GET /login HTTP/1.1\r\n\r\nGET /update?session-id=1&revision-number=2 HTTP/1.1\r\n\r\n";
 
-// In so many reads a login and an update come.
+// The number of reads in which a login and a long poll come.
 const READS: u64 = 4;
 
-/// How many players come.
+/// The number of players.
 #[derive(Clone, Copy)]
 enum Players {
     Two,
@@ -42,7 +42,7 @@ impl Players {
     }
 }
 
-/// A worker, and the link that comes to it.
+/// A worker, and the connection that comes to it.
 #[derive(Clone, Copy)]
 struct Plan<'a> {
     role: Role,
@@ -51,7 +51,7 @@ struct Plan<'a> {
     wanted: Wanted,
 }
 
-/// A player that logs in, and asks for more once so many links were answered.
+/// Returns a player with the requests `more`, whose second read waits until `answered` connections got bytes.
 fn player(more: &[u8], answered: u64) -> Plan<'_>
     ensures { 0 < result.per_read }
 {
@@ -159,12 +159,13 @@ fn add_players<'a, R: Wait + Clock + Sync>(
     add_two(rt, alloc, lock, first, plan, scene, workers)
 }
 
-/// Whether each of some workers ended so, its one link did, and these statuses are told of that.
+/// Returns whether each worker ended by `end`, and its first report has the end `link` and `statuses`.
 fn all_told<D>(workers: &[Worker<D>], end: WorkerEnd, link: LinkEnd, statuses: &[u16]) -> bool {
     workers.iter().all(|worker| worker.end == end && tells(worker.reports.first(), statuses, link))
 }
 
-/// Whether eight players of which each reads its second request only once all were answered the first were served both.
+/// Runs eight players, each of which reads its second request only after the first of each was answered. Returns
+/// whether both requests of each were served.
 fn meet<R: Threads + Wait + Clock + Sync>(rt: &R, alloc: Global) -> Result<bool, AllocError> {
     let (lock, mut first) = ShareLock::open(alloc, new_share(alloc)?, 9)?;
     let scene = Scene::new();
@@ -202,17 +203,17 @@ fn eight_links_meet(rt: HostRuntime) -> Result<(), Fail> {
     Ok(())
 }
 
-/// What became of updates that were held until a stop.
+/// What became of long polls that were pending until a stop.
 #[derive(Clone, Copy, Debug, PartialEq, Eq)]
 struct Held {
     /// Whether each was refused at the stop, and the stop was answered.
     told: bool,
-    /// How often the updates were looked at before they were answered.
+    /// How often the connections of the long polls were probed.
     waits: u64,
 }
 
-/// Players whose updates are held, and a stop on another link once they sleep. Nothing is added behind that. The links wait
-/// for each other by the clock of `host`.
+/// Runs players whose long polls are pending, and a stop on another connection once they sleep. Nothing is added after
+/// the stop. The connections wait for each other by the clock of `host`.
 fn held_until_stop<R: Threads + Wait + Clock + Sync, H: Wait + Clock + Sync>(
     rt: &R,
     host: &H,
@@ -261,7 +262,7 @@ fn stopped<D>(workers: &[Worker<D>]) -> bool {
     }
 }
 
-// None of them looks without the bell: who isn't woken sleeps for good, and the test doesn't end.
+// Neither is checked without the bell: one that isn't woken sleeps forever, and the test doesn't end.
 #[test]
 fn a_stop_wakes_both_of_two_held_updates(rt: HostRuntime) -> Result<(), Fail> {
     let (unclocked, slowed) = (Unclocked { rt: &rt }, Slowed { rt: &rt });
@@ -276,7 +277,7 @@ fn a_stop_wakes_both_of_two_held_updates(rt: HostRuntime) -> Result<(), Fail> {
     Ok(())
 }
 
-// Each takes one turn before the stop, and one behind it.
+// Each takes one turn before the stop, and one after it.
 #[test]
 fn eight_held_updates_take_two_turns_each(rt: HostRuntime) -> Result<(), Fail> {
     let slowed = Slowed { rt: &rt };

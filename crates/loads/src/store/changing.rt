@@ -9,12 +9,12 @@ use song_query::Steps;
 use std::alloc::Global;
 use std::sync::ledger::{Blank, Ledger};
 
-/// How many edits the first batches have.
+/// The number of edits in each of the first batches.
 const AT_ONCE: u32 = 1000;
-/// How many edits the last batches have that come before a step.
+/// The number of edits in each of the last batches before a step.
 const FEW: u32 = 10;
 
-/// Returns the revision after `times` batches of edits of a kind.
+/// Returns the revision after `batches` batches of `size` edits of `kind`.
 pub fn revision_after<L: Ledger>(
     blank: Blank,
     alloc: Global,
@@ -57,7 +57,7 @@ pub fn deltas_len<L: Ledger>(
     Ok(bytes)
 }
 
-/// Applies the next batches of a series.
+/// Applies the next `batches` batches of `series`, of `size` edits each.
 fn edited<L: Ledger>(
     alloc: Global,
     stores: Stores,
@@ -77,8 +77,8 @@ fn edited<L: Ledger>(
     Ok(stores)
 }
 
-/// The stores of a share of `songs` songs, each a member of a plain list. Small batches come last, so that only they are in
-/// the delta window: one half of them puts members, and the other half songs.
+/// Returns the stores of a share of `songs` songs, each a member of a plain list. Small batches come last, so that only
+/// they are in the delta window: one half of them puts members, and the other half songs.
 fn settled<L: Ledger>(alloc: Global, songs: u32, steps: &mut Steps<L>) -> anyhow::Result<Stores>
     ensures { IfOk result (λ s. HaveEdits s.edits s.items s.lists) }
 {

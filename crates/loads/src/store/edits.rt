@@ -10,7 +10,7 @@ use item_model::{Edit, SharedRow};
 use song_query::read;
 use std::alloc::Global;
 
-/// How many lists there are: every second one is plain, and the others have a rule.
+/// The number of lists: every second one is plain, and the others have a rule.
 pub const LISTS: u32 = 1000;
 /// The id of the first list.
 pub const FIRST_LIST: u32 = 2;
@@ -18,7 +18,7 @@ pub const FIRST_LIST: u32 = 2;
 /// What the edits of a series put.
 #[derive(Clone, Copy)]
 pub enum Kind {
-    /// Plain lists, and lists of the songs of a year, by turns.
+    /// Plain lists and lists of the songs of a year, alternately.
     Lists,
     /// Songs from all over the library, each time with other properties.
     Songs,
@@ -37,7 +37,7 @@ pub struct Series {
 }
 
 impl Series {
-    /// The edits of a share of `songs` songs, from the number `number` on.
+    /// Returns the edits of a share of `songs` songs, from `number` on.
     pub fn new(kind: Kind, songs: u32, number: u32) -> Series {
         Series {
             kind,
@@ -95,7 +95,7 @@ fn put_song(alloc: Global, songs: u32, number: u32) -> anyhow::Result<Edit>
     ensures { IfOk result (λ edit. IsValid edit) }
 {
     let id = id_at(songs, number)?;
-    // the second time that a song is put, it is of the year after
+    // The second time that a song is put, its year is one later.
     let row = song_like(alloc, id, number.saturating_add(number / songs))?;
     Ok(Edit::PutItem {
         row: SharedRow::new(alloc, row)?,
@@ -112,14 +112,14 @@ fn put_member(songs: u32, number: u32) -> anyhow::Result<Edit>
     })
 }
 
-/// The plain lists by turns.
+/// Returns the plain lists in turn.
 fn plain_list(number: u32) -> u32
     ensures { 2 ≤ result }
 {
     FIRST_LIST + number % (LISTS / 2) * 2
 }
 
-/// An id from all over the library.
+/// Returns an id. Consecutive numbers get ids far apart.
 fn id_at(songs: u32, number: u32) -> anyhow::Result<u32>
     ensures id { IfOk result (λ id. 1 ≤ id) }
     ensures songs { IfOk result (λ _. 1 ≤ songs) }

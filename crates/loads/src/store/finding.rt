@@ -6,7 +6,7 @@ use prop_index::PropIndex;
 use song_query::read;
 use std::alloc::Global;
 
-/// How many artists are looked up.
+/// The number of artists that are looked up.
 const LOOK_UPS: u32 = 1000;
 
 /// An index, and artists to look up in it, by name and by query.
@@ -17,7 +17,7 @@ pub struct LookUps {
     queries: Vec<Query>,
 }
 
-/// An index of the first songs, with nothing looked up yet.
+/// Returns an index of the first songs, and what is to be looked up in it.
 pub fn look_ups(alloc: Global, songs: u32) -> anyhow::Result<LookUps> {
     let mut index = PropIndex::new(alloc);
     for id in 0..songs {
@@ -27,7 +27,7 @@ pub fn look_ups(alloc: Global, songs: u32) -> anyhow::Result<LookUps> {
     let mut names = Vec::new(alloc);
     let mut queries = Vec::new(alloc);
     for look_up in 0..LOOK_UPS {
-        // from all over the index
+        // Spread the names over the index.
         let name = artist(alloc, look_up * 7919 % artists)?;
         let query = format!(in alloc; "'daap.songartist:{name}'")?;
         queries.push(read(alloc, query.as_str())?)?;

@@ -28,7 +28,7 @@ impl Searched {
     }
 }
 
-/// The first songs, with names in these letters.
+/// Returns the first songs, with names in `letters`, and their query.
 pub fn named_songs(alloc: Global, songs: u32, letters: Letters) -> anyhow::Result<Searched> {
     let (words, query) = match letters {
         Letters::Latin => (LATIN, "'dmap.itemname:*NUMBER*1*'"),

@@ -25,7 +25,7 @@ impl PlannedWrite {
     }
 }
 
-/// The rows of the first songs, as many as a plan may have.
+/// Returns the rows of the first songs. Fails if a plan may not have as many.
 pub fn rows(alloc: Global, songs: u32) -> anyhow::Result<Vec<PlanRow>>
     ensures { IfOk result (λ rows. AreRowsOf Items rows.items) }
 {
@@ -40,7 +40,7 @@ pub fn rows(alloc: Global, songs: u32) -> anyhow::Result<Vec<PlanRow>>
     Ok(rows)
 }
 
-/// The plan of the full listing of the first songs.
+/// Returns the plan of the full listing of the first songs, with its sink.
 pub fn planned(alloc: Global, songs: u32) -> anyhow::Result<PlannedWrite> {
     let plan = Plan::full(Target::Items, 3, songs, rows(alloc, songs)?, Meta::Default);
     let room = plan.body_len() as usize;

@@ -6,10 +6,10 @@ use dmap_tags::Text;
 use item_model::{Item, PropValue, Property, Row};
 use std::alloc::{AllocError, Global};
 
-/// How many songs have one artist.
+/// The number of songs of each artist.
 pub const SONGS_EACH: u32 = 10;
 
-/// The name of an artist with a number.
+/// Returns the name of the artist `number`.
 pub fn artist(alloc: Global, number: u32) -> Result<String, AllocError> {
     format!(in alloc; "Artist {number}")
 }
@@ -39,21 +39,21 @@ pub const CYRILLIC: Words = Words {
     genre: "Жанр",
 };
 
-/// The song with an id: the six properties of the default projection, and its genre and year.
+/// Returns the song `id`: the six properties of the default projection, and its genre and year.
 pub fn song(alloc: Global, id: u32) -> anyhow::Result<Row>
     ensures { IfOk result (λ row. row.id ≡ id) }
 {
     song_in(alloc, id, id, LATIN)
 }
 
-/// A song with the id `id`, and the properties of the song `number`.
+/// Returns a song with the id `id` and the properties of the song `number`.
 pub fn song_like(alloc: Global, id: u32, number: u32) -> anyhow::Result<Row>
     ensures { IfOk result (λ row. row.id ≡ id) }
 {
     song_in(alloc, id, number, LATIN)
 }
 
-/// The same with other words.
+/// Returns the song of `song_like`, with texts that begin with `words`.
 pub fn song_in(alloc: Global, id: u32, number: u32, words: Words) -> anyhow::Result<Row>
     ensures { IfOk result (λ row. row.id ≡ id) }
 {
@@ -81,7 +81,7 @@ pub fn song_in(alloc: Global, id: u32, number: u32, words: Words) -> anyhow::Res
     Ok(Row { id, item })
 }
 
-/// The year of the song of a number: eighty follow one another.
+/// Returns the year of the song `number`: eighty years, one after another.
 pub fn year(number: u32) -> u32 {
     1950 + number % 80
 }

@@ -22,11 +22,11 @@ pub const KEEP: u32 = 16;
 pub struct Stores {
     pub items: ItemStore,
     pub lists: PlaylistStore,
-    /// How many edits these batches have.
+    /// The number of edits in these batches.
     pub edits: usize,
 }
 
-/// Stores without a batch.
+/// Returns stores that applied no batch.
 #[tactic(auto, using(share_listings::proofs::Samples::none_in_both))]
 pub fn no_stores(alloc: Global) -> Stores
     ensures { HaveEdits result.edits result.items result.lists }
