@@ -38,8 +38,8 @@ pub fn encoded_len(tag: &Tag) -> Option<u64>
     Some(u64::from(payload_len(tag)?) + 8)
 }
 
-/// Appends a tag's encoding to `out`, whose capacity grows first. Returns `TooLong` if a payload in the tag is
-/// longer than 4,294,967,295 bytes. If it fails, `out` is unchanged.
+/// Appends the encoding of `tag` to `out`, whose capacity grows first. Returns `TooLong` if the length of some payload
+/// in it does not fit 32 bits. If it fails, `out` is unchanged.
 pub fn encode_into(tag: &Tag, out: &mut Vec<u8>) -> Result<(), TagError>
     ensures spelled { OnOk result (out.new.items ≡ out.old.items ++ spelling tag.now) }
     ensures too_long { (result ≡ Err TagError.TooLong) ↔ (is_spellable tag.now ≡ false) }

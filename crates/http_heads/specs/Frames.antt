@@ -1,5 +1,5 @@
--- Where a head ends, whatever it says. A line is bytes ended by a line feed; a carriage return just before it is not
--- part of the line. A framed head is empty lines, then lines that are not empty, and one empty line.
+-- Where a head ends, whatever it says. Each line feed closes a line, and a carriage return right before it belongs to
+-- the line's end. A framed head is empty lines, then lines that are not empty, and one empty line.
 use Rattle.std.specs.Prelude.{◌≡◌, ◌≢◌, ℕ, List, [], ◌∷◌, ◌++◌, length, Bool, true, false, not, ◌&&◌, ◌==◌}
 use Rattle.std.specs.List.{flat_map, list_all}
 

@@ -1,4 +1,4 @@
--- Bytes that are pushed one behind the other, onto a page and from it to a sink.
+-- Bytes that are pushed one after the other, onto a page and from it to a sink.
 use Rattle.std.proofs.Common.{◌≡◌, ◌≤◌, ◌+◌, ◌++◌, ℕ, List, [], Option, Result, Ok, Err, length, refl, sym, ap, subst, ◌∙◌, append_assoc, append-nil, length-append, arith}
 use Rattle.std.proofs.lemmas.List.{take-append-le, length-take-le}
 use Rattle.std.proofs.Math.Seq.{take-append-add, take-append_seam}
@@ -10,7 +10,7 @@ use Rattle.daap_outside.specs.Told.{AppendsPrefix}
 use Rattle.daap_outside.specs.Faults.{Failed}
 use Rattle.listing_plan.specs.Pages.{Moved, Pushes}
 
--- bytes were put behind the first ones
+-- bytes were put after the first ones
 pub filled : (room bytes rest : List ℕ) (n m : ℕ) → n ≤ length room → m ≡ n + length bytes → take m (take n room ++ (bytes ++ rest)) ≡ take n room ++ bytes
 filled room bytes rest n m h e =
     let count : n + length bytes ≡ length (take n room) + length bytes = ap (λ k. k + length bytes) (sym (length-take-le n room h)) in
@@ -34,7 +34,7 @@ moved_then a b t0 t1 t2 p0 p1 p2 first next = record {
       ∙ sym (append_assoc first.front next.front p2);
 }
 
--- a front of what comes behind was taken
+-- a prefix of what comes after was taken
 pub cut_then : (a b : List ℕ) (t0 t1 t2 : Option (List ℕ)) (p0 p1 : List ℕ) → Moved a t0 t1 p0 p1 → AppendsPrefix t1 t2 (p1 ++ b) → AppendsPrefix t0 t2 (p0 ++ (a ++ b))
 cut_then a b t0 t1 t2 p0 p1 first (n, within, cut) =
     let all : p0 ++ (a ++ b) ≡ first.front ++ (p1 ++ b) =
@@ -46,7 +46,7 @@ cut_then a b t0 t1 t2 p0 p1 first (n, within, cut) =
       subst (Appends t0 t2) (sym front) (Appends-trans t0 t1 t2 first.front (take n (p1 ++ b)) first.taken cut),
     )
 
--- a front of some bytes is one of more
+-- a prefix of some bytes is one of more
 pub cut_more : (xs ys : List ℕ) (t0 t1 : Option (List ℕ)) → AppendsPrefix t0 t1 xs → AppendsPrefix t0 t1 (xs ++ ys)
 cut_more xs ys t0 t1 (n, within, cut) =
     (n, omega (arith, within, length-append xs ys), subst (Appends t0 t1) (sym (take-append-le n xs ys within)) cut)

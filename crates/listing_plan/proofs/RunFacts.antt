@@ -14,7 +14,7 @@ use Rattle.row_sheets.specs.Cells.{cell, row_cells, joined, HasNoOther}
 use Rattle.listing_plan.specs.declared.runs.Run.{Run}
 use Rattle.listing_plan.specs.Runs.{IsIndex, IsWithin, Joins, run_bytes, runs_bytes}
 
--- a front of some length, and a front of what is behind it
+-- a prefix of some length, and a prefix of the rest
 take_parts : {X : Type 0} (a b : ℕ) (xs : List X) → a ≤ length xs → take (a + b) xs ≡ take a xs ++ take b (drop a xs)
 take_parts a b xs h =
     ap (take (a + b)) (sym (take-append-drop a xs)) ∙ ap (λ n. take (n + b) (take a xs ++ drop a xs)) (sym (length-take-le a xs h))

@@ -64,7 +64,7 @@ part_fit es t range rs listed is cut members few =
 
 -- ---- the listings
 
--- the rows of the range, of so many, make the full listing
+-- the rows of the range, with their total, make the full listing
 pub listed_is : (bs : List (List Edit)) (t : Target) (look : Look) (v total : ℕ) (rs listed : List (ℕ × Row)) → is_library t ≡ true → look.query ≡ None
     → v ≡ revision bs → rs ≡ library (edits bs) → total ≡ length rs → listed ≡ in_range look.range rs → full_keyed t v total listed look.meta ≡ full_listing bs t look
 listed_is bs t look v total rs listed all query now is count cut =
