@@ -20,22 +20,43 @@ fn read(alloc: Global, text: &str) -> Result<Meta, MetaError> {
     Meta::read(alloc, text)
 }
 
-fn text(alloc: Global, words: &str) -> Result<PropValue, AllocError> {
-    Ok(PropValue::Text(Text::of(alloc, words)?))
+/// A property with a number, or with a text if there is none.
+type Value<'a> = (Property, Option<u64>, &'a str);
+
+fn value_of(alloc: Global, value: &Value<'_>) -> Result<PropValue, AllocError> {
+    match value.1 {
+        Some(number) => Ok(PropValue::Number(number)),
+        None => Ok(PropValue::Text(Text::of(alloc, value.2)?)),
+    }
 }
 
-fn named_item(alloc: Global, name: &str) -> Result<Item, ItemError> {
+fn put_values(alloc: Global, item: &mut Item, values: &[Value<'_>]) -> Result<(), ItemError> {
+    for value in values {
+        put(item, value.0, value_of(alloc, value)?)?;
+    }
+    Ok(())
+}
+
+fn item_of(alloc: Global, values: &[Value<'_>]) -> Result<Item, ItemError> {
     let mut item = Item::new(alloc);
-    put(&mut item, Property::Minm, text(alloc, name)?)?;
+    put_values(alloc, &mut item, values)?;
     Ok(item)
 }
 
+fn named_item(alloc: Global, name: &str) -> Result<Item, ItemError> {
+    item_of(alloc, &[(Property::Minm, None, name)])
+}
+
+const SONG: [Value<'static>; 5] = [
+    (Property::Minm, None, "A"),
+    (Property::Asdm, Some(4_294_967_295), ""),
+    (Property::Asyr, Some(1983), ""),
+    (Property::Mikd, Some(2), ""),
+    (Property::Mper, Some(1), ""),
+];
+
 fn song(alloc: Global) -> Result<Row, ItemError> {
-    let mut item = named_item(alloc, "A")?;
-    put(&mut item, Property::Asdm, PropValue::Number(4_294_967_295))?;
-    put(&mut item, Property::Asyr, PropValue::Number(1983))?;
-    put(&mut item, Property::Mikd, PropValue::Number(2))?;
-    put(&mut item, Property::Mper, PropValue::Number(1))?;
+    let item = item_of(alloc, &SONG)?;
     Ok(Row { id: 7, item })
 }
 
@@ -99,17 +120,14 @@ fn all_properties_come_in_their_order(rt: HostRuntime) -> Result<(), Fail> {
     Ok(())
 }
 
-/// A property with a number, or with a text if there is none.
-type Value = (Property, Option<u64>, &'static str);
-
 /// A number that is too great, an empty text, and a number for a text.
-const REFUSED: [Value; 3] = [
+const REFUSED: [Value<'static>; 3] = [
     (Property::Asyr, Some(70_000), ""),
     (Property::Minm, None, ""),
     (Property::Minm, Some(1), ""),
 ];
 
-const ACCEPTED: [Value; 2] = [
+const ACCEPTED: [Value<'static>; 2] = [
     (Property::Asyr, Some(65_535), ""),
     (Property::Minm, None, "B"),
 ];
@@ -121,23 +139,15 @@ const PUT: [(Property, &str); 3] = [
     (Property::Asal, "None"),
 ];
 
-fn put_value(alloc: Global, item: &mut Item, value: &Value) -> Result<(), ItemError> {
-    let (property, number, words) = *value;
-    match number {
-        Some(number) => put(item, property, PropValue::Number(number)),
-        None => put(item, property, text(alloc, words)?),
-    }
-}
-
-fn are_refused(rt: &impl Abort, alloc: Global, item: &mut Item, values: &[Value]) {
+fn are_refused(
+    rt: &impl Abort,
+    alloc: Global,
+    item: &mut Item,
+    values: &[Value<'_>],
+) -> Result<(), Fail> {
     for value in values {
-        assert_eq!(rt; put_value(alloc, item, value), Err(ItemError::Range));
-    }
-}
-
-fn put_values(alloc: Global, item: &mut Item, values: &[Value]) -> Result<(), ItemError> {
-    for value in values {
-        put_value(alloc, item, value)?;
+        let refused = put(item, value.0, value_of(alloc, value)?);
+        assert_eq!(rt; refused, Err(ItemError::Range));
     }
     Ok(())
 }
@@ -164,7 +174,7 @@ fn are_shown(
 fn values_outside_a_property_are_refused(rt: HostRuntime) -> Result<(), Fail> {
     let alloc = rt.alloc();
     let mut item = named_item(alloc, "A")?;
-    are_refused(&rt, alloc, &mut item, &REFUSED);
+    are_refused(&rt, alloc, &mut item, &REFUSED)?;
     put_values(alloc, &mut item, &ACCEPTED)?;
     are_shown(&rt, alloc, &item.copy()?, &PUT)?;
     are_shown(&rt, alloc, &item, &PUT)

@@ -5,7 +5,7 @@ ghost use Rattle.std.specs.Prelude.{◌≡◌, ◌<◌};
 use dmap_tags::Text;
 use item_model::{Item, PropValue, Property, Query, QueryError, QueryWhy, Row};
 use song_query::{OPEN_PARENTHESES, QUERY_BYTES, Steps, is_glob, matches, print, read};
-use std::alloc::Global;
+use std::alloc::{AllocError, Global};
 use std::marker::Brand;
 use std::process::Abort;
 use std::sync::ledger::{Blank, Ledger};
@@ -22,6 +22,11 @@ const SONGS: [Song; 6] = [
     (5, "Quiet", "Ed", "Two", 0),
     (6, "Late", "ann", "two", 1),
 ];
+
+// Without clauses, so that a test's proof unfolds no query.
+fn query_of(alloc: Global, text: &str) -> Result<Query, QueryError> {
+    read(alloc, text)
+}
 
 fn put_text(alloc: Global, item: &mut Item, property: Property, text: &str) -> Result<(), Fail> {
     if !text.is_empty() {
@@ -64,7 +69,7 @@ fn does_hold(query: &Query, row: &Row) -> bool {
 
 /// Returns the ids of the rows that match the query, as digits.
 fn listed(alloc: Global, text: &str, rows: &[Row]) -> Result<String, Fail> {
-    let query = read(alloc, text)?;
+    let query = query_of(alloc, text)?;
     let mut ids = String::new(alloc);
     for row in rows {
         if does_hold(&query, row) {
@@ -154,7 +159,7 @@ fn is_found(alloc: Global, name: &str, asked: &str) -> Result<bool, Fail> {
     let mut item = Item::new(alloc);
     put_text(alloc, &mut item, Property::Minm, name)?;
     let text = format!(in alloc; "'dmap.itemname:{asked}'")?;
-    let query = read(alloc, text.as_str())?;
+    let query = query_of(alloc, text.as_str())?;
     Ok(does_hold(&query, &Row { id: 1, item }))
 }
 
@@ -192,10 +197,15 @@ const REPRINTS: [(&str, &str); 18] = [
     ("'a<:1'+'b>::'", "'a<:1' 'b>::'"),
 ];
 
+/// Returns the shortest text of the query in a text.
+fn printed(alloc: Global, text: &str) -> Result<Text, Fail> {
+    let query = read(alloc, text)?;
+    Ok(print(alloc, &query)?)
+}
+
 fn are_printed(rt: &impl Abort, alloc: Global, cases: &[(&str, &str)]) -> Result<(), Fail> {
-    for (text, printed) in cases {
-        let query = read(alloc, *text)?;
-        assert_eq!(rt; print(alloc, &query)?.as_str(), *printed, "{text}");
+    for (text, wanted) in cases {
+        assert_eq!(rt; printed(alloc, *text)?.as_str(), *wanted, "{text}");
     }
     Ok(())
 }
@@ -207,7 +217,7 @@ fn a_text_reads_as_the_query_that_is_printed(rt: HostRuntime) -> Result<(), Fail
 
 /// Returns the error of a text.
 fn refusal(alloc: Global, text: &str) -> Option<QueryError> {
-    read(alloc, text).err()
+    query_of(alloc, text).err()
 }
 
 /// Texts with the offset from which no query continues, and why.
@@ -250,26 +260,15 @@ fn a_refusal_states_where_no_query_goes_on(rt: HostRuntime) {
 }
 
 /// Returns a condition in `levels` parentheses.
-fn nested(alloc: Global, levels: usize) -> Result<String, Fail> {
-    let mut text = String::new(alloc);
-    for _level in 0..levels {
-        text.push('(')?;
-    }
-    text.push_str("'a:('")?;
-    for _level in 0..levels {
-        text.push(')')?;
-    }
-    Ok(text)
+fn nested(alloc: Global, levels: usize) -> Result<String, AllocError> {
+    let (open, close) = ("(".repeat(alloc, levels)?, ")".repeat(alloc, levels)?);
+    format!(in alloc; "{open}'a:('{close}")
 }
 
 /// Returns a condition of `bytes` bytes.
-fn long(alloc: Global, bytes: usize) -> Result<String, Fail> {
-    let mut text = String::from_str(alloc, "'a:")?;
-    for _byte in 4..bytes {
-        text.push('x')?;
-    }
-    text.push('\'')?;
-    Ok(text)
+fn long(alloc: Global, bytes: usize) -> Result<String, AllocError> {
+    let letters = "x".repeat(alloc, bytes.saturating_sub(4))?;
+    format!(in alloc; "'a:{letters}'")
 }
 
 #[test]
@@ -295,11 +294,8 @@ fn a_text_keeps_the_limits(rt: HostRuntime) -> Result<(), Fail> {
 #[test]
 fn many_wildcards_try_no_place_twice(rt: HostRuntime) -> Result<(), Fail> {
     let alloc = rt.alloc();
-    let mut letters = String::new(alloc);
-    for _letter in 0..255 {
-        letters.push('a')?;
-    }
-    let Query::Cond(cond) = read(alloc, "'a:*a*a*a*a*b'")? else {
+    let letters = "a".repeat(alloc, 255)?;
+    let Query::Cond(cond) = query_of(alloc, "'a:*a*a*a*a*b'")? else {
         return Err(Fail::new("no condition"));
     };
     assert!(rt; !is_glob(&cond.pattern, letters.as_str()));

@@ -121,9 +121,14 @@ fn below(alloc: Global, header: &str, records: &str) -> Result<String, AllocErro
     Ok(text)
 }
 
-/// Returns the error of a text. It has no clauses, so that a test's proof unfolds no batch.
+/// Returns the batch of a text, or its error. It has no clauses, so that a test's proof unfolds no batch.
+fn batch_of(alloc: Global, text: &[u8]) -> Result<Batch, RecordError> {
+    read_batch(alloc, text)
+}
+
+/// Returns the error of a text.
 fn refusal(alloc: Global, text: &[u8]) -> Option<RecordError> {
-    read_batch(alloc, text).err()
+    batch_of(alloc, text).err()
 }
 
 /// Returns the error of a record below the header above.
@@ -272,11 +277,7 @@ fn each_error_of_a_header_has_its_column(rt: HostRuntime) {
 
 /// Returns a text of `count` bytes.
 fn letters(alloc: Global, count: usize) -> Result<String, AllocError> {
-    let mut text = String::new(alloc);
-    for _byte in 0..count {
-        text.push('x')?;
-    }
-    Ok(text)
+    "x".repeat(alloc, count)
 }
 
 /// Returns a record whose name has `bytes` bytes.
@@ -293,11 +294,6 @@ fn texts_end_at_255_bytes(rt: HostRuntime) -> Result<(), Fail> {
     let long = refusal_below(alloc, named_long(alloc, 256)?.as_str())?;
     assert!(rt; is_field(&long, (1, 4), &RecordWhy::Text));
     Ok(())
-}
-
-/// Returns the batch of a text, or its error. It has no clauses, so that a test's proof unfolds no batch.
-fn batch_of(alloc: Global, text: &[u8]) -> Result<Batch, RecordError> {
-    read_batch(alloc, text)
 }
 
 /// Returns the number of edits of a text.

@@ -15,10 +15,10 @@ use thiserror::Error;
 /// Errors of `from_reply`. `index` counts the members of the reply from 0.
 #[derive(Clone, Copy, Debug, PartialEq, Eq, Error)]
 pub enum CodeError {
-    #[error("the tag is no list of content codes")]
+    #[error("the tag is not a list of content codes")]
     NotReply,
     /// A member lacks its code, its name or its type.
-    #[error("member {index} is no entry")]
+    #[error("member {index} is not an entry")]
     Entry { index: u64 },
     /// A member has the code of an earlier one.
     #[error("member {index} repeats a code")]

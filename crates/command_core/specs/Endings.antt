@@ -13,11 +13,11 @@ use Rattle.command_core.specs.Meanings.{Meaning, IsCause}
 pub data Ending (F : Type 0) : Type 0 where
   -- the command succeeded, and its output was written
   Done : (output : List ℕ) → Ending F
-  -- the output failed within it
+  -- a write of `output` failed, perhaps after a prefix of it
   OutputCut : (output : List ℕ) → Ending F
   -- after `front`, the line of `fault` was written
   Refused : (front : List ℕ) (fault : Fault F) → Ending F
-  -- the output failed within these two
+  -- a write of `front` or of the line of `fault` failed, perhaps after a prefix of the two
   LineCut : (front : List ℕ) (fault : Fault F) → Ending F
 
 abbrev pub ending_status : (m : Meaning) → Ending m.fault → ℕ
@@ -31,7 +31,7 @@ pub record IsWritten (before after : OutputSeen) (bytes : List ℕ) : Type 0 whe
   pub taken : Appends before.taken after.taken bytes
   pub faultless : after.faults ≡ before.faults
 
--- the output failed within the bytes, after it took a prefix of them
+-- a write of the bytes failed, after the output took a prefix of them
 pub record IsCut (before after : OutputSeen) (bytes : List ℕ) : Type 0 where
   pub taken : AppendsPrefix before.taken after.taken bytes
   pub rose : Rose before.faults after.faults
@@ -42,7 +42,7 @@ pub record IsRefused (m : Meaning) (told : Told) (share : ShareSeen) (front : Li
   pub left : m.leaves told.before told.after fault share
   pub written : m.is_front told.before told.after fault front
 
--- the ways in which a run may end
+-- what is true of a run that ended in this way
 abbrev pub Happens : (m : Meaning) → Told → ShareSeen → Ending m.fault → Type 0
 Happens m told share (Done output) =
     m.is_done told.before told.after share output × IsWritten told.output_before told.output_after output
@@ -53,7 +53,7 @@ Happens m told share (Refused front fault) =
 Happens m told share (LineCut front fault) =
     IsRefused m told share front fault × IsCut told.output_before told.output_after (front ++ fault_line m.line fault)
 
--- the run ended in one of them, with its status
+-- the run ended in one of these ways, with its status
 abbrev pub Ends : (m : Meaning) → Told → ℕ → ShareSeen → Type 0
 Ends m told status share = (ending : Ending m.fault) × (status ≡ ending_status m ending) × Happens m told share ending
 

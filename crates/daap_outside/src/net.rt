@@ -50,7 +50,7 @@ pub trait Door: Faulted {
 /// Why a network opened no listeners.
 #[derive(Debug, Drop, Error)]
 pub enum NetError {
-    #[error("the place could not be listened at")]
+    #[error("could not listen at the address")]
     Failed,
     #[error("out of memory")]
     Memory,

@@ -8,7 +8,7 @@ use Rattle.share_replies.specs.Answers.{Shared, Told, Replied, Waiting, told_by}
 use Rattle.share_replies.specs.Replies.{Body, Nothing, Allowed, Line, Tagged}
 use Rattle.share_core.specs.declared.answer.Answer.{Answer}
 use Rattle.share_core.specs.declared.answer.Answer.TheVariants as answer
-use Rattle.share_core.specs.Said.{IsBody}
+use Rattle.share_core.specs.Contents.{IsBody}
 use Rattle.share_core.specs.Told.{IsAnswer, IsTold}
 use Rattle.daap_vectors.specs.Written.{IsWritten}
 
@@ -19,7 +19,7 @@ body_is_writable (Line text) form plan is = subst IsWritable (sym is.1) refl
 body_is_writable (Tagged tag) form plan is = is.1.1
 
 told_is_written : (told : Told) (a : Answer) → IsTold told a → IsWritten a
-told_is_written (Replied reply at mark adds) (answer.Reply r) tells = body_is_writable reply.body r.said.form r.said.plan tells.said.1
+told_is_written (Replied reply at mark adds) (answer.Reply r) tells = body_is_writable reply.body r.content.form r.content.plan tells.content.1
 told_is_written (Replied reply at mark adds) (answer.Wait revision point) tells = absurd tells
 told_is_written (Waiting now at) (answer.Reply r) tells = absurd tells
 told_is_written (Waiting now at) (answer.Wait revision point) tells = tt

@@ -4,5 +4,5 @@ use Rattle.share_core.specs.declared.answer.Answer.{Answer}
 use Rattle.share_core.specs.declared.answer.Answer.TheVariants as answer
 
 abbrev pub IsWritten : Answer → Type 0
-IsWritten (answer.Reply reply) = IsWritable reply.said.plan
+IsWritten (answer.Reply reply) = IsWritable reply.content.plan
 IsWritten (answer.Wait revision point) = Unit {0}

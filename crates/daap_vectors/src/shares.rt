@@ -167,8 +167,8 @@ fn answer(alloc: Global, share: &mut Share, ask: &Ask) -> Result<Response, Alloc
 {
     match answered::<Brand>(Blank::new(1), share, ask)? {
         Answer::Reply(reply) => Ok(Response {
-            status: reply.said.status,
-            body: written(alloc, &reply.said.plan)?,
+            status: reply.content.status,
+            body: written(alloc, &reply.content.plan)?,
         }),
         Answer::Wait { .. } => Ok(Response {
             status: 0,

@@ -11,7 +11,7 @@ use Rattle.std.specs.Str.Parse.{ParsesUnsigned, digits_value}
 use Rattle.clap.specs.Words.{Text}
 use Rattle.daapshare_words.specs.Numbers.{is_number_word, number_of_word}
 
--- the two words for digits throughout are one
+-- the definitions of std and of `clap` for texts of digits only are the same
 alike : (word : Text) → list_all is_ascii_digit word ≡ all_ascii_digits word
 alike [] = refl
 alike (c ∷ cs) = ap (λ b. is_ascii_digit c && b) (alike cs)

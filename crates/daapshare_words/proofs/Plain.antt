@@ -9,7 +9,7 @@ use Rattle.daapshare_words.specs.Grammar.{Grammar, app_for, rule_for}
 use Rattle.daapshare_words.specs.declared.grammar.Part.{Part}
 use Rattle.daapshare_words.specs.declared.grammar.Part.TheVariants.{Place, Valued, Flag}
 
--- no part uses a setting that changes how words are read
+-- no part uses a setting that changes how arguments are read
 simple_rules : (parts : List (Text × Part)) → list_all (λ a. a.is_simple) (map rule_for parts) ≡ true
 simple_rules [] = refl
 simple_rules ((name, Place) ∷ rest) = simple_rules rest

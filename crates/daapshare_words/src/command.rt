@@ -63,7 +63,7 @@ pub enum NetCommand {
 /// Why no command was read.
 #[derive(Debug, Drop, Error)]
 pub enum WordsError {
-    #[error("the words are not those of a command")]
+    #[error("the arguments are not those of a command")]
     Usage,
     #[error("out of memory")]
     Memory,

@@ -19,6 +19,7 @@ use Rattle.dmap_tags.specs.declared.tree.Value.TheVariants as value
 use Rattle.code_table.specs.declared.row.CodeRow.{CodeRow}
 use Rattle.code_table.specs.Fits.{fits}
 use Rattle.code_table.specs.Rows.{kind_in}
+use Rattle.dmap_show.proofs.EventLines.{leaf_with}
 use Rattle.dmap_show.specs.Readable.{IsCode, IsValue}
 use Rattle.dmap_show.specs.Shown.{leaf_word, shown_code}
 use Rattle.dmap_json.specs.TagObject.{tag_object, json_leaf}
@@ -116,20 +117,6 @@ pub leaf_no_list : (l : Leaf) → leaf_word l ≡ codes "list" → ⊥
 leaf_no_list l same =
     let kinds : leaf_kind l ≡ kind.List = one_some (sym (leaf_named l) ∙ ap kind_named same) in
     true≢false (sym (ap is_list kinds) ∙ no_list_kind l)
-
-pub leaf_with : (c : Four) (l : Leaf) → tree_with c (value_of l) ≡ leaf c l
-leaf_with c (U8 n) = refl
-leaf_with c (I8 z) = refl
-leaf_with c (U16 n) = refl
-leaf_with c (I16 z) = refl
-leaf_with c (U32 n) = refl
-leaf_with c (I32 z) = refl
-leaf_with c (U64 n) = refl
-leaf_with c (I64 z) = refl
-leaf_with c (Text bytes) = refl
-leaf_with c (Date n) = refl
-leaf_with c (Version n) = refl
-leaf_with c (Opaque bytes) = refl
 
 -- a leaf's JSON value is its value under its kind
 pub value_of_leaf : (l : Leaf) → IsValue l → IsValueOf (leaf_kind l) (json_leaf l) (value_of l)

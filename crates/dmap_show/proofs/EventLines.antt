@@ -30,7 +30,7 @@ pub indent_ascii : (n : ℕ) → IsAscii (indent n)
 indent_ascii zero = IsAscii-nil
 indent_ascii (suc n) = IsAscii-cons 32 (32 ∷ indent n) (omega arith) (IsAscii-cons 32 (indent n) (omega arith) (indent_ascii n))
 
--- a value as the program has it stands for its leaf
+-- a value of the program encodes its leaf
 pub leaf_with : (c : Four) (l : Leaf) → tree_with c (value_of l) ≡ leaf c l
 leaf_with c (U8 n) = refl
 leaf_with c (I8 z) = refl
@@ -63,7 +63,7 @@ code_with c (value.Opaque bytes) = refl
 regrouped : (old i k w s t e : List ℕ) → (old ++ (i ++ k ++ (32 ∷ w ++ s))) ++ (t ++ e) ≡ old ++ (i ++ k ++ 32 ∷ w ++ s ++ t ++ e)
 regrouped old i k w s t e = simp append_assoc refl
 
--- a line is its front and its rest
+-- a line is its first part and its rest
 pub line_by_parts : (level : ℕ) (c : Four) (v : Value) (old front new : List ℕ)
     → front ≡ old ++ (indent level ++ shown_code c ++ (32 ∷ word_of (tree_with c v) ++ space_of (tree_with c v)))
     → new ≡ front ++ (text_of (tree_with c v) ++ 10 ∷ [])
@@ -74,7 +74,7 @@ line_by_parts level c v old front new e f =
     ∙ regrouped old (indent level) (shown_code c) (word_of t) (space_of t) (text_of t) (10 ∷ [])
     ∙ ap (λ d. old ++ (indent level ++ shown_code d ++ 32 ∷ word_of t ++ space_of t ++ text_of t ++ 10 ∷ [])) (sym (code_with c v))
 
--- the events of a tag show it, whatever comes behind them
+-- the events of a tag are shown as the tag, whatever events follow them
 mutual
   pub events_show : (level at : ℕ) (t : Tree) (rest : List Event) → shown_events level (events_of at t rest) ≡ shown_tag level t ++ shown_events level rest
   events_show level at (leaf c l) rest = ap (λ t. shown_tag level t ++ shown_events level rest) (leaf_with c l)

@@ -31,7 +31,7 @@ follows_start rows = record {
   ahead = λ us z h e. subst (λ x. Goes rows [] [] us x) (sym e) (goes_start rows us h);
 }
 
--- a tag is taken only where it may stand
+-- a tag is added only at a level and inside a list where it fits
 record MayStand (rows : List CodeRow) (level : ℕ) (t : Tree) (around : List OpenList) (here : List Tree) (s : State) : Type 0 where
   low : level ≤ length around
   less : level < 32
@@ -53,7 +53,7 @@ taken_may rows level t around here s h = elim (cases_Bool (nat_lt (length around
       record { low = ltb-false (length around) level p.0; less = leb-false 32 level p.1; fit = f.0; same = f.1 }
 ]
 
--- one more tag, shown behind the others
+-- one more tag is shown after the others
 with_tag_shown : (t : Tree) (s : State) → shown_tags 0 (trees_of (closed (with_tag (head_of t) s).around (with_tag (head_of t) s).here)) ≡ shown_tags 0 (trees_of (closed s.around s.here)) ++ shown_tag (length s.around) (head_of t)
 with_tag_shown (leaf c l) s = shown_closed s.around s.here (leaf c l)
 with_tag_shown (list c ts) s = shown_closed s.around s.here (list c none)
@@ -170,7 +170,7 @@ stops_shows rows text n ts stops s = elim (cases_Bool (has 10 (behind_lines n te
       stops.unended e ts (subst (λ x. Shows rows x ts) (sym whole) s)
 ]
 
--- a head as the program has it stands alone
+-- a head that the program made is a head by itself
 pub value_head : (c : Four) (v : Value) → IsCode c → IsHeadValue v → (head_of (tree_with c v) ≡ tree_with c v) × IsHead (tree_with c v)
 value_head c (value.U8 n) k h = (refl, (k, h))
 value_head c (value.I8 z) k h = (refl, (k, h))
@@ -186,7 +186,7 @@ value_head c (value.Version n) k h = (refl, (k, h))
 value_head c (value.List ts) k h = (ap (λ x. list c (trees_of x)) (sym h), k)
 value_head c (value.Opaque bytes) k h = (refl, (k, h))
 
--- the text behind a line feed is shorter
+-- the text after a line feed is shorter
 pub behind_shorter : (mark : ℕ) (xs : List ℕ) → has mark xs ≡ true → length (behind mark xs) < length xs
 behind_shorter mark [] h = absurd (true≢false (sym h))
 behind_shorter mark (x ∷ xs) h = elim (cases_Bool (x == mark)) [
@@ -205,7 +205,7 @@ pub stops_end : (rows : List CodeRow) (text : List ℕ) (n : ℕ) (left : List �
 stops_end rows text n [] around here k e h f = absurd (true≢false k)
 stops_end rows text n (b ∷ left) around here k e h f = stops_open rows text n b left around here e h f
 
--- a text that shows tags is refused for want of memory alone
+-- a text that shows tags is refused only if an allocation failed
 pub explains_memory : (rows : List CodeRow) (text : List ℕ) (ts : List Tree) (e : ShowError) → Explains rows text e → Shows rows text ts → e ≡ Memory
 explains_memory rows text ts (Line line) (n, (count, stops)) s = absurd (stops_shows rows text n ts stops s)
 explains_memory rows text ts Memory h s = refl

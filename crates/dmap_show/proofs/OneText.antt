@@ -55,7 +55,7 @@ one_dotted n m small other same =
     let patch : n % 256 ≡ m % 256 = one_decimal _ _ (omega arith) (omega arith) (sym a.patch ∙ b.patch) in
     omega arith
 
--- a byte that stands in front of a text, and the text behind it
+-- the first byte of a text, and the text after it
 abbrev Front : Type 0
 Front = ℕ × List ℕ
 

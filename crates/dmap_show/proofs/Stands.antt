@@ -1,4 +1,4 @@
--- Tags that fit a table and are not too deep, told place by place.
+-- Tags that fit a table and are not too deep, by the level and the list of each.
 use Rattle.std.proofs.Common.{◌≡◌, ℕ, suc, ◌+◌, ◌<◌, ◌≤◌, true, List, [], ◌∷◌, ◌++◌, Option, Some, None, refl, arith}
 use Rattle.std.proofs.lemmas.Bool.{and_parts, and_from}
 use Rattle.std.specs.List.{AllByRecursion}
@@ -61,7 +61,7 @@ pub head_stands : (rows : List CodeRow) (level : ℕ) (parent : Option Four) (t 
 head_stands rows level parent (leaf c l) h = record { low = h.0; head = h.1.0; fit = h.1.1 }
 head_stands rows level parent (list c ts) h = record { low = h.0; head = h.1.0; fit = and_from _ _ h.1.1.0 refl }
 
--- tags as a program has them are readable where they fit and are not too deep
+-- tags as a program has them are readable if they fit and are not too deep
 pub shallow_readable : (rows : List CodeRow) (ts : List Tree) → AreTags (trees_of ts) → AreShallow rows ts → AllByRecursion (λ t. IsReadable rows t) ts
 shallow_readable rows [] tags fit = tt
 shallow_readable rows (t ∷ ts) tags fit = (record { tag = tags.0; fits = fit.0.0; shallow = fit.0.1 }, shallow_readable rows ts tags.1 fit.1)

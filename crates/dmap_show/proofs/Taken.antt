@@ -20,7 +20,7 @@ use Rattle.dmap_show.specs.Readable.{IsCode, IsValue}
 use Rattle.dmap_show.specs.TextLines.{before, behind, has}
 use Rattle.dmap_show.specs.Parts.{bare_line, head_of, IsHead, head_value, pairs_in_front, behind_pairs, kind_named, Spells}
 
--- a text is split at the first mark
+-- a text is split at the first byte that is `mark`
 pub before_mark : (mark : ℕ) (xs ys : List ℕ) → has mark xs ≡ false → before mark (xs ++ mark ∷ ys) ≡ xs
 before_mark mark [] ys h = rw (eq-eqb mark mark refl) refl
 before_mark mark (x ∷ xs) ys h = elim (cases_Bool (x == mark)) [

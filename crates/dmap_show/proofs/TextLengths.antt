@@ -1,4 +1,4 @@
--- A tag's spelling is at most twice as long as its lines.
+-- A tag's encoding is at most twice as long as its lines.
 use Rattle.std.proofs.Common.{◌≡◌, ◌≤◌, ◌+◌, ◌*◌, ℕ, suc, true, List, [], ◌∷◌, flat_map, length, inl, inr, refl, arith, length-append, le-leb}
 use Rattle.std.proofs.lemmas.Bool.{and_from, cases_Bool}
 use Rattle.std.proofs.lemmas.Bool.Decides.{nat_tests}
@@ -25,7 +25,7 @@ pub pieces_long : (f : ℕ → List ℕ) → ((b : ℕ) → 1 ≤ length (f b)) 
 pieces_long f h [] = omega arith
 pieces_long f h (b ∷ bytes) = rw (length-append (f b) (flat_map f bytes)) (omega (arith, h b, pieces_long f h bytes))
 
--- a value has at most twice as many bytes as its word and its text, and six more
+-- a value has at most twice as many bytes as the name of its kind and its text, and six more
 leaf_long : (l : Leaf) → length (leaf_payload l) ≤ 2 * (length (leaf_word l) + length (leaf_text l)) + 6
 leaf_long (U8 n) = omega arith
 leaf_long (I8 z) = omega arith
@@ -40,11 +40,11 @@ leaf_long (Date n) = omega arith
 leaf_long (Version n) = omega arith
 leaf_long (Opaque bytes) = omega (arith, pieces_long hex (λ b. omega arith) bytes)
 
--- beside them a line has at least a code, a space and a line feed
+-- besides these a line has at least a code, a space and a line feed
 pub line_long : (level : ℕ) (t : Tree) → length (word_of t) + length (space_of t) + length (text_of t) + 6 ≤ length (shown_line level t)
 line_long level t = simp length-append (omega (arith, code_long (tree_code t)))
 
--- with a code and a length, which are eight bytes, the spelling is no longer than that
+-- with a code and a length, which are eight bytes, the encoding is no longer than that
 mutual
   pub spelling_by_text : (level : ℕ) (t : Tree) → length (spelling t) ≤ 2 * length (shown_tag level t)
   spelling_by_text level (leaf c l) = omega (arith, leaf_long l, line_long level (leaf c l))
@@ -58,7 +58,7 @@ mutual
       rw (length-append (spelling t) (spellings ts), length-append (shown_tag level t) (shown_tags level ts))
       (omega (arith, spelling_by_text level t, spellings_by_text level ts))
 
--- so tags with short lines can be spelled
+-- so tags with short lines can be encoded
 mutual
   pub tag_spellable_by_text : (level : ℕ) (t : Tree) → 2 * length (shown_tag level t) ≤ longest → is_spellable t ≡ true
   tag_spellable_by_text level (leaf c l) h = le-leb _ _ (omega (arith, h, spelling_by_text level (leaf c l)))

@@ -11,7 +11,7 @@ use Rattle.std.specs.Str.{is_utf8}
 use lib.Utf8.{scalar, scalars, encode, encodes}
 use Rattle.dmap_show.specs.Shown.{escaped}
 
--- a text with a text behind it
+-- a text followed by a text
 pub utf8_appended : (old added new : List ℕ) → new ≡ old ++ added → IsUtf8 added → is_utf8 old ≡ true → is_utf8 new ≡ true
 utf8_appended old added new e u h =
     is_utf8-from_IsUtf8 new (subst IsUtf8 (sym e) (IsUtf8-append old added (IsUtf8-from_is_utf8 old h) u))

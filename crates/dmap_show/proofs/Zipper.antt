@@ -16,12 +16,12 @@ use Rattle.dmap_show.specs.Standing.{Stands, AllStand, HeadStands}
 use Rattle.dmap_show.specs.Ahead.{DraftStands, first_of, others_of, whole, ahead_lines, AheadStands, Goes}
 use Rattle.dmap_show.proofs.Stands.{all_stand_append, head_stands}
 
--- where no more lists are open, none is closed
+-- if no more lists are open, none is closed
 pub lowered_low : (level : ℕ) (around : List OpenList) (here : List Tree) → length around ≤ level → lowered level around here ≡ record { around = around; here = here }
 lowered_low level [] here h = refl
 lowered_low level (o ∷ around) here h = rw (le-ltb level (suc (length around)) h) refl
 
--- closing leaves so many lists open
+-- after closing down to `level`, `level` lists are open
 pub lowered_length : (level : ℕ) (around : List OpenList) (here : List Tree) → level ≤ length around → length (lowered level around here).around ≡ level
 lowered_length level [] here h = omega arith
 lowered_length level (o ∷ around) here h = elim (cases_Bool (nat_lt level (suc (length around)))) [
@@ -42,7 +42,7 @@ pub shown_append : (level : ℕ) (xs ys : List Tree) → shown_tags level (trees
 shown_append level [] ys = refl
 shown_append level (x ∷ xs) ys = ap (λ s. shown_tag level x ++ s) (shown_append level xs ys) ∙ sym (append_assoc (shown_tag level x) (shown_tags level (trees_of xs)) (shown_tags level (trees_of ys)))
 
--- one more member is shown behind the others
+-- one more member is shown after the others
 pub shown_more : (level : ℕ) (xs : List Tree) (t : Tree) → shown_tags level (trees_of (xs ++ t ∷ [])) ≡ shown_tags level (trees_of xs) ++ shown_tag level t
 shown_more level xs t = shown_append level xs (t ∷ []) ∙ ap (λ s. shown_tags level (trees_of xs) ++ s) (append-nil (shown_tag level t))
 
@@ -196,7 +196,7 @@ listed : (ts : Trees) → trees_of (tree_list ts) ≡ ts
 listed none = refl
 listed (more t ts) = ap (more t) (listed ts)
 
--- behind the line of a tag the tags go on in the draft with that tag
+-- after the line of a tag, the further tags continue the draft that has it
 goes_on : (rows : List CodeRow) (s : State) (t : Tree) (m : List Tree) (ms : List (List Tree)) (us : List Tree) (z : List ℕ)
     → AheadStands rows s.around (t ∷ m) ms → us ≡ whole s.around (s.here ++ t ∷ m) ms → z ≡ below (length s.around) t ++ ahead_lines s.around m ms
     → Goes rows (with_tag (head_of t) s).around (with_tag (head_of t) s).here us z
@@ -218,13 +218,13 @@ goes_on rows s (list c ts) m ms us z h e f =
       left = f ∙ ap (λ x. shown_tags (suc (length s.around)) x ++ ahead_lines s.around m ms) (sym same);
     }
 
--- a tag that may stand there is taken
+-- a tag that fits there is added
 taken_fits : (rows : List CodeRow) (level : ℕ) (t : Tree) (around : List OpenList) (here : List Tree)
     → level ≤ length around → level < 32 → fits rows (parent_in (lowered level around here).around) t ≡ true
     → taken rows level t around here ≡ Some (with_tag t (lowered level around here))
 taken_fits rows level t around here low less fit = rw (le-ltb (length around) level low, lt-leb 32 level less, fit) refl
 
--- the next line, and the draft behind it
+-- the next line, and the draft after it
 pub record LineOf (rows : List CodeRow) (around : List OpenList) (here us : List Tree) (bare rest : List ℕ) : Type 0 where
   pub level : ℕ
   pub t : Tree
@@ -259,7 +259,7 @@ pub goes_line : (rows : List CodeRow) (around : List OpenList) (here us : List T
 goes_line rows around here us [] rest free g = line_of rows around here us [] rest free (goes_next rows around here us 10 rest g)
 goes_line rows around here us (b ∷ bare) rest free g = line_of rows around here us (b ∷ bare) rest free (goes_next rows around here us b (bare ++ 10 ∷ rest) g)
 
--- what goes on ends with a line feed
+-- text that continues a draft ends with a line feed
 pub goes_ended : (rows : List CodeRow) (around : List OpenList) (here us : List Tree) (b : ℕ) (z : List ℕ) → Goes rows around here us (b ∷ z) → has 10 (b ∷ z) ≡ true
 goes_ended rows around here us b z g =
     let n = goes_next rows around here us b z g in

@@ -1,4 +1,4 @@
--- Tags that fit a table and are not too deep, by the place of each.
+-- Tags that fit a table and are not too deep, by the level and the list of each.
 use Rattle.std.specs.Prelude.{◌≡◌, ◌<◌, ℕ, suc, List, true, Option, Some}
 use Rattle.dmap_tags.specs.Codes.{Four}
 use Rattle.dmap_tags.specs.Tree.{Tree, leaf, list, Trees, none, more}
@@ -18,7 +18,7 @@ abbrev mutual
   AllStand rows level parent none = Unit {0}
   AllStand rows level parent (more t ts) = Stands rows level parent t × AllStand rows level parent ts
 
--- what a line states of a tag at that place
+-- what a line states of a tag at that level, inside that list
 pub record HeadStands (rows : List CodeRow) (level : ℕ) (parent : Option Four) (t : Tree) : Type 0 where
   pub low : level < 32
   pub head : IsHead t

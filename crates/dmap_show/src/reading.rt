@@ -21,7 +21,7 @@ use thiserror::Error;
 pub enum ShowError {
     /// The first line, counted from 1, with which no shown text continues. A last line without a line feed is such a
     /// line.
-    #[error("line {line} is no line of shown tags")]
+    #[error("line {line} cannot continue a text of tags")]
     Line { line: u64 },
     #[error("out of memory")]
     Memory,

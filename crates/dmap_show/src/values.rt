@@ -36,7 +36,7 @@ fn word(value: &Value) -> &'static str
     }
 }
 
-/// Appends bytes that have no meaning.
+/// Appends bytes whose kind is unknown, in hex.
 fn push_opaque(bytes: &[u8], out: &mut Vec<u8>) -> Result<(), AllocError>
     ensures shown { OnOk result (out.new.items ≡ out.old.items ++ 35 ∷ flat_map hex bytes.now) }
     ensures held { AreBytes bytes.now }

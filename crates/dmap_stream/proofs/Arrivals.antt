@@ -22,7 +22,7 @@ place_is rows limit at around rest b h =
     walk_on rows limit at around rest
     ∙ ap (λ x. behind (closes at around) (if x then ends (broken (ShortHead at)) else at_head (walk_from rows limit) rows limit at (open_after at around) rest)) h
 
--- whether a place is short, as a call tells it
+-- a call returns an error exactly if the place is short
 abbrev pub TellsShort : ℕ → List Container → Result (Unit {0}) StreamError → Type 0
 TellsShort at around result =
     MatchResult result (λ _. is_short at (open_after at around) ≡ false)

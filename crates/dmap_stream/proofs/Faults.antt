@@ -1,4 +1,4 @@
--- A walk is broken by a fault alone.
+-- Only a fault of the bytes breaks a walk.
 use Rattle.std.proofs.Common.{◌≡◌, ℕ, zero, suc, ◌+◌, List, [], ◌∷◌, length, take, drop, Bool, true, false, ◌&&◌, nat_lt, nat_le, if◌then◌else◌, Option, Some, None, ◌⊎◌, inl, inr, refl, sym, ap, ◌∙◌}
 use Rattle.dmap_tags.specs.Codes.{Four, code_of}
 use Rattle.dmap_tags.specs.Typed.{leaf_at, value_of}
@@ -69,12 +69,12 @@ walk_breaks rows limit (suc n) at around bytes =
     either (is_short at (open_after at around)) (ends (broken (ShortHead at))) (at_head (walk rows limit n) rows limit at (open_after at around) bytes)
     refl (head_breaks (walk rows limit n) (walk_breaks rows limit n) rows limit at (open_after at around) bytes)
 
--- whatever the bytes, want of memory and a tag that is not whole break none of them
+-- an allocation failure and a tag that is not whole break no bytes
 pub breaks_by_fault : (rows : List CodeRow) (limit : ℕ) (bytes : List ℕ) → BreaksByFault (walk_of rows limit bytes).ending
 unfolding walk_from
 breaks_by_fault rows limit bytes = walk_breaks rows limit (suc (length bytes)) 0 [] bytes
 
--- bytes that are told to end inside a tag do, or between two
+-- if the error is that the bytes end inside a tag, they end there or between two tags
 pub ends_early : (rows : List CodeRow) (limit total n : ℕ) (bytes : List ℕ) (e : StreamError) → e ≡ refusal total (walk_of rows limit bytes).ending → e ≡ Truncated n →
     ((walk_of rows limit bytes).ending ≡ between) ⊎ ((walk_of rows limit bytes).ending ≡ inside)
 ends_early rows limit total n bytes e told is = by (walk_of rows limit bytes).ending (breaks_by_fault rows limit bytes) (sym told ∙ is)

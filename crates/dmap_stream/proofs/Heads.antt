@@ -15,13 +15,13 @@ use Rattle.dmap_stream.specs.Reading.{ready_at, Takes}
 use Rattle.dmap_stream.proofs.Takings.{behind_none}
 use Rattle.dmap_stream.proofs.Wholes.{head_done}
 
--- a whole head, as calls tell its code and length
+-- a whole head, with its code and its length
 pub record IsHead (head : List ℕ) (c : Four) (len : ℕ) : Type 0 where
   pub count : length head ≡ 8
   pub code : c ≡ code_of head
   pub told : len ≡ told_length head
 
--- what bytes behind a whole head say
+-- what the bytes after a whole head contain
 pub head_told : (onward : Onward) (rows : List CodeRow) (limit at : ℕ) (around : List Container) (head rest : List ℕ) (c : Four) (len : ℕ) → IsHead head c len →
     at_head onward rows limit at around (head ++ rest) ≡ behind_head onward rows limit at around c len rest
 head_told onward rows limit at around head rest c len h =

@@ -18,7 +18,7 @@ use Rattle.dmap_stream.specs.WholeTag.{refusal, end_of, IsRoomFor, AreRest, Read
 use Rattle.dmap_stream.proofs.Settled.{none_end}
 use Rattle.dmap_stream.proofs.WholeTags.{place_ends, count}
 
--- tags with others behind them
+-- tags followed by others
 abbrev pub joined : List Tree → Trees → Trees
 joined [] us = us
 joined (t ∷ ts) us = more t (joined ts us)
@@ -73,7 +73,7 @@ none_passed rows limit at around bytes within = record {
   only = λ c us more rest said. (us, refl, rest, said);
 }
 
--- a place where no list ends and a head has room
+-- a place where no list ends and there is space for a head
 pub record IsDue (here : ℕ) (around : List Container) : Type 0 where
   pub going : not (is_empty (closes here around)) ≡ false
   pub long : is_short here (open_after here around) ≡ false
@@ -220,14 +220,14 @@ tag_refused rows limit total at around bytes front here rest e p due r = record 
     next c none after a said = absurd (not_end here around c a.list due.going (let is = a.ends in omega arith))
     next c (more u us) after a said = r.never u (spellings us ++ after) (next_room rows limit here around c u us a) (said ∙ append_assoc (spelling u) (spellings us) after)
 
--- want of memory is free
+-- `Memory` may be returned at any time
 pub memory_tag : (rows : List CodeRow) (limit total at : ℕ) (around : List Container) (bytes : List ℕ) (e : StreamError) → e ≡ Memory → RefusesTag rows limit total at around bytes e
 memory_tag rows limit total at around bytes e is = record { tells = λ known. absurd (known is); never = λ u more room said. is }
 
 pub memory_rest : (rows : List CodeRow) (limit total at : ℕ) (around : List Container) (bytes : List ℕ) (e : StreamError) → e ≡ Memory → RefusesRest rows limit total at around bytes e
 memory_rest rows limit total at around bytes e is = record { tells = λ known. absurd (known is); never = λ c us more rest said. is }
 
--- what calls tell of a place in a list
+-- a place in a list, by the results of the calls that check it
 pub due : (here : ℕ) (around around' : List Container) (ended short : Bool) → around ≡ around' → ended ≡ not (is_empty (closes here around)) → ended ≡ false → short ≡ is_short here (open_after here around) → short ≡ false → IsDue here around'
 due here around around' ended short same is not_ended tells long = subst (IsDue here) same (record { going = sym is ∙ not_ended; long = sym tells ∙ long })
 

@@ -1,4 +1,4 @@
--- Bytes begin with at most one tag: its head tells its code and how long its payload is, and the code's kind what that says.
+-- Bytes begin with at most one tag: its head states its code and length, and the code its kind, which decodes the payload.
 use Rattle.std.proofs.Common.{◌≡◌, ℕ, ◌<◌, ◌^◌, List, [], ◌++◌, length, take, drop, true, Option, Some, None, refl, sym, ap, ap₂, subst, ◌∙◌, arith, length-append}
 use Rattle.std.specs.Int.{w32, to_be_bytes}
 use Rattle.std.proofs.Math.Seq.{take-append_seam, drop-append_seam}
@@ -21,7 +21,7 @@ use Rattle.dmap_stream.proofs.Spelled.{Begins, begins}
 use Rattle.dmap_stream.proofs.Values.{leaf_again}
 use Rattle.dmap_stream.proofs.WholeTags.{room_at_top}
 
--- a tag that fits where it stands, and whose head can tell its length
+-- a tag that fits at its level, and whose length fits in its head
 record IsSound (rows : List CodeRow) (parent : Option Four) (t : Tree) : Type 0 where
   fit : fits rows parent t ≡ true
   proper : IsProperTag t
@@ -45,7 +45,7 @@ first rows c t ts s = record {
   told = let less = s.told in omega (arith, length-append (payload t) (spellings ts));
 }
 
--- the members behind it
+-- the members after it
 others : (rows : List CodeRow) (c : Four) (t : Tree) (ts : Trees) → AreSound rows c (more t ts) → AreSound rows c ts
 others rows c t ts s = record {
   fit = (and_parts _ _ s.fit).1;
@@ -53,15 +53,15 @@ others rows c t ts s = record {
   told = let less = s.told in omega (arith, length-append (payload t) (spellings ts));
 }
 
--- what a tag's spelling begins with
+-- the first bytes of a tag's encoding
 abbrev head : Tree → List ℕ
 head t = code_bytes (tree_code t) ++ to_be_bytes w32 (length (payload t))
 
--- it tells the code and the length
+-- it states the code and the length
 is_head : (t : Tree) → length (payload t) < 2 ^ 32 → IsHead (head t) (tree_code t) (length (payload t))
 is_head t less = record { count = refl; code = refl; told = sym (from_be_bytes-to_be_bytes_4 (length (payload t)) less) }
 
--- two tags have one code and one payload, and one rest is behind them
+-- two tags have the same code and the same payload, and the same rest follows them
 record AreAlike (t u : Tree) (rest later : List ℕ) : Type 0 where
   code : tree_code t ≡ tree_code u
   payloads : payload t ≡ payload u

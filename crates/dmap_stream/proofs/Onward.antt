@@ -13,7 +13,7 @@ use Rattle.dmap_stream.specs.declared.event.Event.TheVariants.{Open, Leaf}
 use Rattle.dmap_stream.specs.declared.refusal.StreamError.{StreamError}
 use Rattle.dmap_stream.specs.Walk.{Walk, behind, closes, open_after, is_short, parent_of, fault_at, told_length, container, Onward, at_payload, at_body, unless_fault, behind_head, at_head, at_place, walk, walk_from}
 
--- two continuations that say the same where fewer than n bytes are left
+-- two continuations that are the same if fewer than n bytes are left
 abbrev pub AgreeBelow : ℕ → Onward → Onward → Type 0
 AgreeBelow n f g = (at : ℕ) (around : List Container) (bytes : List ℕ) → length bytes < n → f at around bytes ≡ g at around bytes
 
@@ -55,7 +55,7 @@ place_agrees n f g h rows limit at around bytes l =
     ap (behind (closes at around))
     (choose (is_short at (open_after at around)) _ _ _ (λ e. head_agrees n f g h rows limit at (open_after at around) bytes l))
 
--- more places than bytes are as many as one likes
+-- any number of places above the number of bytes gives the same walk
 walk_same : (rows : List CodeRow) (limit n m at : ℕ) (around : List Container) (bytes : List ℕ) → length bytes < n → length bytes < m → walk rows limit n at around bytes ≡ walk rows limit m at around bytes
 unfolding walk
 walk_same rows limit zero m at around bytes l k = absurd (omega arith)

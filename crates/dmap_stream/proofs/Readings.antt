@@ -39,7 +39,7 @@ pub begins : (rows : List CodeRow) (limit : ℕ) (p : Position) → p ≡ at_sta
 begins rows limit p h =
     subst (λ q. ReadAs [] [] (record { rows = rows; limit = limit; position = q; error = None }) None) (sym h) (begins_at rows limit)
 
--- behind the events that are ready come those of the bytes
+-- after the events that are ready come those of the bytes
 behind_more : (es fs : List Event) (w : Walk) → behind es (behind fs w) ≡ behind (es ++ fs) w
 behind_more es fs w = ap (λ l. record { events = l; ending = w.ending }) (sym (append_assoc es fs w.events))
 
@@ -96,7 +96,7 @@ fed_after fed piece handed r e stopped h =
       λ known rest. ap (walk_of r.rows r.limit) (append_assoc fed piece rest) ∙ (subst (ReadAs fed handed r) stopped h).1 known (piece ++ rest),
     )
 
--- an event that was ready is handed out
+-- an event that was ready is returned
 pub handed_more : (rows : List CodeRow) (limit : ℕ) (error : Option StreamError) (fed : List ℕ) (handed es : List Event) (p q : Position) →
     ready_at p ≡ es ++ ready_at q → ((rest : List ℕ) → resumed rows limit q rest ≡ resumed rows limit p rest) → is_due q ≡ is_due p → bytes_taken q ≡ bytes_taken p →
     HasRead fed handed (record { rows = rows; limit = limit; position = p; error = error }) →
@@ -161,7 +161,7 @@ none_ready : (es : List Event) → not (is_empty es) ≡ false → es ≡ []
 none_ready [] h = refl
 none_ready (e ∷ es) h = absurd (cc)
 
--- a reader that goes on, from where it stood as its callers see it
+-- a reader that continues from its state before the call
 pub went_on : (rows : List CodeRow) (limit : ℕ) (fed piece : List ℕ) (handed : List Event) (old : Reader) (p q : Position) (error : Option StreamError) (n : ℕ) →
     error ≡ None → record { rows = rows; limit = limit; position = p; error = error } ≡ old → not (is_empty (ready_at p)) ≡ false →
     Takes rows limit (resumed rows limit p) piece q (Ok n) → bytes_taken q ≡ bytes_taken p + n →
@@ -182,7 +182,7 @@ stopped rows limit fed piece handed old p q error e e' goes is quiet takes copie
     subst (λ o. HasRead (fed ++ piece) handed (record { rows = rows; limit = limit; position = q; error = Some o })) (sym copied)
     (fed_broken rows limit fed piece handed p q e (none_ready (ready_at p) quiet) takes before)
 
--- while nothing is ready the events of the bytes are those that were handed out
+-- while nothing is ready, the events of the bytes are those that were returned
 quiet_front : (rows : List CodeRow) (limit : ℕ) (fed piece : List ℕ) (handed : List Event) (p q : Position) (n : ℕ) →
     ready_at p ≡ [] → Takes rows limit (resumed rows limit p) piece q (Ok n) →
     HasRead fed handed (record { rows = rows; limit = limit; position = p; error = None }) →
@@ -202,7 +202,7 @@ went_no_further rows limit fed piece handed old p q error n goes is quiet takes 
     ap (λ (r : Reader). (walk_of r.rows r.limit (fed ++ take m piece)).events) (sym is)
     ∙ quiet_front rows limit fed piece handed p q n (none_ready (ready_at p) quiet) takes before m few
 
--- bytes of a payload are kept inside a leaf alone
+-- bytes of a payload are kept only inside a leaf
 ends_in_leaf : (rows : List CodeRow) (limit : ℕ) (fed : List ℕ) (handed : List Event) (p : Position) (phase : Phase) → p.phase ≡ phase →
     ReadAs fed handed (record { rows = rows; limit = limit; position = p; error = None }) None → 0 < bytes_kept p →
     EndInLeaf rows limit fed (handed ++ ready_at p) (bytes_kept p)

@@ -1,4 +1,4 @@
--- Bytes of which the walk tells that they end between two top tags are spellings of tags.
+-- Bytes whose walk ends between two top tags are encodings of tags.
 use Rattle.std.proofs.Common.{◌≡◌, ℕ, zero, suc, ◌+◌, ◌<◌, ◌≤◌, List, [], ◌∷◌, ◌++◌, length, take, drop, Bool, true, false, not, ◌&&◌, nat_lt, if◌then◌else◌, Option, Some, None, refl, sym, ap, subst, ◌∙◌, arith, length-append}
 use Rattle.std.specs.List.{AllByRecursion}
 use Rattle.std.proofs.Math.Seq.{drop-append_seam}
@@ -24,15 +24,15 @@ use Rattle.dmap_stream.proofs.TagsWalk.{top_due}
 use Rattle.dmap_stream.proofs.Values.{AreBytes, bytes_take, bytes_drop}
 use Rattle.dmap_stream.proofs.WholeTags.{Opens, Enters, opening, not_deep, value_read, list_read, place_ends, accepted}
 
--- a tag that was read, and the bytes behind it
+-- a tag that was read, and the bytes after it
 abbrev pub SomeTag : List CodeRow → ℕ → ℕ → List Container → List ℕ → Type 0
 SomeTag rows limit at around bytes = (t : Tree) × (later : List ℕ) × ReadsTag rows limit at around bytes t later
 
--- the tags up to the end of the innermost list, and the bytes behind them
+-- the tags up to the end of the innermost list, and the bytes after them
 abbrev pub SomeRest : List CodeRow → ℕ → ℕ → List Container → List ℕ → Type 0
 SomeRest rows limit at around bytes = (ts : Trees) × (later : List ℕ) × ReadsRest rows limit at around bytes ts later
 
--- where the walk ends between two top tags
+-- if the walk ends between two top tags
 abbrev pub EndsBetween : Walk → Type 0
 EndsBetween w = w.ending ≡ between
 
@@ -42,7 +42,7 @@ ReadsLists rows limit n =
     (at : ℕ) (around : List Container) (bytes : List ℕ) → is_empty around ≡ false → length around ≤ 32 → length bytes < n → AreBytes bytes →
     EndsBetween (walk_from rows limit at around bytes) → SomeRest rows limit at around bytes
 
--- a place where a whole head stands, and the walk that goes on behind it
+-- a place where a whole head is, and the walk that continues after it
 pub record HasHead (rows : List CodeRow) (limit at : ℕ) (around : List Container) (bytes head rest : List ℕ) (c : Four) (len : ℕ) : Type 0 where
   pub opens : Opens bytes head rest c len
   pub small : AreBytes rest
@@ -111,7 +111,7 @@ tag_found rows limit n at around bytes lists less long small h = by_fault (fault
         let goes = head_fault (walk_from rows limit) rows limit at around head rest c len has.opens.whole ∙ ap (λ o. unless_fault o (at_body (walk_from rows limit) at around c kind len rest)) is in
         absurd (let bad : broken e ≡ between = sym (ap (λ (w : Walk). w.ending) goes) ∙ has.ending in cc)
 
--- what is behind a tag is shorter, and bytes too
+-- what follows a tag is shorter, and bytes too
 behind_tag : (bytes : List ℕ) (t : Tree) (later : List ℕ) → bytes ≡ spelling t ++ later → AreBytes bytes → (length later < length bytes) × AreBytes later
 behind_tag bytes t later is small = (
   (let long : length bytes ≡ length (spelling t ++ later) = ap length is in omega (arith, length-append (payload t) later)),

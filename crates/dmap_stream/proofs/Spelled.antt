@@ -1,4 +1,4 @@
--- The head of a tag's spelling, and the code and the length that are told by it.
+-- The head of a tag's encoding, and the code and the length that it states.
 use Rattle.std.proofs.Common.{◌≡◌, ℕ, suc, ◌<◌, ◌^◌, List, [], ◌∷◌, ◌++◌, length, take, drop, refl, sym, ap, ◌∙◌, arith}
 use Rattle.std.specs.Int.{w32, to_be_bytes}
 use Rattle.std.proofs.Math.Seq.{take-append_seam, drop-append_seam}
@@ -10,7 +10,7 @@ use Rattle.dmap_stream.specs.Walk.{told_length}
 use Rattle.dmap_stream.proofs.Heads.{IsHead}
 use Rattle.dmap_stream.proofs.Values.{AreBytes}
 
--- eight bytes are the code and the length that they tell
+-- eight bytes are the encoding of the code and the length that they state
 pub head_back : (head : List ℕ) → length head ≡ 8 → AreBytes head → head ≡ code_bytes (code_of head) ++ to_be_bytes w32 (told_length head)
 head_back [] h small = absurd (cc)
 head_back (a ∷ []) h small = absurd (omega arith)
@@ -24,7 +24,7 @@ head_back (a ∷ b ∷ c ∷ d ∷ e ∷ f ∷ g ∷ i ∷ []) h small =
     ap (λ l. a ∷ b ∷ c ∷ d ∷ l) (sym (be_bytes_4 (e ∷ f ∷ g ∷ i ∷ []) _ refl (λ k. small (suc (suc (suc (suc k))))) refl))
 head_back (a ∷ b ∷ c ∷ d ∷ e ∷ f ∷ g ∷ i ∷ j ∷ more) h small = absurd (omega arith)
 
--- a head and what follows it spell a tag
+-- a head and what follows it encode a tag
 pub spelled : (head rest later : List ℕ) (c : Four) (len : ℕ) (t : Tree) → IsHead head c len → AreBytes head →
     c ≡ tree_code t → len ≡ length (payload t) → rest ≡ payload t ++ later → head ++ rest ≡ spelling t ++ later
 spelled head rest later c len t h small code count left =
@@ -38,7 +38,7 @@ pub record Begins (c : Four) (len : ℕ) (rest more : List ℕ) (u : Tree) : Typ
   pub count : len ≡ length (payload u)
   pub left : rest ≡ payload u ++ more
 
--- a tag's spelling begins with its head
+-- a tag's encoding begins with its head
 pub begins : (head rest more : List ℕ) (c : Four) (len : ℕ) (u : Tree) → IsHead head c len → length (payload u) < 2 ^ 32 →
     head ++ rest ≡ spelling u ++ more → Begins c len rest more u
 begins head rest more c len u h less is = record {

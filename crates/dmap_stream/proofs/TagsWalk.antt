@@ -1,4 +1,4 @@
--- What the walk tells of tags' spellings: the tags' events.
+-- The walk over encodings of tags has the tags' events.
 use Rattle.std.proofs.Common.{◌≡◌, ℕ, ◌+◌, ◌<◌, ◌≤◌, ◌^◌, List, [], ◌∷◌, ◌++◌, length, Bool, true, false, ◌&&◌, ◌==◌, nat_lt, if◌then◌else◌, refl, sym, ap, ◌∙◌, arith, length-append, append_assoc}
 use Rattle.std.specs.Int.{w32, to_be_bytes}
 use Rattle.std.proofs.lemmas.List.{append-nil}
@@ -28,7 +28,7 @@ use Rattle.dmap_stream.proofs.Values.{leaf_again}
 use Rattle.dmap_stream.proofs.WholeTags.{list_kind, no_value, room_at_top}
 use Rattle.dmap_stream.proofs.Wholes.{payload_done}
 
--- events, and others behind them
+-- events, and others after them
 behind_more : (es fs : List Event) (w : Walk) → behind es (behind fs w) ≡ behind (es ++ fs) w
 behind_more es fs w = ap (λ (xs : List Event). record { events = xs; ending = w.ending }) (sym (append_assoc es fs w.events))
 
@@ -50,14 +50,14 @@ mutual
       ∙ sym (append_assoc (events_of at t []) (events_of_all next ts []) rest)
       ∙ ap (λ es. es ++ rest) (sym (events_before at t (events_of_all next ts [])))
 
--- the first eight bytes of a spelling
+-- the first eight bytes of an encoding
 abbrev pub head_of : Tree → List ℕ
 head_of t = code_bytes (tree_code t) ++ to_be_bytes w32 (length (payload t))
 
 spelled_head : (t : Tree) → length (payload t) < 2 ^ 32 → IsHead (head_of t) (tree_code t) (length (payload t))
 spelled_head t small = record { count = refl; code = refl; told = sym (from_be_bytes-to_be_bytes_4 (length (payload t)) small) }
 
--- a value's kind is no list's
+-- a value's kind is not a list's
 value_kind : (k : Kind) (l : Leaf) → leaf_fits k l ≡ true → is_list k ≡ false
 value_kind k l fit = by (is_list k) refl
   where
@@ -77,14 +77,14 @@ place_in_list : (rows : List CodeRow) (limit at : ℕ) (k : Container) (around :
 unfolding at_place
 place_in_list rows limit at k around bytes b is = walk_on rows limit at (k ∷ around) bytes ∙ ap (place_by rows limit at k around bytes) is
 
--- where a tag has room in the innermost list, its head is due
+-- if a tag fits in the innermost list, its head is expected
 head_due : (rows : List CodeRow) (limit at : ℕ) (k : Container) (around : List Container) (bytes : List ℕ) → at + 8 ≤ k.end →
     walk_from rows limit at (k ∷ around) bytes ≡ at_head (walk_from rows limit) rows limit at (k ∷ around) bytes
 head_due rows limit at k around bytes room =
     place_in_list rows limit at k around bytes false (ne_eqb k.end at (λ is. absurd (omega arith)))
     ∙ cond-false (is_short at (k ∷ around)) _ _ (ap (λ b. b && nat_lt k.end (at + 8)) (lt-ltb at k.end (omega arith)) ∙ le-ltb k.end (at + 8) room)
 
--- where it ends, it is closed
+-- a list that ends at the place is closed
 list_closed : (rows : List CodeRow) (limit at : ℕ) (k : Container) (around : List Container) (bytes : List ℕ) → k.end ≡ at →
     walk_from rows limit at (k ∷ around) bytes ≡ behind (Close k.code k.at ∷ []) (walk_from rows limit at around bytes)
 unfolding at_place
@@ -92,7 +92,7 @@ list_closed rows limit at k around bytes is =
     place_in_list rows limit at k around bytes true (eq-eqb k.end at is)
     ∙ ap (behind (Close k.code k.at ∷ [])) (sym (walk_on rows limit at around bytes))
 
--- the events of a tag and of those behind it are the events of all
+-- the events of a tag and of those after it are the events of all
 then_tags : (rows : List CodeRow) (limit at : ℕ) (around : List Container) (t : Tree) (ts : Trees) (rest : List ℕ) →
     behind (events_of at t []) (behind (events_of_all (at + length (spelling t)) ts []) (walk_from rows limit (at + length (spelling t) + length (spellings ts)) around rest))
     ≡ behind (events_of_all at (more t ts) []) (walk_from rows limit (at + length (spellings (more t ts))) around rest)
@@ -105,7 +105,7 @@ then_tags rows limit at around t ts rest =
     ∙ ap (λ n. behind (events_of at t (events_of_all next ts [])) (walk_from rows limit n around rest)) (omega (arith, length-append (spelling t) (spellings ts)))
 
 mutual
-  -- a tag that is accepted with its head at a place is told whole, and then what follows it
+  -- the walk over an accepted tag has all of its events, and then those of what follows it
   tag_goes : (rows : List CodeRow) (limit at : ℕ) (around : List Container) (t : Tree) (rest : List ℕ) → IsRoomFor rows limit at around t →
       at_head (walk_from rows limit) rows limit at around (spelling t ++ rest) ≡ behind (events_of at t []) (walk_from rows limit (at + length (spelling t)) around rest)
   tag_goes rows limit at around (leaf c l) rest room =
@@ -143,12 +143,12 @@ mutual
       ∙ ap (behind (events_of at t [])) (tags_go rows limit (at + length (spelling t)) k around ts rest (next_rest rows at (k ∷ around) k.code t ts r))
       ∙ then_tags rows limit at (k ∷ around) t ts rest
 
--- at the top a head is due at once
+-- at the top a head is expected at once
 pub top_due : (rows : List CodeRow) (limit at : ℕ) (bytes : List ℕ) → walk_from rows limit at [] bytes ≡ at_head (walk_from rows limit) rows limit at [] bytes
 unfolding at_place
 top_due rows limit at bytes = walk_on rows limit at [] bytes
 
--- a top tag is told whole, and then what follows it
+-- the walk over a top tag has all of its events, and then those of what follows it
 pub top_tag : (rows : List CodeRow) (limit at : ℕ) (t : Tree) (rest : List ℕ) → limit < 2 ^ 32 → is_accepted rows limit t ≡ true → IsProperTag t →
     walk_from rows limit at [] (spelling t ++ rest) ≡ behind (events_of at t []) (walk_from rows limit (at + length (spelling t)) [] rest)
 top_tag rows limit at t rest small accepted proper =

@@ -1,4 +1,4 @@
--- Taking bytes from the front of a piece.
+-- Taking bytes from the beginning of a chunk.
 use Rattle.std.proofs.Common.{◌≡◌, ℕ, ◌+◌, ◌-◌, ◌<◌, ◌≤◌, min, List, [], ◌++◌, length, take, drop, true, Result, Ok, Err, inl, inr, refl, sym, ap, subst, ◌∙◌, arith, length-append, append_assoc}
 use Rattle.std.proofs.Math.Seq.{take-add}
 use Rattle.std.proofs.lemmas.Bool.{cases_lt}
@@ -20,7 +20,7 @@ front_length part piece m = length-append part (take m piece) ∙ ap (λ k. leng
 abbrev pub IsSilent : (List ℕ → Walk) → ℕ → Type 0
 IsSilent says wanted = (bytes : List ℕ) → length bytes < wanted → (says bytes).events ≡ []
 
--- all bytes of the piece were taken, and what is due is still not whole
+-- all bytes of the chunk were taken, and the expected head or payload is still not whole
 pub waits : (rows : List CodeRow) (limit : ℕ) (says : List ℕ → Walk) (part piece : List ℕ) (wanted n : ℕ) (new : Position) →
     n ≡ min (wanted - length part) (length piece) → new.part ≡ part ++ take n piece → length new.part < wanted → IsSilent says wanted →
     ready_at new ≡ [] → is_due new ≡ true → ((rest : List ℕ) → resumed rows limit new rest ≡ says (new.part ++ rest)) →

@@ -1,4 +1,4 @@
--- A value and its payload tell each other.
+-- A value has one payload, and a payload of a kind one value.
 use Rattle.std.proofs.Common.{◌≡◌, ◌<◌, ◌^◌, ◌%◌, ◌==◌, ℕ, zero, suc, List, [], ◌∷◌, length, take, drop, get_or, Bool, true, false, if◌then◌else◌, unwrap_or, Some, None, refl, sym, ap, ◌∙◌, arith}
 use mir.Val.{bits}
 use Rattle.std.proofs.Math.Facts.{Fits-of_z, Fits-of_lt, sfits_to_z}
@@ -36,7 +36,7 @@ seen_leaf c (tree.Opaque bytes) = refl
 small_byte : (n : ℕ) → n < 256 → n % 256 ≡ n
 small_byte n less = omega arith
 
--- a number's kind reads its payload exactly where the length is the kind's
+-- a number's kind reads its payload exactly if the length is the kind's
 sized_opaque : (n : ℕ) (p : List ℕ) (l : Leaf) (b : Bool) → is_opaque l ≡ false → is_opaque (unwrap_or (if b then Some l else None) (tree.Opaque p)) ≡ true → unwrap_or (if b then Some l else None) (tree.Opaque p) ≡ tree.Opaque p
 sized_opaque n p l true plain h = absurd (let bad : false ≡ true = sym plain ∙ h in cc)
 sized_opaque n p l false plain h = refl
@@ -45,7 +45,7 @@ text_opaque : (p : List ℕ) (b : Bool) → is_opaque (if b then tree.Text p els
 text_opaque p true h = absurd (cc)
 text_opaque p false h = refl
 
--- bytes that spell no value of the kind are opaque
+-- bytes that encode no value of the kind are opaque
 opaque_again : (k : Kind) (p : List ℕ) → is_opaque (leaf_at k p) ≡ true → leaf_at k p ≡ tree.Opaque p
 opaque_again kind.U8 p h = sized_opaque 1 p _ (length p == 1) refl h
 opaque_again kind.I8 p h = sized_opaque 1 p _ (length p == 1) refl h

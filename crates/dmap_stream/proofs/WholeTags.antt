@@ -1,4 +1,4 @@
--- What becomes of a tag whose head is due at a place.
+-- What becomes of a tag whose head is expected at a place.
 use Rattle.std.proofs.Common.{◌≡◌, ◌≢◌, ℕ, ◌+◌, ◌-◌, ◌<◌, ◌≤◌, ◌^◌, List, [], ◌∷◌, ◌++◌, length, take, drop, Bool, true, false, ◌&&◌, ◌==◌, nat_lt, nat_le, if◌then◌else◌, Option, Some, None, refl, sym, ap, subst, ◌∙◌, arith, length-append}
 use Rattle.std.proofs.Math.Seq.{take-append_seam, drop-append_seam}
 use Rattle.std.proofs.lemmas.List.{take-append-drop, length-take}
@@ -34,7 +34,7 @@ pub record Opens (bytes head rest : List ℕ) (c : Four) (len : ℕ) : Type 0 wh
   pub whole : IsHead head c len
   pub small : AreBytes head
 
--- the head shows no fault, and its tag has that kind
+-- the head has no fault, and its tag has that kind
 pub record Enters (rows : List CodeRow) (limit at : ℕ) (around : List Container) (c : Four) (len : ℕ) (parent : Option Four) (kind : Kind) : Type 0 where
   pub fault : None ≡ fault_at limit at around c len
   pub inside : parent ≡ parent_of around
@@ -98,7 +98,7 @@ kind_of : {rows : List CodeRow} {limit at : ℕ} {around : List Container} {c : 
 kind_of {rows} {limit} {at} {around} {c} {len} {parent} {kind} u i same =
     sym (i.told ∙ ap (λ p. kind_in rows p c) i.inside ∙ ap (kind_in rows (parent_of around)) same)
 
--- a tag that fits, where the kind is no list's, is the value in its payload
+-- a tag that fits, if the kind is not a list's, is the value in its payload
 value_only : (rows : List CodeRow) (parent : Option Four) (kind : Kind) (u : Tree) → kind_in rows parent (tree_code u) ≡ kind → is_list kind ≡ false → fits rows parent u ≡ true → IsProperTag u →
     u ≡ leaf (tree_code u) (leaf_at kind (payload u))
 value_only rows parent kind (leaf c l) told value fit proper = ap (leaf c) (sym (leaf_again kind l (ap (λ k. leaf_fits k l) (sym told) ∙ fit) proper))
@@ -165,7 +165,7 @@ value_read rows limit at around bytes head rest part later c len parent kind v o
     left : rest ≡ payload t ++ later
     left = joined ∙ ap (λ p. p ++ later) (sym again)
 
--- what the walk ends with from a place on, by the lists that are open behind it
+-- how the walk from a place on ends, by the lists that are open after it
 abbrev pub ending_in : List CodeRow → ℕ → ℕ → List ℕ → List Container → Ending
 ending_in rows limit at bytes around = (if is_short at around then ends (broken (ShortHead at)) else at_head (walk_from rows limit) rows limit at around bytes).ending
 
@@ -173,7 +173,7 @@ pub place_ends : (rows : List CodeRow) (limit at : ℕ) (around : List Container
 unfolding at_place
 place_ends rows limit at around bytes = ap (λ (w : Walk). w.ending) (walk_on rows limit at around bytes)
 
--- a list that ends at the place is no more
+-- a list that ends at the place is closed there
 pub closed : (rows : List CodeRow) (limit at : ℕ) (c : Container) (around : List Container) (bytes : List ℕ) → at ≡ c.end → (walk_from rows limit at (c ∷ around) bytes).ending ≡ (walk_from rows limit at around bytes).ending
 closed rows limit at c around bytes is =
     place_ends rows limit at (c ∷ around) bytes
@@ -210,7 +210,7 @@ no_value (tree.Date n) = refl
 no_value (tree.Version n) = refl
 no_value (tree.Opaque bytes) = refl
 
--- a tag that fits, where the kind is a list's, is a list of what its payload spells
+-- a tag that fits, if the kind is a list's, is a list of the tags in its payload
 list_only : (rows : List CodeRow) (limit at : ℕ) (around : List Container) (kind : Kind) (u : Tree) → kind_in rows (parent_of around) (tree_code u) ≡ kind → is_list kind ≡ true → IsRoomFor rows limit at around u →
     (us : Trees) × (u ≡ list (tree_code u) us) × AreRest rows (at + 8) (container (tree_code u) at (length (payload u)) ∷ around) (tree_code u) us
 list_only rows limit at around kind (leaf c l) told holds room =
@@ -276,7 +276,7 @@ list_refused rows limit total at around bytes head rest c len parent kind e o i 
       r.never c n.0 more mine (b.left ∙ ap (λ x. payload x ++ more) n.1);
 }
 
--- at the front of all bytes
+-- at the beginning of all bytes
 top_ends : (rows : List CodeRow) (limit : ℕ) (bytes : List ℕ) → (walk_from rows limit 0 [] bytes).ending ≡ (at_head (walk_from rows limit) rows limit 0 [] bytes).ending
 top_ends rows limit bytes = place_ends rows limit 0 [] bytes
 

@@ -17,7 +17,7 @@ payload_whole onward at around c kind part rest =
     cond-false _ _ _ (le-ltb (length (part ++ rest)) (length part) (omega (arith, length-append part rest)))
     ∙ rw (take-append_seam, drop-append_seam) refl
 
--- the same with the value and the length as calls tell them
+-- the same with the value and the length that the calls returned
 pub payload_done : (onward : Onward) (at : ℕ) (around : List Container) (c : Four) (kind : Kind) (part rest : List ℕ) (value : Value) (n : ℕ) →
     value ≡ value_of (leaf_at kind part) → n ≡ length part →
     at_payload onward at around c kind (length part) (part ++ rest) ≡ behind (Leaf c value at ∷ []) (onward (at + 8 + n) around rest)
@@ -26,7 +26,7 @@ payload_done onward at around c kind part rest value n v e =
     ∙ ap (λ x. behind (Leaf c x at ∷ []) (onward (at + 8 + length part) around rest)) (sym v)
     ∙ ap (λ x. behind (Leaf c value at ∷ []) (onward (at + 8 + x) around rest)) (sym e)
 
--- the same with the length that the head tells
+-- the same with the length that the head states
 pub payload_told : (onward : Onward) (at : ℕ) (around : List Container) (c : Four) (kind : Kind) (len : ℕ) (part rest : List ℕ) (value : Value) →
     value ≡ value_of (leaf_at kind part) → length part ≡ len →
     at_payload onward at around c kind len (part ++ rest) ≡ behind (Leaf c value at ∷ []) (onward (at + 8 + len) around rest)

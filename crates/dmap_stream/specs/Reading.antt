@@ -39,7 +39,7 @@ abbrev pub is_between : Position → Bool
 is_between p =
     elim p.phase [ Head ↦ is_empty (open_after p.start p.around) && is_empty p.part | Payload c kind len ↦ false ]
 
--- an event comes next, and then what the new position continues with; or the fault that bytes show
+-- an event comes next, and then what the new position continues with; or the fault of the bytes
 abbrev pub Moves : List CodeRow → ℕ → (List ℕ → Walk) → Position → Result (Unit {0}) StreamError → Type 0
 Moves rows limit before new (Ok _) =
     (is_due new ≡ true) × (ready_at new ≢ []) × ((rest : List ℕ) → before rest ≡ behind (ready_at new) (resumed rows limit new rest))
@@ -50,7 +50,7 @@ Moves rows limit before new (Err e) =
 abbrev pub AreQuiet : (List ℕ → Walk) → List ℕ → ℕ → Type 0
 AreQuiet before piece n = (m : ℕ) → m < n → (before (take m piece)).events ≡ []
 
--- the same, for a call that takes bytes from the beginning of a piece until an event is ready, and none after it
+-- the same, for a call that takes bytes from the beginning of a chunk until an event is ready, and none after it
 abbrev pub Takes : List CodeRow → ℕ → (List ℕ → Walk) → List ℕ → Position → Result ℕ StreamError → Type 0
 Takes rows limit before piece new (Ok n) =
     (n ≤ length piece) × (n < length piece → ready_at new ≢ []) × (is_due new ≡ true)

@@ -15,7 +15,7 @@ use code_table::CodeTable;
 use dmap_tags::{Code, Kind, Value, leaf};
 use std::alloc::Global;
 
-/// The number of bytes of a piece that were taken.
+/// The number of bytes of a chunk that were taken.
 type Taken = Result<usize, StreamError>;
 
 /// What the reader takes next.
@@ -85,7 +85,7 @@ impl Position {
         }
     }
 
-    /// Reads a head that is whole in the piece.
+    /// Reads a head that is whole in the chunk.
     #[inline(always)]
     fn read_head(&mut self, alloc: Global, table: &CodeTable, top: u32, piece: &[u8]) -> Taken
         requires quiet { ready_at self.old ≡ [] }
@@ -102,7 +102,7 @@ impl Position {
         Ok(8 + more)
     }
 
-    /// Takes bytes of a head that is split over several pieces.
+    /// Takes bytes of a head that is split over several chunks.
     #[cold]
     #[inline(never)]
     fn gather_head(&mut self, alloc: Global, table: &CodeTable, top: u32, piece: &[u8]) -> Taken
@@ -179,7 +179,7 @@ impl Position {
         self.arrive(inside)
     }
 
-    /// Takes bytes of the payload after a head: at once if all of it is in the piece.
+    /// Takes bytes of the payload after a head: at once if all of it is in the chunk.
     #[inline(always)]
     fn take_payload(
         &mut self,
@@ -208,7 +208,7 @@ impl Position {
         Ok(len as usize)
     }
 
-    /// Takes bytes of a payload that is split over several pieces.
+    /// Takes bytes of a payload that is split over several chunks.
     #[cold]
     #[inline(never)]
     fn gather_payload(

@@ -19,7 +19,7 @@ pub struct Limits {
     pub top: u32,
 }
 
-/// Reads tags out of bytes that come in pieces.
+/// Reads tags out of bytes that come in chunks.
 #[derive(Debug, Drop)]
 pub struct DmapReader {
     alloc: Global,

@@ -55,6 +55,11 @@ head_is bytes it is has = subst (λ (i : Bool). HasHead bytes i) is has
 pub head_is_wrong : (bytes : List ℕ) (it : Bool) → it ≡ false → HasHead bytes it → take 9 bytes ≢ opened ∷ signature
 head_is_wrong bytes it is has = subst (λ (i : Bool). HasHead bytes i) is has
 
+-- with the head, the file closes where its frames end
+pub closes_with : (bytes : List ℕ) (it : Bool) (place : ℕ) (found : List (List Edit)) → it ≡ true → HasHead bytes it
+    → ((rest : List ℕ) → bytes ≡ opened ∷ signature ++ rest → ClosesAt bytes place found) → ClosesAt bytes place found
+closes_with bytes it place found is has closes = let begins = head_is bytes it is has in closes begins.0 begins.1
+
 pub was_unmade : (bytes : List ℕ) (it : Bool) → it ≡ true → MatchBool it (IsUnmade bytes) (IsUnmade bytes → ⊥) → IsUnmade bytes
 was_unmade bytes it is exact = subst (λ (i : Bool). MatchBool i (IsUnmade bytes) (IsUnmade bytes → ⊥)) is exact
 

@@ -11,18 +11,17 @@ use Rattle.edit_file.specs.Standing.{opened, signature, IsFrame, EndsBadly, IsNo
 use Rattle.edit_file.proofs.Appended.{frames_push}
 
 pub closed_stands_for : (bytes : List ℕ) (place : ℕ) (batches : List (List Edit)) → ClosesAt bytes place batches → FileStands bytes batches
-closed_stands_for bytes place batches h =
-    inr (record { frames = h.frames; closing = h.closing; behind = h.behind; bytes_are = h.bytes_are; framed = h.framed; shut = h.shut })
+closed_stands_for bytes place batches h = inr h.made
 
 -- the bytes up to the closing one, and those after it
 split_bytes : (bytes : List ℕ) (place : ℕ) (batches : List (List Edit)) (h : ClosesAt bytes place batches)
-    → bytes ≡ ((opened ∷ signature ++ h.frames) ++ h.closing ∷ []) ++ h.behind
+    → bytes ≡ ((opened ∷ signature ++ h.made.frames) ++ h.made.closing ∷ []) ++ h.made.behind
 split_bytes bytes place batches h =
-    h.bytes_are ∙ ap (λ (l : List ℕ). opened ∷ signature ++ l) (sym (append_assoc h.frames (h.closing ∷ []) h.behind))
+    h.made.bytes_are ∙ ap (λ (l : List ℕ). opened ∷ signature ++ l) (sym (append_assoc h.made.frames (h.made.closing ∷ []) h.made.behind))
 
 front_size : (bytes : List ℕ) (place : ℕ) (batches : List (List Edit)) (h : ClosesAt bytes place batches)
-    → length ((opened ∷ signature ++ h.frames) ++ h.closing ∷ []) ≡ place + 1
-front_size bytes place batches h = omega (arith, h.at, length-append (opened ∷ signature ++ h.frames) (h.closing ∷ []))
+    → length ((opened ∷ signature ++ h.made.frames) ++ h.made.closing ∷ []) ≡ place + 1
+front_size bytes place batches h = omega (arith, h.at, length-append (opened ∷ signature ++ h.made.frames) (h.made.closing ∷ []))
 
 pub closes_inside : (bytes : List ℕ) (place : ℕ) (batches : List (List Edit)) → ClosesAt bytes place batches → place + 1 ≤ length bytes
 closes_inside bytes place batches h =
@@ -30,22 +29,22 @@ closes_inside bytes place batches h =
       arith,
       ap (λ (l : List ℕ). length l) (split_bytes bytes place batches h),
       front_size bytes place batches h,
-      length-append ((opened ∷ signature ++ h.frames) ++ h.closing ∷ []) h.behind,
+      length-append ((opened ∷ signature ++ h.made.frames) ++ h.made.closing ∷ []) h.made.behind,
     )
 
 -- truncated after the closing byte, the file is at rest
 pub cut_rests : (bytes : List ℕ) (place : ℕ) (batches : List (List Edit)) → ClosesAt bytes place batches → AtRest (take (place + 1) bytes) place batches
 cut_rests bytes place batches h =
-    let front = (opened ∷ signature ++ h.frames) ++ h.closing ∷ [] in
+    let front = (opened ∷ signature ++ h.made.frames) ++ h.made.closing ∷ [] in
     record {
-      frames = h.frames;
-      shut = h.closing;
-      framed = h.framed;
+      frames = h.made.frames;
+      shut = h.made.closing;
+      framed = h.made.framed;
       bytes_are = ap (λ (l : List ℕ). take (place + 1) l) (split_bytes bytes place batches h)
-          ∙ ap (λ (n : ℕ). take n (front ++ h.behind)) (omega (arith, front_size bytes place batches h))
-          ∙ take-append-add front h.behind 0 ∙ append-nil front;
+          ∙ ap (λ (n : ℕ). take n (front ++ h.made.behind)) (omega (arith, front_size bytes place batches h))
+          ∙ take-append-add front h.made.behind 0 ∙ append-nil front;
       place = omega (arith, h.at);
-      closed = h.shut;
+      closed = h.made.shut;
     }
 
 -- a truncation that was interrupted leaves the batches
@@ -54,19 +53,19 @@ pub cut_stands : (bytes image : List ℕ) (place : ℕ) (batches : List (List Ed
 cut_stands bytes image place batches h left = elim left [
   | inl same ↦ subst (λ (l : List ℕ). FileStands l batches) (sym same) (closed_stands_for bytes place batches h)
   | inr cut ↦
-      let front = (opened ∷ signature ++ h.frames) ++ h.closing ∷ [] in
+      let front = (opened ∷ signature ++ h.made.frames) ++ h.made.closing ∷ [] in
       let least : place + 1 ≤ length image = omega (arith, cut.no_shorter, closes_inside bytes place batches h) in
       let more : length image ≡ length front + (length image - (place + 1)) = omega (arith, least, front_size bytes place batches h) in
       inr (record {
-        frames = h.frames;
-        closing = h.closing;
-        behind = take (length image - (place + 1)) h.behind;
+        frames = h.made.frames;
+        closing = h.made.closing;
+        behind = take (length image - (place + 1)) h.made.behind;
         bytes_are = cut.front ∙ ap (λ (l : List ℕ). take (length image) l) (split_bytes bytes place batches h)
-            ∙ ap (λ (n : ℕ). take n (front ++ h.behind)) more
-            ∙ take-append-add front h.behind (length image - (place + 1))
-            ∙ ap (λ (l : List ℕ). opened ∷ signature ++ l) (append_assoc h.frames (h.closing ∷ []) (take (length image - (place + 1)) h.behind));
-        framed = h.framed;
-        shut = h.shut;
+            ∙ ap (λ (n : ℕ). take n (front ++ h.made.behind)) more
+            ∙ take-append-add front h.made.behind (length image - (place + 1))
+            ∙ ap (λ (l : List ℕ). opened ∷ signature ++ l) (append_assoc h.made.frames (h.made.closing ∷ []) (take (length image - (place + 1)) h.made.behind));
+        framed = h.made.framed;
+        shut = h.made.shut;
       })
 ]
 
@@ -106,12 +105,14 @@ more_read bytes place size batches batch h frame inside =
 pub closed_read : (bytes : List ℕ) (place : ℕ) (batches : List (List Edit)) → HasRead bytes place batches
     → (closing : ℕ) × (behind : List ℕ) × (drop place bytes ≡ closing ∷ behind) × (closing ≢ opened) → ClosesAt bytes place batches
 closed_read bytes place batches h found = record {
-  frames = h.frames;
-  closing = found.0;
-  behind = found.1;
-  bytes_are = h.bytes_are ∙ ap (λ (l : List ℕ). opened ∷ signature ++ h.frames ++ l) (sym (rest_at bytes place batches h) ∙ found.2);
-  framed = h.framed;
-  shut = found.3;
+  made = record {
+    frames = h.frames;
+    closing = found.0;
+    behind = found.1;
+    bytes_are = h.bytes_are ∙ ap (λ (l : List ℕ). opened ∷ signature ++ h.frames ++ l) (sym (rest_at bytes place batches h) ∙ found.2);
+    framed = h.framed;
+    shut = found.3;
+  };
   at = h.at;
 }
 

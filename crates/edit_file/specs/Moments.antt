@@ -1,5 +1,5 @@
 -- What a run of disk calls may leave of the file if a crash interrupts it, at each moment of the run.
-use Rattle.std.specs.Prelude.{◌≡◌, ◌⊎◌, ℕ, ◌≤◌, List, Some}
+use Rattle.std.specs.Prelude.{◌≡◌, ◌⊎◌, ℕ, ◌≤◌, List, OnOk, Result, Some, is_some}
 use Rattle.outside_disks.specs.declared.disk.Disk.{Ghosts}
 
 module _ {D : Type 0} (g : Ghosts D) where
@@ -18,6 +18,17 @@ module _ {D : Type 0} (g : Ghosts D) where
     pub later : g.clock old ≤ g.clock new
     pub leaves : (image : List ℕ) → g.images new image → g.images old image
     pub nothing_else : (time : ℕ) (image : List ℕ) → time ≤ g.clock old → g.since new time image → g.since old time image ⊎ g.images old image
+
+  -- the disk has the same name, and its bytes are still known or unknown
+  pub record KeepsName (old new : D) : Type 0 where
+    pub told_stays : is_some (g.bytes new) ≡ is_some (g.bytes old)
+    pub name_stays : g.opened_as new ≡ g.opened_as old
+
+  -- a call only read: nothing was changed, and a success leaves the bytes
+  pub record OnlyReads {T E : Type 0} (old new : D) (result : Result T E) : Type 0 where
+    pub bytes_stay : OnOk result (g.bytes new ≡ g.bytes old)
+    pub quiet : IsQuiet old new
+    pub named : KeepsName old new
 
   -- every image that a crash may leave now, or might have left at a moment of the run, has the property `P`
   pub record LeavesOnly (old new : D) (P : List ℕ → Type 0) : Type 0 where

@@ -6,20 +6,15 @@ use Rattle.outside_disks.specs.declared.disk.Disk.{Ghosts}
 use Rattle.outside_disks.specs.declared.faulted.Faulted as faulted
 use Rattle.edit_file.specs.Files.{disk_of}
 use Rattle.edit_file.specs.Moments.{IsQuiet}
-use Rattle.edit_file.specs.Standing.{opened, signature, AreFrames}
+use Rattle.edit_file.specs.Standing.{opened, signature, AreFrames, IsMade}
 use Rattle.edit_file.specs.declared.file.EditFile.{EditFile}
 use Rattle.edit_file.specs.declared.refusal.FileError.{FileError}
 use Rattle.edit_file.specs.declared.refusal.FileError.TheVariants as refusal
 
--- the bytes are a head, the frames of the batches, a closing byte at the offset, and any bytes
+-- the bytes are a finished file of the batches, with its closing byte at the offset
 pub record ClosesAt (bytes : List ℕ) (place : ℕ) (batches : List (List Edit)) : Type 0 where
-  pub frames : List ℕ
-  pub closing : ℕ
-  pub behind : List ℕ
-  pub bytes_are : bytes ≡ opened ∷ signature ++ frames ++ closing ∷ behind
-  pub framed : AreFrames frames batches
-  pub shut : closing ≢ opened
-  pub at : place ≡ 9 + length frames
+  pub made : IsMade bytes batches
+  pub at : place ≡ 9 + length made.frames
 
 -- a head and the frames of the batches were read, up to an offset
 pub record HasRead (bytes : List ℕ) (place : ℕ) (batches : List (List Edit)) : Type 0 where

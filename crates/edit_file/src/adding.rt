@@ -1,8 +1,8 @@
 //! Adds bytes after a closing byte, and then opens that byte. Each change is safe before the next.
-ghost use Rattle.std.specs.Prelude.{◌≡◌, ℕ, ◌+◌, ◌^◌, ◌<◌, ◌≤◌, List, [], ◌∷◌, ◌++◌, length, IfSome, OnOk, is_some};
+ghost use Rattle.std.specs.Prelude.{◌≡◌, ℕ, ◌+◌, ◌^◌, ◌<◌, ◌≤◌, List, [], ◌∷◌, ◌++◌, length, IfSome, OnOk};
 ghost use Rattle.outside_disks.specs.Counts.{CountsFaults};
 ghost use Rattle.edit_file.specs.Adding.{IsClosedOrFramed};
-ghost use Rattle.edit_file.specs.Moments.{Holds, LeavesOnly};
+ghost use Rattle.edit_file.specs.Moments.{Holds, KeepsName, LeavesOnly};
 ghost use Rattle.edit_file.specs.Standing.{opened};
 
 use crate::safely::write_safely;
@@ -20,8 +20,7 @@ pub(crate) fn add_behind<D: Disk>(disk: &mut D, closing: u64, frame: &[u8]) -> R
         → LeavesOnly D.Disk.own disk.old disk.new (IsClosedOrFramed front shut frame.now) }
     ensures near { OnOk result (closing + 1 + length frame.now < 2 ^ 63) }
     ensures inside { OnOk result (IfSome (D.bytes disk.new) (λ b. closing + length frame.now < length b)) }
-    ensures told_stays { is_some (D.bytes disk.new) ≡ is_some (D.bytes disk.old) }
-    ensures name_stays { D.opened_as disk.new ≡ D.opened_as disk.old }
+    ensures named { KeepsName D.Disk.own disk.old disk.new }
     ensures count { CountsFaults (D.faults disk.old) (D.faults disk.new) result }
 {
     write_safely(disk, closing + 1, frame)?;

@@ -1,8 +1,8 @@
 //! Makes a file in steps. Each is safe before the next.
-ghost use Rattle.std.specs.Prelude.{◌≡◌, ℕ, ◌≤◌, List, [], length, IfSome, OnOk, is_some};
+ghost use Rattle.std.specs.Prelude.{◌≡◌, ℕ, ◌≤◌, List, [], length, IfSome, OnOk};
 ghost use Rattle.outside_disks.specs.Counts.{CountsFaults};
 ghost use Rattle.edit_file.specs.Making.{IsBegun, empty_file};
-ghost use Rattle.edit_file.specs.Moments.{Holds, LeavesOnly};
+ghost use Rattle.edit_file.specs.Moments.{Holds, KeepsName, LeavesOnly};
 ghost use Rattle.edit_file.specs.Standing.{FileStands, IsUnmade};
 
 use crate::safely::write_safely;
@@ -14,8 +14,7 @@ pub(crate) fn make<D: Disk>(disk: &mut D, len: u64) -> Result<(), Failed>
     ensures made { (bytes : List ℕ) → IsUnmade bytes → Holds D.Disk.own disk.old bytes → OnOk result (Holds D.Disk.own disk.new empty_file) }
     ensures crash { (bytes : List ℕ) → IsUnmade bytes → Holds D.Disk.own disk.old bytes
         → LeavesOnly D.Disk.own disk.old disk.new (λ image. FileStands image []) }
-    ensures told_stays { is_some (D.bytes disk.new) ≡ is_some (D.bytes disk.old) }
-    ensures name_stays { D.opened_as disk.new ≡ D.opened_as disk.old }
+    ensures named { KeepsName D.Disk.own disk.old disk.new }
     ensures count { CountsFaults (D.faults disk.old) (D.faults disk.new) result }
 {
     begin(disk, len)?;
@@ -29,8 +28,7 @@ fn begin<D: Disk>(disk: &mut D, len: u64) -> Result<(), Failed>
         → OnOk result ((begun : List ℕ) × IsBegun begun × Holds D.Disk.own disk.new begun) }
     ensures crash { (bytes : List ℕ) → IsUnmade bytes → Holds D.Disk.own disk.old bytes → LeavesOnly D.Disk.own disk.old disk.new IsUnmade }
     ensures inside { OnOk result (IfSome (D.bytes disk.new) (λ b. 1 ≤ length b)) }
-    ensures told_stays { is_some (D.bytes disk.new) ≡ is_some (D.bytes disk.old) }
-    ensures name_stays { D.opened_as disk.new ≡ D.opened_as disk.old }
+    ensures named { KeepsName D.Disk.own disk.old disk.new }
     ensures count { CountsFaults (D.faults disk.old) (D.faults disk.new) result }
 {
     if len >= 2 {
@@ -45,8 +43,7 @@ fn make_begun<D: Disk>(disk: &mut D) -> Result<(), Failed>
     ensures made { (bytes : List ℕ) → IsBegun bytes → Holds D.Disk.own disk.old bytes → OnOk result (Holds D.Disk.own disk.new empty_file) }
     ensures crash { (bytes : List ℕ) → IsBegun bytes → Holds D.Disk.own disk.old bytes
         → LeavesOnly D.Disk.own disk.old disk.new (λ image. FileStands image []) }
-    ensures told_stays { is_some (D.bytes disk.new) ≡ is_some (D.bytes disk.old) }
-    ensures name_stays { D.opened_as disk.new ≡ D.opened_as disk.old }
+    ensures named { KeepsName D.Disk.own disk.old disk.new }
     ensures count { CountsFaults (D.faults disk.old) (D.faults disk.new) result }
 {
     write_safely(disk, 1, b"DAAPEDIT\0")?;

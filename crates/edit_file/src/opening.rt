@@ -1,10 +1,10 @@
 //! Opens a file: reads its batches, makes a file that was not finished, and truncates it after the closing byte.
-ghost use Rattle.std.specs.Prelude.{◌≡◌, ◌≢◌, ℕ, ◌^◌, ◌<◌, All, List, [], ◌∷◌, ◌++◌, length, false, Some, Err, IfOk, IfErr, IfSome, OnOk, MatchBool, is_some};
+ghost use Rattle.std.specs.Prelude.{◌≡◌, ◌≢◌, ℕ, ◌^◌, ◌<◌, All, List, [], ◌∷◌, ◌++◌, length, false, Some, Err, IfOk, IfErr, IfSome, MatchBool, is_some};
 ghost use Rattle.item_model.specs.declared.changes.Edit.{Edit};
 ghost use Rattle.item_model.specs.Valid.{AreValid};
 ghost use Rattle.outside_disks.specs.Counts.{CountsFaults};
 ghost use Rattle.edit_file.specs.Files.{AtRest, HasBatches, is_broken};
-ghost use Rattle.edit_file.specs.Moments.{Holds, IsQuiet, LeavesOnly};
+ghost use Rattle.edit_file.specs.Moments.{Holds, KeepsName, LeavesOnly, OnlyReads};
 ghost use Rattle.edit_file.specs.Opening.{ClosesAt, CountsOpening, CountsOpenError, HasHead, IsSameDisk, LeavesRefused, disk_after};
 ghost use Rattle.edit_file.specs.Standing.{opened, signature, BreaksAt, FileStands, IsNoFrame, IsUnmade};
 
@@ -65,8 +65,7 @@ fn settle<D: Disk>(alloc: Global, disk: &mut D) -> Result<(u64, Vec<Batch>), Fil
     ensures unchanged { LeavesRefused D.Disk.own disk.old disk.new result }
     ensures crash { (b : List ℕ) (batches : List (List Edit)) → FileStands b batches → Holds D.Disk.own disk.old b
         → LeavesOnly D.Disk.own disk.old disk.new (λ image. FileStands image batches) }
-    ensures told_stays { is_some (D.bytes disk.new) ≡ is_some (D.bytes disk.old) }
-    ensures name_stays { D.opened_as disk.new ≡ D.opened_as disk.old }
+    ensures named { KeepsName D.Disk.own disk.old disk.new }
     ensures count { CountsOpening (D.faults disk.old) (D.faults disk.new) result }
 {
     let len = measure(disk)?;
@@ -82,10 +81,7 @@ fn measure<D: Disk>(disk: &mut D) -> Result<u64, Failed>
     ensures held { (b : List ℕ) → D.bytes disk.old ≡ Some b → IfOk result (λ len. (length b ≡ len) × Holds D.Disk.own disk.new b) }
     ensures known { IfOk result (λ len. IfSome (D.bytes disk.new) (λ b. length b ≡ len)) }
     ensures short { IfOk result (λ len. len < 2 ^ 63) }
-    ensures bytes_stay { OnOk result (D.bytes disk.new ≡ D.bytes disk.old) }
-    ensures quiet { IsQuiet D.Disk.own disk.old disk.new }
-    ensures told_stays { is_some (D.bytes disk.new) ≡ is_some (D.bytes disk.old) }
-    ensures name_stays { D.opened_as disk.new ≡ D.opened_as disk.old }
+    ensures stays { OnlyReads D.Disk.own disk.old disk.new result }
     ensures count { CountsFaults (D.faults disk.old) (D.faults disk.new) result }
 {
     disk.sync()?;
@@ -95,10 +91,7 @@ fn measure<D: Disk>(disk: &mut D) -> Result<u64, Failed>
 // Returns whether a file of `len` bytes was not finished.
 fn is_unmade<D: Disk>(disk: &mut D, len: u64) -> Result<bool, Failed>
     ensures exact { (b : List ℕ) → length b ≡ len → D.bytes disk.old ≡ Some b → IfOk result (λ it. MatchBool it (IsUnmade b) (IsUnmade b → ⊥)) }
-    ensures bytes_stay { OnOk result (D.bytes disk.new ≡ D.bytes disk.old) }
-    ensures quiet { IsQuiet D.Disk.own disk.old disk.new }
-    ensures told_stays { is_some (D.bytes disk.new) ≡ is_some (D.bytes disk.old) }
-    ensures name_stays { D.opened_as disk.new ≡ D.opened_as disk.old }
+    ensures stays { OnlyReads D.Disk.own disk.old disk.new result }
     ensures count { CountsFaults (D.faults disk.old) (D.faults disk.new) result }
 {
     if len < 2 {
@@ -118,10 +111,7 @@ fn is_unmade<D: Disk>(disk: &mut D, len: u64) -> Result<bool, Failed>
 // Returns whether the file begins as a finished one does.
 fn has_head<D: Disk>(disk: &mut D) -> Result<bool, Failed>
     ensures exact { (b : List ℕ) → D.bytes disk.old ≡ Some b → IfOk result (λ it. HasHead b it) }
-    ensures bytes_stay { OnOk result (D.bytes disk.new ≡ D.bytes disk.old) }
-    ensures quiet { IsQuiet D.Disk.own disk.old disk.new }
-    ensures told_stays { is_some (D.bytes disk.new) ≡ is_some (D.bytes disk.old) }
-    ensures name_stays { D.opened_as disk.new ≡ D.opened_as disk.old }
+    ensures stays { OnlyReads D.Disk.own disk.old disk.new result }
     ensures count { CountsFaults (D.faults disk.old) (D.faults disk.new) result }
 {
     let mut head = [0; 9];
@@ -150,8 +140,7 @@ fn read_made<D: Disk>(alloc: Global, disk: &mut D, len: u64) -> Result<(u64, Vec
     ensures unchanged { LeavesRefused D.Disk.own disk.old disk.new result }
     ensures crash { (b : List ℕ) (batches : List (List Edit)) → FileStands b batches → Holds D.Disk.own disk.old b
         → LeavesOnly D.Disk.own disk.old disk.new (λ image. FileStands image batches) }
-    ensures told_stays { is_some (D.bytes disk.new) ≡ is_some (D.bytes disk.old) }
-    ensures name_stays { D.opened_as disk.new ≡ D.opened_as disk.old }
+    ensures named { KeepsName D.Disk.own disk.old disk.new }
     ensures count { CountsOpening (D.faults disk.old) (D.faults disk.new) result }
 {
     if !has_head(disk)? {
@@ -177,10 +166,7 @@ fn read_frames<D: Disk>(
     ensures breaks { (b rest : List ℕ) (at : ℕ) → length b ≡ len → D.bytes disk.old ≡ Some b → b ≡ opened ∷ signature ++ rest
         → result ≡ Err (FileError.NotEditFile at) → IsNoFrame b at }
     ensures unchanged { LeavesRefused D.Disk.own disk.old disk.new result }
-    ensures bytes_stay { OnOk result (D.bytes disk.new ≡ D.bytes disk.old) }
-    ensures quiet { IsQuiet D.Disk.own disk.old disk.new }
-    ensures told_stays { is_some (D.bytes disk.new) ≡ is_some (D.bytes disk.old) }
-    ensures name_stays { D.opened_as disk.new ≡ D.opened_as disk.old }
+    ensures stays { OnlyReads D.Disk.own disk.old disk.new result }
     ensures count { CountsOpening (D.faults disk.old) (D.faults disk.new) result }
 {
     let mut batches = Vec::new(alloc);

@@ -1,9 +1,9 @@
 //! Reads a disk, frame by frame.
-ghost use Rattle.std.specs.Prelude.{◌≡◌, ◌≢◌, ℕ, ◌+◌, ◌^◌, ◌<◌, ◌≤◌, [], length, drop, Err, IfOk, IfSome, OnOk, is_some, option_map};
+ghost use Rattle.std.specs.Prelude.{◌≡◌, ◌≢◌, ℕ, ◌+◌, ◌^◌, ◌<◌, ◌≤◌, [], length, drop, Err, IfOk, IfSome, option_map};
 ghost use Rattle.std.specs.Int.{w32, from_be_bytes, to_be_bytes};
 ghost use Rattle.item_model.specs.Valid.{AreValid};
 ghost use Rattle.outside_disks.specs.Counts.{CountsFaults};
-ghost use Rattle.edit_file.specs.Moments.{IsQuiet};
+ghost use Rattle.edit_file.specs.Moments.{OnlyReads};
 ghost use Rattle.edit_file.specs.Opening.{CountsOpening, LeavesRefused};
 ghost use Rattle.edit_file.specs.Reading.{FillsFrom, IsPayload, IsBatchIn, IsFound, IsUsable, IsWithin};
 
@@ -30,10 +30,7 @@ pub(crate) fn read_fully<D: Disk>(disk: &mut D, at: u64, room: &mut [u8]) -> Res
     ensures within { IfOk result (λ n. n ≤ length room.new) }
     ensures reads { IfOk result (λ n. IfSome (D.bytes disk.old) (λ b. FillsFrom b at n room.new)) }
     ensures size { length room.new ≡ length room.old }
-    ensures bytes_stay { OnOk result (D.bytes disk.new ≡ D.bytes disk.old) }
-    ensures quiet { IsQuiet D.Disk.own disk.old disk.new }
-    ensures told_stays { is_some (D.bytes disk.new) ≡ is_some (D.bytes disk.old) }
-    ensures name_stays { D.opened_as disk.new ≡ D.opened_as disk.old }
+    ensures stays { OnlyReads D.Disk.own disk.old disk.new result }
     ensures count { CountsFaults (D.faults disk.old) (D.faults disk.new) result }
 {
     let mut done = 0;
@@ -63,10 +60,7 @@ pub(crate) fn read_frame<D: Disk>(
     ensures usable { IfOk result IsUsable }
     ensures whole { (at' : ℕ) → result ≡ Err (FileError.NotEditFile at') → ⊥ }
     ensures unchanged { LeavesRefused D.Disk.own disk.old disk.new result }
-    ensures bytes_stay { OnOk result (D.bytes disk.new ≡ D.bytes disk.old) }
-    ensures quiet { IsQuiet D.Disk.own disk.old disk.new }
-    ensures told_stays { is_some (D.bytes disk.new) ≡ is_some (D.bytes disk.old) }
-    ensures name_stays { D.opened_as disk.new ≡ D.opened_as disk.old }
+    ensures stays { OnlyReads D.Disk.own disk.old disk.new result }
     ensures count { CountsOpening (D.faults disk.old) (D.faults disk.new) result }
 {
     let mut head = [0; 5];
@@ -119,10 +113,7 @@ fn read_payload<D: Disk>(
     ensures exact { IfOk result (λ o. IfSome (D.bytes disk.old) (λ b. IsPayload b at count (option_map (λ v. v.items) o))) }
     ensures whole { (at' : ℕ) → result ≡ Err (FileError.NotEditFile at') → ⊥ }
     ensures unchanged { LeavesRefused D.Disk.own disk.old disk.new result }
-    ensures bytes_stay { OnOk result (D.bytes disk.new ≡ D.bytes disk.old) }
-    ensures quiet { IsQuiet D.Disk.own disk.old disk.new }
-    ensures told_stays { is_some (D.bytes disk.new) ≡ is_some (D.bytes disk.old) }
-    ensures name_stays { D.opened_as disk.new ≡ D.opened_as disk.old }
+    ensures stays { OnlyReads D.Disk.own disk.old disk.new result }
     ensures count { CountsOpening (D.faults disk.old) (D.faults disk.new) result }
 {
     let mut payload = vec![in alloc; 0; count as usize]?;

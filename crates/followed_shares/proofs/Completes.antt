@@ -36,10 +36,10 @@ use Rattle.mirror_client.specs.declared.refusal.FollowError.{FollowError}
 use Rattle.mirror_client.specs.declared.refusal.FollowError.TheVariants.{Refused, BadReply, Ended, Listing as not_taken, Codes, LinkFault, Memory}
 use Rattle.mirror_client.specs.Exchanges.{AreAnswered, Exchange, messages}
 use Rattle.mirror_client.specs.Points.{Point}
-use Rattle.mirror_client.specs.Stages.{Asking, Begun, Closed, Holding, Leads, LeadsOn, Learned, Path, Stage, UndueBehind, UndueIn, Walks, due, listings_in}
-use Rattle.mirror_client.specs.Steps.{IsRefusedBy, Known, TellsListing, UndueEnd, UndueListing, UndueTable, held_after, with_listings}
+use Rattle.mirror_client.specs.Stages.{Asking, Begun, Closed, Holding, Leads, LeadsOn, Learned, Path, Stage, UnexpectedAfter, UnexpectedIn, Walks, due, listings_in}
+use Rattle.mirror_client.specs.Steps.{IsRefusedBy, Known, TellsListing, UnexpectedEnd, UnexpectedListing, UnexpectedTable, held_after, with_listings}
 use Rattle.mirror_client.specs.Stopping.{BeginsBad, EndsEarly, NoReply, Stops}
-use Rattle.mirror_client.specs.Tellings.{IsTag, Tells, UndueNumber, number_told}
+use Rattle.mirror_client.specs.Tellings.{IsTag, Tells, UnexpectedNumber, number_told}
 use Rattle.mirror_client.proofs.StageFacts.{held_more}
 use Rattle.mirror_client.proofs.TellingFacts.{tags_once}
 use Rattle.followed_shares.specs.Laws.{ServedRunsGoOn}
@@ -236,19 +236,19 @@ begins_whole p bytes rest told LinkFault owed b none = inl refl
 begins_whole p bytes rest told Memory owed b none = inr refl
 
 -- the answer is the expected one
-pub stops_outside : (request : List ℕ) (Undue : ℕ → Reply → FollowError → Type 0) (p : Point) (taken : Option (List ℕ)) (e : FollowError) (bytes rest : List ℕ) (told : Reply)
-    → p.owed ≡ Some bytes → Begins bytes rest told → ((used : ℕ) → Undue used told e → IsOutside e) → Stops request Undue p taken e → IsOutside e
-stops_outside request Undue p taken e bytes rest told owed b never (inl s) = begins_whole p bytes rest told e owed b s.cause
-stops_outside request Undue p taken e bytes rest told owed b never (inr a) =
+pub stops_outside : (request : List ℕ) (Unexpected : ℕ → Reply → FollowError → Type 0) (p : Point) (taken : Option (List ℕ)) (e : FollowError) (bytes rest : List ℕ) (told : Reply)
+    → p.owed ≡ Some bytes → Begins bytes rest told → ((used : ℕ) → Unexpected used told e → IsOutside e) → Stops request Unexpected p taken e → IsOutside e
+stops_outside request Unexpected p taken e bytes rest told owed b never (inl s) = begins_whole p bytes rest told e owed b s.cause
+stops_outside request Unexpected p taken e bytes rest told owed b never (inr a) =
     let split = owed_split p.owed a.there.owed bytes (messages (a.exchange ∷ [])) owed a.went.read in
     let is = answer_is a.exchange.message a.exchange.answer told bytes split.0 rest a.went.answered.0
     (split.1 ∙ ap (λ (front : List ℕ). front ++ split.0) (append-nil (print_message a.exchange.message))) b in
-    never a.there.used (subst (λ (x : Reply). Undue a.there.used x e) is.0 a.undue)
+    never a.there.used (subst (λ (x : Reply). Unexpected a.there.used x e) is.0 a.unexpected)
 
 not_both : (r : Result (List CodeRow) CodeError) (e : CodeError) (rows : List CodeRow) → r ≡ Err e → r ≡ Ok rows → ⊥
 not_both r e rows h k = true≢false (sym (ap is_ok k) ∙ ap is_ok h)
 
-pub table_due : (used : ℕ) (e : FollowError) → UndueTable used (200, spelling (table_reply standard_rows)) e → IsOutside e
+pub table_due : (used : ℕ) (e : FollowError) → UnexpectedTable used (200, spelling (table_reply standard_rows)) e → IsOutside e
 table_due used (Refused status) h = absurd (h.1 refl)
 table_due used (BadReply at) h = absurd (h.1 (table_reply standard_rows) table_tag)
 table_due used (Ended at) h = absurd h
@@ -260,7 +260,7 @@ table_due used LinkFault h = inl refl
 table_due used Memory h = inr refl
 
 pub number_due : (c : Four) (rows : List CodeRow) (tag : Tree) (n used : ℕ) (e : FollowError) → rows ≡ standard_rows → IsTag standard_rows (spelling tag) tag → number_told c tag ≡ Some n
-    → UndueNumber c rows used (200, spelling tag) e → IsOutside e
+    → UnexpectedNumber c rows used (200, spelling tag) e → IsOutside e
 number_due c rows tag n used (Refused status) standard is told h = absurd (h.1 refl)
 number_due c rows tag n used (BadReply at) standard is told h =
     let none : number_told c tag ≡ None = h.1 tag (subst (λ (r : List CodeRow). IsTag r (spelling tag) tag) (sym standard) is) in
@@ -271,7 +271,7 @@ number_due c rows tag n used (Codes error) standard is told h = absurd h
 number_due c rows tag n used LinkFault standard is told h = inl refl
 number_due c rows tag n used Memory standard is told h = inr refl
 
-pub end_due : (used : ℕ) (e : FollowError) → UndueEnd used (204, []) e → IsOutside e
+pub end_due : (used : ℕ) (e : FollowError) → UnexpectedEnd used (204, []) e → IsOutside e
 end_due used (Refused status) h = absurd (h.1 refl)
 end_due used (BadReply at) h = absurd h
 end_due used (Ended at) h = absurd h
@@ -297,7 +297,7 @@ taken_due keep m h tag (mirror.Backwards held told) later is refused =
 taken_due keep m h tag mirror.Memory later is refused = refused
 
 pub listing_due : (keep : ℕ) (rows : List CodeRow) (m : Mirrored) (h : List Entry) (used : ℕ) (e : FollowError) → rows ≡ standard_rows → m.held.revision ≤ revision (batches h) → IsWhole h
-    → UndueListing rows m used (200, spelling (listing_body keep h m.target (mirror_look m.query m.meta m.held.revision))) e → IsOutside e
+    → UnexpectedListing rows m used (200, spelling (listing_body keep h m.target (mirror_look m.query m.meta m.held.revision))) e → IsOutside e
 listing_due keep rows m h used (Refused status) standard later whole x = absurd (x.1 refl)
 listing_due keep rows m h used (BadReply at) standard later whole x =
     let tag : Tree = listing_body keep h m.target (mirror_look m.query m.meta m.held.revision) in
@@ -312,34 +312,34 @@ listing_due keep rows m h used LinkFault standard later whole x = inl refl
 listing_due keep rows m h used Memory standard later whole x = inr refl
 
 behind_stops : (s : Settings) (m : Mirrored) (rounds session : ℕ) (k : Known) (ls : List Listing) (request : List ℕ) (p : Point) (taken : Option (List ℕ)) (e : FollowError) (bytes : List ℕ)
-    (b : IsBehind s m rounds session k ls bytes) → p.owed ≡ Some bytes → Stops request (UndueBehind (length ls == rounds) k) p taken e → IsOutside e
+    (b : IsBehind s m rounds session k ls bytes) → p.owed ≡ Some bytes → Stops request (UnexpectedAfter (length ls == rounds) k) p taken e → IsOutside e
 behind_stops s m rounds session k ls request p taken e bytes b owed stops = by_rounds b.rs b.asked b.count
   where
     by_rounds : (rs : List Round) → Serves s (asked_behind session (held_after m.held ls).revision rs) b.point bytes b.rest → length ls + length rs ≡ rounds → IsOutside e
     by_rounds [] asked count =
         let last : (length ls == rounds) ≡ true = eq-eqb (length ls) rounds (omega (arith, count)) in
-        stops_outside request UndueEnd p taken e bytes b.rest (204, []) owed (empty_served s (want.Logout session) b.point bytes b.rest asked refl) (λ used h. end_due used e h)
-        (subst (λ (x : Bool). Stops request (UndueBehind x k) p taken e) last stops)
+        stops_outside request UnexpectedEnd p taken e bytes b.rest (204, []) owed (empty_served s (want.Logout session) b.point bytes b.rest asked refl) (λ used h. end_due used e h)
+        (subst (λ (x : Bool). Stops request (UnexpectedAfter x k) p taken e) last stops)
     by_rounds (r ∷ rs) asked count =
         let more : (length ls == rounds) ≡ false = ne_eqb (length ls) rounds (λ (same : length ls ≡ rounds). omega (arith, count, same)) in
         let body : Tree = revision_body (revision (batches b.point)) in
         let read = revision_tag b.point b.point_whole in
-        stops_outside request (UndueNumber (code "musr") k.rows) p taken e bytes b.rest (200, spelling body) owed
+        stops_outside request (UnexpectedNumber (code "musr") k.rows) p taken e bytes b.rest (200, spelling body) owed
         (tag_served s (want.Update session (held_after m.held ls).revision) b.point bytes b.rest body asked refl (few standard_rows body read))
         (λ used h. number_due (code "musr") k.rows body (revision (batches b.point)) used e b.standard read refl h)
-        (subst (λ (x : Bool). Stops request (UndueBehind x k) p taken e) more stops)
+        (subst (λ (x : Bool). Stops request (UnexpectedAfter x k) p taken e) more stops)
 
 stage_stops : (host : List ℕ) (s : Settings) (m : Mirrored) (rounds : ℕ) (stage : Stage) (request : List ℕ) (p : Point) (taken : Option (List ℕ)) (e : FollowError) (bytes : List ℕ)
-    → IsReady s m rounds stage bytes → p.owed ≡ Some bytes → due host m rounds stage ≡ Some request → Stops request (UndueIn m rounds stage) p taken e → IsOutside e
+    → IsReady s m rounds stage bytes → p.owed ≡ Some bytes → due host m rounds stage ≡ Some request → Stops request (UnexpectedIn m rounds stage) p taken e → IsOutside e
 unfolding listing_tag
 stage_stops host s m rounds Begun request p taken e bytes b owed due stops =
-    stops_outside request UndueTable p taken e bytes b.rest (200, spelling (table_reply standard_rows)) owed (table_begins s m rounds bytes b) (λ used h. table_due used e h) stops
+    stops_outside request UnexpectedTable p taken e bytes b.rest (200, spelling (table_reply standard_rows)) owed (table_begins s m rounds bytes b) (λ used h. table_due used e h) stops
 stage_stops host s m rounds (Learned rows) request p taken e bytes b owed due stops =
     let body : Tree = login_body (next_session b.login) in
-    stops_outside request (UndueNumber (code "mlid") rows) p taken e bytes b.rest (200, spelling body) owed (login_begins s m rounds rows bytes b)
+    stops_outside request (UnexpectedNumber (code "mlid") rows) p taken e bytes b.rest (200, spelling body) owed (login_begins s m rounds rows bytes b)
     (λ used h. number_due (code "mlid") rows body (next_session b.login) used e b.standard (login_tag b.login b.login_whole) refl h) stops
 stage_stops host s m rounds (Asking k ls) request p taken e bytes b owed due stops =
-    stops_outside request (UndueListing k.rows (with_listings m ls)) p taken e bytes b.1.serves.0 (200, spelling (listing_tag s m rounds b.0 k ls bytes b.1)) owed
+    stops_outside request (UnexpectedListing k.rows (with_listings m ls)) p taken e bytes b.1.serves.0 (200, spelling (listing_tag s m rounds b.0 k ls bytes b.1)) owed
     (listing_begins s m rounds b.0 k ls bytes b.1) (λ used h. listing_due s.keep k.rows (with_listings m ls) b.1.r.0 used e b.1.standard b.1.later.0 b.1.whole.0 h) stops
 stage_stops host s m rounds (Holding k ls) request p taken e bytes b owed due stops =
     behind_stops s m rounds b.0 k ls request p taken e bytes b.1 owed stops

@@ -14,7 +14,7 @@ use Rattle.share_history.specs.Keyed.{ascending, pairs_at}
 use Rattle.share_history.specs.LastSaid.{Playlist, Plain, Ruled, item_at, last_said, list_at, member_at, only_if, says_item}
 use Rattle.share_history.specs.Named.{keys_in, named_keys}
 use Rattle.share_history.specs.Numbers.{base_list}
-use Rattle.share_history.specs.Rows.{if_asked, in_list, in_target, is_asked, row_at, rows}
+use Rattle.share_history.specs.Rows.{if_selected, in_list, in_target, is_selected, row_at, rows}
 use Rattle.share_history.specs.Whole.{AreWhole, IsWholeRow, PutsWhole}
 use Rattle.share_history.proofs.KeyedFacts.{all-ascending}
 use Rattle.share_history.proofs.WholeFacts.{each_both}
@@ -73,9 +73,9 @@ found_says (Some found) h = h
 item_finds : (es : List Edit) (k : ℕ) → AreWhole es → Finds (item_at es k)
 item_finds es k whole = found_says (last_said (says_item k) es) (all_say k es whole)
 
-asked_finds : (q : Option Query) (found : Option Row) → Finds found → Finds (option_and_then (if_asked q) found)
-asked_finds q None h = tt
-asked_finds q (Some row) h = kept (is_asked q row)
+selected_finds : (q : Option Query) (found : Option Row) → Finds found → Finds (option_and_then (if_selected q) found)
+selected_finds q None h = tt
+selected_finds q (Some row) h = kept (is_selected q row)
   where
     kept : (b : Bool) → Finds (only_if b row)
     kept true = h
@@ -88,7 +88,7 @@ member_finds es (Some item) whole = item_finds es item whole
 list_finds : (es : List Edit) (c k : ℕ) (found : Option Playlist) → AreWhole es → Finds (in_list found es c k)
 list_finds es c k None whole = tt
 list_finds es c k (Some (Plain name)) whole = member_finds es (member_at es c k) whole
-list_finds es c k (Some (Ruled name rule)) whole = asked_finds (Some rule) (item_at es k) (item_finds es k whole)
+list_finds es c k (Some (Ruled name rule)) whole = selected_finds (Some rule) (item_at es k) (item_finds es k whole)
 
 target_finds : (es : List Edit) (target : Target) (k : ℕ) → AreWhole es → Finds (in_target es target k)
 target_finds es Items k whole = item_finds es k whole
@@ -99,7 +99,7 @@ target_finds es (Container c) k whole = by_base (c == base_list)
     by_base false = list_finds es c k (list_at es c) whole
 
 row_finds : (es : List Edit) (target : Target) (q : Option Query) (k : ℕ) → AreWhole es → Finds (row_at es target q k)
-row_finds es target q k whole = asked_finds q (in_target es target k) (target_finds es target k whole)
+row_finds es target q k whole = selected_finds q (in_target es target k) (target_finds es target k whole)
 
 -- ---- keys
 

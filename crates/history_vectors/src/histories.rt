@@ -5,7 +5,7 @@ ghost use Rattle.share_history.specs.Histories.{batches, revision, all_edits};
 
 use dmap_tags::{Tag, encode_into};
 use item_model::{Entry, Query};
-use plain_share::{has_place, has_room_for};
+use plain_share::{has_room_for, is_below_entry_limit};
 use records_import::read_batch;
 use song_query::read;
 use std::alloc::{AllocError, Global};
@@ -51,7 +51,7 @@ pub(crate) fn is_small(history: &[Entry]) -> bool
     ensures revision { IsTrue result → revision (batches history.now) < 2 ^ 32 }
     ensures edits { IsTrue result → length (all_edits history.now) + 1 < 2 ^ 32 }
 {
-    if !has_place(history) {
+    if !is_below_entry_limit(history) {
         return false;
     }
     has_room_for(history, 0)

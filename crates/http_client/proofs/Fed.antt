@@ -1,4 +1,4 @@
--- What a reader of replies has read after a further piece, over plain variables.
+-- What a reader of replies has read after a further chunk, over plain variables.
 use Rattle.std.proofs.Common.{◌≡◌, ℕ, ◌+◌, ◌-◌, ◌≤◌, List, [], ◌∷◌, ◌++◌, length, take, is_some, true, false, Option, Some, None, Ok, Err, option_to_list, refl, sym, ap, ◌∙◌, inl, inr, subst, append_assoc, append-nil, length-append, arith}
 use Rattle.std.proofs.lemmas.Bool.{cases_lt}
 use Rattle.std.proofs.lemmas.List.{length-take-le, take_all}
@@ -15,7 +15,7 @@ use Rattle.http_client.specs.Gathers.{Behind, Gathers, GivesReply}
 use Rattle.http_client.specs.Replies.{AreReplies, Explains, HasRead, IsReply, Joins, ReadAs, Reader, Reply}
 use Rattle.http_client.proofs.ReplyLaws.{flat_both, joins_stay, none_in_nothing, nothing_goes, zip_both}
 
--- ---- one piece
+-- ---- one chunk
 
 all_taken : (old mid : Gathered) (piece : List ℕ) (n : ℕ) → TakesSome old piece mid n → is_whole mid.phase ≡ false → n ≡ length piece
 all_taken old mid piece n h open_ = elim (cases_lt n (length piece)) [
@@ -42,7 +42,7 @@ gathered taken old mid new piece n None kind_is at partial h (same, open_) =
 gathered taken old mid new piece n (Some reply) kind_is at partial h (idle, whole, is) =
     (h.within, idle, moves old mid piece n kind_is at partial h, (mid.message, sym h.kept, is))
 
--- the lengths of a refused piece
+-- the lengths of a refused chunk
 pub stopped_counts : (old new : Gathered) (piece : List ℕ) (e : HeadError) → (h : IsStopped old piece new e)
     → (length (kept new) - length (kept old)) + length h.more ≡ length piece
 stopped_counts old new piece e h =

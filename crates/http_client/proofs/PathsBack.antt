@@ -13,9 +13,9 @@ use Rattle.std.specs.Str.{is_utf8}
 use Rattle.std.specs.List.{before_first}
 use Rattle.form_urlencoded.proofs.FormLemmas.{split_once_before_at}
 use Rattle.http_front.specs.Numbers.{small_number}
-use Rattle.http_front.specs.Routes.{Rows, all_routes, for_role, list_in, place_of, place_on, route_at}
-use Rattle.http_front.specs.declared.routes.Place.{Place}
-use Rattle.http_front.specs.declared.routes.Place.TheVariants as place
+use Rattle.http_front.specs.Routes.{Rows, all_routes, for_role, list_in, resource_of, resource_on, route_at}
+use Rattle.http_front.specs.declared.routes.Resource.{Resource}
+use Rattle.http_front.specs.declared.routes.Resource.TheVariants as resource
 use Rattle.item_model.specs.declared.request.Browse.TheVariants as browse
 use Rattle.item_model.specs.declared.request.Look.{Look}
 use Rattle.item_model.specs.declared.request.Target.{Target}
@@ -174,8 +174,8 @@ members_named (d ∷ ds) some h =
 
 -- ---- the resources of the paths
 
-placed : (r : Role) (path : List ℕ) (route : Route) (p : Place) → is_utf8 path ≡ true → route_at path ≡ Some route → place_on route path ≡ Some p → for_role r p ≡ Some p
-    → place_of r path ≡ Some p
+placed : (r : Role) (path : List ℕ) (route : Route) (p : Resource) → is_utf8 path ≡ true → route_at path ≡ Some route → resource_on route path ≡ Some p → for_role r p ≡ Some p
+    → resource_of r path ≡ Some p
 placed r path route p text found on for = rw (text, found, on) for
 
 list_back : (list : ℕ) → list < 2 ^ 32 → list_in (list_front ++ (decimal list ++ codes "/items")) ≡ Some list
@@ -188,42 +188,42 @@ items_named : (list : ℕ) → list < 2 ^ 32 → route_at (rows_path (target.Con
 items_named list h = let wide : list < 2 ^ 64 = omega (arith, h) in members_named (decimal list) (decimal_some list wide) (decimal_digits list wide)
 
 -- the resource of an operation's path
-abbrev pub place_for : Want → Place
-place_for wanted.ServerInfo = place.ServerInfo
-place_for wanted.Codes = place.Codes
-place_for wanted.Login = place.Login
-place_for (wanted.Logout session) = place.Logout
-place_for (wanted.Update session revision) = place.Update
-place_for (wanted.Databases session) = place.Databases
-place_for (wanted.Rows session t look) = place.Rows t
-place_for (wanted.Lists session) = place.Lists
-place_for (wanted.Values session browse asked) = place.Values browse
-place_for (wanted.Edit body) = place.Edit
-place_for wanted.Stop = place.Stop
-place_for (wanted.Bad error) = place.Stop
+abbrev pub resource_for : Want → Resource
+resource_for wanted.ServerInfo = resource.ServerInfo
+resource_for wanted.Codes = resource.Codes
+resource_for wanted.Login = resource.Login
+resource_for (wanted.Logout session) = resource.Logout
+resource_for (wanted.Update session revision) = resource.Update
+resource_for (wanted.Databases session) = resource.Databases
+resource_for (wanted.Rows session t look) = resource.Rows t
+resource_for (wanted.Lists session) = resource.Lists
+resource_for (wanted.Values session browse asked) = resource.Values browse
+resource_for (wanted.Edit body) = resource.Edit
+resource_for wanted.Stop = resource.Stop
+resource_for (wanted.Bad error) = resource.Stop
 
-taken_place : (r : Role) (want : Want) → CanSend want → IsTaken r want → for_role r (place_for want) ≡ Some (place_for want)
-taken_place role.Edit want h t = refl
-taken_place role.Listen wanted.ServerInfo h t = refl
-taken_place role.Listen wanted.Codes h t = refl
-taken_place role.Listen wanted.Login h t = refl
-taken_place role.Listen (wanted.Logout session) h t = refl
-taken_place role.Listen (wanted.Update session revision) h t = refl
-taken_place role.Listen (wanted.Databases session) h t = refl
-taken_place role.Listen (wanted.Rows session target look) h t = refl
-taken_place role.Listen (wanted.Lists session) h t = refl
-taken_place role.Listen (wanted.Values session browse asked) h t = refl
-taken_place role.Listen (wanted.Edit body) h t = absurd t
-taken_place role.Listen wanted.Stop h t = absurd t
-taken_place role.Listen (wanted.Bad error) h t = absurd h
+taken_resource : (r : Role) (want : Want) → CanSend want → IsTaken r want → for_role r (resource_for want) ≡ Some (resource_for want)
+taken_resource role.Edit want h t = refl
+taken_resource role.Listen wanted.ServerInfo h t = refl
+taken_resource role.Listen wanted.Codes h t = refl
+taken_resource role.Listen wanted.Login h t = refl
+taken_resource role.Listen (wanted.Logout session) h t = refl
+taken_resource role.Listen (wanted.Update session revision) h t = refl
+taken_resource role.Listen (wanted.Databases session) h t = refl
+taken_resource role.Listen (wanted.Rows session target look) h t = refl
+taken_resource role.Listen (wanted.Lists session) h t = refl
+taken_resource role.Listen (wanted.Values session browse asked) h t = refl
+taken_resource role.Listen (wanted.Edit body) h t = absurd t
+taken_resource role.Listen wanted.Stop h t = absurd t
+taken_resource role.Listen (wanted.Bad error) h t = absurd h
 
 abbrev IsRouted : Want → Type 0
-IsRouted want = (route : Route) × (route_at (path_to want) ≡ Some route) × (place_on route (path_to want) ≡ Some (place_for want))
+IsRouted want = (route : Route) × (route_at (path_to want) ≡ Some route) × (resource_on route (path_to want) ≡ Some (resource_for want))
 
 rows_routed : (session : ℕ) (t : Target) (look : Look) → HasListNumber t → IsRouted (wanted.Rows session t look)
 unfolding route_at all_routes scan seek param_step
 rows_routed session target.Items look h = (Items, refl, refl)
-rows_routed session (target.Container list) look h = (Members, items_named list h, ap (option_map (λ n. place.Rows (target.Container n))) (list_back list h))
+rows_routed session (target.Container list) look h = (Members, items_named list h, ap (option_map (λ n. resource.Rows (target.Container n))) (list_back list h))
 
 routed : (want : Want) → CanSend want → HasNumbers want → IsRouted want
 unfolding route_at all_routes scan seek param_step
@@ -244,7 +244,7 @@ routed wanted.Stop h n = (Stop, refl, refl)
 routed (wanted.Bad error) h n = absurd h
 
 -- the path of an operation names its resource
-pub place_back : (r : Role) (want : Want) → CanSend want → HasNumbers want → IsTaken r want → place_of r (path_to want) ≡ Some (place_for want)
+pub place_back : (r : Role) (want : Want) → CanSend want → HasNumbers want → IsTaken r want → resource_of r (path_to want) ≡ Some (resource_for want)
 place_back r want h n t =
     let found = routed want h n in
-    placed r (path_to want) found.0 (place_for want) (path_text want n) found.1 found.2 (taken_place r want h t)
+    placed r (path_to want) found.0 (resource_for want) (path_text want n) found.1 found.2 (taken_resource r want h t)

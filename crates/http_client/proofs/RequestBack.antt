@@ -134,7 +134,7 @@ parts_for ask host may numbers sent = record {
   len_is = λ n e. len_small (verb_for ask.want) (length (sent_body ask.want)) n (body_small ask.want may sent.small) e;
 }
 
--- ---- the message and its ask
+-- ---- the message and the request that it encodes
 
 is_head : (ask : Ask) (host : List ℕ) → AreParts (verb_text (verb_for ask.want)) (target_of ask.want) host (len_for ask.want) → IsHead (head_for ask.want host) (tree_for ask.want host)
 is_head ask host parts =
@@ -184,7 +184,7 @@ sent_spells ask host may numbers utf8 read sent =
       },
     )
 
--- the text reads as the ask
+-- the text is read as the request
 pub request_read : (ask : Ask) (host text : List ℕ) → text ≡ request_text ask.want host → CanSend ask.want → HasNumbers ask.want → IsTextOf ask.want → IsRead ask.want → IsSent ask host
     → IsReading ask.role text (reading (ask ∷ []) [] None)
 request_read ask host text is may numbers utf8 read sent =

@@ -4,11 +4,11 @@ use Rattle.std.specs.Prelude.{codes, decimal}
 use Rattle.std.specs.Str.{bytes_eq}
 use Rattle.http_front.specs.Numbers.{number_in, range_in}
 use Rattle.http_front.specs.Parameters.{meta_in, nonempty_value, unless_empty}
-use Rattle.http_front.specs.Routes.{place_of, verb_of, verb_text}
+use Rattle.http_front.specs.Routes.{resource_of, verb_of, verb_text}
 use Rattle.http_front.specs.Targets.{local_part, path_of, query_of}
-use Rattle.http_front.specs.Wants.{AskedRows, AtPlace, MetaThen, NumberThen, PlaceWant, QueryThen, RangeThen, RowsInRange, RowsWant, ValuesWant, Wants, WithMethod, filter_or}
-use Rattle.http_front.specs.declared.routes.Place.{Place}
-use Rattle.http_front.specs.declared.routes.Place.TheVariants as place
+use Rattle.http_front.specs.Wants.{AskedRows, ForResource, MetaThen, NumberThen, ResourceWant, QueryThen, RangeThen, RowsInRange, RowsWant, ValuesWant, Wants, WithMethod, filter_or}
+use Rattle.http_front.specs.declared.routes.Resource.{Resource}
+use Rattle.http_front.specs.declared.routes.Resource.TheVariants as resource
 use Rattle.item_model.specs.QuerySeen.{tree_of}
 use Rattle.item_model.specs.declared.query.Query.{Query}
 use Rattle.item_model.specs.declared.request.Browse.{Browse}
@@ -28,7 +28,7 @@ use Rattle.http_client.specs.Requests.{CanSend, HasNumbers, IsRead, IsSmall, IsT
 use Rattle.http_client.specs.Targets.{form_text, parameters_of, path_to, query_value, target_of, unless_zero}
 use Rattle.http_client.proofs.FormsBack.{AreTexts, or_else, value_back, value_under}
 use Rattle.http_client.proofs.ParametersBack.{base_under, meta_under, number_under, query_kept, range_under}
-use Rattle.http_client.proofs.PathsBack.{place_back, place_for}
+use Rattle.http_client.proofs.PathsBack.{place_back, resource_for}
 use Rattle.http_client.proofs.TargetsBack.{target_path, target_query}
 
 -- ---- a parameter, and then the rest
@@ -66,7 +66,7 @@ session_back : (want : Want) (session : ℕ) (of : ℕ → Want) → number_in (
 session_back want session of e h = number_then (codes "session-id") (number_in (nonempty_value (codes "session-id") (form_text want))) session (λ s w. w ≡ of s) want e h
 
 update_back : (session revision : ℕ) → AreTexts (parameters_of (Update session revision)) → HasNumbers (Update session revision)
-    → PlaceWant place.Update (form_text (Update session revision)) (sent_body (Update session revision)) (Update session revision)
+    → ResourceWant resource.Update (form_text (Update session revision)) (sent_body (Update session revision)) (Update session revision)
 update_back session revision texts n =
     let want = Update session revision in
     let query = form_text want in
@@ -112,12 +112,12 @@ values_back session browse asked texts may n small =
     (λ s. QueryThen (filter_or (nonempty_value (codes "filter") query) (nonempty_value (codes "query") query)) (λ o w. w ≡ Values s browse o)) want (session_under want session texts refl n)
     (query_then (filter_or (nonempty_value (codes "filter") query) (nonempty_value (codes "query") query)) asked (λ o w. w ≡ Values session browse o) want both may small refl)
 
-edit_back : (body : Result (List OneEdit) RecordError) → CanSend (Edit body) → IsRead (Edit body) → PlaceWant place.Edit (form_text (Edit body)) (sent_body (Edit body)) (Edit body)
+edit_back : (body : Result (List OneEdit) RecordError) → CanSend (Edit body) → IsRead (Edit body) → ResourceWant resource.Edit (form_text (Edit body)) (sent_body (Edit body)) (Edit body)
 unfolding sent_body
 edit_back (Ok batch) h read = (Ok batch, read, refl)
 edit_back (Err e) h read = absurd h
 
-want_read : (want : Want) → AreTexts (parameters_of want) → CanSend want → HasNumbers want → IsSmall want → IsRead want → PlaceWant (place_for want) (form_text want) (sent_body want) want
+want_read : (want : Want) → AreTexts (parameters_of want) → CanSend want → HasNumbers want → IsSmall want → IsRead want → ResourceWant (resource_for want) (form_text want) (sent_body want) want
 want_read ServerInfo texts may n small read = refl
 want_read Codes texts may n small read = refl
 want_read Login texts may n small read = refl
@@ -133,7 +133,7 @@ want_read (Edit body) texts may n small read = edit_back body may read
 want_read Stop texts may n small read = refl
 want_read (Bad error) texts may n small read = absurd may
 
-same_method : (want : Want) → CanSend want → bytes_eq (verb_text (verb_for want)) (verb_text (verb_of (place_for want))) ≡ true
+same_method : (want : Want) → CanSend want → bytes_eq (verb_text (verb_for want)) (verb_text (verb_of (resource_for want))) ≡ true
 same_method ServerInfo h = refl
 same_method Codes h = refl
 same_method Login h = refl
@@ -147,16 +147,16 @@ same_method (Edit body) h = refl
 same_method Stop h = refl
 same_method (Bad error) h = absurd h
 
-at_place : (o : Option Place) (p : Place) (method query body : List ℕ) (want : Want) → o ≡ Some p → bytes_eq method (verb_text (verb_of p)) ≡ true → PlaceWant p query body want
-    → AtPlace o method query body want
-at_place o p method query body want e right h =
-    subst (λ (x : Option Place). AtPlace x method query body want) (sym e) (subst (λ (b : Bool). WithMethod b p query body want) (sym right) h)
+for_resource : (o : Option Resource) (p : Resource) (method query body : List ℕ) (want : Want) → o ≡ Some p → bytes_eq method (verb_text (verb_of p)) ≡ true → ResourceWant p query body want
+    → ForResource o method query body want
+for_resource o p method query body want e right h =
+    subst (λ (x : Option Resource). ForResource x method query body want) (sym e) (subst (λ (b : Bool). WithMethod b p query body want) (sym right) h)
 
 pub want_back : (r : Role) (want : Want) → AreTexts (parameters_of want) → CanSend want → HasNumbers want → IsSmall want → IsRead want → IsTaken r want
     → Wants r (verb_text (verb_for want)) (path_of (local_part (target_of want))) (query_of (local_part (target_of want))) (sent_body want) want
 want_back r want texts may n small read taken =
     let here : Wants r (verb_text (verb_for want)) (path_to want) (form_text want) (sent_body want) want =
-    at_place (place_of r (path_to want)) (place_for want) (verb_text (verb_for want)) (form_text want) (sent_body want) want (place_back r want may n taken) (same_method want may)
+    for_resource (resource_of r (path_to want)) (resource_for want) (verb_text (verb_for want)) (form_text want) (sent_body want) want (place_back r want may n taken) (same_method want may)
     (want_read want texts may n small read) in
     subst (λ (path : List ℕ). Wants r (verb_text (verb_for want)) path (query_of (local_part (target_of want))) (sent_body want) want) (sym (target_path want may n))
     (subst (λ (query : List ℕ). Wants r (verb_text (verb_for want)) (path_to want) query (sent_body want) want) (sym (target_query want may n)) here)

@@ -1,4 +1,4 @@
--- What a further piece makes of an incomplete reply.
+-- What a further chunk makes of an incomplete reply.
 use Rattle.std.specs.Prelude.{◌≡◌, ◌≢◌, ℕ, ◌+◌, ◌<◌, ◌≤◌, List, [], ◌++◌, length, take, true, false, Option, Some, None, Result, Ok, Err}
 use Rattle.http_heads.specs.declared.kind.Kind.TheVariants as kind
 use Rattle.http_heads.specs.declared.refusal.HeadError.{HeadError}

@@ -11,7 +11,7 @@ pub enum ReplyError {
     /// No reply can begin with the bytes; `at` is the number of bytes read, up to the one that shows it.
     #[error("bad reply at {at}")]
     Bad { at: u64 },
-    #[error("memory")]
+    #[error("out of memory")]
     Memory,
 }
 

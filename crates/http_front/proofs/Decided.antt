@@ -35,11 +35,11 @@ use Rattle.http_front.specs.Asks.{Spells}
 use Rattle.http_front.specs.Numbers.{number_in, range_in}
 use Rattle.http_front.specs.Parameters.{nonempty_value, meta_in}
 use Rattle.http_front.specs.Readings.{IsReading, Reading, reading}
-use Rattle.http_front.specs.Routes.{place_of, verb_of, verb_text}
+use Rattle.http_front.specs.Routes.{resource_of, verb_of, verb_text}
 use Rattle.http_front.specs.Targets.{local_part, path_of, query_of}
-use Rattle.http_front.specs.Wants.{NumberThen, MetaThen, RangeThen, QueryThen, RowsInRange, AskedRows, RowsWant, ValuesWant, filter_or, BodyReads, PlaceWant, WithMethod, AtPlace}
-use Rattle.http_front.specs.declared.routes.Place.{Place}
-use Rattle.http_front.specs.declared.routes.Place.TheVariants as place
+use Rattle.http_front.specs.Wants.{NumberThen, MetaThen, RangeThen, QueryThen, RowsInRange, AskedRows, RowsWant, ValuesWant, filter_or, BodyReads, ResourceWant, WithMethod, ForResource}
+use Rattle.http_front.specs.declared.routes.Resource.{Resource}
+use Rattle.http_front.specs.declared.routes.Resource.TheVariants as resource
 
 -- some value fits
 abbrev HasWant : (Want → Type 0) → Type 0
@@ -98,37 +98,37 @@ body_reads : (body : List ℕ) (answer : Result (List OneEdit) RecordError) → 
 body_reads body (Ok edits) fine x = x
 body_reads body (Err e) fine x = ((λ (is : e ≡ record_fault.Memory). fine (ap (λ (d : RecordError). Err d) is)), x)
 
-edit_for : (query body : List ℕ) → HasWant (PlaceWant place.Edit query body)
+edit_for : (query body : List ℕ) → HasWant (ResourceWant resource.Edit query body)
 edit_for query body = let a = batch_for (table_of body) in (Edit a.0, (a.0, body_reads body a.0 a.1 a.2, refl))
 
 session_for : (query : List ℕ) (of : ℕ → Want) → HasWant (NumberThen (codes "session-id") (number_in (nonempty_value (codes "session-id") query)) (λ session want. want ≡ of session))
 session_for query of =
     number_for (codes "session-id") (number_in (nonempty_value (codes "session-id") query)) (λ session want. want ≡ of session) (λ session. (of session, refl))
 
-place_for : (p : Place) (query body : List ℕ) → HasWant (PlaceWant p query body)
-place_for place.ServerInfo query body = (ServerInfo, refl)
-place_for place.Codes query body = (Codes, refl)
-place_for place.Login query body = (Login, refl)
-place_for place.Logout query body = session_for query (λ session. Logout session)
-place_for place.Update query body =
+resource_for : (p : Resource) (query body : List ℕ) → HasWant (ResourceWant p query body)
+resource_for resource.ServerInfo query body = (ServerInfo, refl)
+resource_for resource.Codes query body = (Codes, refl)
+resource_for resource.Login query body = (Login, refl)
+resource_for resource.Logout query body = session_for query (λ session. Logout session)
+resource_for resource.Update query body =
     number_for (codes "session-id") (number_in (nonempty_value (codes "session-id") query))
     (λ session. NumberThen (codes "revision-number") (number_in (nonempty_value (codes "revision-number") query)) (λ revision want. want ≡ Update session revision))
     (λ session. number_for (codes "revision-number") (number_in (nonempty_value (codes "revision-number") query)) (λ revision want. want ≡ Update session revision)
     (λ revision. (Update session revision, refl)))
-place_for place.Databases query body = session_for query (λ session. Databases session)
-place_for place.Lists query body = session_for query (λ session. Lists session)
-place_for (place.Rows target) query body = rows_for target query
-place_for (place.Values browse) query body = values_for browse query
-place_for place.Edit query body = edit_for query body
-place_for place.Stop query body = (Stop, refl)
+resource_for resource.Databases query body = session_for query (λ session. Databases session)
+resource_for resource.Lists query body = session_for query (λ session. Lists session)
+resource_for (resource.Rows target) query body = rows_for target query
+resource_for (resource.Values browse) query body = values_for browse query
+resource_for resource.Edit query body = edit_for query body
+resource_for resource.Stop query body = (Stop, refl)
 
-method_for : (right : Bool) (p : Place) (query body : List ℕ) → HasWant (WithMethod right p query body)
-method_for true p query body = place_for p query body
+method_for : (right : Bool) (p : Resource) (query body : List ℕ) → HasWant (WithMethod right p query body)
+method_for true p query body = resource_for p query body
 method_for false p query body = (Bad (fault.Method (verb_of p)), refl)
 
-at_place_for : (o : Option Place) (method query body : List ℕ) → HasWant (AtPlace o method query body)
-at_place_for None method query body = (Bad fault.Path, refl)
-at_place_for (Some p) method query body = method_for (bytes_eq method (verb_text (verb_of p))) p query body
+for_resource_for : (o : Option Resource) (method query body : List ℕ) → HasWant (ForResource o method query body)
+for_resource_for None method query body = (Bad fault.Path, refl)
+for_resource_for (Some p) method query body = method_for (bytes_eq method (verb_text (verb_of p))) p query body
 
 -- every request is some `Ask`
 pub spelled_for : (role : Role) (m : Message) → IsMessage Request m → (ask : Ask) × Spells role m ask
@@ -137,7 +137,7 @@ spelled_for role m whole =
     let h = answer.0 in
     let path = path_of (local_part h.target) in
     let query = query_of (local_part h.target) in
-    let found = at_place_for (place_of role path) h.method query m.body in (
+    let found = for_resource_for (resource_of role path) h.method query m.body in (
       record { role = role; close = asks_to_close h.minor (fields_of h.fields); want = found.0 },
       (h, (whole, answer.1), record { role_is = refl; close_is = refl; want_is = found.1 }),
     )

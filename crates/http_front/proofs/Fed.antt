@@ -1,4 +1,4 @@
--- What a reader has read after a further piece, over plain variables.
+-- What a reader has read after a further chunk, over plain variables.
 use Rattle.std.proofs.Common.{◌≡◌, ◌≢◌, ℕ, ◌≤◌, List, [], ◌∷◌, ◌++◌, length, take, false, Option, Some, None, Ok, Err, is_some, option_to_list, refl, sym, ap, ◌∙◌, subst, append_assoc, append-nil, arith}
 use Rattle.std.proofs.lemmas.List.{take_all}
 use Rattle.std.specs.List.{flat_map}
@@ -29,7 +29,7 @@ goes_on role fed handed old new piece h kind more at partial = record {
   fault_is = λ e. open_goes Request new.message new.phase e (as_request new kind at) partial;
 }
 
--- a request is whole, and its ask waits
+-- a request is whole, and the reader has it ready
 pub comes_whole : (role : Role) (fed : List ℕ) (handed : List Ask) (rest piece : List ℕ) (m : Message) (ask : Ask) → IsReading role fed (reading handed rest None)
     → rest ++ piece ≡ print_message m → Spells role m ask → IsReading role (fed ++ piece) (reading (handed ++ ask ∷ []) [] None)
 comes_whole role fed handed rest piece m ask h whole spells = record {

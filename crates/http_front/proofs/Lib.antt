@@ -1,4 +1,4 @@
-pub mod FirstPlace
+pub mod FirstOffset
 pub mod OneAsk
 pub mod ReadingLaws
 pub mod Fed

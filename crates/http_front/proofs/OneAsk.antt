@@ -28,11 +28,11 @@ use Rattle.song_query.proofs.Once.{one_answer as one_text_answer}
 use Rattle.http_front.specs.Asks.{Asks, Spells}
 use Rattle.http_front.specs.Numbers.{number_in, range_in}
 use Rattle.http_front.specs.Parameters.{nonempty_value, meta_in}
-use Rattle.http_front.specs.Routes.{place_of, verb_of, verb_text}
+use Rattle.http_front.specs.Routes.{resource_of, verb_of, verb_text}
 use Rattle.http_front.specs.Targets.{local_part, path_of, query_of}
-use Rattle.http_front.specs.Wants.{NumberThen, MetaThen, RangeThen, QueryThen, RowsInRange, AskedRows, RowsWant, ValuesWant, filter_or, BodyReads, PlaceWant, WithMethod, AtPlace, Wants}
-use Rattle.http_front.specs.declared.routes.Place.{Place}
-use Rattle.http_front.specs.declared.routes.Place.TheVariants as place
+use Rattle.http_front.specs.Wants.{NumberThen, MetaThen, RangeThen, QueryThen, RowsInRange, AskedRows, RowsWant, ValuesWant, filter_or, BodyReads, ResourceWant, WithMethod, ForResource, Wants}
+use Rattle.http_front.specs.declared.routes.Resource.{Resource}
+use Rattle.http_front.specs.declared.routes.Resource.TheVariants as resource
 
 -- no two values fit
 abbrev pub IsOne : (Want → Type 0) → Type 0
@@ -105,7 +105,7 @@ pub body_batch : (body : List ℕ) (answer : Result (List OneEdit) RecordError) 
 body_batch body (Ok edits) h = h
 body_batch body (Err error) h = h.1
 
-edit_one : (query body : List ℕ) → IsOne (PlaceWant place.Edit query body)
+edit_one : (query body : List ℕ) → IsOne (ResourceWant resource.Edit query body)
 edit_one query body v w (a, x, p) (b, y, q) =
     p ∙ ap (λ (answer : Result (List OneEdit) RecordError). Edit answer) (one_batch_answer (table_of body) a b (body_batch body a x) (body_batch body b y)) ∙ sym q
 
@@ -113,33 +113,33 @@ session_one : (query : List ℕ) (of : ℕ → Want) → IsOne (NumberThen (code
 session_one query of =
     number_one (codes "session-id") (number_in (nonempty_value (codes "session-id") query)) (λ session want. want ≡ of session) (λ session. is_one (of session))
 
-place_one : (p : Place) (query body : List ℕ) → IsOne (PlaceWant p query body)
-place_one place.ServerInfo query body = is_one _
-place_one place.Codes query body = is_one _
-place_one place.Login query body = is_one _
-place_one place.Logout query body = session_one query (λ session. Logout session)
-place_one place.Update query body =
+resource_one : (p : Resource) (query body : List ℕ) → IsOne (ResourceWant p query body)
+resource_one resource.ServerInfo query body = is_one _
+resource_one resource.Codes query body = is_one _
+resource_one resource.Login query body = is_one _
+resource_one resource.Logout query body = session_one query (λ session. Logout session)
+resource_one resource.Update query body =
     number_one (codes "session-id") (number_in (nonempty_value (codes "session-id") query))
     (λ session. NumberThen (codes "revision-number") (number_in (nonempty_value (codes "revision-number") query)) (λ revision want. want ≡ Update session revision))
     (λ session. number_one (codes "revision-number") (number_in (nonempty_value (codes "revision-number") query)) (λ revision want. want ≡ Update session revision)
     (λ revision. is_one (Update session revision)))
-place_one place.Databases query body = session_one query (λ session. Databases session)
-place_one place.Lists query body = session_one query (λ session. Lists session)
-place_one (place.Rows target) query body = rows_one target query
-place_one (place.Values browse) query body = values_one browse query
-place_one place.Edit query body = edit_one query body
-place_one place.Stop query body = is_one _
+resource_one resource.Databases query body = session_one query (λ session. Databases session)
+resource_one resource.Lists query body = session_one query (λ session. Lists session)
+resource_one (resource.Rows target) query body = rows_one target query
+resource_one (resource.Values browse) query body = values_one browse query
+resource_one resource.Edit query body = edit_one query body
+resource_one resource.Stop query body = is_one _
 
-method_one : (right : Bool) (p : Place) (query body : List ℕ) → IsOne (WithMethod right p query body)
-method_one true p query body = place_one p query body
+method_one : (right : Bool) (p : Resource) (query body : List ℕ) → IsOne (WithMethod right p query body)
+method_one true p query body = resource_one p query body
 method_one false p query body = is_one _
 
-at_place_one : (o : Option Place) (method query body : List ℕ) → IsOne (AtPlace o method query body)
-at_place_one None method query body = is_one _
-at_place_one (Some p) method query body = method_one (bytes_eq method (verb_text (verb_of p))) p query body
+for_resource_one : (o : Option Resource) (method query body : List ℕ) → IsOne (ForResource o method query body)
+for_resource_one None method query body = is_one _
+for_resource_one (Some p) method query body = method_one (bytes_eq method (verb_text (verb_of p))) p query body
 
 pub want_is_one : (role : Role) (method path query body : List ℕ) → IsOne (Wants role method path query body)
-want_is_one role method path query body = at_place_one (place_of role path) method query body
+want_is_one role method path query body = for_resource_one (resource_of role path) method query body
 
 pub one_ask : (role : Role) (m : Message) (a b : Ask) → Spells role m a → Spells role m b → a ≡ b
 one_ask role m a b (h, x, p) (k, y, q) =

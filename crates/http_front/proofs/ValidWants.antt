@@ -26,17 +26,17 @@ use Rattle.http_front.specs.Asks.{Asks}
 use Rattle.http_front.specs.Numbers.{number_in, range_in}
 use Rattle.http_front.specs.Parameters.{nonempty_value, meta_in}
 use Rattle.http_front.specs.Readable.{IsReadableWant}
-use Rattle.http_front.specs.Routes.{place_of, verb_of, verb_text}
+use Rattle.http_front.specs.Routes.{resource_of, verb_of, verb_text}
 use Rattle.http_front.specs.Targets.{local_part, path_of, query_of}
-use Rattle.http_front.specs.Wants.{NumberThen, MetaThen, RangeThen, QueryThen, RowsInRange, AskedRows, RowsWant, ValuesWant, filter_or, BodyReads, PlaceWant, WithMethod, AtPlace}
-use Rattle.http_front.specs.declared.routes.Place.{Place}
-use Rattle.http_front.specs.declared.routes.Place.TheVariants as place
+use Rattle.http_front.specs.Wants.{NumberThen, MetaThen, RangeThen, QueryThen, RowsInRange, AskedRows, RowsWant, ValuesWant, filter_or, BodyReads, ResourceWant, WithMethod, ForResource}
+use Rattle.http_front.specs.declared.routes.Resource.{Resource}
+use Rattle.http_front.specs.declared.routes.Resource.TheVariants as resource
 use Rattle.http_front.proofs.ValidRefusals.{refusal_valid}
 
 abbrev pub Fits : Want → Type 0
 Fits w = IsValidWant w × IsReadableWant w
 
--- each want that is so fits
+-- each `Want` for which `P` holds fits
 IsSafe : (Want → Type 0) → Type 0
 IsSafe P = (w : Want) → P w → Fits w
 
@@ -96,7 +96,7 @@ body_valid : (body : List ℕ) (answer : Result (List OneEdit) RecordError) → 
 body_valid body (Ok edits) h = ((batch_valid (table_of body) edits h).0, record { text = body; reads = h })
 body_valid body (Err error) h = (refusal_valid (table_of body) error h.1, tt)
 
-edit_valid : (query body : List ℕ) → IsSafe (PlaceWant place.Edit query body)
+edit_valid : (query body : List ℕ) → IsSafe (ResourceWant resource.Edit query body)
 unfolding IsSafe
 edit_valid query body w (answer, reads, is) = subst Fits (sym is) (body_valid body answer reads)
 
@@ -105,32 +105,32 @@ session_valid : (query : List ℕ) (of : ℕ → Want) → ((n : ℕ) → Fits (
 session_valid query of valid =
     number_valid (codes "session-id") (number_in (nonempty_value (codes "session-id") query)) (λ session want. want ≡ of session) (λ session. is_valid (of session) (valid session))
 
-place_valid : (p : Place) (query body : List ℕ) → IsSafe (PlaceWant p query body)
-place_valid place.ServerInfo query body = is_valid ServerInfo (tt, tt)
-place_valid place.Codes query body = is_valid Codes (tt, tt)
-place_valid place.Login query body = is_valid Login (tt, tt)
-place_valid place.Logout query body = session_valid query (λ session. Logout session) (λ n. (tt, tt))
-place_valid place.Update query body =
+resource_valid : (p : Resource) (query body : List ℕ) → IsSafe (ResourceWant p query body)
+resource_valid resource.ServerInfo query body = is_valid ServerInfo (tt, tt)
+resource_valid resource.Codes query body = is_valid Codes (tt, tt)
+resource_valid resource.Login query body = is_valid Login (tt, tt)
+resource_valid resource.Logout query body = session_valid query (λ session. Logout session) (λ n. (tt, tt))
+resource_valid resource.Update query body =
     number_valid (codes "session-id") (number_in (nonempty_value (codes "session-id") query))
     (λ session. NumberThen (codes "revision-number") (number_in (nonempty_value (codes "revision-number") query)) (λ revision want. want ≡ Update session revision))
     (λ session. number_valid (codes "revision-number") (number_in (nonempty_value (codes "revision-number") query)) (λ revision want. want ≡ Update session revision)
     (λ revision. is_valid (Update session revision) (tt, tt)))
-place_valid place.Databases query body = session_valid query (λ session. Databases session) (λ n. (tt, tt))
-place_valid place.Lists query body = session_valid query (λ session. Lists session) (λ n. (tt, tt))
-place_valid (place.Rows target) query body = rows_valid target query
-place_valid (place.Values browse) query body = values_valid browse query
-place_valid place.Edit query body = edit_valid query body
-place_valid place.Stop query body = is_valid Stop (tt, tt)
+resource_valid resource.Databases query body = session_valid query (λ session. Databases session) (λ n. (tt, tt))
+resource_valid resource.Lists query body = session_valid query (λ session. Lists session) (λ n. (tt, tt))
+resource_valid (resource.Rows target) query body = rows_valid target query
+resource_valid (resource.Values browse) query body = values_valid browse query
+resource_valid resource.Edit query body = edit_valid query body
+resource_valid resource.Stop query body = is_valid Stop (tt, tt)
 
-method_valid : (right : Bool) (p : Place) (query body : List ℕ) → IsSafe (WithMethod right p query body)
-method_valid true p query body = place_valid p query body
+method_valid : (right : Bool) (p : Resource) (query body : List ℕ) → IsSafe (WithMethod right p query body)
+method_valid true p query body = resource_valid p query body
 method_valid false p query body = is_valid (Bad (fault.Method (verb_of p))) (tt, tt)
 
-at_place_valid : (o : Option Place) (method query body : List ℕ) → IsSafe (AtPlace o method query body)
-at_place_valid None method query body = is_valid (Bad fault.Path) (tt, tt)
-at_place_valid (Some p) method query body = method_valid (bytes_eq method (verb_text (verb_of p))) p query body
+for_resource_valid : (o : Option Resource) (method query body : List ℕ) → IsSafe (ForResource o method query body)
+for_resource_valid None method query body = is_valid (Bad fault.Path) (tt, tt)
+for_resource_valid (Some p) method query body = method_valid (bytes_eq method (verb_text (verb_of p))) p query body
 
 pub asks_valid : (role : Role) (h : RequestHead) (body : List ℕ) (ask : Ask) → Asks role h body ask → Fits ask.want
 unfolding IsSafe
 asks_valid role h body ask x =
-    at_place_valid (place_of role (path_of (local_part h.target))) h.method (query_of (local_part h.target)) body ask.want x.want_is
+    for_resource_valid (resource_of role (path_of (local_part h.target))) h.method (query_of (local_part h.target)) body ask.want x.want_is

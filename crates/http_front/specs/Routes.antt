@@ -15,8 +15,8 @@ use Rattle.share_asks.specs.declared.ask.Role.TheVariants as role
 use Rattle.share_asks.specs.declared.ask.Verb.{Verb}
 use Rattle.share_asks.specs.declared.ask.Verb.TheVariants.{Get, Post}
 use Rattle.http_front.specs.Numbers.{small_number}
-use Rattle.http_front.specs.declared.routes.Place.{Place}
-use Rattle.http_front.specs.declared.routes.Place.TheVariants as place
+use Rattle.http_front.specs.declared.routes.Resource.{Resource}
+use Rattle.http_front.specs.declared.routes.Resource.TheVariants as resource
 use Rattle.http_front.specs.declared.routes.Route.{Route}
 use Rattle.http_front.specs.declared.routes.Route.TheVariants.{ServerInfo, Codes, Login, Logout, Update, Databases, Lists, Items, Members, Values, Edit, Stop}
 
@@ -57,36 +57,36 @@ abbrev pub list_in : List ℕ → Option ℕ
 list_in path = small_number (before_first (λ b. b == 47) (drop 24 path))
 
 -- the resource of a route; a container's path names none if its number is malformed
-abbrev pub place_on : Route → List ℕ → Option Place
-place_on ServerInfo path = Some place.ServerInfo
-place_on Codes path = Some place.Codes
-place_on Login path = Some place.Login
-place_on Logout path = Some place.Logout
-place_on Update path = Some place.Update
-place_on Databases path = Some place.Databases
-place_on Lists path = Some place.Lists
-place_on Items path = Some (place.Rows target.Items)
-place_on Members path = option_map (λ list. place.Rows (target.Container list)) (list_in path)
-place_on (Values browse) path = Some (place.Values browse)
-place_on Edit path = Some place.Edit
-place_on Stop path = Some place.Stop
+abbrev pub resource_on : Route → List ℕ → Option Resource
+resource_on ServerInfo path = Some resource.ServerInfo
+resource_on Codes path = Some resource.Codes
+resource_on Login path = Some resource.Login
+resource_on Logout path = Some resource.Logout
+resource_on Update path = Some resource.Update
+resource_on Databases path = Some resource.Databases
+resource_on Lists path = Some resource.Lists
+resource_on Items path = Some (resource.Rows target.Items)
+resource_on Members path = option_map (λ list. resource.Rows (target.Container list)) (list_in path)
+resource_on (Values browse) path = Some (resource.Values browse)
+resource_on Edit path = Some resource.Edit
+resource_on Stop path = Some resource.Stop
 
 -- edits and the stop are only for the role `Edit`
-abbrev pub for_role : Role → Place → Option Place
-for_role role.Listen place.Edit = None
-for_role role.Listen place.Stop = None
+abbrev pub for_role : Role → Resource → Option Resource
+for_role role.Listen resource.Edit = None
+for_role role.Listen resource.Stop = None
 for_role r p = Some p
 
-abbrev pub place_at : List ℕ → Option Place
-place_at path = option_and_then (λ route. place_on route path) (route_at path)
+abbrev pub resource_at : List ℕ → Option Resource
+resource_at path = option_and_then (λ route. resource_on route path) (route_at path)
 
 -- the resource that a path names for a role
-abbrev pub place_of : Role → List ℕ → Option Place
-place_of r path = if is_utf8 path then option_and_then (for_role r) (place_at path) else None
+abbrev pub resource_of : Role → List ℕ → Option Resource
+resource_of r path = if is_utf8 path then option_and_then (for_role r) (resource_at path) else None
 
-abbrev pub verb_of : Place → Verb
-verb_of place.Edit = Post
-verb_of place.Stop = Post
+abbrev pub verb_of : Resource → Verb
+verb_of resource.Edit = Post
+verb_of resource.Stop = Post
 verb_of p = Get
 
 abbrev pub verb_text : Verb → List ℕ

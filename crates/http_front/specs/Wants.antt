@@ -23,9 +23,9 @@ use Rattle.share_asks.specs.declared.ask.Want.TheVariants.{ServerInfo, Codes, Lo
 use Rattle.song_query.specs.Answers.{Answers}
 use Rattle.http_front.specs.Numbers.{number_in, range_in}
 use Rattle.http_front.specs.Parameters.{nonempty_value, meta_in}
-use Rattle.http_front.specs.Routes.{place_of, verb_of, verb_text}
-use Rattle.http_front.specs.declared.routes.Place.{Place}
-use Rattle.http_front.specs.declared.routes.Place.TheVariants as place
+use Rattle.http_front.specs.Routes.{resource_of, verb_of, verb_text}
+use Rattle.http_front.specs.declared.routes.Resource.{Resource}
+use Rattle.http_front.specs.declared.routes.Resource.TheVariants as resource
 
 -- a malformed number is the error; otherwise `Then` defines the operation
 abbrev pub NumberThen : List ℕ → Option ℕ → (ℕ → Want → Type 0) → Want → Type 0
@@ -94,27 +94,27 @@ BodyReads body (Ok edits) = BatchReads (table_of body) (Ok edits)
 BodyReads body (Err error) = (error ≢ record_fault.Memory) × BatchReads (table_of body) (Err error)
 
 -- the operation of a request to a resource with the right method
-abbrev pub PlaceWant : Place → List ℕ → List ℕ → Want → Type 0
-PlaceWant place.ServerInfo query body want = want ≡ ServerInfo
-PlaceWant place.Codes query body want = want ≡ Codes
-PlaceWant place.Login query body want = want ≡ Login
-PlaceWant place.Logout query body want = LogoutWant query want
-PlaceWant place.Update query body want = UpdateWant query want
-PlaceWant place.Databases query body want = DatabasesWant query want
-PlaceWant place.Lists query body want = ListsWant query want
-PlaceWant (place.Rows target) query body want = RowsWant target query want
-PlaceWant (place.Values browse) query body want = ValuesWant browse query want
-PlaceWant place.Edit query body want = (answer : Result (List OneEdit) RecordError) × BodyReads body answer × (want ≡ Edit answer)
-PlaceWant place.Stop query body want = want ≡ Stop
+abbrev pub ResourceWant : Resource → List ℕ → List ℕ → Want → Type 0
+ResourceWant resource.ServerInfo query body want = want ≡ ServerInfo
+ResourceWant resource.Codes query body want = want ≡ Codes
+ResourceWant resource.Login query body want = want ≡ Login
+ResourceWant resource.Logout query body want = LogoutWant query want
+ResourceWant resource.Update query body want = UpdateWant query want
+ResourceWant resource.Databases query body want = DatabasesWant query want
+ResourceWant resource.Lists query body want = ListsWant query want
+ResourceWant (resource.Rows target) query body want = RowsWant target query want
+ResourceWant (resource.Values browse) query body want = ValuesWant browse query want
+ResourceWant resource.Edit query body want = (answer : Result (List OneEdit) RecordError) × BodyReads body answer × (want ≡ Edit answer)
+ResourceWant resource.Stop query body want = want ≡ Stop
 
-abbrev pub WithMethod : Bool → Place → List ℕ → List ℕ → Want → Type 0
-WithMethod true p query body want = PlaceWant p query body want
+abbrev pub WithMethod : Bool → Resource → List ℕ → List ℕ → Want → Type 0
+WithMethod true p query body want = ResourceWant p query body want
 WithMethod false p query body want = want ≡ Bad (fault.Method (verb_of p))
 
 -- the path is checked first, then the method, then the parameters
-abbrev pub AtPlace : Option Place → List ℕ → List ℕ → List ℕ → Want → Type 0
-AtPlace None method query body want = want ≡ Bad fault.Path
-AtPlace (Some p) method query body want = WithMethod (bytes_eq method (verb_text (verb_of p))) p query body want
+abbrev pub ForResource : Option Resource → List ℕ → List ℕ → List ℕ → Want → Type 0
+ForResource None method query body want = want ≡ Bad fault.Path
+ForResource (Some p) method query body want = WithMethod (bytes_eq method (verb_text (verb_of p))) p query body want
 
 abbrev pub Wants : Role → List ℕ → List ℕ → List ℕ → List ℕ → Want → Type 0
-Wants role method path query body want = AtPlace (place_of role path) method query body want
+Wants role method path query body want = ForResource (resource_of role path) method query body want

@@ -10,7 +10,7 @@ pub fn split_at_first(bytes: &[u8], at: u8) -> (&[u8], Option<&[u8]>)
     ensures found { is_some result.1 ≡ list_any (λ b. b == at) bytes.now }
     ensures behind { option_map_or (λ rest. rest.now) result.1 [] ≡ after_first (λ b. b == at) bytes.now }
 {
-    match place_of(bytes, at) {
+    match offset_of(bytes, at) {
         Some(i) => {
             let (before, _) = bytes.split_at(i);
             let (_, behind) = bytes.split_at(i + 1);
@@ -20,7 +20,7 @@ pub fn split_at_first(bytes: &[u8], at: u8) -> (&[u8], Option<&[u8]>)
     }
 }
 
-fn place_of(bytes: &[u8], at: u8) -> Option<usize>
+fn offset_of(bytes: &[u8], at: u8) -> Option<usize>
     ensures { result ≡ position (λ b. b == at) bytes.now }
 {
     bytes.iter().position(|byte| *byte == at)

@@ -2,7 +2,7 @@
 
 ghost use Rattle.std.specs.Prelude.{◌≡◌, map, true, false, IfOk, MatchOption};
 ghost use Rattle.std.specs.Str.{is_utf8};
-ghost use Rattle.http_front.specs.Routes.{rows_of, all_routes, route_at, list_in, place_on, place_at, for_role, place_of, verb_of, verb_text};
+ghost use Rattle.http_front.specs.Routes.{rows_of, all_routes, route_at, list_in, resource_on, resource_at, for_role, resource_of, verb_of, verb_text};
 
 use crate::cuts::split_at_first;
 use crate::numbers::small_number;
@@ -31,7 +31,7 @@ pub enum Route {
 
 /// The resource that a path names.
 #[derive(Clone, Copy, Debug, PartialEq, Eq)]
-pub enum Place {
+pub enum Resource {
     ServerInfo,
     Codes,
     Login,
@@ -94,12 +94,12 @@ fn router_of(alloc: Global, table: &[(&str, Route)]) -> Result<Router<Route>, Al
 }
 
 /// Returns the resource that a path names for a role.
-pub fn place_of(router: &Router<Route>, role: Role, path: &[u8]) -> Option<Place>
+pub fn resource_of(router: &Router<Route>, role: Role, path: &[u8]) -> Option<Resource>
     requires { router.now ≡ all_routes }
-    ensures { result ≡ place_of role path.now }
+    ensures { result ≡ resource_of role path.now }
 {
     let text = text_of(path)?;
-    for_role(role, place_at(router, text)?)
+    for_role(role, resource_at(router, text)?)
 }
 
 fn text_of(path: &[u8]) -> Option<&str>
@@ -111,11 +111,11 @@ fn text_of(path: &[u8]) -> Option<&str>
     }
 }
 
-fn place_at(router: &Router<Route>, path: &str) -> Option<Place>
+fn resource_at(router: &Router<Route>, path: &str) -> Option<Resource>
     requires { router.now ≡ all_routes }
-    ensures { result ≡ place_at path.now }
+    ensures { result ≡ resource_at path.now }
 {
-    place_on(route_at(router, path)?, path.as_bytes())
+    resource_on(route_at(router, path)?, path.as_bytes())
 }
 
 #[tactic(auto, unfolding(crate::specs::Routes::route_at))]
@@ -129,29 +129,29 @@ fn route_at(router: &Router<Route>, path: &str) -> Option<Route>
     }
 }
 
-fn place_on(route: Route, path: &[u8]) -> Option<Place>
-    ensures { result ≡ place_on route path.now }
+fn resource_on(route: Route, path: &[u8]) -> Option<Resource>
+    ensures { result ≡ resource_on route path.now }
 {
     Some(match route {
-        Route::ServerInfo => Place::ServerInfo,
-        Route::Codes => Place::Codes,
-        Route::Login => Place::Login,
-        Route::Logout => Place::Logout,
-        Route::Update => Place::Update,
-        Route::Databases => Place::Databases,
-        Route::Lists => Place::Lists,
-        Route::Items => Place::Rows(Target::Items),
+        Route::ServerInfo => Resource::ServerInfo,
+        Route::Codes => Resource::Codes,
+        Route::Login => Resource::Login,
+        Route::Logout => Resource::Logout,
+        Route::Update => Resource::Update,
+        Route::Databases => Resource::Databases,
+        Route::Lists => Resource::Lists,
+        Route::Items => Resource::Rows(Target::Items),
         Route::Members => return members_on(path),
-        Route::Values(browse) => Place::Values(browse),
-        Route::Edit => Place::Edit,
-        Route::Stop => Place::Stop,
+        Route::Values(browse) => Resource::Values(browse),
+        Route::Edit => Resource::Edit,
+        Route::Stop => Resource::Stop,
     })
 }
 
-fn members_on(path: &[u8]) -> Option<Place>
-    ensures { result ≡ place_on Route.Members path.now }
+fn members_on(path: &[u8]) -> Option<Resource>
+    ensures { result ≡ resource_on Route.Members path.now }
 {
-    Some(Place::Rows(Target::Container(list_in(path)?)))
+    Some(Resource::Rows(Target::Container(list_in(path)?)))
 }
 
 #[tactic(auto, using(std::proofs::lemmas::List::drop_min))]
@@ -163,21 +163,21 @@ fn list_in(path: &[u8]) -> Option<u32>
     small_number(list)
 }
 
-fn for_role(role: Role, place: Place) -> Option<Place>
-    ensures { result ≡ for_role role place }
+fn for_role(role: Role, resource: Resource) -> Option<Resource>
+    ensures { result ≡ for_role role resource }
 {
-    match (role, place) {
-        (Role::Listen, Place::Edit | Place::Stop) => None,
-        _ => Some(place),
+    match (role, resource) {
+        (Role::Listen, Resource::Edit | Resource::Stop) => None,
+        _ => Some(resource),
     }
 }
 
 /// Returns the method of requests to a resource.
-pub fn verb_of(place: Place) -> Verb
-    ensures { result ≡ verb_of place }
+pub fn verb_of(resource: Resource) -> Verb
+    ensures { result ≡ verb_of resource }
 {
-    match place {
-        Place::Edit | Place::Stop => Verb::Post,
+    match resource {
+        Resource::Edit | Resource::Stop => Verb::Post,
         _ => Verb::Get,
     }
 }

@@ -4,10 +4,10 @@ ghost use Rattle.std.specs.Prelude.{◌≡◌, [], codes, Some, IfOk, option_map
 ghost use Rattle.http_front.specs.Parameters.{nonempty_value};
 ghost use Rattle.http_front.specs.ParametersRead.{Gives, ReadsQuery};
 ghost use Rattle.http_front.specs.Routes.{all_routes};
-ghost use Rattle.http_front.specs.Wants.{LogoutWant, UpdateWant, DatabasesWant, ListsWant, RowsWant, ValuesWant, filter_or, AskedRows, RowsInRange, PlaceWant, Wants};
+ghost use Rattle.http_front.specs.Wants.{LogoutWant, UpdateWant, DatabasesWant, ListsWant, RowsWant, ValuesWant, filter_or, AskedRows, RowsInRange, ResourceWant, Wants};
 
 use crate::parameters::{Flaw, meta, nonempty_value, number, query_in, range};
-use crate::routes::{Place, Route, place_of, verb_of, verb_text};
+use crate::routes::{Resource, Route, resource_of, verb_of, verb_text};
 use item_model::{Browse, Look, Query, Range, Target};
 use matchit::Router;
 use records_import::{RecordError, read_batch};
@@ -33,35 +33,35 @@ pub fn read_want(
     requires { router.now ≡ all_routes }
     ensures { IfOk result (λ want. Wants role request.now.method.now request.now.path.now request.now.query.now request.now.body.now want) }
 {
-    let Some(place) = place_of(router, role, request.path) else {
+    let Some(resource) = resource_of(router, role, request.path) else {
         return Ok(Want::Bad(AskError::Path));
     };
-    let verb = verb_of(place);
+    let verb = verb_of(resource);
     if request.method != verb_text(verb).as_bytes() {
         return Ok(Want::Bad(AskError::Method { allow: verb }));
     }
-    match place_want(alloc, place, request.query, request.body) {
+    match resource_want(alloc, resource, request.query, request.body) {
         Ok(want) => Ok(want),
         Err(Flaw::Bad(error)) => Ok(Want::Bad(error)),
         Err(Flaw::Memory) => Err(AllocError),
     }
 }
 
-fn place_want(alloc: Global, place: Place, query: &[u8], body: &[u8]) -> Result<Want, Flaw>
-    ensures { Gives (PlaceWant place query.now body.now) result }
+fn resource_want(alloc: Global, resource: Resource, query: &[u8], body: &[u8]) -> Result<Want, Flaw>
+    ensures { Gives (ResourceWant resource query.now body.now) result }
 {
-    match place {
-        Place::ServerInfo => Ok(Want::ServerInfo),
-        Place::Codes => Ok(Want::Codes),
-        Place::Login => Ok(Want::Login),
-        Place::Logout => logout(alloc, query),
-        Place::Update => update(alloc, query),
-        Place::Databases => databases(alloc, query),
-        Place::Lists => lists(alloc, query),
-        Place::Rows(target) => rows(alloc, target, query),
-        Place::Values(browse) => values(alloc, browse, query),
-        Place::Edit => edit(alloc, body),
-        Place::Stop => Ok(Want::Stop),
+    match resource {
+        Resource::ServerInfo => Ok(Want::ServerInfo),
+        Resource::Codes => Ok(Want::Codes),
+        Resource::Login => Ok(Want::Login),
+        Resource::Logout => logout(alloc, query),
+        Resource::Update => update(alloc, query),
+        Resource::Databases => databases(alloc, query),
+        Resource::Lists => lists(alloc, query),
+        Resource::Rows(target) => rows(alloc, target, query),
+        Resource::Values(browse) => values(alloc, browse, query),
+        Resource::Edit => edit(alloc, body),
+        Resource::Stop => Ok(Want::Stop),
     }
 }
 
@@ -207,7 +207,7 @@ fn filter_or_query(alloc: Global, query: &[u8]) -> Result<Option<String>, AllocE
 }
 
 fn edit(alloc: Global, body: &[u8]) -> Result<Want, Flaw>
-    ensures { Gives (PlaceWant Place.Edit [] body.now) result }
+    ensures { Gives (ResourceWant Resource.Edit [] body.now) result }
 {
     match read_batch(alloc, body) {
         Ok(batch) => Ok(Want::Edit { body: Ok(batch) }),

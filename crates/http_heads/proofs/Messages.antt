@@ -221,7 +221,7 @@ some_bytes : (piece : List ℕ) → piece ≢ [] → 0 < length piece
 some_bytes [] some = absurd (some refl)
 some_bytes (b ∷ bs) some = omega arith
 
--- every nonempty piece moves the message on
+-- every nonempty chunk changes the message
 pub moves : (old new : Gathered) (piece : List ℕ) (n : ℕ) → new.kind ≡ old.kind → IsAt old → is_whole old.phase ≡ false → TakesSome old piece new n → piece ≢ []
     → 0 < n
 moves old new piece zero kind at part h some =

@@ -1,4 +1,4 @@
--- What a gatherer buffers after a further piece, over plain variables.
+-- What a gatherer buffers after a further chunk, over plain variables.
 use Rattle.std.proofs.Common.{◌≡◌, ℕ, ◌+◌, ◌-◌, ◌<◌, ◌≤◌, min, List, [], ◌∷◌, ◌++◌, length, take, drop, get_or, true, nat_lt, Some, None, Result, Ok, Err, IfOk, refl, sym, ap, ap₂, ◌∙◌, subst, inl, inr, arith, append_assoc, append-nil, length-append, take-add}
 use Rattle.std.proofs.lemmas.Bool.{cases_Bool, cond-true, cond-false, ltb-true, ltb-false}
 use Rattle.std.proofs.lemmas.List.{take_more, take_all, take-take, take-append-drop, length-take-le, length-take, length-drop}
@@ -73,7 +73,7 @@ head_too_large old new piece scan none head body len goes =
       );
     }
 
--- the head's end is found among the first bytes of the piece
+-- the head's end is found among the first bytes of the chunk
 pub ended : (head piece sought : List ℕ) (room n : ℕ) (scan last : Scan) → after start head ≡ Some scan → sought ≡ take room piece → 0 < n
     → n ≤ length sought → after scan (take (n - 1) sought) ≡ Some last → after_byte last (get_or sought (n - 1) 0) ≡ None
     → IsFramed (head ++ take n piece) last.full
@@ -122,7 +122,7 @@ went_on old piece sought room new (Err e) is room_is short none all h =
       refused = stopped.refused;
     }
 
--- a framed head that is refused, and the rest of the piece after it
+-- a framed head that is refused, and the rest of the chunk after it
 pub refused_head : (old new : Gathered) (piece : List ℕ) (n lines : ℕ) (e : HeadError) → n ≤ length piece → old.message.body ≡ []
     → IsFramed (old.message.head ++ take n piece) lines → length (old.message.head ++ take n piece) ≤ head_limit
     → new.message.head ≡ old.message.head ++ take n piece → new.message.body ≡ old.message.body → Tells old.kind new.message.head lines (Err e)

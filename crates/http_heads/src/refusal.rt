@@ -10,16 +10,16 @@ use thiserror::Error;
 pub enum HeadError {
     /// The bytes are not a head of the grammar, with at most 64 fields; or, of a reply, the body's length is not
     /// determined.
-    #[error("no head")]
+    #[error("malformed head")]
     Head,
     /// The fields do not determine the length of the body.
-    #[error("length")]
+    #[error("unknown body length")]
     Length,
     #[error("body too large")]
     BodyTooLarge,
     #[error("head too large")]
     HeadTooLarge,
-    #[error("memory")]
+    #[error("out of memory")]
     Memory,
 }
 

@@ -1,4 +1,4 @@
--- What a batch that is taken in or back leaves.
+-- What a batch that is applied or reverted leaves.
 use Rattle.std.proofs.Common.{◌≡◌, ◌≤◌, ◌<◌, ◌-◌, ◌⊎◌, inl, inr, ℕ, false, cond, ◌||◌, List, [], ◌∷◌, min, refl, sym, ap, ◌∙◌, ⊎_elim, arith}
 use Rattle.std.specs.List.{list_any}
 use Rattle.std.proofs.lemmas.Bool.{cases_Bool}
@@ -27,7 +27,7 @@ among_named q [] = refl
 among_named q (e ∷ es) =
     list_any-append _ (items_in e) (named_items es) ∙ ap (λ b. b || is_among q (named_items es)) (among_one q e) ∙ ap (λ b. names_item q e || b) (among_named q es)
 
--- a batch of which some edits were taken in, and which is taken back
+-- a batch of which some edits were applied, and which is reverted
 pub rows_left : (es : List Edit) (old mid new : Held Row) (revision : ℕ) → 1 ≤ revision
     → ((q base : ℕ) → base < revision → value_at mid q base ≡ value_at old q base)
     → ((q base : ℕ) → list_any (names_item q) es ≡ false → value_at mid q base ≡ value_at old q base)

@@ -62,7 +62,7 @@ length-drop_item es id =
 
 -- ---- one edit more
 
--- where there is a value for the newest version, there is one at each revision from some on
+-- if there is a value for the newest version, there is one at each revision from some on
 newest_seen : (vs : List (Version Row)) → (from : ℕ) × ((base : ℕ) → from ≤ base → value_in vs base ≡ newest_value vs)
 newest_seen [] = (0, λ base h. refl)
 newest_seen (v ∷ vs) = (v.revision, λ base h. ap (option_and_then (λ w. w.value)) (found_first v vs base h))

@@ -1,4 +1,4 @@
--- What a store stands for before and after each of its calls.
+-- Which batches a store represents before and after each of its calls.
 use Rattle.std.proofs.Common.{◌≡◌, ◌≤◌, ◌<◌, ◌+◌, ◌-◌, ◌⊎◌, ℕ, true, false, cond, ◌||◌, ◌==◌, List, [], ◌∷◌, ◌++◌, length, drop, map, flat_map, min, Option, Some, None, is_some, unwrap_or, refl, sym, ap, subst, ◌∙◌, ⊎_elim, true≢false, arith, Ok, Err}
 use Rattle.std.specs.Prelude.{Result, IfOk}
 use Rattle.std.specs.List.{list_any}
@@ -108,7 +108,7 @@ changed_told items lists listed (Ok v) base passed keys {s} {now} same named fro
 
 -- ---- apply
 
--- the rows after a batch are those that stand where it says nothing
+-- the rows after a batch are those before it, except where the batch has a change
 pub present_more : (bs : List (List Edit)) (batch : List Edit) (old new : List (ℕ × Row)) (changes : List (ℕ × Option Row))
     → old ≡ library (edits bs) → ((id : ℕ) → at id changes ≡ last_said (says_item id) batch)
     → IsAscending new → ((id : ℕ) → at id new ≡ changed changes old id) → new ≡ library (edits (bs ++ batch ∷ []))

@@ -1,4 +1,4 @@
--- For which batches of edits a store stands.
+-- Which batches of edits a store represents.
 use Rattle.std.specs.Prelude.{◌≡◌, ◌≤◌, ℕ, ◌-◌, List, [], ◌∷◌, true, length, map, drop, max, flat_map}
 use Rattle.item_model.specs.declared.changes.Edit.{Edit}
 use Rattle.item_model.specs.declared.changes.Edit.TheVariants.{PutItem, DropItem, PutList, PutRule, DropList, PutMember, DropMember}
@@ -27,7 +27,7 @@ items_in (DropMember list member) = []
 abbrev pub named_items : List Edit → List ℕ
 named_items es = flat_map items_in es
 
--- the store tells what is true of a share after these batches of valid edits, and at each revision from its floor on
+-- the store has what is true of a share after these batches of valid edits, now and at each revision from its floor on
 pub record StandsFor (bs : List (List Edit)) (store : Store) : Type 0 where
   pub revision : store.revision ≡ revision bs
   pub valid : AreValid (edits bs)

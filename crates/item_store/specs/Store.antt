@@ -4,7 +4,7 @@ use Rattle.item_model.specs.declared.item.Row.{Row}
 use Rattle.key_versions.specs.Held.{Held}
 
 pub record Store : Type 0 where
-  -- for how many revisions back changes are told
+  -- how many revisions the window has before the present one
   pub keep : ℕ
   pub revision : ℕ
   -- the least revision that the rows and the named ids reach back to

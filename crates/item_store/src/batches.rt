@@ -15,8 +15,8 @@ use key_versions::Versions;
 use std::alloc::{AllocError, Global};
 use std::collections::{BTreeSet, VecDeque};
 
-// Takes in a batch that makes a revision, and tells how many items there are then, of the count before. After an
-// `Err` the batch is taken back.
+// Applies a batch that makes a revision. `count` is the number of items before; returns the number after. After an
+// `Err` the batch is reverted.
 pub(crate) fn take_in_batch(
     alloc: Global,
     held: &mut Versions<SharedRow>,
@@ -49,7 +49,7 @@ pub(crate) fn take_in_batch(
     }
 }
 
-// Takes back the last batch, which made a revision.
+// Reverts the last batch, which made a revision.
 pub(crate) fn take_back_batch(
     held: &mut Versions<SharedRow>,
     named: &mut VecDeque<Vec<u32>>,
@@ -90,7 +90,7 @@ fn prune_batch(held: &mut Versions<SharedRow>, named: &mut VecDeque<Vec<u32>>, f
     }
 }
 
-// The ids in the lists behind the first ones.
+// Returns the ids in the lists after the first `passed` ones.
 pub(crate) fn ids_after(
     alloc: Global,
     named: &VecDeque<Vec<u32>>,

@@ -36,8 +36,8 @@ fn id_of(edit: &Edit) -> Option<u32>
     }
 }
 
-// Takes in edits that make a revision, and tells how many items there are then, of the count before. After an
-// `Err` some of them are in.
+// Applies edits that make a revision. `count` is the number of items before; returns the number after. After an
+// `Err` some of the edits are applied.
 pub(crate) fn take_in(
     held: &mut Versions<SharedRow>,
     mut count: u32,
@@ -76,7 +76,7 @@ fn take_in_one(
     }
 }
 
-// Gives the id of a row this row from a revision on, and tells how many rows there are then.
+// Sets the row under its id, from `revision` on. Returns the number of rows afterwards.
 fn put(
     held: &mut Versions<SharedRow>,
     count: u32,
@@ -94,7 +94,7 @@ fn put(
     }
 }
 
-// Gives an id a row, or none, from a revision on, and tells how many rows there are then.
+// Sets the row under an id, or none, from `revision` on. Returns the number of rows afterwards.
 fn set(
     held: &mut Versions<SharedRow>,
     count: u32,
@@ -113,7 +113,7 @@ fn set(
     }
 }
 
-// How many there are where one came or went. Fewer than 2 ^ 32 have an id each.
+// The number of rows after one was added or removed. Each of fewer than 2 ^ 32 has its own id.
 fn counted(count: u32, was: bool, is: bool) -> u32
     ensures { (n : ℕ) → n < 2 ^ 32 → n + (if was then 1 else 0) ≡ count + (if is then 1 else 0) → result ≡ n }
 {

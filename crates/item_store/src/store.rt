@@ -51,8 +51,8 @@ impl Model for ItemStore {
 }
 
 impl ItemStore {
-    /// A store that no batch has changed yet, without memory. It keeps what was for `keep` revisions back, and for one
-    /// more as long as the last batch can be taken back.
+    /// Returns a store without batches, which keeps `keep` revisions back, and one more while the last batch can be
+    /// reverted. Does not allocate.
     pub fn open(alloc: Global, keep: u32) -> ItemStore
         requires some { 1 ≤ keep }
         requires few { keep ≤ 65536 }
@@ -74,7 +74,7 @@ impl ItemStore {
         }
     }
 
-    /// Takes in a batch, which makes the next revision. After an `Err` the store answers as before.
+    /// Applies a batch, which makes the next revision. After an `Err` the store is unchanged.
     pub fn apply(&mut self, edits: &[Edit], revision: u32) -> Result<(), AllocError>
         requires next { revision ≡ self.old.revision + 1 }
         requires valid { AreValid edits.now }
@@ -88,7 +88,7 @@ impl ItemStore {
         self.take_in(edits, revision, present)
     }
 
-    // Takes in a batch that leaves these rows.
+    // Applies a batch that leaves these rows.
     fn take_in(
         &mut self,
         batch: &[Edit],
@@ -113,7 +113,7 @@ impl ItemStore {
         );
         match taken {
             Ok(count) => {
-                // what was is kept as the revision before has it, so that the batch can be taken back
+                // what was is kept as the revision before has it, so that the batch can be reverted
                 let low = floor(self.keep, self.revision);
                 prune_to(&mut self.held, &mut self.named, self.low, low);
                 self.low = low;
@@ -128,7 +128,7 @@ impl ItemStore {
         }
     }
 
-    /// Takes the last batch back, without memory. This can be done after an `apply` that answered `Ok`, and once.
+    /// Reverts the last batch, once after an `apply` that succeeded. Does not allocate.
     pub fn undo(&mut self)
         requires { self.old.can_undo ≡ true }
         ensures stands { (bs : List (List Edit)) (batch : List Edit) → StandsFor (bs ++ batch ∷ []) self.old → StandsFor bs self.new }
@@ -142,7 +142,7 @@ impl ItemStore {
         self.can_undo = false;
     }
 
-    /// The item of an id.
+    /// Returns the item of an id.
     pub fn get(&self, id: u32) -> Option<&Row>
         ensures { (bs : List (List Edit)) → StandsFor bs self.now → option_copied result ≡ item_at (edits bs) id }
     {
@@ -152,7 +152,7 @@ impl ItemStore {
         }
     }
 
-    /// The same as an owner of it.
+    /// Returns the item of an id as a further owner of it.
     pub fn shared(&self, id: u32) -> Result<Option<SharedRow>, AllocError>
         ensures { IfOk result (λ row. (bs : List (List Edit)) → StandsFor bs self.now → row ≡ item_at (edits bs) id) }
     {
@@ -162,7 +162,7 @@ impl ItemStore {
         }
     }
 
-    /// The item that an id had at a revision from which changes are told.
+    /// Returns the item that an id had at a revision of the window.
     pub fn version_at(&self, id: u32, base: u32) -> Option<&Row>
         requires from { floor_of self.now.keep self.now.revision ≤ base }
         requires to { base ≤ self.now.revision }
@@ -174,7 +174,7 @@ impl ItemStore {
         }
     }
 
-    /// How many items there are.
+    /// Returns the number of items.
     pub fn count(&self) -> u32
         ensures { (bs : List (List Edit)) → StandsFor bs self.now → result ≡ length (library (edits bs)) }
     {
@@ -187,35 +187,35 @@ impl ItemStore {
         self.revision
     }
 
-    /// The least base that `changed_since` may be asked from.
+    /// Returns the lowest base that `changed_since` takes.
     pub fn floor(&self) -> u32
         ensures { result ≡ floor_of self.now.keep self.now.revision }
     {
         floor(self.keep, self.revision)
     }
 
-    /// All items by their ids.
+    /// Returns all items by their ids.
     pub fn rows(&self) -> &RowSheets
         ensures { (bs : List (List Edit)) → StandsFor bs self.now → result.now ≡ library (edits bs) }
     {
         &self.present
     }
 
-    /// The same as an owner of them. It copies a pointer for each sheet, and reads no row.
+    /// Returns all items as a further owner of them. Copies a pointer for each sheet, and reads no row.
     pub fn sheets(&self) -> Result<RowSheets, AllocError>
         ensures { IfOk result (λ rows. (bs : List (List Edit)) → StandsFor bs self.now → rows ≡ library (edits bs)) }
     {
         self.present.share()
     }
 
-    /// The ids of all items, ascending.
+    /// Returns the ids of all items, ascending.
     pub fn ids(&self) -> Result<Vec<u32>, AllocError>
         ensures { IfOk result (λ ids. (bs : List (List Edit)) → StandsFor bs self.now → ids.items ≡ keys_of (library (edits bs))) }
     {
         self.held.keys()
     }
 
-    /// The ids that batches after a base put or drop as items, ascending, each once.
+    /// Returns the ids that batches after `base` put or drop as items, ascending, each once.
     pub fn changed_since(&self, base: u32) -> Result<Vec<u32>, AllocError>
         requires from { floor_of self.now.keep self.now.revision ≤ base }
         requires to { base ≤ self.now.revision }
@@ -245,7 +245,7 @@ fn turn_back(alloc: Global, present: &mut RowSheets, before: &mut RowSheets)
     *present = mem::replace(before, RowSheets::new(alloc));
 }
 
-// The least base that `keep` allows at a revision.
+// Returns the lowest base inside a window of `keep` revisions.
 fn floor(keep: u32, revision: u32) -> u32
     ensures { result ≡ floor_of keep revision }
 {

@@ -6,6 +6,7 @@ use Rattle.command_core.specs.declared.fault.Fault.{Fault}
 use Rattle.command_core.specs.declared.fault.Fault.TheVariants.{Own, Read, Memory as wanted}
 use Rattle.command_core.specs.Endings.{Done, OutputCut, Refused as refused_ending, LineCut}
 use Rattle.command_core.specs.Faults.{fault_status}
+use Rattle.command_core.specs.ReadRecords.{records_limit}
 use Rattle.command_core.specs.Seen.{InputSeen, Told}
 use Rattle.command_core.proofs.Reading.{read_whole}
 use Rattle.mirror_client.specs.declared.pushing.Pushed.{Pushed}
@@ -14,7 +15,7 @@ use Rattle.mirror_client.specs.declared.refusal.FollowError.{FollowError}
 use Rattle.mirror_client.specs.declared.refusal.FollowError.TheVariants.{Refused as status_refused, BadReply, Ended, Listing, Codes, LinkFault, Memory}
 use Rattle.mirror_client.specs.Exchanges.{Exchanged}
 use Rattle.mirror_client.specs.Points.{Point}
-use Rattle.mirror_client.specs.Pushes.{IsPushed, UndueEdit, UnduePush, push_text}
+use Rattle.mirror_client.specs.Pushes.{IsPushed, UnexpectedEdit, UnexpectedPush, push_text}
 use Rattle.mirror_client.specs.Stopping.{CountsFault}
 use Rattle.followed_shares.proofs.Completes.{IsOutside, stops_outside}
 use Rattle.followed_shares.proofs.FilterShown.{owed_split}
@@ -22,7 +23,7 @@ use Rattle.followed_shares.proofs.Successes.{answer_is}
 use Rattle.link_commands.specs.declared.edit.EditFault.{EditFault}
 use Rattle.link_commands.specs.declared.edit.EditFault.TheVariants.{TooLong, Unreached, Refused, Link}
 use Rattle.link_commands.specs.Decided.{BeginsDue, DecidesEdit, IsDueAnswer, IsOrMemory, IsSendable}
-use Rattle.link_commands.specs.EditShare.{HasBody, IsEditDone, IsTooLong, StopsEdit, StopsSending, edit_meaning, edit_status, records_limit, told_of}
+use Rattle.link_commands.specs.EditShare.{HasBody, IsEditDone, IsTooLong, StopsEdit, StopsSending, edit_meaning, edit_status, told_of}
 use Rattle.link_commands.specs.Linked.{HasLinked, LinkSeen, start_of}
 use Rattle.link_commands.specs.Links.{link_status}
 use Rattle.link_commands.specs.Meanings.{LinkEnds}
@@ -56,7 +57,7 @@ refusal_due false None before after answer status text has due is = has
 refusal_due false (Some bytes) before after answer status text has (inl none) is = is.2 (is.0.0 ∙ none)
 refusal_due false (Some bytes) before after answer status text has (inr made) is = is.1 (is.0.0 ∙ made.1.1.0)
 
-edit_due : (used : ℕ) (answer : Reply) (e : FollowError) → IsDueAnswer false answer → UndueEdit used answer e → IsOutside e
+edit_due : (used : ℕ) (answer : Reply) (e : FollowError) → IsDueAnswer false answer → UnexpectedEdit used answer e → IsOutside e
 edit_due used answer (status_refused status) due h = absurd h
 edit_due used answer (BadReply at) (inl none) h = absurd (omega (arith, none, h.0.0))
 edit_due used answer (BadReply at) (inr made) h = let bad : Some made.0 ≡ None = sym made.1.2 ∙ h.1 made.1.0 made.1.1.1 in absurd (cc)
@@ -67,7 +68,7 @@ edit_due used answer LinkFault due h = absurd h
 edit_due used answer Memory due h = inr refl
 
 push_due : (stop : Bool) (body : Option (List ℕ)) (before after : InputSeen) (used : ℕ) (answer : Reply) (e : FollowError) → HasBody stop before after body → IsDueAnswer stop answer
-    → UnduePush body used answer e → IsOutside e
+    → UnexpectedPush body used answer e → IsOutside e
 push_due true None before after used answer e has due h = absurd h
 push_due true (Some bytes) before after used answer e has due h = absurd has
 push_due false None before after used answer e has due h = absurd has
@@ -113,14 +114,14 @@ done_begins host stop told output bytes done known =
 
 -- ---- each cause and its status
 
-pub link_undue : (e : FollowError) → e ≢ Memory → (e ≡ LinkFault → ⊥) → link_status e ≡ 7
-link_undue (status_refused status) other whole = refl
-link_undue (BadReply at) other whole = refl
-link_undue (Ended at) other whole = refl
-link_undue (Listing error) other whole = refl
-link_undue (Codes error) other whole = refl
-link_undue LinkFault other whole = absurd (whole refl)
-link_undue Memory other whole = absurd (other refl)
+pub link_unexpected : (e : FollowError) → e ≢ Memory → (e ≡ LinkFault → ⊥) → link_status e ≡ 7
+link_unexpected (status_refused status) other whole = refl
+link_unexpected (BadReply at) other whole = refl
+link_unexpected (Ended at) other whole = refl
+link_unexpected (Listing error) other whole = refl
+link_unexpected (Codes error) other whole = refl
+link_unexpected LinkFault other whole = absurd (whole refl)
+link_unexpected Memory other whole = absurd (other refl)
 
 -- no error was counted on the connection
 no_fault : (host : List ℕ) (told : Told) (link : LinkSeen) (e : FollowError) → HasLinked host told.before.around.net told.after.around.net link → CountsFault 0 link.faults e → IsFaultless told
@@ -152,7 +153,7 @@ sent_due host stop told status link (Own (Refused code text)) bytes e linked sto
     absurd (refusal_due stop stops.0 told.before.input told.after.input stops.2.answer code text stops.1 (subst (λ (a : Reply). IsDueAnswer stop a) same b.due) stops.2.is)
 sent_due host stop told status link (Own (Link error)) bytes e linked stops faultless within known b =
     let owed = owed_is link bytes (left_is told.before.around.net.next_input link.left bytes known linked.input) in
-    absurd (by_outside (stops_outside (push_text stops.1.0 host) (UnduePush stops.1.0) (start_of link) link.taken error bytes b.rest b.answer owed
+    absurd (by_outside (stops_outside (push_text stops.1.0 host) (UnexpectedPush stops.1.0) (start_of link) link.taken error bytes b.rest b.answer owed
     (record { message = b.message; is = b.is; split = b.split }) (λ used x. push_due stop stops.1.0 told.before.input told.after.input used b.answer error stops.1.1 b.due x) stops.1.2.stops))
   where
     by_outside : IsOutside error → ⊥
@@ -161,16 +162,16 @@ sent_due host stop told status link (Own (Link error)) bytes e linked stops faul
 sent_due host stop told status link Read bytes e linked stops faultless within known b = absurd (faultless.input stops.1.rose)
 sent_due host stop told status link wanted bytes e linked stops faultless within known b = inr e
 
-sent_undue : (host : List ℕ) (stop : Bool) (told : Told) (status : ℕ) (link : LinkSeen) (fault : Fault EditFault) → status ≡ fault_status edit_status fault
+sent_unexpected : (host : List ℕ) (stop : Bool) (told : Told) (status : ℕ) (link : LinkSeen) (fault : Fault EditFault) → status ≡ fault_status edit_status fault
     → HasLinked host told.before.around.net told.after.around.net link → StopsSending host stop told.before.input told.after.input link fault → IsFaultless told
     → IsSendable stop told.before.input.left → IsOrMemory 7 status
-sent_undue host stop told status link (Own TooLong) e linked stops faultless within = absurd (long_or_sendable stop told.before.input told.after.input within stops.0)
-sent_undue host stop told status link (Own Unreached) e linked stops faultless within = absurd stops
-sent_undue host stop told status link (Own (Refused code text)) e linked stops faultless within = inl e
-sent_undue host stop told status link (Own (Link error)) e linked stops faultless within =
-    inl (e ∙ link_undue error stops.0 (no_fault host told link error linked stops.1.2.count faultless))
-sent_undue host stop told status link Read e linked stops faultless within = absurd (faultless.input stops.1.rose)
-sent_undue host stop told status link wanted e linked stops faultless within = inr e
+sent_unexpected host stop told status link (Own TooLong) e linked stops faultless within = absurd (long_or_sendable stop told.before.input told.after.input within stops.0)
+sent_unexpected host stop told status link (Own Unreached) e linked stops faultless within = absurd stops
+sent_unexpected host stop told status link (Own (Refused code text)) e linked stops faultless within = inl e
+sent_unexpected host stop told status link (Own (Link error)) e linked stops faultless within =
+    inl (e ∙ link_unexpected error stops.0 (no_fault host told link error linked stops.1.2.count faultless))
+sent_unexpected host stop told status link Read e linked stops faultless within = absurd (faultless.input stops.1.rose)
+sent_unexpected host stop told status link wanted e linked stops faultless within = inr e
 
 -- ---- a run
 
@@ -187,7 +188,7 @@ pub edit_decided : (host : List ℕ) (stop : Bool) (told : Told) (status : ℕ) 
 edit_decided host stop told status (Done output, e, (done, w)) faultless = record {
   long = λ reads input known long. absurd (body_or_long stop told.before.input told.after.input done.sent.0 input reads known done.sent.1 long);
   due = λ within bytes known b. inl e;
-  undue = λ within bytes known none. absurd (none (done_begins host stop told output bytes done known));
+  unexpected = λ within bytes known none. absurd (none (done_begins host stop told output bytes done known));
 }
 edit_decided host stop told status (OutputCut output, e, (begun, w)) faultless = absurd (faultless.output w.rose)
 edit_decided host stop told status (refused_ending front fault, e, (stops, w)) faultless = record {
@@ -195,7 +196,7 @@ edit_decided host stop told status (refused_ending front fault, e, (stops, w)) f
       by_fault host stop told status 8 fault e stops.0 faultless (λ link linked s. sent_long host stop told status link fault input e s faultless reads known long);
   due = λ within bytes known b.
       by_fault host stop told status 0 fault e stops.0 faultless (λ link linked s. sent_due host stop told status link fault bytes e linked s faultless within known b);
-  undue = λ within bytes known none.
-      by_fault host stop told status 7 fault e stops.0 faultless (λ link linked s. sent_undue host stop told status link fault e linked s faultless within);
+  unexpected = λ within bytes known none.
+      by_fault host stop told status 7 fault e stops.0 faultless (λ link linked s. sent_unexpected host stop told status link fault e linked s faultless within);
 }
 edit_decided host stop told status (LineCut front fault, e, (stops, w)) faultless = absurd (faultless.output w.rose)

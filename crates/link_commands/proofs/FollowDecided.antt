@@ -18,7 +18,7 @@ use Rattle.link_commands.specs.Linked.{start_of}
 use Rattle.link_commands.specs.Looks.{AsksMirror}
 use Rattle.link_commands.specs.Meanings.{LinkEnds}
 use Rattle.link_commands.specs.Served.{IsFaultless}
-use Rattle.link_commands.proofs.EditDecided.{link_undue}
+use Rattle.link_commands.proofs.EditDecided.{link_unexpected}
 use Rattle.link_commands.proofs.FollowPromised.{link_goes_on, read_or_refused}
 use Rattle.link_commands.proofs.LinkedFacts.{left_is, owed_is}
 use Rattle.link_commands.proofs.RunOnce.{whole_run_goes_on}
@@ -81,28 +81,28 @@ fault_due host rounds query meta target told status (Own (Link error)) front byt
 fault_due host rounds query meta target told status Read front bytes e stops faultless known r = absurd stops
 fault_due host rounds query meta target told status want front bytes e stops faultless known r = inr e
 
-fault_undue : (host : List ℕ) (rounds : ℕ) (query meta : Option (List ℕ)) (target : Target) (told : Told) (status : ℕ) (fault : Fault FollowFault) (front bytes : List ℕ)
+fault_unexpected : (host : List ℕ) (rounds : ℕ) (query meta : Option (List ℕ)) (target : Target) (told : Told) (status : ℕ) (fault : Fault FollowFault) (front bytes : List ℕ)
     → status ≡ fault_status follow_status fault → StopsFollowBy host rounds query meta target told.before told.after fault front → IsFaultless told
     → HasNoRun host rounds query meta target bytes → IsOrMemory 7 status
-fault_undue host rounds query meta target told status (Own (Query error)) front bytes e stops faultless r =
+fault_unexpected host rounds query meta target told status (Own (Query error)) front bytes e stops faultless r =
     absurd (texts_once query meta target r.m (inl (error, stops.0, stops.1)) r.asks)
-fault_undue host rounds query meta target told status (Own Meta) front bytes e stops faultless r =
+fault_unexpected host rounds query meta target told status (Own Meta) front bytes e stops faultless r =
     absurd (texts_once query meta target r.m (inr (stops.0.0, stops.0.1, stops.1)) r.asks)
-fault_undue host rounds query meta target told status (Own Unreached) front bytes e stops faultless r = absurd (faultless.net stops.0.unreached.rose)
-fault_undue host rounds query meta target told status (Own (Link error)) front bytes e stops faultless r =
-    inl (e ∙ link_undue error stops.0 (λ fault. link_goes_on host rounds query meta target told error front stops.0 stops.1 faultless (inl fault)))
-fault_undue host rounds query meta target told status Read front bytes e stops faultless r = absurd stops
-fault_undue host rounds query meta target told status want front bytes e stops faultless r = inr e
+fault_unexpected host rounds query meta target told status (Own Unreached) front bytes e stops faultless r = absurd (faultless.net stops.0.unreached.rose)
+fault_unexpected host rounds query meta target told status (Own (Link error)) front bytes e stops faultless r =
+    inl (e ∙ link_unexpected error stops.0 (λ fault. link_goes_on host rounds query meta target told error front stops.0 stops.1 faultless (inl fault)))
+fault_unexpected host rounds query meta target told status Read front bytes e stops faultless r = absurd stops
+fault_unexpected host rounds query meta target told status want front bytes e stops faultless r = inr e
 
 pub follow_decided : (host : List ℕ) (rounds : ℕ) (query meta : Option (List ℕ)) (target : Target) (told : Told) (status : ℕ) → LinkEnds (follow_meaning host rounds query meta target) told status
     → IsFaultless told → DecidesFollow host rounds query meta target told status
 follow_decided host rounds query meta target told status (Done output, e, (done, w)) faultless = record {
   due = λ bytes known r. inl e;
-  undue = λ bytes known r. absurd (r.none done.m done.for.asks (done_run host rounds query meta target told output bytes done known));
+  unexpected = λ bytes known r. absurd (r.none done.m done.for.asks (done_run host rounds query meta target told output bytes done known));
 }
 follow_decided host rounds query meta target told status (OutputCut output, e, (begun, w)) faultless = absurd (faultless.output w.rose)
 follow_decided host rounds query meta target told status (refused_ending front fault, e, (stops, w)) faultless = record {
   due = λ bytes known r. fault_due host rounds query meta target told status fault front bytes e stops faultless known r;
-  undue = λ bytes known r. fault_undue host rounds query meta target told status fault front bytes e stops faultless r;
+  unexpected = λ bytes known r. fault_unexpected host rounds query meta target told status fault front bytes e stops faultless r;
 }
 follow_decided host rounds query meta target told status (LineCut front fault, e, (stops, w)) faultless = absurd (faultless.output w.rose)

@@ -46,10 +46,10 @@ written_whole request p q answer taken x same =
     (whole_front p.taken q.taken request (subst (Appends p.taken q.taken) (append-nil request) x.went.written))
 
 -- what stopped was written in part
-pub written_part : (request : List ℕ) (Undue : ℕ → Reply → FollowError → Type 0) (p : Point) (taken : Option (List ℕ)) (e : FollowError) → Stops request Undue p taken e
+pub written_part : (request : List ℕ) (Unexpected : ℕ → Reply → FollowError → Type 0) (p : Point) (taken : Option (List ℕ)) (e : FollowError) → Stops request Unexpected p taken e
     → AppendsPrefix p.taken taken request
-written_part request Undue p taken e (inl s) = s.written
-written_part request Undue p taken e (inr a) =
+written_part request Unexpected p taken e (inl s) = s.written
+written_part request Unexpected p taken e (inr a) =
     subst (λ (t : Option (List ℕ)). AppendsPrefix p.taken t request) a.written
     (whole_front p.taken a.there.taken request
     (subst (Appends p.taken a.there.taken) (append-nil request)

@@ -12,15 +12,16 @@ use Rattle.command_core.specs.Answers.{TellsFault, TellsMemory}
 use Rattle.command_core.proofs.Appending.{none_written}
 use Rattle.command_core.specs.Endings.{Done, OutputCut, Refused as refused_ending, LineCut}
 use Rattle.command_core.specs.Faults.{fault_status, read_fault}
+use Rattle.command_core.specs.ReadRecords.{records_limit}
 use Rattle.command_core.specs.Seen.{InputSeen, Seen, Told, IsUnread}
 use Rattle.mirror_client.specs.declared.pushing.Pushed.{Pushed}
 use Rattle.mirror_client.specs.declared.pushing.Pushed.TheVariants.{Revision as revision, Unchanged as unchanged, Stopped as stopped, Refused as refusal}
 use Rattle.mirror_client.specs.declared.refusal.FollowError.{FollowError}
 use Rattle.mirror_client.specs.declared.refusal.FollowError.TheVariants.{Refused as refused, BadReply, Ended, Listing, Codes, LinkFault, Memory}
-use Rattle.mirror_client.specs.Pushes.{UnduePush, push_text}
+use Rattle.mirror_client.specs.Pushes.{UnexpectedPush, push_text}
 use Rattle.link_commands.specs.declared.edit.EditFault.{EditFault}
 use Rattle.link_commands.specs.declared.edit.EditFault.TheVariants.{TooLong, Unreached, Refused, Link}
-use Rattle.link_commands.specs.EditShare.{EditReadsOn, HasBody, HasPushed, HasSent, IsEditDone, IsToldFault, IsUnsent, StopsEdit, StopsPush, StopsSending, edit_meaning, edit_line, edit_status, push_fault, records_limit, told_of}
+use Rattle.link_commands.specs.EditShare.{EditReadsOn, HasBody, HasPushed, HasSent, IsEditDone, IsToldFault, IsUnsent, StopsEdit, StopsPush, StopsSending, edit_meaning, edit_line, edit_status, push_fault, told_of}
 use Rattle.link_commands.specs.Linked.{HasLinked, IsUnreached, LinkSeen, start_of}
 use Rattle.link_commands.specs.Links.{link_status}
 use Rattle.link_commands.specs.Meanings.{IsLinkAnswered, KeepsNet, LinkEnds}
@@ -118,7 +119,7 @@ wants_sending host stop before after link (Own Unreached) stops = absurd stops
 wants_sending host stop before after link (Own (Refused status text)) stops =
     inr (stops.0, stops.1, written_whole (push_text stops.0 host) (start_of link) stops.2.there stops.2.answer link.taken stops.2.exchanged stops.2.written)
 wants_sending host stop before after link (Own (Link e)) stops =
-    inr (stops.1.0, stops.1.1, written_part (push_text stops.1.0 host) (UnduePush stops.1.0) (start_of link) link.taken e stops.1.2.stops)
+    inr (stops.1.0, stops.1.1, written_part (push_text stops.1.0 host) (UnexpectedPush stops.1.0) (start_of link) link.taken e stops.1.2.stops)
 wants_sending host stop before after link Read stops =
     inl (all_read_on (EditReadsOn stop) before after stops.1.bytes stops.1.read stops.1.on, stops.2)
 wants_sending host stop before after link want stops = stops
@@ -160,7 +161,7 @@ pushing_fault host stop before after body link (Listing error) x has = (λ bad. 
 pushing_fault host stop before after body link (Codes error) x has = (λ bad. absurd (cc), (body, has, x))
 pushing_fault host stop before after body link LinkFault x has = (λ bad. absurd (cc), (body, has, x))
 pushing_fault host stop before after body link Memory x has =
-    inr (body, has, written_part (push_text body host) (UnduePush body) (start_of link) link.taken Memory x.stops)
+    inr (body, has, written_part (push_text body host) (UnexpectedPush body) (start_of link) link.taken Memory x.stops)
 
 -- the input was not read whole
 pub reading_fault : (host : List ℕ) (stop : Bool) (before after : InputSeen) (link : LinkSeen) (e : ReadError) → stop ≡ false → IsUnsent link

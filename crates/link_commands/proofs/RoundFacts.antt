@@ -14,10 +14,10 @@ use Rattle.mirror_client.specs.declared.refusal.FollowError.{FollowError}
 use Rattle.mirror_client.specs.declared.refusal.FollowError.TheVariants.{Memory}
 use Rattle.mirror_client.specs.Exchanges.{Exchanged}
 use Rattle.mirror_client.specs.Points.{Point}
-use Rattle.mirror_client.specs.Stages.{Asking, Begun, Holding, Learned, Stage, StopsFrom, UndueBehind, UndueIn, Walks, behind_round, due, listings_in}
-use Rattle.mirror_client.specs.Steps.{FailsToOpen, Known, TellsListing, UndueEnd, UndueListing, all_applied, applied_by, held_after, rows_want, with_listings}
+use Rattle.mirror_client.specs.Stages.{Asking, Begun, Holding, Learned, Stage, StopsFrom, UnexpectedAfter, UnexpectedIn, Walks, behind_round, due, listings_in}
+use Rattle.mirror_client.specs.Steps.{FailsToOpen, Known, TellsListing, UnexpectedEnd, UnexpectedListing, all_applied, applied_by, held_after, rows_want, with_listings}
 use Rattle.mirror_client.specs.Stopping.{CountsFault, Stops}
-use Rattle.mirror_client.specs.Tellings.{TellsNumber, UndueNumber}
+use Rattle.mirror_client.specs.Tellings.{TellsNumber, UnexpectedNumber}
 use Rattle.mirror_client.proofs.ExchangeFacts.{unwritten, went_nowhere}
 use Rattle.mirror_client.proofs.StageFacts.{listed_one, listed_walks, waited_walks, walk_on, walk_one, with_more}
 use Rattle.link_commands.specs.declared.rounds.Stop.{Stop}
@@ -64,7 +64,7 @@ line_cut m ls l done start before after told w line =
 
 -- at once, in a stage
 abbrev stopped_here : (host : List ℕ) (m : Mirrored) (rounds : ℕ) (s : Stage) (p : Point) (taken : Option (List ℕ)) (e : FollowError) (now : Mirrored) (request : List ℕ)
-    → due host m rounds s ≡ Some request → Stops request (UndueIn m rounds s) p taken e → now ≡ with_listings m (listings_in s) → StopsFrom host m rounds s p taken e now
+    → due host m rounds s ≡ Some request → Stops request (UnexpectedIn m rounds s) p taken e → now ≡ with_listings m (listings_in s) → StopsFrom host m rounds s p taken e now
 stopped_here host m rounds s p taken e now request asked stops holds =
     record { stage = s; there = p; walks = record { exchanges = []; path = refl; went = went_nowhere p }; request = request; is_due = asked; stops = stops; holds = holds }
 
@@ -102,7 +102,7 @@ lost host known m old now rounds ls p q before done x is =
     let request : List ℕ = request_text (behind_round (length (ls ++ x.1 ∷ []) == rounds) known (with_listings m (ls ++ x.1 ∷ []))) host in
     record {
       stops = stopped_on host m rounds (Asking known ls) (Holding known (ls ++ x.1 ∷ [])) p q q.taken Memory now (listed_walks host m old rounds known ls x.1 p q x.0 is x.2 x.3)
-          (stopped_here host m rounds (Holding known (ls ++ x.1 ∷ [])) q q.taken Memory now request refl (unwritten request (UndueIn m rounds (Holding known (ls ++ x.1 ∷ []))) q)
+          (stopped_here host m rounds (Holding known (ls ++ x.1 ∷ [])) q q.taken Memory now request refl (unwritten request (UnexpectedIn m rounds (Holding known (ls ++ x.1 ∷ []))) q)
           (with_more m now ls x.1 (x.4 ∙ ap (λ (n : Mirrored). with_listings n (x.1 ∷ [])) is)));
       behind = record { others = x.1 ∷ []; split = refl; only = λ other. absurd (other refl) };
       untold = refl;
@@ -119,11 +119,11 @@ line_ends host known m old now rounds ls p q before after done (Link e) x is h =
     (subst (λ (o : OutputSeen). StopsRound host m now rounds ls (Asking known ls) p q.taken Memory before o) (sym h.1) (lost host known m old now rounds ls p q before done x is))
 
 pub listing_ends : (host : List ℕ) (known : Known) (m old now : Mirrored) (rounds : ℕ) (ls : List Listing) (p : Point) (taken : Option (List ℕ)) (before : OutputSeen) (e : FollowError)
-    → old ≡ with_listings m ls → now ≡ old → Stops (request_text (rows_want known.session old) host) (UndueListing known.rows old) p taken e
+    → old ≡ with_listings m ls → now ≡ old → Stops (request_text (rows_want known.session old) host) (UnexpectedListing known.rows old) p taken e
     → StopsRound host m now rounds ls (Asking known ls) p taken e before before
 listing_ends host known m old now rounds ls p taken before e is same stops = record {
   stops = stopped_here host m rounds (Asking known ls) p taken e now (request_text (rows_want known.session (with_listings m ls)) host) refl
-      (subst (λ (n : Mirrored). Stops (request_text (rows_want known.session n) host) (UndueListing known.rows n) p taken e) is stops) (same ∙ is);
+      (subst (λ (n : Mirrored). Stops (request_text (rows_want known.session n) host) (UnexpectedListing known.rows n) p taken e) is stops) (same ∙ is);
   behind = record { others = []; split = sym (append-nil ls); only = λ other. refl };
   untold = refl;
 }
@@ -191,14 +191,14 @@ due_behind host m rounds known ls last is = ap (λ (b : Bool). Some (request_tex
 -- no other revision came
 pub waiting_ends : (host : List ℕ) (known : Known) (m old now : Mirrored) (rounds revision : ℕ) (ls : List Listing) (p : Point) (taken : Option (List ℕ)) (before : OutputSeen)
     (e : FollowError) → revision ≡ old.held.revision → (length ls == rounds) ≡ false → old ≡ with_listings m ls → now ≡ old
-    → Stops (request_text (want.Update known.session revision) host) (UndueNumber (code "musr") known.rows) p taken e
+    → Stops (request_text (want.Update known.session revision) host) (UnexpectedNumber (code "musr") known.rows) p taken e
     → StopsRound host m now rounds ls (Holding known ls) p taken e before before
 waiting_ends host known m old now rounds revision ls p taken before e base more is same stops = record {
   stops = stopped_here host m rounds (Holding known ls) p taken e now (request_text (want.Update known.session (held_after m.held ls).revision) host)
       (due_behind host m rounds known ls false more)
-      (subst (λ (b : Bool). Stops (request_text (want.Update known.session (held_after m.held ls).revision) host) (UndueBehind b known) p taken e) (sym more)
-      (subst (λ (k : Mirrored). Stops (request_text (want.Update known.session k.held.revision) host) (UndueNumber (code "musr") known.rows) p taken e) is
-      (subst (λ (r : ℕ). Stops (request_text (want.Update known.session r) host) (UndueNumber (code "musr") known.rows) p taken e) base stops)))
+      (subst (λ (b : Bool). Stops (request_text (want.Update known.session (held_after m.held ls).revision) host) (UnexpectedAfter b known) p taken e) (sym more)
+      (subst (λ (k : Mirrored). Stops (request_text (want.Update known.session k.held.revision) host) (UnexpectedNumber (code "musr") known.rows) p taken e) is
+      (subst (λ (r : ℕ). Stops (request_text (want.Update known.session r) host) (UnexpectedNumber (code "musr") known.rows) p taken e) base stops)))
       (same ∙ is);
   behind = record { others = []; split = sym (append-nil ls); only = λ other. refl };
   untold = refl;
@@ -257,11 +257,11 @@ opening_ends host m rounds link before e fails count =
 
 -- it did not log out
 pub closing_ends : (host : List ℕ) (m now : Mirrored) (rounds : ℕ) (known : Known) (ls : List Listing) (p : Point) (taken : Option (List ℕ)) (before : OutputSeen) (e : FollowError)
-    → (length ls == rounds) ≡ true → now ≡ with_listings m ls → Stops (request_text (want.Logout known.session) host) UndueEnd p taken e
+    → (length ls == rounds) ≡ true → now ≡ with_listings m ls → Stops (request_text (want.Logout known.session) host) UnexpectedEnd p taken e
     → StopsRound host m now rounds ls (Holding known ls) p taken e before before
 closing_ends host m now rounds known ls p taken before e last holds stops = record {
   stops = stopped_here host m rounds (Holding known ls) p taken e now (request_text (want.Logout known.session) host) (due_behind host m rounds known ls true last)
-      (subst (λ (b : Bool). Stops (request_text (want.Logout known.session) host) (UndueBehind b known) p taken e) (sym last) stops) holds;
+      (subst (λ (b : Bool). Stops (request_text (want.Logout known.session) host) (UnexpectedAfter b known) p taken e) (sym last) stops) holds;
   behind = record { others = []; split = sym (append-nil ls); only = λ other. refl };
   untold = refl;
 }

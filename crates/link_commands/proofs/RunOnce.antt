@@ -18,10 +18,10 @@ use Rattle.mirror_client.specs.declared.refusal.FollowError.{FollowError}
 use Rattle.mirror_client.specs.declared.refusal.FollowError.TheVariants.{Refused, BadReply, Ended, Listing as not_taken, Codes, LinkFault, Memory}
 use Rattle.mirror_client.specs.Exchanges.{AreAnswered, Exchange, messages}
 use Rattle.mirror_client.specs.Points.{Point}
-use Rattle.mirror_client.specs.Stages.{Asking, Begun, Closed, Holding, Leads, LeadsOn, Learned, Path, Stage, StopsFrom, UndueBehind, UndueIn, due}
-use Rattle.mirror_client.specs.Steps.{IsRefusedBy, Known, TellsListing, TellsTable, UndueEnd, UndueListing, UndueTable, with_listings}
+use Rattle.mirror_client.specs.Stages.{Asking, Begun, Closed, Holding, Leads, LeadsOn, Learned, Path, Stage, StopsFrom, UnexpectedAfter, UnexpectedIn, due}
+use Rattle.mirror_client.specs.Steps.{IsRefusedBy, Known, TellsListing, TellsTable, UnexpectedEnd, UnexpectedListing, UnexpectedTable, with_listings}
 use Rattle.mirror_client.specs.Stopping.{Stops}
-use Rattle.mirror_client.specs.Tellings.{TellsNumber, UndueNumber, number_told}
+use Rattle.mirror_client.specs.Tellings.{TellsNumber, UnexpectedNumber, number_told}
 use Rattle.mirror_client.proofs.TellingFacts.{tags_once}
 use Rattle.followed_shares.proofs.Completes.{IsOutside, stops_outside}
 use Rattle.followed_shares.proofs.FilterShown.{left_owed, owed_split, split_on}
@@ -77,7 +77,7 @@ leads_once m rounds (Closed known ls) answer u v a b = absurd a
 table_or_none : (rows : List CodeRow) (error : CodeError) (r : Result (List CodeRow) CodeError) → r ≡ Ok rows → r ≡ Err error → ⊥
 table_or_none rows error r some none = let bad : found rows ≡ Err error = sym some ∙ none in absurd (cc)
 
-table_due : (answer : Reply) (rows : List CodeRow) (used : ℕ) (e : FollowError) → TellsTable answer rows → UndueTable used answer e → IsOutside e
+table_due : (answer : Reply) (rows : List CodeRow) (used : ℕ) (e : FollowError) → TellsTable answer rows → UnexpectedTable used answer e → IsOutside e
 table_due answer rows used (Refused status) a h = absurd (h.1 a.1.0)
 table_due answer rows used (BadReply at) a h = absurd (h.1 a.0 a.1.1)
 table_due answer rows used (Ended at) a h = absurd h
@@ -87,7 +87,7 @@ table_due answer rows used (Codes error) a h =
 table_due answer rows used LinkFault a h = inl refl
 table_due answer rows used Memory a h = inr refl
 
-number_due : (c : Four) (rows : List CodeRow) (answer : Reply) (n used : ℕ) (e : FollowError) → TellsNumber c rows answer n → UndueNumber c rows used answer e → IsOutside e
+number_due : (c : Four) (rows : List CodeRow) (answer : Reply) (n used : ℕ) (e : FollowError) → TellsNumber c rows answer n → UnexpectedNumber c rows used answer e → IsOutside e
 number_due c rows answer n used (Refused status) a h = absurd (h.1 a.1.0)
 number_due c rows answer n used (BadReply at) a h = let bad : Some n ≡ None = sym a.2 ∙ h.1 a.0 a.1.1 in absurd (cc)
 number_due c rows answer n used (Ended at) a h = absurd h
@@ -110,7 +110,7 @@ taken_or_refused m tag l (mirror.Backwards held told) is later refused =
     )
 taken_or_refused m tag l mirror.Memory is later refused = refused
 
-listing_due : (rows : List CodeRow) (m : Mirrored) (answer : Reply) (l : Listing) (used : ℕ) (e : FollowError) → TellsListing rows m answer l → UndueListing rows m used answer e
+listing_due : (rows : List CodeRow) (m : Mirrored) (answer : Reply) (l : Listing) (used : ℕ) (e : FollowError) → TellsListing rows m answer l → UnexpectedListing rows m used answer e
     → IsOutside e
 listing_due rows m answer l used (Refused status) a h = absurd (h.1 a.told.0)
 listing_due rows m answer l used (BadReply at) a h = absurd (h.1 a.tag a.told.1)
@@ -122,7 +122,7 @@ listing_due rows m answer l used (Codes error) a h = absurd h
 listing_due rows m answer l used LinkFault a h = inl refl
 listing_due rows m answer l used Memory a h = inr refl
 
-end_due : (answer : Reply) (used : ℕ) (e : FollowError) → answer.0 ≡ 204 → UndueEnd used answer e → IsOutside e
+end_due : (answer : Reply) (used : ℕ) (e : FollowError) → answer.0 ≡ 204 → UnexpectedEnd used answer e → IsOutside e
 end_due answer used (Refused status) a h = absurd (h.1 a)
 end_due answer used (BadReply at) a h = absurd h
 end_due answer used (Ended at) a h = absurd h
@@ -132,11 +132,11 @@ end_due answer used LinkFault a h = inl refl
 end_due answer used Memory a h = inr refl
 
 behind_due : (last : Bool) (known : Known) (ls : List Listing) (answer : Reply) (u : Stage) (used : ℕ) (e : FollowError) → LeadsOn last known ls answer u
-    → UndueBehind last known used answer e → IsOutside e
+    → UnexpectedAfter last known used answer e → IsOutside e
 behind_due true known ls answer u used e a h = end_due answer used e a.0 h
 behind_due false known ls answer u used e a h = number_due (code "musr") known.rows answer a.0.0 used e a.0.1 h
 
-leads_due : (m : Mirrored) (rounds : ℕ) (s : Stage) (answer : Reply) (u : Stage) (used : ℕ) (e : FollowError) → Leads m rounds s answer u → UndueIn m rounds s used answer e
+leads_due : (m : Mirrored) (rounds : ℕ) (s : Stage) (answer : Reply) (u : Stage) (used : ℕ) (e : FollowError) → Leads m rounds s answer u → UnexpectedIn m rounds s used answer e
     → IsOutside e
 leads_due m rounds Begun answer u used e a h = table_due answer a.0 used e a.1 h
 leads_due m rounds (Learned rows) answer u used e a h = number_due (code "mlid") rows answer a.0 used e a.1 h
@@ -156,14 +156,14 @@ begins_with x xs bytes rest answered split = record { message = x.message; is = 
 
 stops_not : (host : List ℕ) (m : Mirrored) (rounds : ℕ) (s t : Stage) (known : Known) (ls : List Listing) (xs ys : List Exchange) (bytes rest more request : List ℕ) (p : Point)
     (taken : Option (List ℕ)) (e : FollowError) → Path host m rounds s xs (Closed known ls) → AreAnswered xs → bytes ≡ messages xs ++ rest → Path host m rounds s ys t → AreAnswered ys
-    → bytes ≡ messages ys ++ more → due host m rounds t ≡ Some request → p.owed ≡ Some more → Stops request (UndueIn m rounds t) p taken e → IsOutside e
+    → bytes ≡ messages ys ++ more → due host m rounds t ≡ Some request → p.owed ≡ Some more → Stops request (UnexpectedIn m rounds t) p taken e → IsOutside e
 stops_not host m rounds s t known ls [] [] bytes rest more request p taken e whole answered split path answers on asked owed stops =
     absurd (none_due host m rounds t known ls request (path ∙ sym whole) asked)
 stops_not host m rounds s t known ls [] (y ∷ ys) bytes rest more request p taken e whole answered split path answers on asked owed stops =
     absurd (none_due host m rounds s known ls y.request (sym whole) path.0)
 stops_not host m rounds s t known ls (x ∷ xs) [] bytes rest more request p taken e whole answered split path answers on asked owed stops =
-    stops_outside request (UndueIn m rounds s) p taken e bytes (messages xs ++ rest) x.answer (owed ∙ ap (λ (l : List ℕ). Some l) (sym on)) (begins_with x xs bytes rest answered split)
-    (λ used h. leads_due m rounds s x.answer whole.1.0 used e whole.1.1 h) (subst (λ (stage : Stage). Stops request (UndueIn m rounds stage) p taken e) path stops)
+    stops_outside request (UnexpectedIn m rounds s) p taken e bytes (messages xs ++ rest) x.answer (owed ∙ ap (λ (l : List ℕ). Some l) (sym on)) (begins_with x xs bytes rest answered split)
+    (λ used h. leads_due m rounds s x.answer whole.1.0 used e whole.1.1 h) (subst (λ (stage : Stage). Stops request (UnexpectedIn m rounds stage) p taken e) path stops)
 stops_not host m rounds s t known ls (x ∷ xs) (y ∷ ys) bytes rest more request p taken e whole answered split path answers on asked owed stops =
     let first = answer_is y.message y.answer x.answer bytes (messages ys ++ more) (messages xs ++ rest) answers.0 (split_on y ys bytes more on) (begins_with x xs bytes rest answered split) in
     let same : path.1.0 ≡ whole.1.0 =

@@ -10,6 +10,7 @@ use Rattle.item_model.specs.declared.request.Target.{Target}
 use Rattle.share_history.specs.Listings.{Listing}
 use Rattle.http_heads.specs.Messages.{Message, print_message}
 use Rattle.http_client.specs.Replies.{IsReply, Reply}
+use Rattle.command_core.specs.ReadRecords.{records_limit}
 use Rattle.command_core.specs.Seen.{Told}
 use Rattle.mirror_core.specs.Mirrored.{Mirrored}
 use Rattle.mirror_client.specs.Exchanges.{AreAnswered, Exchange, messages}
@@ -40,15 +41,15 @@ pub record BeginsDue (stop : Bool) (bytes : List ℕ) : Type 0 where
 -- the input is within its limit; a stop reads none
 abbrev pub IsSendable : (stop : Bool) → Option (List ℕ) → Type 0
 IsSendable true left = Unit {0}
-IsSendable false left = (input : List ℕ) × (left ≡ Some input) × (length input ≤ 4194304)
+IsSendable false left = (input : List ℕ) × (left ≡ Some input) × (length input ≤ records_limit)
 
 pub record DecidesEdit (stop : Bool) (told : Told) (status : ℕ) : Type 0 where
   -- the input is too long
-  pub long : stop ≡ false → (input : List ℕ) → told.before.input.left ≡ Some input → 4194304 < length input → IsOrMemory 8 status
+  pub long : stop ≡ false → (input : List ℕ) → told.before.input.left ≡ Some input → records_limit < length input → IsOrMemory 8 status
   -- it is sent, and the reply is expected
   pub due : IsSendable stop told.before.input.left → (bytes : List ℕ) → told.before.around.net.next_input ≡ Some bytes → BeginsDue stop bytes → IsOrMemory 0 status
   -- or the bytes do not begin with an expected reply
-  pub undue : IsSendable stop told.before.input.left → (bytes : List ℕ) → told.before.around.net.next_input ≡ Some bytes → (BeginsDue stop bytes → ⊥)
+  pub unexpected : IsSendable stop told.before.input.left → (bytes : List ℕ) → told.before.around.net.next_input ≡ Some bytes → (BeginsDue stop bytes → ⊥)
       → IsOrMemory 7 status
 
 -- ---- follow
@@ -84,4 +85,4 @@ pub record HasNoRun (host : List ℕ) (rounds : ℕ) (query meta : Option (List 
 
 pub record DecidesFollow (host : List ℕ) (rounds : ℕ) (query meta : Option (List ℕ)) (target : Target) (told : Told) (status : ℕ) : Type 0 where
   pub due : (bytes : List ℕ) → told.before.around.net.next_input ≡ Some bytes → HasRun host rounds query meta target bytes → IsOrMemory 0 status
-  pub undue : (bytes : List ℕ) → told.before.around.net.next_input ≡ Some bytes → HasNoRun host rounds query meta target bytes → IsOrMemory 7 status
+  pub unexpected : (bytes : List ℕ) → told.before.around.net.next_input ≡ Some bytes → HasNoRun host rounds query meta target bytes → IsOrMemory 7 status

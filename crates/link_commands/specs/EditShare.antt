@@ -6,6 +6,7 @@ use Rattle.daap_outside.specs.Told.{AppendsPrefix}
 use Rattle.command_core.specs.declared.fault.Fault.{Fault}
 use Rattle.command_core.specs.declared.fault.Fault.TheVariants.{Own, Read, Memory as want}
 use Rattle.command_core.specs.Causes.{HasReadOn, IsReadFault}
+use Rattle.command_core.specs.ReadRecords.{records_limit}
 use Rattle.command_core.specs.Seen.{InputSeen, Seen, IsUnread}
 use Rattle.http_client.specs.Replies.{Reply}
 use Rattle.mirror_client.specs.declared.pushing.Pushed.{Pushed}
@@ -14,7 +15,7 @@ use Rattle.mirror_client.specs.declared.refusal.FollowError.{FollowError}
 use Rattle.mirror_client.specs.declared.refusal.FollowError.TheVariants.{Refused as refused, BadReply, Ended, Listing, Codes, LinkFault, Memory}
 use Rattle.mirror_client.specs.Exchanges.{Exchanged}
 use Rattle.mirror_client.specs.Points.{Point}
-use Rattle.mirror_client.specs.Pushes.{IsPushed, UnduePush, push_text}
+use Rattle.mirror_client.specs.Pushes.{IsPushed, UnexpectedPush, push_text}
 use Rattle.mirror_client.specs.Stopping.{CountsFault, Stops}
 use Rattle.link_commands.specs.declared.edit.EditFault.{EditFault}
 use Rattle.link_commands.specs.declared.edit.EditFault.TheVariants.{TooLong, Unreached, Refused, Link}
@@ -22,10 +23,6 @@ use Rattle.link_commands.specs.Linked.{HasLinked, IsUnreached, IsUntouched, Link
 use Rattle.link_commands.specs.Links.{link_line, link_status}
 use Rattle.link_commands.specs.Meanings.{LinkMeaning}
 use Rattle.link_commands.specs.Served.{EditPromises}
-
--- the input may have at most 4 MiB
-abbrev pub records_limit : ℕ
-records_limit = 4194304
 
 -- the text of a share's refusal is shown up to this length
 abbrev pub text_limit : ℕ
@@ -70,7 +67,7 @@ pub record HasPushed (host : List ℕ) (body : Option (List ℕ)) (link : LinkSe
 
 -- it was sent, perhaps in part, and the exchange stopped with `e`
 pub record StopsPush (host : List ℕ) (body : Option (List ℕ)) (link : LinkSeen) (e : FollowError) : Type 0 where
-  pub stops : Stops (push_text body host) (UnduePush body) (start_of link) link.taken e
+  pub stops : Stops (push_text body host) (UnexpectedPush body) (start_of link) link.taken e
   pub count : CountsFault 0 link.faults e
 
 abbrev pub HasSent : List ℕ → (stop : Bool) → InputSeen → InputSeen → LinkSeen → Pushed → Type 0

@@ -10,6 +10,7 @@ use Rattle.share_replies.specs.Settings.{Settings}
 use Rattle.share_replies.specs.Replies.{Reply, Replies, answer_to}
 use Rattle.reply_bytes.specs.ReplyBytes.{reply_bytes}
 use Rattle.command_core.specs.Endings.{IsWritten}
+use Rattle.command_core.specs.ReadRecords.{records_limit}
 use Rattle.command_core.specs.Seen.{Told}
 use Rattle.mirror_core.specs.declared.mirror.Applied.{Applied}
 use Rattle.mirror_core.specs.Mirrored.{Mirrored}
@@ -77,7 +78,7 @@ pub record ServesPush (s : Settings) (h : List Entry) (stop : Bool) (told : Told
   pub next : told.before.around.net.next_input ≡ Some (reply_bytes reply last)
   pub input : List ℕ
   pub input_is : stop ≡ false → told.before.input.left ≡ Some input
-  pub within : stop ≡ false → length input ≤ 4194304
+  pub within : stop ≡ false → length input ≤ records_limit
 
 pub record EditPromises (host : List ℕ) (stop : Bool) (told : Told) (status : ℕ) : Type 0 where
   pub net : KeepsNet host told status

@@ -45,7 +45,7 @@ pub rows_at : (ps : List Property) (rows : List PlanRow) (i : ℕ) (d : PlanRow)
 rows_at ps rows i d h =
     at_drop_more (rows_length ps) rows i d h ∙ more_length (row_tree ps (get_or rows i d)) (trees_of (row_trees ps (drop (i + 1) rows)))
 
--- and its spelling is left before those of the others
+-- and its encoding comes before those of the others
 pub trees_at : {A : Type 0} (f : A → Tree) (xs : List A) (i : ℕ) (d : A) → i < length xs → spellings (trees_of (map f (drop i xs))) ≡ spelling (f (get_or xs i d)) ++ spellings (trees_of (map f (drop (i + 1) xs)))
 trees_at f xs i d h = at_drop_more (λ ys. spellings (trees_of (map f ys))) xs i d h
 
@@ -64,7 +64,7 @@ held_trees ps (r ∷ rows) = ap (λ ts. row_tree ps r ∷ ts) (held_trees ps row
 pub held_length : (ps : List Property) (rows : List PlanRow) → length (spellings (trees_of (map (λ row. row.1) (rows_held ps rows)))) ≡ rows_length ps rows
 held_length ps rows = ap (λ ts. length (spellings (trees_of ts))) (held_trees ps rows)
 
--- behind the head of the rows stand their tags and the deleted keys
+-- after the head of the rows come their tags and the deleted keys
 pub rest_is : (target : Target) (revision : ℕ) (scope : Scope) (rows : List PlanRow) (ps : List Property) → rest_of (record { target = target; listing = listing_held revision scope rows ps }) ≡ spellings (trees_of (row_trees ps rows)) ++ spellings (trees_of (gone_tags target (is_delta_of scope) (gone_of scope)))
 rest_is target revision scope rows ps =
     ap (λ ts. spellings (trees_of ts) ++ spellings (trees_of (gone_tags target (is_delta_of scope) (gone_of scope)))) (held_trees ps rows)
@@ -105,7 +105,7 @@ body_length target revision scope rows ps n e =
     let gone : List Tree = gone_tags target (is_delta_of scope) (gone_of scope) in
     omega (arith, e, members_length target revision scope rows ps gone, framed_length (body_code target) (spellings (trees_of (members revision scope rows ps gone))), ap (λ t. length (spelling t)) (same_members target revision scope rows ps))
 
--- five pieces, one behind the other
+-- five slices, one after the other
 five : (old a b c d e : List ℕ) → ((((old ++ a) ++ b) ++ c) ++ d) ++ e ≡ old ++ (a ++ (b ++ (c ++ (d ++ (e ++ [])))))
 five old a b c d e = simp (append_assoc, append-nil)
 

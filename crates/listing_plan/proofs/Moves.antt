@@ -1,6 +1,6 @@
 -- Bytes that are pushed one after the other, onto a page and from it to a sink.
 use Rattle.std.proofs.Common.{◌≡◌, ◌≤◌, ◌+◌, ◌++◌, ℕ, List, [], Option, Result, Ok, Err, length, refl, sym, ap, subst, ◌∙◌, append_assoc, append-nil, length-append, arith}
-use Rattle.std.proofs.lemmas.List.{take-append-le, length-take-le}
+use Rattle.std.proofs.lemmas.List.{take-append-le, take-take, length-take-le}
 use Rattle.std.proofs.Math.Seq.{take-append-add, take-append_seam}
 use Rattle.std.proofs.KnownBytes.{Appends-nil, Appends-trans}
 use Rattle.std.specs.Io.KnownBytes.{Appends}
@@ -16,6 +16,15 @@ filled room bytes rest n m h e =
     let count : n + length bytes ≡ length (take n room) + length bytes = ap (λ k. k + length bytes) (sym (length-take-le n room h)) in
     ap (λ k. take k (take n room ++ (bytes ++ rest))) (e ∙ count)
     ∙ take-append-add (take n room) (bytes ++ rest) (length bytes) ∙ ap (λ xs. take n room ++ xs) (take-append_seam bytes rest)
+
+-- and so are the first of them
+pub filled_first : (room bytes copied rest : List ℕ) (n m k : ℕ) → n ≤ length room → copied ≡ take m bytes → k ≤ m → m ≤ length bytes → take (n + k) (take n room ++ (copied ++ rest)) ≡ take n room ++ take k bytes
+filled_first room bytes copied rest n m k h e few many =
+    let count : n + k ≡ length (take n room) + k = ap (λ j. j + k) (sym (length-take-le n room h)) in
+    let within : k ≤ length copied = omega (arith, few, ap length e, length-take-le m bytes many) in
+    ap (λ j. take j (take n room ++ (copied ++ rest))) count
+    ∙ take-append-add (take n room) (copied ++ rest) k
+    ∙ ap (λ xs. take n room ++ xs) (take-append-le k copied rest within ∙ ap (take k) e ∙ take-take k m bytes few)
 
 -- what stands on the page moved nothing to the sink
 pub moved_put : (bytes : List ℕ) (told : Option (List ℕ)) (page page' : List ℕ) → page' ≡ page ++ bytes → Moved bytes told told page page'

@@ -1,6 +1,6 @@
 //! A page of bytes, which goes to a sink when it is full.
 
-ghost use Rattle.std.specs.Prelude.{◌≡◌, ◌≤◌, ◌+◌, ◌-◌, ◌++◌, [], length, OnOk};
+ghost use Rattle.std.specs.Prelude.{◌≡◌, ◌≤◌, ◌+◌, ◌-◌, ◌++◌, [], length, take, OnOk};
 ghost use Rattle.std.specs.Int.{w32, to_be_bytes};
 ghost use Rattle.dmap_tags.specs.Codes.{code_bytes};
 ghost use Rattle.dmap_tags.specs.Spelling.{spelling};
@@ -16,6 +16,9 @@ pub(crate) const PAGE_BYTES: usize = 65_536;
 
 /// The size of the page of a short body, in bytes. It is smaller because a page is cleared before it is filled.
 pub(crate) const SHORT_PAGE_BYTES: usize = 8_192;
+
+/// How many bytes a copy of a constant size takes. Such a copy needs no call and does not branch on the length.
+const COPY_BYTES: usize = 64;
 
 /// Bytes that were pushed and that the sink does not have yet: at most `N`.
 #[derive(Drop)]
@@ -68,6 +71,33 @@ impl<const N: usize> Page<N> {
         let room = &mut self.room[..];
         room[self.len..end].copy_from_slice(bytes);
         self.len = end;
+    }
+
+    // Puts the first `len` of the bytes. If they are few, it copies more, as many as the constant says, and the bytes
+    // behind are overwritten by what is put next.
+    pub(crate) fn put_first(&mut self, bytes: &[u8], len: usize)
+        requires within { len ≤ length bytes.now }
+        requires room { length self.old + len ≤ N }
+        ensures put { self.new ≡ self.old ++ take len bytes.now }
+    {
+        if len <= COPY_BYTES && COPY_BYTES <= bytes.len() && COPY_BYTES <= self.left() {
+            self.put_few(bytes, len);
+            return;
+        }
+        let (first, _) = bytes.split_at(len);
+        self.put(first);
+    }
+
+    fn put_few(&mut self, bytes: &[u8], len: usize)
+        requires few { len ≤ COPY_BYTES }
+        requires bytes { COPY_BYTES ≤ length bytes.now }
+        requires room { length self.old + COPY_BYTES ≤ N }
+        ensures put { self.new ≡ self.old ++ take len bytes.now }
+    {
+        let (copied, _) = bytes.split_at(COPY_BYTES);
+        let room = &mut self.room[..];
+        room[self.len..self.len + COPY_BYTES].copy_from_slice(copied);
+        self.len += len;
     }
 
     // Puts a code and the length of the payload that follows.

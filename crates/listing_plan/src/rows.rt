@@ -64,7 +64,7 @@ fn put_row<const N: usize>(page: &mut Page<N>, row: &PlanRow, properties: &[Prop
     put_shown(page, &shared.item, properties);
 }
 
-pub(crate) fn put_keys<const N: usize>(page: &mut Page<N>, member: Option<u32>, id: u32)
+fn put_keys<const N: usize>(page: &mut Page<N>, member: Option<u32>, id: u32)
     requires { length page.old + length (spellings (trees_of (keys member id))) ≤ N }
     ensures { page.new ≡ page.old ++ spellings (trees_of (keys member id)) }
 {

@@ -92,8 +92,8 @@ impl Runs {
     }
 }
 
-// The index of a property.
-fn index_of(properties: &[Property], property: Property) -> Option<usize>
+/// The index of a property.
+pub(crate) fn index_of(properties: &[Property], property: Property) -> Option<usize>
     ensures some { IfSome result (λ index. IsIndex properties.now index property) }
     ensures none { IfNone result (mentions properties.now property ≡ false) }
 {

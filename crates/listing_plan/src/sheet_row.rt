@@ -1,40 +1,44 @@
 //! A row on a sheet. Its tags are copied as the sheet has them.
 
-ghost use Rattle.std.specs.Prelude.{◌≡◌, ◌≤◌, ◌+◌, ◌++◌, ℕ, length};
-ghost use Rattle.dmap_tags.specs.Spelling.{spellings};
-ghost use Rattle.dmap_tags.specs.Tree.{trees_of};
-ghost use Rattle.item_model.specs.Projection.{keys};
-ghost use Rattle.share_history.specs.Listings.{member_of};
-ghost use Rattle.listing_plan.specs.Limits.{row_limit, shown_limit};
+ghost use Rattle.std.specs.Prelude.{◌≡◌, ◌≤◌, ◌+◌, ◌*◌, ◌++◌, ℕ, length, take};
+ghost use Rattle.item_model.specs.declared.request.Target.TheVariants.{Items, Container};
+ghost use Rattle.listing_plan.specs.Limits.{row_limit, rows_limit, shown_limit};
 ghost use Rattle.listing_plan.specs.Pages.{Pushes};
-ghost use Rattle.listing_plan.specs.Runs.{IsSheetRow, IsWithin, row_bytes, run_bytes, sheet_row_tag};
+ghost use Rattle.listing_plan.specs.Runs.{IsSheetRow, IsWithin, front_bytes, front_length, row_bytes, run_bytes, sheet_row_tag};
 
-use crate::lengths::{HEAD_LEN, NUMBER_LEN};
+use crate::lengths::HEAD_LEN;
 use crate::page::Page;
-use crate::rows::put_keys;
 use crate::runs::Run;
 use daap_outside::{Failed, Sink};
-use dmap_tags::Code;
 use item_model::{SharedRow, Target};
-use row_sheets::Sheet;
+use row_sheets::{RowTags, Sheet};
 
-/// A row, its index on its sheet, and the runs of those of its tags that a listing shows.
+/// The length of the head and the key of an item.
+const ITEM_FRONT_LEN: u64 = 20;
+
+/// The length of the head and the keys of a member of a container.
+const MEMBER_FRONT_LEN: u64 = 32;
+
+/// A row, its index on its sheet, its id, and the runs of those of its tags that a listing shows. The id is a value and
+/// nothing reads the row itself, which lies elsewhere in memory than its tags.
 #[derive(Clone, Copy)]
 pub(crate) struct SheetRow<'a> {
     pub(crate) sheet: &'a Sheet,
     pub(crate) index: usize,
+    pub(crate) id: u32,
     pub(crate) shared: &'a SharedRow,
     pub(crate) runs: &'a [Run],
 }
 
 impl<'a> SheetRow<'a> {
     /// Returns the length of the row's tag in a listing of `target`.
+    #[tactic(auto, using(crate::proofs::SheetFacts::tag_length))]
     pub(crate) fn tag_len(&self, target: Target) -> u64
         requires { IsSheetRow self.now }
         ensures counted { result ≡ length (sheet_row_tag target self.now) }
         ensures short { result ≤ row_limit }
     {
-        HEAD_LEN + keys_len(target) + self.shown_len()
+        fronts_len(target, 1) + self.shown_len()
     }
 
     /// Pushes the row's tag.
@@ -63,9 +67,7 @@ impl<'a> SheetRow<'a> {
         requires room { length page.old + len ≤ N }
         ensures { page.new ≡ page.old ++ sheet_row_tag target self.now }
     {
-        let id = self.shared.row().id;
-        page.put_head(Code(*b"mlit"), (len - HEAD_LEN) as u32);
-        put_keys(page, member_of(target, id), id);
+        put_front(page, target, (len - HEAD_LEN) as u32, self.id);
         self.put_shown(page);
     }
 
@@ -76,7 +78,8 @@ impl<'a> SheetRow<'a> {
         ensures { page.new ≡ page.old ++ row_bytes self.now }
     {
         for run in self.runs {
-            page.put(self.tags(*run));
+            let tags = self.tags(*run);
+            page.put_first(tags.bytes, tags.len);
         }
     }
 
@@ -87,37 +90,64 @@ impl<'a> SheetRow<'a> {
     {
         let mut len = 0;
         for run in self.runs {
-            len += self.tags(*run).len() as u64;
+            len += self.tags(*run).len as u64;
         }
         len
     }
 
     // The tags of a run.
-    fn tags(&self, run: Run) -> &'a [u8]
+    fn tags(&self, run: Run) -> RowTags<'a>
         requires row { IsSheetRow self.now }
         requires within { IsWithin self.now.sheet.now.properties run }
-        ensures { result.now ≡ run_bytes self.now.sheet.now.properties self.now.shared.now run }
+        ensures within { result.len ≤ length result.bytes.now }
+        ensures tags { take result.len result.bytes.now ≡ run_bytes self.now.sheet.now.properties self.now.shared.now run }
+        ensures len { result.len ≡ length (run_bytes self.now.sheet.now.properties self.now.shared.now run) }
     {
-        self.sheet.tags(self.index, run.from, run.to)
+        self.sheet.row_tags(self.index, run.from, run.to)
     }
 }
 
-// The key of a row as a member of a container.
-fn member_of(target: Target, key: u32) -> Option<u32>
-    ensures { result ≡ member_of target key }
+// Puts what comes before the properties of a row: its head and its keys. The payload of its tag has `len` bytes.
+fn put_front<const N: usize>(page: &mut Page<N>, target: Target, len: u32, id: u32)
+    requires { length page.old + front_length target ≤ N }
+    ensures put { page.new ≡ page.old ++ front_bytes target len id }
+    ensures longer { length page.new ≡ length page.old + front_length target }
 {
     match target {
-        Target::Items => None,
-        Target::Container(_) => Some(key),
+        Target::Items => page.put(&item_front(len, id)),
+        Target::Container(_) => page.put(&member_front(len, id)),
     }
 }
 
-fn keys_len(target: Target) -> u64
-    ensures counted { (id : ℕ) → result ≡ length (spellings (trees_of (keys (member_of target id) id))) }
-    ensures short { result ≤ 24 }
+fn item_front(len: u32, id: u32) -> [u8; 20]
+    ensures { result ≡ front_bytes Items len id }
+{
+    let [a, b, c, d] = len.to_be_bytes();
+    let [e, f, g, h] = id.to_be_bytes();
+    [
+        b'm', b'l', b'i', b't', a, b, c, d, b'm', b'i', b'i', b'd', 0, 0, 0, 4, e, f, g, h,
+    ]
+}
+
+fn member_front(len: u32, id: u32) -> [u8; 32]
+    ensures { (container : ℕ) → result ≡ front_bytes (Container container) len id }
+{
+    let [a, b, c, d] = len.to_be_bytes();
+    let [e, f, g, h] = id.to_be_bytes();
+    [
+        b'm', b'l', b'i', b't', a, b, c, d, b'm', b'c', b't', b'i', 0, 0, 0, 4, e, f, g, h, b'm',
+        b'i', b'i', b'd', 0, 0, 0, 4, e, f, g, h,
+    ]
+}
+
+/// Returns the length of the heads and the keys of `rows` rows.
+pub(crate) fn fronts_len(target: Target, rows: u64) -> u64
+    requires { rows ≤ rows_limit }
+    ensures counted { result ≡ front_length target * rows }
+    ensures short { result ≤ 32 * rows }
 {
     match target {
-        Target::Items => NUMBER_LEN,
-        Target::Container(_) => 2 * NUMBER_LEN,
+        Target::Items => ITEM_FRONT_LEN * rows,
+        Target::Container(_) => MEMBER_FRONT_LEN * rows,
     }
 }

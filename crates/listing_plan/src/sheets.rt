@@ -1,16 +1,20 @@
 //! The tags of rows on sheets. The runs of what a listing shows are found once for each sheet.
 
-ghost use Rattle.std.specs.Prelude.{◌≡◌, ◌≤◌, ◌*◌, length, map};
+ghost use Rattle.std.specs.Prelude.{◌≡◌, ◌≤◌, ◌<◌, ◌+◌, ◌*◌, ◌++◌, length, drop, map, All};
+ghost use Rattle.std.specs.List.{sum_by};
 ghost use Rattle.dmap_tags.specs.Spelling.{spellings};
 ghost use Rattle.dmap_tags.specs.Tree.{trees_of};
+ghost use Rattle.item_model.specs.declared.request.Target.{Target};
 ghost use Rattle.item_model.specs.Projection.{first_mentions};
+ghost use Rattle.row_sheets.specs.Cells.{column_length, HasNoOther, HasValues};
 ghost use Rattle.listing_plan.specs.Held.{plan_row, sheet_bytes, row_trees, rows_length};
-ghost use Rattle.listing_plan.specs.Limits.{row_limit, rows_limit};
+ghost use Rattle.listing_plan.specs.Limits.{row_limit, rows_limit, shown_limit};
 ghost use Rattle.listing_plan.specs.Pages.{Pushes};
+ghost use Rattle.listing_plan.specs.Runs.{AreRuns, IsSheetRow, front_length, sheet_row_tag};
 
 use crate::page::Page;
-use crate::runs::Runs;
-use crate::sheet_row::SheetRow;
+use crate::runs::{Run, Runs, index_of};
+use crate::sheet_row::{SheetRow, fronts_len};
 use daap_outside::{Failed, Sink};
 use item_model::{Property, Target};
 use row_sheets::{RowSheets, Sheet};
@@ -36,18 +40,32 @@ fn sheet_len(sheet: &Sheet, target: Target, asked: &[Property]) -> u64
     ensures short { result ≤ row_limit * length sheet.now.rows }
 {
     let rows = sheet.rows();
-    let runs = Runs::of(sheet.properties(), asked);
+    fronts_len(target, rows.len() as u64) + columns_len(sheet, asked)
+}
+
+// The length of the tags that all rows of a sheet have of what is asked for. The sheet keeps that of each property.
+fn columns_len(sheet: &Sheet, asked: &[Property]) -> u64
+    requires few { length sheet.now.rows ≤ rows_limit }
+    requires values { All HasValues sheet.now.rows }
+    requires once { first_mentions asked.now ≡ asked.now }
+    ensures counted { result ≡ sum_by (column_length sheet.now.rows) asked.now }
+    ensures short { result ≤ shown_limit * length sheet.now.rows }
+{
     let mut len = 0;
-    for index in 0..rows.len() {
-        let row = SheetRow {
-            sheet,
-            index,
-            shared: &rows[index],
-            runs: runs.as_slice(),
-        };
-        len += row.tag_len(target);
+    for property in asked {
+        len += column_len(sheet, *property);
     }
     len
+}
+
+fn column_len(sheet: &Sheet, property: Property) -> u64
+    ensures { result ≡ column_length sheet.now.rows property }
+{
+    let properties = sheet.properties();
+    match index_of(properties, property) {
+        Some(index) => sheet.column_len(index),
+        None => 0,
+    }
 }
 
 /// Pushes the tags of all rows.
@@ -84,13 +102,28 @@ fn push_sheet<W: Sink, const N: usize>(
     let rows = sheet.rows();
     let runs = Runs::of(sheet.properties(), asked);
     for index in 0..rows.len() {
-        let row = SheetRow {
-            sheet,
-            index,
-            shared: &rows[index],
-            runs: runs.as_slice(),
-        };
+        let row = row_at(sheet, index, runs.as_slice(), asked);
         row.push(page, sink, target)?;
     }
     Ok(())
+}
+
+// The row at an index of its sheet. The runs have what is asked for.
+fn row_at<'a>(sheet: &'a Sheet, index: usize, runs: &'a [Run], asked: &[Property]) -> SheetRow<'a>
+    requires index { index < length sheet.now.rows }
+    requires once { first_mentions asked.now ≡ asked.now }
+    requires runs { AreRuns sheet.now.properties asked.now runs.now }
+    requires others { All (HasNoOther sheet.now.properties) sheet.now.rows }
+    ensures row { IsSheetRow result }
+    ensures next { (target : Target) → sheet_bytes target asked.now (drop index sheet.now.rows) ≡ sheet_row_tag target result ++ sheet_bytes target asked.now (drop (index + 1) sheet.now.rows) }
+{
+    let rows = sheet.rows();
+    let ids = sheet.ids();
+    SheetRow {
+        sheet,
+        index,
+        id: ids[index],
+        shared: &rows[index],
+        runs,
+    }
 }

@@ -31,22 +31,8 @@ pub(crate) fn value_len(tag: &Tag) -> u32
     (tag_len(tag) - 8) as u32
 }
 
-// Pushes a tag. It measures each list in the tag again, so its cost grows with the bytes and with the depth.
-#[cycle(push_tag)]
-fn push_tag<W: Sink, const N: usize>(
-    page: &mut Page<N>,
-    sink: &mut W,
-    tag: &Tag,
-) -> Result<(), Failed>
-    requires wide { row_limit ≤ N }
-    requires spellable { is_spellable tag.now ≡ true }
-    ensures pushes { Pushes (spelling tag.now) result (W.taken sink.old) (W.taken sink.new) page.old page.new (W.faults sink.old) (W.faults sink.new) }
-    ensures beside { W.beside_taken sink.new ≡ W.beside_taken sink.old }
-{
-    push_measured(page, sink, tag, value_len(tag))
-}
-
-/// Pushes a tag whose value has `len` bytes.
+/// Pushes a tag whose value has `len` bytes. It measures each tag in it again, so its cost grows with the bytes and with
+/// the depth.
 #[cycle(push_tag)]
 pub(crate) fn push_measured<W: Sink, const N: usize>(
     page: &mut Page<N>,
@@ -106,7 +92,7 @@ fn push_tags<W: Sink, const N: usize>(
     ensures beside { W.beside_taken sink.new ≡ W.beside_taken sink.old }
 {
     for tag in tags {
-        push_tag(page, sink, tag)?;
+        push_measured(page, sink, tag, value_len(tag))?;
     }
     Ok(())
 }

@@ -6,7 +6,7 @@ ghost use Rattle.share_listings.specs.Answers.{HaveFew};
 
 use crate::batches::batch_of;
 use crate::stores::{Stores, after, no_edits};
-use daap_outside::MemSink;
+use daap_outside::{MemSink, Sink};
 use item_model::{Look, Meta, Query, Range, Target};
 use listing_plan::Plan;
 use share_listings::{full_items, full_target, is_there, items_listing, listing};
@@ -81,12 +81,12 @@ fn all_items(alloc: Global, stores: &Stores, look: Look) -> Result<Plan, AllocEr
     full_items(alloc, &stores.items, look)
 }
 
-fn from_stores_by<L: Ledger>(
+fn from_stores<L: Ledger>(
     blank: Blank,
     alloc: Global,
     stores: &Stores,
-    target: Target,
     look: Look,
+    target: Target,
 ) -> Result<Plan, AllocError>
     requires name { blank.name ≡ L.name }
     requires parts { blank.parts ≡ L.parts }
@@ -94,31 +94,12 @@ fn from_stores_by<L: Ledger>(
     requires few { HaveFew stores.now.items stores.now.lists }
     ensures { IfOk result (λ plan. IsWritable plan) }
 {
-    let ids = stores.items.ids()?;
+    let (items, lists) = (&stores.items, &stores.lists);
+    let ids = items.ids()?;
     let mut steps = Steps::<L>::open(blank);
-    let candidates = Some(ids.as_slice());
-    let plan = listing(
-        alloc,
-        &stores.items,
-        &stores.lists,
-        target,
-        look,
-        candidates,
-        &mut steps,
-    )?;
+    let from = Some(ids.as_slice());
+    let plan = listing(alloc, items, lists, target, look, from, &mut steps)?;
     Ok(plan)
-}
-
-fn from_stores(
-    alloc: Global,
-    stores: &Stores,
-    target: Target,
-    look: Look,
-) -> Result<Plan, AllocError>
-    requires { HaveFew stores.now.items stores.now.lists }
-    ensures { IfOk result (λ plan. IsWritable plan) }
-{
-    from_stores_by::<Brand>(Blank::new(1), alloc, stores, target, look)
 }
 
 fn all_stores(
@@ -141,19 +122,26 @@ fn planned(alloc: Global, stores: &Stores, case: &Case) -> Result<Plan, AllocErr
     match case.0 {
         By::Items => from_items(alloc, stores, look),
         By::AllItems => all_items(alloc, stores, look),
-        By::Stores => from_stores(alloc, stores, case.1, look),
+        By::Stores => from_stores::<Brand>(Blank::new(1), alloc, stores, look, case.1),
         By::AllStores => all_stores(alloc, stores, case.1, look),
     }
+}
+
+// Without clauses on the bytes, so that other proofs do not unfold a body.
+pub(crate) fn is_written<W: Sink>(plan: &Plan, sink: &mut W) -> bool
+    requires { IsWritable plan.now }
+{
+    plan.write(sink).is_ok()
 }
 
 fn written(alloc: Global, plan: &Plan) -> Result<Vec<u8>, AllocError>
     requires { IsWritable plan.now }
 {
     let mut sink = MemSink::new(alloc, 1024, 1024, &[])?;
-    match plan.write(&mut sink) {
-        Ok(()) => Vec::from_slice(alloc, sink.taken()),
-        Err(_) => Err(AllocError),
+    if !is_written(plan, &mut sink) {
+        return Err(AllocError);
     }
+    Vec::from_slice(alloc, sink.taken())
 }
 
 fn answered(alloc: Global, stores: &Stores, case: &Case) -> Result<Vec<u8>, AllocError>
@@ -229,11 +217,11 @@ const MEDIA_KINDS: &str =
 const NAMES: &str = "dmap.itemname";
 
 /// The empty delta of items at revision 2.
-const NO_SONGS_CHANGED: &[u8] =
+const NO_CHANGE_AT_2: &[u8] =
     b"adbs\0\0\0\x49mstt\0\0\0\x04\0\0\0\xc8muty\0\0\0\x01\x01musr\0\0\0\x04\0\0\0\x02mtco\0\0\0\x04\0\0\0\0mrco\0\0\0\x04\0\0\0\0mlcl\0\0\0\0mudl\0\0\0\0";
 
 /// The listing of no items at revision 2.
-const NO_SONGS_LISTED: &[u8] =
+const NONE_LISTED: &[u8] =
     b"adbs\0\0\0\x41mstt\0\0\0\x04\0\0\0\xc8muty\0\0\0\x01\0musr\0\0\0\x04\0\0\0\x02mtco\0\0\0\x04\0\0\0\0mrco\0\0\0\x04\0\0\0\0mlcl\0\0\0\0";
 
 /// The delta at revision 4 that deletes item 1.
@@ -284,56 +272,29 @@ const ONE_FOR_ONE: &[u8] =
 const NOTHING: &[u8] =
     b"apso\0\0\0Amstt\0\0\0\x04\0\0\0\xc8muty\0\0\0\x01\0musr\0\0\0\x04\0\0\0\x04mtco\0\0\0\x04\0\0\0\0mrco\0\0\0\x04\0\0\0\0mlcl\0\0\0\0";
 
+const ITEMS: Target = Target::Items;
+
 const LIST: Target = Target::Container(2);
 
 const RULE: Target = Target::Container(3);
 
-const FROM_NO_SONGS: [Case; 5] = [
+const NO_LIST: Target = Target::Container(9);
+
+const FROM_NO_SONGS: [Case; 6] = [
+    (By::Items, ITEMS, "", "", 0, Range::All, NONE_LISTED),
     (
         By::Items,
-        Target::Items,
+        ITEMS,
         "",
         "",
         0,
-        Range::All,
-        NO_SONGS_LISTED,
+        Range::From { at: 0 },
+        NONE_LISTED,
     ),
-    (
-        By::Items,
-        Target::Items,
-        "",
-        "",
-        1,
-        Range::All,
-        NO_SONGS_LISTED,
-    ),
-    (
-        By::Items,
-        Target::Items,
-        "",
-        "",
-        2,
-        Range::All,
-        NO_SONGS_CHANGED,
-    ),
-    (
-        By::Items,
-        Target::Items,
-        "",
-        "",
-        3,
-        Range::All,
-        NO_SONGS_LISTED,
-    ),
-    (
-        By::AllItems,
-        Target::Items,
-        "",
-        "",
-        2,
-        Range::All,
-        NO_SONGS_LISTED,
-    ),
+    (By::Items, ITEMS, "", "", 1, Range::All, NONE_LISTED),
+    (By::Items, ITEMS, "", "", 2, Range::All, NO_CHANGE_AT_2),
+    (By::Items, ITEMS, "", "", 3, Range::All, NONE_LISTED),
+    (By::AllItems, ITEMS, "", "", 2, Range::All, NONE_LISTED),
 ];
 
 #[test]
@@ -342,24 +303,8 @@ fn a_kept_base_is_answered_by_the_change(rt: HostRuntime) -> Result<(), Fail> {
 }
 
 const FROM_MEDIA_KINDS: [Case; 2] = [
-    (
-        By::Items,
-        Target::Items,
-        MEDIA_KINDS,
-        "",
-        3,
-        Range::All,
-        ONE_GONE,
-    ),
-    (
-        By::Items,
-        Target::Items,
-        MEDIA_KINDS,
-        "",
-        4,
-        Range::All,
-        NONE_GONE,
-    ),
+    (By::Items, ITEMS, MEDIA_KINDS, "", 3, Range::All, ONE_GONE),
+    (By::Items, ITEMS, MEDIA_KINDS, "", 4, Range::All, NONE_GONE),
 ];
 
 #[test]
@@ -367,7 +312,7 @@ fn a_song_that_left_the_query_is_deleted(rt: HostRuntime) -> Result<(), Fail> {
     answer_after(&rt, rt.alloc(), &[SIX], HEY_IS_4, &FROM_MEDIA_KINDS)
 }
 
-const AFTER_NINE: [Case; 1] = [(By::Items, Target::Items, "", "", 3, Range::All, NO_CHANGE)];
+const AFTER_NINE: [Case; 1] = [(By::Items, ITEMS, "", "", 3, Range::All, NO_CHANGE)];
 
 #[test]
 fn an_item_that_was_put_and_dropped_since_the_base_is_not_told(
@@ -385,7 +330,7 @@ fn change_items(alloc: Global, stores: &mut Stores, records: &str) -> Result<(),
     }
 }
 
-const ALL: Case = (By::Items, Target::Items, "", "", 0, Range::All, b"");
+const ALL: Case = (By::Items, ITEMS, "", "", 0, Range::All, b"");
 
 /// Returns whether a plan writes these bytes before and after all items are dropped.
 fn writes_the_same(
@@ -420,7 +365,7 @@ fn a_plan_writes_what_was_there_when_it_was_made(rt: HostRuntime) -> Result<(), 
 
 const FIFTH: [Case; 1] = [(
     By::Items,
-    Target::Items,
+    ITEMS,
     "",
     "",
     0,
@@ -435,7 +380,7 @@ fn a_range_is_cut_out(rt: HostRuntime) -> Result<(), Fail> {
 
 const SECOND_AND_THIRD: [Case; 1] = [(
     By::Stores,
-    Target::Items,
+    ITEMS,
     MEDIA_KINDS,
     "",
     0,
@@ -462,23 +407,17 @@ const OF_MIX: [Case; 5] = [
         SECOND_OF_MIX,
     ),
     (By::Stores, LIST, "", NAMES, 3, Range::All, MIX),
-    (
-        By::Stores,
-        Target::Container(9),
-        "",
-        NAMES,
-        0,
-        Range::All,
-        NOTHING,
-    ),
+    (By::Stores, NO_LIST, "", NAMES, 0, Range::All, NOTHING),
 ];
 
 const OF_MIX_WITHOUT_HEY: [Case; 1] = [(By::Stores, LIST, "", NAMES, 4, Range::All, HEY_GONE)];
 
 fn are_there(alloc: Global) -> Result<(bool, bool), AllocError> {
     let stores = after(alloc, &[SIX], MIX_OF_4)?;
-    let none = Target::Container(9);
-    Ok((is_there(&stores.lists, LIST), is_there(&stores.lists, none)))
+    Ok((
+        is_there(&stores.lists, LIST),
+        is_there(&stores.lists, NO_LIST),
+    ))
 }
 
 #[test]
@@ -498,15 +437,7 @@ const OF_SONGS: [Case; 1] = [(By::Stores, RULE, "", NAMES, 3, Range::All, SONGS)
 
 const OF_TALKS: [Case; 2] = [
     (By::Stores, RULE, "", NAMES, 4, Range::All, TALK),
-    (
-        By::Stores,
-        Target::Items,
-        "",
-        NAMES,
-        4,
-        Range::All,
-        NO_CHANGE,
-    ),
+    (By::Stores, ITEMS, "", NAMES, 4, Range::All, NO_CHANGE),
 ];
 
 #[test]

@@ -3,8 +3,8 @@
 //! Results are compared as they are shown, by one helper: a proof of a test need not follow what a mirror stores.
 
 use dmap_tags::{Code, Tag, Tags, Text, Value};
-use item_model::{Meta, Target};
-use mirror_core::Mirror;
+use item_model::{Look, Meta, Target};
+use mirror_core::{Applied, Mirror, MirrorError};
 use std::alloc::{AllocError, Global};
 use std::process::Abort;
 use std::test::Fail;
@@ -96,9 +96,18 @@ fn answer(n: u32) -> (&'static str, u32) {
     }
 }
 
+// Without clauses, so that other proofs do not unfold what a mirror stores.
+fn apply(mirror: &mut Mirror, body: &Tag) -> Result<Applied, MirrorError> {
+    mirror.apply(body)
+}
+
+fn next_look(mirror: &Mirror) -> Result<Look, AllocError> {
+    mirror.look()
+}
+
 /// Applies a body, and returns the result as it is shown.
 fn applied(alloc: Global, mirror: &mut Mirror, body: &Tag) -> Result<String, AllocError> {
-    let answer = mirror.apply(body);
+    let answer = apply(mirror, body);
     format!(in alloc; "{answer:?}")
 }
 
@@ -128,7 +137,7 @@ fn has_rows(rt: &impl Abort, mirror: &Mirror, count: u64, key: Option<u32>) {
 
 /// Returns the next request of the mirror, as it is shown.
 fn look(alloc: Global, mirror: &Mirror) -> Result<String, AllocError> {
-    let look = mirror.look()?;
+    let look = next_look(mirror)?;
     format!(in alloc; "{look:?}")
 }
 

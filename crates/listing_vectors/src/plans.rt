@@ -4,6 +4,7 @@ ghost use Rattle.std.specs.Prelude.{IfOk};
 ghost use Rattle.item_model.specs.declared.request.Target.TheVariants.{Items};
 ghost use Rattle.listing_plan.specs.Plans.{AreRowsOf, AreGone, IsWritable};
 
+use crate::listings::is_written;
 use daap_outside::MemSink;
 use dmap_tags::{Bytes, Code, Tag, Text, Value};
 use item_model::{Item, ItemError, Meta, PropValue, Property, Row, SharedRow, Target};
@@ -74,8 +75,8 @@ fn writes(alloc: Global, plan: &Plan, bytes: &[u8]) -> Result<bool, AllocError>
 {
     let mut sink = MemSink::new(alloc, 200, 7, &[])?;
     let len = plan.body_len();
-    let is_written = plan.write(&mut sink).is_ok();
-    Ok(is_written && shows(&sink, bytes) && len == bytes.len() as u64)
+    let is_whole = is_written(plan, &mut sink);
+    Ok(is_whole && shows(&sink, bytes) && len == bytes.len() as u64)
 }
 
 #[test]
@@ -113,7 +114,7 @@ fn is_cut(alloc: Global, plan: &Plan, bytes: &[u8]) -> Result<bool, AllocError>
     requires { IsWritable plan.now }
 {
     let mut sink = MemSink::new(alloc, 200, 40, &[2])?;
-    let is_broken = plan.write(&mut sink).is_err();
+    let is_broken = !is_written(plan, &mut sink);
     Ok(is_broken && bytes.len() >= 40 && shows(&sink, bytes.split_at(40).0))
 }
 

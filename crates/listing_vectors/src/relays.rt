@@ -2,8 +2,8 @@
 
 use dmap_tags::{Code, Tag, Tags, Text, Value};
 use item_model::{Edit, PropValue, Property, Row, Target};
-use mirror_core::told_by;
-use relayed_rows::{Change, Relay, row_of};
+use mirror_core::{MirrorError, ToldRef, told_by};
+use relayed_rows::{Change, Relay, Untaken, row_of};
 use std::alloc::{AllocError, Global};
 use std::fmt::Write;
 use std::process::Abort;
@@ -154,12 +154,21 @@ fn shown(alloc: Global, change: &Change) -> Result<String, Fail> {
     Ok(text)
 }
 
+// Without clauses, so that other proofs do not unfold what a relay stores.
+fn told(base: u32, body: &Tag) -> Result<ToldRef<'_>, MirrorError> {
+    told_by(Target::Items, base, body)
+}
+
+fn take(relay: &mut Relay, told: ToldRef<'_>) -> Result<Change, Untaken> {
+    relay.take(told)
+}
+
 fn taken(alloc: Global, relay: &mut Relay, body: &Tag) -> Result<String, Fail> {
-    let told = match told_by(Target::Items, relay.base(), body) {
+    let told = match told(relay.base(), body) {
         Ok(told) => told,
         Err(error) => return Ok(format!(in alloc; "{error:?}")?),
     };
-    match relay.take(told) {
+    match take(relay, told) {
         Ok(change) => shown(alloc, &change),
         Err(error) => Ok(format!(in alloc; "{error:?}")?),
     }
@@ -172,12 +181,22 @@ fn takes(rt: &impl Abort, alloc: Global, relay: &mut Relay, case: &Case) -> Resu
     Ok(())
 }
 
+fn takes_all(
+    rt: &impl Abort,
+    alloc: Global,
+    relay: &mut Relay,
+    cases: &[Case],
+) -> Result<(), Fail> {
+    for case in cases {
+        takes(rt, alloc, relay, case)?;
+    }
+    Ok(())
+}
+
 #[test]
 fn listings_are_taken(rt: HostRuntime) -> Result<(), Fail> {
     let mut relay = Relay::new(rt.alloc());
-    for case in &CASES {
-        takes(&rt, rt.alloc(), &mut relay, case)?;
-    }
+    takes_all(&rt, rt.alloc(), &mut relay, &CASES)?;
     assert_eq!(rt; relay.base(), 3);
     Ok(())
 }

@@ -60,19 +60,19 @@ unanswered request p mid taken e written owed used same h = record {
 }
 
 -- nothing was written
-pub unwritten : (request : List ℕ) (Undue : ℕ → Reply → FollowError → Type 0) (p : Point) → Stops request Undue p p.taken Memory
-unwritten request Undue p = inl (record { written = (0, omega arith, Appends-nil p.taken); cause = tt })
+pub unwritten : (request : List ℕ) (Unexpected : ℕ → Reply → FollowError → Type 0) (p : Point) → Stops request Unexpected p p.taken Memory
+unwritten request Unexpected p = inl (record { written = (0, omega arith, Appends-nil p.taken); cause = tt })
 
 -- an unexpected answer
-pub undue_stops : (request : List ℕ) (Undue : ℕ → Reply → FollowError → Type 0) (p q : Point) (answer : Reply) (e : FollowError) → Exchanged request p q answer
-    → Undue q.used answer e → Stops request Undue p q.taken e
-undue_stops request Undue p q answer e x undue = inr (record {
+pub unexpected_stops : (request : List ℕ) (Unexpected : ℕ → Reply → FollowError → Type 0) (p q : Point) (answer : Reply) (e : FollowError) → Exchanged request p q answer
+    → Unexpected q.used answer e → Stops request Unexpected p q.taken e
+unexpected_stops request Unexpected p q answer e x unexpected = inr (record {
   exchange = record { request = request; message = x.message; answer = answer };
   there = q;
   asked = refl;
   went = x.went;
   written = refl;
-  undue = undue;
+  unexpected = unexpected;
 })
 
 -- ---- several exchanges

@@ -12,8 +12,8 @@ asked_as request text taken left ahead q answer same begun x =
     subst (λ (bytes : List ℕ). Exchanged bytes (place taken left nothing_read) q answer) same
     (subst (λ (a : ReadAhead). Exchanged request (place taken left a) q answer) begun x)
 
-pub stopped_as : (request text : List ℕ) (Undue : ℕ → Reply → FollowError → Type 0) (taken left now : Option (List ℕ)) (ahead : ReadAhead) (e : FollowError)
-    → request ≡ text → ahead ≡ nothing_read → StopsShort request (place taken left ahead) now e → Stops text Undue (place taken left nothing_read) now e
-stopped_as request text Undue taken left now ahead e same begun s =
+pub stopped_as : (request text : List ℕ) (Unexpected : ℕ → Reply → FollowError → Type 0) (taken left now : Option (List ℕ)) (ahead : ReadAhead) (e : FollowError)
+    → request ≡ text → ahead ≡ nothing_read → StopsShort request (place taken left ahead) now e → Stops text Unexpected (place taken left nothing_read) now e
+stopped_as request text Unexpected taken left now ahead e same begun s =
     inl (subst (λ (bytes : List ℕ). StopsShort bytes (place taken left nothing_read) now e) same
     (subst (λ (a : ReadAhead). StopsShort request (place taken left a) now e) begun s))

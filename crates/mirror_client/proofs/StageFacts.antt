@@ -15,16 +15,16 @@ use Rattle.mirror_client.specs.declared.refusal.FollowError.TheVariants.{Memory}
 use Rattle.mirror_client.specs.Exchanges.{Exchange, Exchanged, requests}
 use Rattle.mirror_client.specs.Points.{Point}
 use Rattle.mirror_client.specs.Runs.{Followed}
-use Rattle.mirror_client.specs.Stages.{Asking, Begun, Closed, Holding, Leads, LeadsOn, Learned, Path, Stage, StopsFrom, UndueBehind, UndueIn, Walks, behind_round, due, listings_in}
-use Rattle.mirror_client.specs.Steps.{FailsToOpen, Known, Opened, TellsListing, UndueEnd, UndueListing, applied_by, all_applied, held_after, rows_want, with_listings}
+use Rattle.mirror_client.specs.Stages.{Asking, Begun, Closed, Holding, Leads, LeadsOn, Learned, Path, Stage, StopsFrom, UnexpectedAfter, UnexpectedIn, Walks, behind_round, due, listings_in}
+use Rattle.mirror_client.specs.Steps.{FailsToOpen, Known, Opened, TellsListing, UnexpectedEnd, UnexpectedListing, applied_by, all_applied, held_after, rows_want, with_listings}
 use Rattle.mirror_client.specs.Stopping.{Stops}
-use Rattle.mirror_client.specs.Tellings.{TellsNumber, UndueNumber}
+use Rattle.mirror_client.specs.Tellings.{TellsNumber, UnexpectedNumber}
 use Rattle.mirror_client.proofs.ExchangeFacts.{unwritten, went_nowhere, went_on}
 
 -- what a client wrote that stopped is its requests and a part of the next one
-pub part_written : (request : List ℕ) (Undue : ℕ → Reply → FollowError → Type 0) (p : Point) (taken : Option (List ℕ)) (e : FollowError) → Stops request Undue p taken e → (part : List ℕ) × Appends p.taken taken part
-part_written request Undue p taken e (inl s) = (take s.written.0 request, s.written.2)
-part_written request Undue p taken e (inr a) =
+pub part_written : (request : List ℕ) (Unexpected : ℕ → Reply → FollowError → Type 0) (p : Point) (taken : Option (List ℕ)) (e : FollowError) → Stops request Unexpected p taken e → (part : List ℕ) × Appends p.taken taken part
+part_written request Unexpected p taken e (inl s) = (take s.written.0 request, s.written.2)
+part_written request Unexpected p taken e (inr a) =
     (requests (a.exchange ∷ []), subst (λ (o : Option (List ℕ)). Appends p.taken o (requests (a.exchange ∷ []))) a.written a.went.written)
 
 -- ---- walks
@@ -51,7 +51,7 @@ walk_one host m rounds s t p q request answer asked x leads = record {
 }
 
 pub stops_here : (host : List ℕ) (m : Mirrored) (rounds : ℕ) (s : Stage) (p : Point) (taken : Option (List ℕ)) (e : FollowError) (now : Mirrored) (request : List ℕ)
-    → due host m rounds s ≡ Some request → Stops request (UndueIn m rounds s) p taken e → now ≡ with_listings m (listings_in s)
+    → due host m rounds s ≡ Some request → Stops request (UnexpectedIn m rounds s) p taken e → now ≡ with_listings m (listings_in s)
     → StopsFrom host m rounds s p taken e now
 stops_here host m rounds s p taken e now request asked stops holds =
     record { stage = s; there = p; walks = record { exchanges = []; path = refl; went = went_nowhere p }; request = request; is_due = asked; stops = stops; holds = holds }
@@ -110,11 +110,11 @@ listed_walks host m old rounds known ls l p q answer is x told =
     (l, subst (λ (n : Mirrored). TellsListing known.rows n answer l) is told, refl)
 
 pub listed_stops : (host : List ℕ) (m old now : Mirrored) (rounds : ℕ) (known : Known) (ls : List Listing) (p : Point) (taken : Option (List ℕ)) (e : FollowError)
-    → old ≡ with_listings m ls → now ≡ old → Stops (request_text (rows_want known.session old) host) (UndueListing known.rows old) p taken e
+    → old ≡ with_listings m ls → now ≡ old → Stops (request_text (rows_want known.session old) host) (UnexpectedListing known.rows old) p taken e
     → StopsFrom host m rounds (Asking known ls) p taken e now
 listed_stops host m old now rounds known ls p taken e is same stops =
     stops_here host m rounds (Asking known ls) p taken e now (request_text (rows_want known.session (with_listings m ls)) host) refl
-    (subst (λ (n : Mirrored). Stops (request_text (rows_want known.session n) host) (UndueListing known.rows n) p taken e) is stops)
+    (subst (λ (n : Mirrored). Stops (request_text (rows_want known.session n) host) (UnexpectedListing known.rows n) p taken e) is stops)
     (same ∙ is)
 
 -- an allocation failed after a listing, before the next request
@@ -122,7 +122,7 @@ pub unwritten_stops : (host : List ℕ) (m now : Mirrored) (rounds : ℕ) (known
     → StopsFrom host m rounds (Holding known ls) p p.taken Memory now
 unwritten_stops host m now rounds known ls p holds =
     stops_here host m rounds (Holding known ls) p p.taken Memory now (request_text (behind_round (length ls == rounds) known (with_listings m ls)) host) refl
-    (unwritten (request_text (behind_round (length ls == rounds) known (with_listings m ls)) host) (UndueIn m rounds (Holding known ls)) p) holds
+    (unwritten (request_text (behind_round (length ls == rounds) known (with_listings m ls)) host) (UnexpectedIn m rounds (Holding known ls)) p) holds
 
 -- ---- after a round
 
@@ -142,13 +142,13 @@ waited_walks host m old rounds n known ls p q answer more is x told =
 
 pub waited_stops : (host : List ℕ) (m old now : Mirrored) (rounds : ℕ) (known : Known) (ls : List Listing) (p : Point) (taken : Option (List ℕ)) (e : FollowError)
     → (length ls == rounds) ≡ false → old ≡ with_listings m ls → now ≡ old
-    → Stops (request_text (want.Update known.session old.held.revision) host) (UndueNumber (code "musr") known.rows) p taken e
+    → Stops (request_text (want.Update known.session old.held.revision) host) (UnexpectedNumber (code "musr") known.rows) p taken e
     → StopsFrom host m rounds (Holding known ls) p taken e now
 waited_stops host m old now rounds known ls p taken e more is same stops =
     stops_here host m rounds (Holding known ls) p taken e now (request_text (want.Update known.session (held_after m.held ls).revision) host)
     (due_behind host m rounds known ls false more)
-    (subst (λ (b : Bool). Stops (request_text (want.Update known.session (held_after m.held ls).revision) host) (UndueBehind b known) p taken e) (sym more)
-    (subst (λ (k : Mirrored). Stops (request_text (want.Update known.session k.held.revision) host) (UndueNumber (code "musr") known.rows) p taken e) is stops))
+    (subst (λ (b : Bool). Stops (request_text (want.Update known.session (held_after m.held ls).revision) host) (UnexpectedAfter b known) p taken e) (sym more)
+    (subst (λ (k : Mirrored). Stops (request_text (want.Update known.session k.held.revision) host) (UnexpectedNumber (code "musr") known.rows) p taken e) is stops))
     (same ∙ is)
 
 -- it logged out
@@ -160,12 +160,12 @@ closed_walks host m rounds known ls p q answer last x fine =
     (subst (λ (b : Bool). LeadsOn b known ls answer (Closed known ls)) (sym last) (fine, refl))
 
 pub closed_stops : (host : List ℕ) (m now : Mirrored) (rounds : ℕ) (known : Known) (ls : List Listing) (p : Point) (taken : Option (List ℕ)) (e : FollowError)
-    → (length ls == rounds) ≡ true → now ≡ with_listings m ls → Stops (request_text (want.Logout known.session) host) UndueEnd p taken e
+    → (length ls == rounds) ≡ true → now ≡ with_listings m ls → Stops (request_text (want.Logout known.session) host) UnexpectedEnd p taken e
     → StopsFrom host m rounds (Holding known ls) p taken e now
 closed_stops host m now rounds known ls p taken e last holds stops =
     stops_here host m rounds (Holding known ls) p taken e now (request_text (want.Logout known.session) host)
     (due_behind host m rounds known ls true last)
-    (subst (λ (b : Bool). Stops (request_text (want.Logout known.session) host) (UndueBehind b known) p taken e) (sym last) stops)
+    (subst (λ (b : Bool). Stops (request_text (want.Logout known.session) host) (UnexpectedAfter b known) p taken e) (sym last) stops)
     holds
 
 -- ---- one round
@@ -227,11 +227,11 @@ round_stops host other known same m old now rounds revision n ls p mid taken e h
 
 pub unwaited_stops : (host : List ℕ) (known : Known) (m old now : Mirrored) (rounds revision : ℕ) (ls : List Listing) (p : Point) (taken : Option (List ℕ)) (e : FollowError)
     → revision ≡ old.held.revision → (length ls == rounds) ≡ false → old ≡ with_listings m ls → now ≡ old
-    → Stops (request_text (want.Update known.session revision) host) (UndueNumber (code "musr") known.rows) p taken e
+    → Stops (request_text (want.Update known.session revision) host) (UnexpectedNumber (code "musr") known.rows) p taken e
     → StopsFrom host m rounds (Holding known ls) p taken e now
 unwaited_stops host known m old now rounds revision ls p taken e base more is same stops =
     waited_stops host m old now rounds known ls p taken e more is same
-    (subst (λ (r : ℕ). Stops (request_text (want.Update known.session r) host) (UndueNumber (code "musr") known.rows) p taken e) base stops)
+    (subst (λ (r : ℕ). Stops (request_text (want.Update known.session r) host) (UnexpectedNumber (code "musr") known.rows) p taken e) base stops)
 
 -- all rounds were done, and it logged out
 pub followed : (host other : List ℕ) (m now : Mirrored) (rounds : ℕ) (known : Known) (ls : List Listing) (p mid there : Point) (taken : Option (List ℕ))
@@ -254,11 +254,11 @@ followed host other m now rounds known ls p mid there taken applied host_is all 
 
 pub unclosed : (host other : List ℕ) (m now : Mirrored) (rounds : ℕ) (known : Known) (ls : List Listing) (p mid : Point) (taken : Option (List ℕ)) (e : FollowError)
     → other ≡ host → length ls ≡ rounds → Walks host m rounds Begun p (Holding known ls) mid → now ≡ with_listings m ls
-    → Stops (request_text (want.Logout known.session) other) UndueEnd mid taken e → StopsFrom host m rounds Begun p taken e now
+    → Stops (request_text (want.Logout known.session) other) UnexpectedEnd mid taken e → StopsFrom host m rounds Begun p taken e now
 unclosed host other m now rounds known ls p mid taken e host_is all walks holds stops =
     stops_on host m rounds Begun (Holding known ls) p mid taken e now walks
     (closed_stops host m now rounds known ls mid taken e (eq-eqb (length ls) rounds all) holds
-    (subst (λ (h : List ℕ). Stops (request_text (want.Logout known.session) h) UndueEnd mid taken e) host_is stops))
+    (subst (λ (h : List ℕ). Stops (request_text (want.Logout known.session) h) UnexpectedEnd mid taken e) host_is stops))
 
 -- ---- a whole run, so far
 

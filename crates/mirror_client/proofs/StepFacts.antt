@@ -9,16 +9,16 @@ use Rattle.http_client.specs.Requests.{request_text}
 use Rattle.mirror_client.specs.declared.refusal.FollowError.{FollowError}
 use Rattle.mirror_client.specs.Exchanges.{Exchanged}
 use Rattle.mirror_client.specs.Points.{Point, ReadAhead, place}
-use Rattle.mirror_client.specs.Steps.{FailsToOpen, Opened, TellsTable, UndueTable}
+use Rattle.mirror_client.specs.Steps.{FailsToOpen, Opened, TellsTable, UnexpectedTable}
 use Rattle.mirror_client.specs.Stopping.{Stops}
-use Rattle.mirror_client.specs.Tellings.{TellsNumber, UndueNumber}
+use Rattle.mirror_client.specs.Tellings.{TellsNumber, UnexpectedNumber}
 
-pub fails_first : (host : List ℕ) (p : Point) (taken : Option (List ℕ)) (e : FollowError) → Stops (request_text want.Codes host) UndueTable p taken e → FailsToOpen host p taken e
+pub fails_first : (host : List ℕ) (p : Point) (taken : Option (List ℕ)) (e : FollowError) → Stops (request_text want.Codes host) UnexpectedTable p taken e → FailsToOpen host p taken e
 fails_first host p taken e h = inl h
 
 pub fails_second : (host : List ℕ) (p q : Point) (rows : List CodeRow) (taken : Option (List ℕ)) (e : FollowError)
     → ((answer : Reply) × Exchanged (request_text want.Codes host) p q answer × TellsTable answer rows)
-    → Stops (request_text want.Login host) (UndueNumber (code "mlid") rows) q taken e → FailsToOpen host p taken e
+    → Stops (request_text want.Login host) (UnexpectedNumber (code "mlid") rows) q taken e → FailsToOpen host p taken e
 fails_second host p q rows taken e x h = inr (record { middle = q; table = x.0; rows = rows; learned = x.1; told = x.2; stops = h })
 
 pub opened : (host : List ℕ) (p middle q : Point) (session : ℕ) (rows : List CodeRow)

@@ -52,7 +52,7 @@ abbrev pub rounds_in : List Exchange → List Exchange
 rounds_in (table ∷ login ∷ xs) = each_second xs
 rounds_in xs = []
 
--- The answers in these rounds are a share's, at these histories, to a mirror that first asks with `base`.
+-- The answers in these rounds are a share's, at these histories, to a mirror whose first request has the base `base`.
 abbrev pub AreTold : ℕ → List CodeRow → Target → Option Query → Meta → ℕ → List (List Entry) → List Exchange → Type 0
 AreTold keep rows target query meta base [] [] = ⊤
 AreTold keep rows target query meta base [] (x ∷ xs) = ⊥

@@ -46,15 +46,15 @@ IsPushed (Some body) answer p = IsEdited answer p
 IsPushed None answer p = IsStopped answer p
 
 -- Only a success without a revision is unexpected.
-abbrev pub UndueEdit : ℕ → Reply → FollowError → Type 0
-UndueEdit used answer (Refused status) = ⊥
-UndueEdit used answer (BadReply at) = IsBadBody used answer at × HasNoNumber (code "musr") standard_rows answer.1
-UndueEdit used answer (Ended at) = ⊥
-UndueEdit used answer (Listing error) = ⊥
-UndueEdit used answer (Codes error) = ⊥
-UndueEdit used answer LinkFault = ⊥
-UndueEdit used answer Memory = ⊤
+abbrev pub UnexpectedEdit : ℕ → Reply → FollowError → Type 0
+UnexpectedEdit used answer (Refused status) = ⊥
+UnexpectedEdit used answer (BadReply at) = IsBadBody used answer at × HasNoNumber (code "musr") standard_rows answer.1
+UnexpectedEdit used answer (Ended at) = ⊥
+UnexpectedEdit used answer (Listing error) = ⊥
+UnexpectedEdit used answer (Codes error) = ⊥
+UnexpectedEdit used answer LinkFault = ⊥
+UnexpectedEdit used answer Memory = ⊤
 
-abbrev pub UnduePush : Option (List ℕ) → ℕ → Reply → FollowError → Type 0
-UnduePush (Some body) used answer e = UndueEdit used answer e
-UnduePush None used answer e = ⊥
+abbrev pub UnexpectedPush : Option (List ℕ) → ℕ → Reply → FollowError → Type 0
+UnexpectedPush (Some body) used answer e = UnexpectedEdit used answer e
+UnexpectedPush None used answer e = ⊥

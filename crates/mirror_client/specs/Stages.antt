@@ -13,9 +13,9 @@ use Rattle.http_client.specs.Requests.{request_text}
 use Rattle.mirror_client.specs.declared.refusal.FollowError.{FollowError}
 use Rattle.mirror_client.specs.Exchanges.{Exchange, Went}
 use Rattle.mirror_client.specs.Points.{Point}
-use Rattle.mirror_client.specs.Steps.{Known, TellsListing, TellsTable, UndueEnd, UndueListing, UndueTable, rows_want, with_listings}
+use Rattle.mirror_client.specs.Steps.{Known, TellsListing, TellsTable, UnexpectedEnd, UnexpectedListing, UnexpectedTable, rows_want, with_listings}
 use Rattle.mirror_client.specs.Stopping.{Stops}
-use Rattle.mirror_client.specs.Tellings.{TellsNumber, UndueNumber}
+use Rattle.mirror_client.specs.Tellings.{TellsNumber, UnexpectedNumber}
 
 pub data Stage : Type 0 where
   -- requests the table
@@ -74,16 +74,16 @@ Path host m rounds s (x ∷ xs) t =
     (due host m rounds s ≡ Some x.request) × ((u : Stage) × Leads m rounds s x.answer u × Path host m rounds u xs t)
 
 -- Which answers are unexpected in a stage.
-abbrev pub UndueBehind : Bool → Known → ℕ → Reply → FollowError → Type 0
-UndueBehind true known used answer e = UndueEnd used answer e
-UndueBehind false known used answer e = UndueNumber (code "musr") known.rows used answer e
+abbrev pub UnexpectedAfter : Bool → Known → ℕ → Reply → FollowError → Type 0
+UnexpectedAfter true known used answer e = UnexpectedEnd used answer e
+UnexpectedAfter false known used answer e = UnexpectedNumber (code "musr") known.rows used answer e
 
-abbrev pub UndueIn : Mirrored → ℕ → Stage → ℕ → Reply → FollowError → Type 0
-UndueIn m rounds Begun used answer e = UndueTable used answer e
-UndueIn m rounds (Learned rows) used answer e = UndueNumber (code "mlid") rows used answer e
-UndueIn m rounds (Asking known listings) used answer e = UndueListing known.rows (with_listings m listings) used answer e
-UndueIn m rounds (Holding known listings) used answer e = UndueBehind (length listings == rounds) known used answer e
-UndueIn m rounds (Closed known listings) used answer e = ⊥
+abbrev pub UnexpectedIn : Mirrored → ℕ → Stage → ℕ → Reply → FollowError → Type 0
+UnexpectedIn m rounds Begun used answer e = UnexpectedTable used answer e
+UnexpectedIn m rounds (Learned rows) used answer e = UnexpectedNumber (code "mlid") rows used answer e
+UnexpectedIn m rounds (Asking known listings) used answer e = UnexpectedListing known.rows (with_listings m listings) used answer e
+UnexpectedIn m rounds (Holding known listings) used answer e = UnexpectedAfter (length listings == rounds) known used answer e
+UnexpectedIn m rounds (Closed known listings) used answer e = ⊥
 
 -- Exchanges led from one stage to another.
 pub record Walks (host : List ℕ) (m : Mirrored) (rounds : ℕ) (s : Stage) (p : Point) (t : Stage) (q : Point) : Type 0 where
@@ -98,5 +98,5 @@ pub record StopsFrom (host : List ℕ) (m : Mirrored) (rounds : ℕ) (s : Stage)
   pub walks : Walks host m rounds s p stage there
   pub request : List ℕ
   pub is_due : due host m rounds stage ≡ Some request
-  pub stops : Stops request (UndueIn m rounds stage) there taken e
+  pub stops : Stops request (UnexpectedIn m rounds stage) there taken e
   pub holds : now ≡ with_listings m (listings_in stage)

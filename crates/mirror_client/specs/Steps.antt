@@ -23,7 +23,7 @@ use Rattle.mirror_client.specs.declared.refusal.FollowError.TheVariants.{Refused
 use Rattle.mirror_client.specs.Exchanges.{Exchanged}
 use Rattle.mirror_client.specs.Points.{Point, ReadAhead}
 use Rattle.mirror_client.specs.Stopping.{Stops}
-use Rattle.mirror_client.specs.Tellings.{HasNoTag, IsBadBody, IsOther, Tells, TellsNumber, UndueNumber}
+use Rattle.mirror_client.specs.Tellings.{HasNoTag, IsBadBody, IsOther, Tells, TellsNumber, UnexpectedNumber}
 
 -- What a client knows after the login: its session, and the table by which it reads bodies.
 pub record Known : Type 0 where
@@ -44,14 +44,14 @@ pub record Following : Type 0 where
 abbrev pub TellsTable : Reply → List CodeRow → Type 0
 TellsTable answer rows = (tag : Tree) × Tells standard_rows answer tag × (table_of tag ≡ Ok rows)
 
-abbrev pub UndueTable : ℕ → Reply → FollowError → Type 0
-UndueTable used answer (Refused status) = IsOther 200 answer status
-UndueTable used answer (BadReply at) = IsBadBody used answer at × HasNoTag standard_rows answer.1
-UndueTable used answer (Ended at) = ⊥
-UndueTable used answer (ListingFault error) = ⊥
-UndueTable used answer (Codes error) = (tag : Tree) × Tells standard_rows answer tag × ((error ≢ codes.Memory) × (table_of tag ≡ Err error))
-UndueTable used answer LinkFault = ⊥
-UndueTable used answer Memory = ⊤
+abbrev pub UnexpectedTable : ℕ → Reply → FollowError → Type 0
+UnexpectedTable used answer (Refused status) = IsOther 200 answer status
+UnexpectedTable used answer (BadReply at) = IsBadBody used answer at × HasNoTag standard_rows answer.1
+UnexpectedTable used answer (Ended at) = ⊥
+UnexpectedTable used answer (ListingFault error) = ⊥
+UnexpectedTable used answer (Codes error) = (tag : Tree) × Tells standard_rows answer tag × ((error ≢ codes.Memory) × (table_of tag ≡ Err error))
+UnexpectedTable used answer LinkFault = ⊥
+UnexpectedTable used answer Memory = ⊤
 
 -- Why a tag is not a table.
 abbrev pub IsUntold : Tree → FollowError → Type 0
@@ -92,14 +92,14 @@ IsNotTaken m tag (Codes error) = ⊥
 IsNotTaken m tag LinkFault = ⊥
 IsNotTaken m tag Memory = ⊤
 
-abbrev pub UndueListing : List CodeRow → Mirrored → ℕ → Reply → FollowError → Type 0
-UndueListing rows m used answer (Refused status) = IsOther 200 answer status
-UndueListing rows m used answer (BadReply at) = IsBadBody used answer at × HasNoTag rows answer.1
-UndueListing rows m used answer (Ended at) = ⊥
-UndueListing rows m used answer (ListingFault error) = (tag : Tree) × Tells rows answer tag × IsRefusedBy m tag error
-UndueListing rows m used answer (Codes error) = ⊥
-UndueListing rows m used answer LinkFault = ⊥
-UndueListing rows m used answer Memory = ⊤
+abbrev pub UnexpectedListing : List CodeRow → Mirrored → ℕ → Reply → FollowError → Type 0
+UnexpectedListing rows m used answer (Refused status) = IsOther 200 answer status
+UnexpectedListing rows m used answer (BadReply at) = IsBadBody used answer at × HasNoTag rows answer.1
+UnexpectedListing rows m used answer (Ended at) = ⊥
+UnexpectedListing rows m used answer (ListingFault error) = (tag : Tree) × Tells rows answer tag × IsRefusedBy m tag error
+UnexpectedListing rows m used answer (Codes error) = ⊥
+UnexpectedListing rows m used answer LinkFault = ⊥
+UnexpectedListing rows m used answer Memory = ⊤
 
 -- What a mirror holds after listings, one after another.
 abbrev pub held_after : Held → List Listing → Held
@@ -119,14 +119,14 @@ all_applied held (l ∷ ls) = applied_by held l ∷ all_applied (mirror_after he
 
 -- ---- The end.
 
-abbrev pub UndueEnd : ℕ → Reply → FollowError → Type 0
-UndueEnd used answer (Refused status) = IsOther 204 answer status
-UndueEnd used answer (BadReply at) = ⊥
-UndueEnd used answer (Ended at) = ⊥
-UndueEnd used answer (ListingFault error) = ⊥
-UndueEnd used answer (Codes error) = ⊥
-UndueEnd used answer LinkFault = ⊥
-UndueEnd used answer Memory = ⊥
+abbrev pub UnexpectedEnd : ℕ → Reply → FollowError → Type 0
+UnexpectedEnd used answer (Refused status) = IsOther 204 answer status
+UnexpectedEnd used answer (BadReply at) = ⊥
+UnexpectedEnd used answer (Ended at) = ⊥
+UnexpectedEnd used answer (ListingFault error) = ⊥
+UnexpectedEnd used answer (Codes error) = ⊥
+UnexpectedEnd used answer LinkFault = ⊥
+UnexpectedEnd used answer Memory = ⊥
 
 -- ---- A client that opens: it requests the table, and logs in.
 
@@ -146,7 +146,7 @@ pub record StopsBehind (host : List ℕ) (p : Point) (taken : Option (List ℕ))
   pub rows : List CodeRow
   pub learned : Exchanged (request_text want.Codes host) p middle table
   pub told : TellsTable table rows
-  pub stops : Stops (request_text want.Login host) (UndueNumber (code "mlid") rows) middle taken e
+  pub stops : Stops (request_text want.Login host) (UnexpectedNumber (code "mlid") rows) middle taken e
 
 abbrev pub FailsToOpen : List ℕ → Point → Option (List ℕ) → FollowError → Type 0
-FailsToOpen host p taken e = Stops (request_text want.Codes host) UndueTable p taken e ⊎ StopsBehind host p taken e
+FailsToOpen host p taken e = Stops (request_text want.Codes host) UnexpectedTable p taken e ⊎ StopsBehind host p taken e

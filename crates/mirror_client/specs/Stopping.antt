@@ -41,17 +41,17 @@ pub record StopsShort (request : List ℕ) (p : Point) (taken : Option (List ℕ
   pub written : AppendsPrefix p.taken taken request
   pub cause : NoReply p e
 
--- The request got an unexpected answer. `Undue` relates the number of bytes read, the answer and the error.
-pub record AnswersUndue (request : List ℕ) (Undue : ℕ → Reply → FollowError → Type 0) (p : Point) (taken : Option (List ℕ)) (e : FollowError) : Type 0 where
+-- The request got an unexpected answer. `Unexpected` relates the number of bytes read, the answer and the error.
+pub record AnswersUnexpected (request : List ℕ) (Unexpected : ℕ → Reply → FollowError → Type 0) (p : Point) (taken : Option (List ℕ)) (e : FollowError) : Type 0 where
   pub exchange : Exchange
   pub there : Point
   pub asked : exchange.request ≡ request
   pub went : Went p there (exchange ∷ [])
   pub written : there.taken ≡ taken
-  pub undue : Undue there.used exchange.answer e
+  pub unexpected : Unexpected there.used exchange.answer e
 
 abbrev pub Stops : List ℕ → (ℕ → Reply → FollowError → Type 0) → Point → Option (List ℕ) → FollowError → Type 0
-Stops request Undue p taken e = StopsShort request p taken e ⊎ AnswersUndue request Undue p taken e
+Stops request Unexpected p taken e = StopsShort request p taken e ⊎ AnswersUnexpected request Unexpected p taken e
 
 -- The connection's error counter increased if the error is `LinkFault`, and is unchanged otherwise.
 abbrev pub CountsFault : ℕ → ℕ → FollowError → Type 0

@@ -48,21 +48,21 @@ abbrev pub IsBadBody : ℕ → Reply → ℕ → Type 0
 IsBadBody used answer at = (answer.0 ≡ 200) × (at ≡ used)
 
 -- An answer without a tag.
-abbrev pub UndueTag : List CodeRow → ℕ → Reply → FollowError → Type 0
-UndueTag rows used answer (Refused status) = IsOther 200 answer status
-UndueTag rows used answer (BadReply at) = IsBadBody used answer at × HasNoTag rows answer.1
-UndueTag rows used answer (Ended at) = ⊥
-UndueTag rows used answer (Listing error) = ⊥
-UndueTag rows used answer (Codes error) = ⊥
-UndueTag rows used answer LinkFault = ⊥
-UndueTag rows used answer Memory = ⊤
+abbrev pub UnexpectedTag : List CodeRow → ℕ → Reply → FollowError → Type 0
+UnexpectedTag rows used answer (Refused status) = IsOther 200 answer status
+UnexpectedTag rows used answer (BadReply at) = IsBadBody used answer at × HasNoTag rows answer.1
+UnexpectedTag rows used answer (Ended at) = ⊥
+UnexpectedTag rows used answer (Listing error) = ⊥
+UnexpectedTag rows used answer (Codes error) = ⊥
+UnexpectedTag rows used answer LinkFault = ⊥
+UnexpectedTag rows used answer Memory = ⊤
 
 -- An answer without such a number.
-abbrev pub UndueNumber : Four → List CodeRow → ℕ → Reply → FollowError → Type 0
-UndueNumber c rows used answer (Refused status) = IsOther 200 answer status
-UndueNumber c rows used answer (BadReply at) = IsBadBody used answer at × HasNoNumber c rows answer.1
-UndueNumber c rows used answer (Ended at) = ⊥
-UndueNumber c rows used answer (Listing error) = ⊥
-UndueNumber c rows used answer (Codes error) = ⊥
-UndueNumber c rows used answer LinkFault = ⊥
-UndueNumber c rows used answer Memory = ⊤
+abbrev pub UnexpectedNumber : Four → List CodeRow → ℕ → Reply → FollowError → Type 0
+UnexpectedNumber c rows used answer (Refused status) = IsOther 200 answer status
+UnexpectedNumber c rows used answer (BadReply at) = IsBadBody used answer at × HasNoNumber c rows answer.1
+UnexpectedNumber c rows used answer (Ended at) = ⊥
+UnexpectedNumber c rows used answer (Listing error) = ⊥
+UnexpectedNumber c rows used answer (Codes error) = ⊥
+UnexpectedNumber c rows used answer LinkFault = ⊥
+UnexpectedNumber c rows used answer Memory = ⊤

@@ -7,7 +7,7 @@ ghost use Rattle.http_client.specs.Replies.{Reply};
 ghost use Rattle.mirror_client.specs.Exchanges.{Exchanged};
 ghost use Rattle.mirror_client.specs.Points.{point};
 ghost use Rattle.mirror_client.specs.Stopping.{CountsFault, Stops};
-ghost use Rattle.mirror_client.specs.Tellings.{HasNoTag, IsTag, Tells, TellsNumber, UndueNumber, UndueTag, number_told};
+ghost use Rattle.mirror_client.specs.Tellings.{HasNoTag, IsTag, Tells, TellsNumber, UnexpectedNumber, UnexpectedTag, number_told};
 
 use crate::exchanging::exchange;
 use crate::incoming::Incoming;
@@ -32,7 +32,7 @@ pub(crate) fn fetch<K: Link>(
     requires few { incoming.old.used < 2 ^ 63 }
     ensures told { IfOk result (λ tag. (answer : Reply) × Exchanged request.now (point (K.taken link.old) (K.left link.old) incoming.old.unused incoming.old.used)
         (point (K.taken link.new) (K.left link.new) incoming.new.unused incoming.new.used) answer × Tells table.now answer tag) }
-    ensures stops { IfErr result (λ e. Stops request.now (UndueTag table.now) (point (K.taken link.old) (K.left link.old) incoming.old.unused incoming.old.used) (K.taken link.new) e) }
+    ensures stops { IfErr result (λ e. Stops request.now (UnexpectedTag table.now) (point (K.taken link.old) (K.left link.old) incoming.old.unused incoming.old.used) (K.taken link.new) e) }
     ensures grows { incoming.new.used ≤ incoming.old.used + 2 ^ 31 }
     ensures count { MatchResult result (λ _. K.faults link.new ≡ K.faults link.old) (λ e. CountsFault (K.faults link.old) (K.faults link.new) e) }
 {
@@ -54,7 +54,7 @@ pub(crate) fn fetch_number<K: Link>(
     requires few { incoming.old.used < 2 ^ 63 }
     ensures told { IfOk result (λ n. (answer : Reply) × Exchanged request.now (point (K.taken link.old) (K.left link.old) incoming.old.unused incoming.old.used)
         (point (K.taken link.new) (K.left link.new) incoming.new.unused incoming.new.used) answer × TellsNumber code table.now answer n) }
-    ensures stops { IfErr result (λ e. Stops request.now (UndueNumber code table.now) (point (K.taken link.old) (K.left link.old) incoming.old.unused incoming.old.used) (K.taken link.new) e) }
+    ensures stops { IfErr result (λ e. Stops request.now (UnexpectedNumber code table.now) (point (K.taken link.old) (K.left link.old) incoming.old.unused incoming.old.used) (K.taken link.new) e) }
     ensures grows { incoming.new.used ≤ incoming.old.used + 2 ^ 31 }
     ensures count { MatchResult result (λ _. K.faults link.new ≡ K.faults link.old) (λ e. CountsFault (K.faults link.old) (K.faults link.new) e) }
 {
@@ -72,7 +72,7 @@ fn reply_tag(
     status: u16,
     body: &Bytes,
 ) -> Result<Tag, FollowError>
-    ensures { MatchResult result (λ tag. Tells table.now (status, body.now) tag) (λ e. UndueTag table.now used (status, body.now) e) }
+    ensures { MatchResult result (λ tag. Tells table.now (status, body.now) tag) (λ e. UnexpectedTag table.now used (status, body.now) e) }
 {
     if status != 200 {
         return Err(FollowError::Refused { status });
@@ -93,7 +93,7 @@ pub(crate) fn reply_number(
     status: u16,
     body: &Bytes,
 ) -> Result<u32, FollowError>
-    ensures { MatchResult result (λ n. TellsNumber code table.now (status, body.now) n) (λ e. UndueNumber code table.now used (status, body.now) e) }
+    ensures { MatchResult result (λ n. TellsNumber code table.now (status, body.now) n) (λ e. UnexpectedNumber code table.now used (status, body.now) e) }
 {
     match reply_tag(alloc, table, used, status, body) {
         Ok(tag) => match number_in(code, &tag) {

@@ -11,9 +11,9 @@ ghost use Rattle.http_client.specs.Replies.{Reply};
 ghost use Rattle.http_client.specs.Requests.{request_text};
 ghost use Rattle.mirror_client.specs.Exchanges.{Exchanged};
 ghost use Rattle.mirror_client.specs.Points.{Point, ReadAhead, nothing_read, place};
-ghost use Rattle.mirror_client.specs.Steps.{Opened, TellsListing, TellsTable, UndueEnd, UndueListing, UndueTable, applied_by, rows_want, with_listings, FailsToOpen, IsNotTaken, IsUntold};
+ghost use Rattle.mirror_client.specs.Steps.{Opened, TellsListing, TellsTable, UnexpectedEnd, UnexpectedListing, UnexpectedTable, applied_by, rows_want, with_listings, FailsToOpen, IsNotTaken, IsUntold};
 ghost use Rattle.mirror_client.specs.Stopping.{CountsFault, Stops};
-ghost use Rattle.mirror_client.specs.Tellings.{Tells, TellsNumber, UndueNumber, UndueTag};
+ghost use Rattle.mirror_client.specs.Tellings.{Tells, TellsNumber, UnexpectedNumber, UnexpectedTag};
 
 use crate::asking::{request_for, rows_request};
 use crate::exchanging::exchange;
@@ -93,7 +93,7 @@ impl Follower {
         ensures exchanged { IfOk result (λ applied. (answer : Reply) × (l : Listing)
             × Exchanged (request_text (rows_want self.old.known.session mirror.old) self.old.host) (place (K.taken link.old) (K.left link.old) self.old.ahead) (place (K.taken link.new) (K.left link.new) self.new.ahead) answer
             × TellsListing self.old.known.rows mirror.old answer l × (mirror.new ≡ with_listings mirror.old (l ∷ [])) × (applied ≡ applied_by mirror.old.held l)) }
-        ensures stops { IfErr result (λ e. Stops (request_text (rows_want self.old.known.session mirror.old) self.old.host) (UndueListing self.old.known.rows mirror.old)
+        ensures stops { IfErr result (λ e. Stops (request_text (rows_want self.old.known.session mirror.old) self.old.host) (UnexpectedListing self.old.known.rows mirror.old)
             (place (K.taken link.old) (K.left link.old) self.old.ahead) (K.taken link.new) e) }
         ensures unchanged { OnErr result (mirror.new ≡ mirror.old) }
         ensures stays { (self.new.host ≡ self.old.host) × (self.new.known ≡ self.old.known) }
@@ -131,7 +131,7 @@ impl Follower {
         ensures exchanged { IfOk result (λ tag. (answer : Reply)
             × Exchanged (request_text (want.Rows self.old.known.session target look) self.old.host) (place (K.taken link.old) (K.left link.old) self.old.ahead) (place (K.taken link.new) (K.left link.new) self.new.ahead) answer
             × Tells self.old.known.rows answer tag) }
-        ensures stops { IfErr result (λ e. Stops (request_text (want.Rows self.old.known.session target look) self.old.host) (UndueTag self.old.known.rows)
+        ensures stops { IfErr result (λ e. Stops (request_text (want.Rows self.old.known.session target look) self.old.host) (UnexpectedTag self.old.known.rows)
             (place (K.taken link.old) (K.left link.old) self.old.ahead) (K.taken link.new) e) }
         ensures stays { (self.new.host ≡ self.old.host) × (self.new.known ≡ self.old.known) }
         ensures calls { self.new.calls ≡ self.old.calls + 1 }
@@ -160,7 +160,7 @@ impl Follower {
         ensures exchanged { IfOk result (λ told. (answer : Reply)
             × Exchanged (request_text (want.Update self.old.known.session revision) self.old.host) (place (K.taken link.old) (K.left link.old) self.old.ahead) (place (K.taken link.new) (K.left link.new) self.new.ahead) answer
             × TellsNumber (code "musr") self.old.known.rows answer told) }
-        ensures stops { IfErr result (λ e. Stops (request_text (want.Update self.old.known.session revision) self.old.host) (UndueNumber (code "musr") self.old.known.rows)
+        ensures stops { IfErr result (λ e. Stops (request_text (want.Update self.old.known.session revision) self.old.host) (UnexpectedNumber (code "musr") self.old.known.rows)
             (place (K.taken link.old) (K.left link.old) self.old.ahead) (K.taken link.new) e) }
         ensures stays { (self.new.host ≡ self.old.host) × (self.new.known ≡ self.old.known) }
         ensures calls { self.new.calls ≡ self.old.calls + 1 }
@@ -188,7 +188,7 @@ impl Follower {
         ensures exchanged { IfOk result (λ _. (answer : Reply) × (ahead : ReadAhead)
             × Exchanged (request_text (want.Logout self.known.session) self.host) (place (K.taken link.old) (K.left link.old) self.ahead) (place (K.taken link.new) (K.left link.new) ahead) answer
             × (answer.0 ≡ 204)) }
-        ensures stops { IfErr result (λ e. Stops (request_text (want.Logout self.known.session) self.host) UndueEnd
+        ensures stops { IfErr result (λ e. Stops (request_text (want.Logout self.known.session) self.host) UnexpectedEnd
             (place (K.taken link.old) (K.left link.old) self.ahead) (K.taken link.new) e) }
         ensures count { MatchResult result (λ _. K.faults link.new ≡ K.faults link.old) (λ e. CountsFault (K.faults link.old) (K.faults link.new) e) }
     {
@@ -216,7 +216,7 @@ fn learn_table<K: Link>(
     ensures exchanged { IfOk result (λ table. (answer : Reply)
         × Exchanged (request_text want.Codes host.now) (place (K.taken link.old) (K.left link.old) incoming.old) (place (K.taken link.new) (K.left link.new) incoming.new) answer
         × TellsTable answer table) }
-    ensures stops { IfErr result (λ e. Stops (request_text want.Codes host.now) UndueTable (place (K.taken link.old) (K.left link.old) incoming.old) (K.taken link.new) e) }
+    ensures stops { IfErr result (λ e. Stops (request_text want.Codes host.now) UnexpectedTable (place (K.taken link.old) (K.left link.old) incoming.old) (K.taken link.new) e) }
     ensures grows { incoming.new.used ≤ incoming.old.used + 2 ^ 31 }
     ensures count { MatchResult result (λ _. K.faults link.new ≡ K.faults link.old) (λ e. CountsFault (K.faults link.old) (K.faults link.new) e) }
 {
@@ -256,7 +256,7 @@ fn log_in<K: Link>(
     ensures exchanged { IfOk result (λ session. (answer : Reply)
         × Exchanged (request_text want.Login host.now) (place (K.taken link.old) (K.left link.old) incoming.old) (place (K.taken link.new) (K.left link.new) incoming.new) answer
         × TellsNumber (code "mlid") table.now answer session) }
-    ensures stops { IfErr result (λ e. Stops (request_text want.Login host.now) (UndueNumber (code "mlid") table.now) (place (K.taken link.old) (K.left link.old) incoming.old) (K.taken link.new) e) }
+    ensures stops { IfErr result (λ e. Stops (request_text want.Login host.now) (UnexpectedNumber (code "mlid") table.now) (place (K.taken link.old) (K.left link.old) incoming.old) (K.taken link.new) e) }
     ensures grows { incoming.new.used ≤ incoming.old.used + 2 ^ 31 }
     ensures count { MatchResult result (λ _. K.faults link.new ≡ K.faults link.old) (λ e. CountsFault (K.faults link.old) (K.faults link.new) e) }
 {
@@ -284,7 +284,7 @@ fn fetch_listing<K: Link>(
     ensures exchanged { IfOk result (λ applied. (answer : Reply) × (l : Listing)
         × Exchanged request.now (place (K.taken link.old) (K.left link.old) incoming.old) (place (K.taken link.new) (K.left link.new) incoming.new) answer
         × TellsListing table.now mirror.old answer l × (mirror.new ≡ with_listings mirror.old (l ∷ [])) × (applied ≡ applied_by mirror.old.held l)) }
-    ensures stops { IfErr result (λ e. Stops request.now (UndueListing table.now mirror.old) (place (K.taken link.old) (K.left link.old) incoming.old) (K.taken link.new) e) }
+    ensures stops { IfErr result (λ e. Stops request.now (UnexpectedListing table.now mirror.old) (place (K.taken link.old) (K.left link.old) incoming.old) (K.taken link.new) e) }
     ensures unchanged { OnErr result (mirror.new ≡ mirror.old) }
     ensures grows { incoming.new.used ≤ incoming.old.used + 2 ^ 31 }
     ensures count { MatchResult result (λ _. K.faults link.new ≡ K.faults link.old) (λ e. CountsFault (K.faults link.old) (K.faults link.new) e) }
@@ -325,7 +325,7 @@ fn log_out<K: Link>(
     ensures exchanged { IfOk result (λ _. (answer : Reply)
         × Exchanged request.now (place (K.taken link.old) (K.left link.old) incoming.old) (place (K.taken link.new) (K.left link.new) incoming.new) answer
         × (answer.0 ≡ 204)) }
-    ensures stops { IfErr result (λ e. Stops request.now UndueEnd (place (K.taken link.old) (K.left link.old) incoming.old) (K.taken link.new) e) }
+    ensures stops { IfErr result (λ e. Stops request.now UnexpectedEnd (place (K.taken link.old) (K.left link.old) incoming.old) (K.taken link.new) e) }
     ensures count { MatchResult result (λ _. K.faults link.new ≡ K.faults link.old) (λ e. CountsFault (K.faults link.old) (K.faults link.new) e) }
 {
     match exchange(alloc, link, incoming, request) {

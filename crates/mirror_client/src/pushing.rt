@@ -5,7 +5,7 @@ ghost use Rattle.code_table.specs.Standard.{standard_rows};
 ghost use Rattle.http_client.specs.Replies.{Reply};
 ghost use Rattle.mirror_client.specs.Exchanges.{Exchanged};
 ghost use Rattle.mirror_client.specs.Points.{Point, nothing_read, place};
-ghost use Rattle.mirror_client.specs.Pushes.{IsEdited, IsPushed, IsStopped, UndueEdit, UnduePush, push_text};
+ghost use Rattle.mirror_client.specs.Pushes.{IsEdited, IsPushed, IsStopped, UnexpectedEdit, UnexpectedPush, push_text};
 ghost use Rattle.mirror_client.specs.Stopping.{CountsFault, Stops};
 
 use crate::exchanging::exchange;
@@ -40,7 +40,7 @@ pub fn push_link<K: Link>(
     ensures pushed { IfOk result (λ pushed. (answer : Reply) × (there : Point)
         × Exchanged (push_text (option_copied body.entry) host.now) (place (K.taken link.old) (K.left link.old) nothing_read) there answer
         × (there.taken ≡ K.taken link.new) × IsPushed (option_copied body.entry) answer pushed) }
-    ensures stops { IfErr result (λ e. Stops (push_text (option_copied body.entry) host.now) (UnduePush (option_copied body.entry))
+    ensures stops { IfErr result (λ e. Stops (push_text (option_copied body.entry) host.now) (UnexpectedPush (option_copied body.entry))
         (place (K.taken link.old) (K.left link.old) nothing_read) (K.taken link.new) e) }
     ensures count { MatchResult result (λ _. K.faults link.new ≡ K.faults link.old) (λ e. CountsFault (K.faults link.old) (K.faults link.new) e) }
 {
@@ -60,7 +60,7 @@ fn push_edit<K: Link>(
     ensures pushed { IfOk result (λ pushed. (answer : Reply) × (there : Point)
         × Exchanged (push_text (Some records.now) host.now) (place (K.taken link.old) (K.left link.old) nothing_read) there answer
         × (there.taken ≡ K.taken link.new) × IsEdited answer pushed) }
-    ensures stops { IfErr result (λ e. Stops (push_text (Some records.now) host.now) UndueEdit
+    ensures stops { IfErr result (λ e. Stops (push_text (Some records.now) host.now) UnexpectedEdit
         (place (K.taken link.old) (K.left link.old) nothing_read) (K.taken link.new) e) }
     ensures count { MatchResult result (λ _. K.faults link.new ≡ K.faults link.old) (λ e. CountsFault (K.faults link.old) (K.faults link.new) e) }
 {
@@ -81,7 +81,7 @@ fn push_stop<K: Link>(alloc: Global, link: &mut K, host: &str) -> Result<Pushed,
     ensures pushed { IfOk result (λ pushed. (answer : Reply) × (there : Point)
         × Exchanged (push_text None host.now) (place (K.taken link.old) (K.left link.old) nothing_read) there answer
         × (there.taken ≡ K.taken link.new) × IsStopped answer pushed) }
-    ensures stops { IfErr result (λ e. Stops (push_text None host.now) (UnduePush None)
+    ensures stops { IfErr result (λ e. Stops (push_text None host.now) (UnexpectedPush None)
         (place (K.taken link.old) (K.left link.old) nothing_read) (K.taken link.new) e) }
     ensures count { MatchResult result (λ _. K.faults link.new ≡ K.faults link.old) (λ e. CountsFault (K.faults link.old) (K.faults link.new) e) }
 {
@@ -102,7 +102,7 @@ fn edited(
     text: Bytes,
 ) -> Result<Pushed, FollowError>
     requires { table.now ≡ standard_rows }
-    ensures { MatchResult result (λ pushed. IsEdited (status, text) pushed) (λ e. UndueEdit used (status, text) e) }
+    ensures { MatchResult result (λ pushed. IsEdited (status, text) pushed) (λ e. UnexpectedEdit used (status, text) e) }
 {
     match status {
         200 => pushed_revision(alloc, table, used, &text),
@@ -119,7 +119,7 @@ fn pushed_revision(
     text: &Bytes,
 ) -> Result<Pushed, FollowError>
     requires { table.now ≡ standard_rows }
-    ensures { MatchResult result (λ pushed. IsEdited (200, text.now) pushed) (λ e. UndueEdit used (200, text.now) e) }
+    ensures { MatchResult result (λ pushed. IsEdited (200, text.now) pushed) (λ e. UnexpectedEdit used (200, text.now) e) }
 {
     match reply_number(alloc, table, Code(*b"musr"), used, 200, text) {
         Ok(n) => Ok(Pushed::Revision(n)),

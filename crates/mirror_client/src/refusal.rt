@@ -19,13 +19,13 @@ pub enum FollowError {
     #[error("the peer ended at {at}")]
     Ended { at: u64 },
     /// The mirror rejects the listing.
-    #[error("the peer's listing is not taken")]
+    #[error("the peer's listing is refused")]
     Listing(MirrorError),
     /// The response has no table of content codes.
-    #[error("the peer tells no table of content codes")]
+    #[error("the peer's reply is not a table of content codes")]
     Codes(CodeError),
     /// A read or a write failed; the connection's error counter increased.
-    #[error("the link failed")]
+    #[error("the connection failed")]
     LinkFault,
     #[error("out of memory")]
     Memory,

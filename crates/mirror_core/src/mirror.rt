@@ -62,10 +62,10 @@ pub struct Applied {
 pub enum MirrorError {
     /// The tag is not a listing of the mirror's target. `index` is that of the first member that cannot continue one,
     /// counted from 0, or `None` for another tag.
-    #[error("the tag is no listing that the mirror takes")]
+    #[error("the tag is not a listing of the mirror's target")]
     NotListing { index: Option<u64> },
     /// The listing is older than the mirror.
-    #[error("revision {told} is behind revision {held}")]
+    #[error("revision {told} is before revision {held}")]
     Backwards { held: u32, told: u32 },
     #[error("out of memory")]
     Memory,

@@ -4,6 +4,7 @@ use Rattle.outside_disks.specs.declared.memory.stand.Stand.{Stand}
 use Rattle.outside_disks.specs.declared.memory.disk.DiskOp.{DiskOp}
 use Rattle.outside_disks.specs.declared.memory.disk.DiskCall.{DiskCall}
 use Rattle.outside_disks.specs.declared.memory.disk.MemDisk.{MemDisk}
+use Rattle.outside_disks.specs.Disks.{Elapses}
 use Rattle.outside_disks.specs.MemDisk.{IsImage}
 
 -- A crash before one of the calls might have left this.
@@ -45,6 +46,12 @@ name_of disk = disk.name.items
 -- What a crash now may leave.
 abbrev pub images_of : MemDisk → List ℕ → Type 0
 images_of disk = IsImage disk.stand
+
+-- Time passes over a call. A crash before, within or after it might have left what the calls so far say.
+abbrev pub PassesTime : MemDisk → MemDisk → Type 0
+PassesTime before now =
+    Elapses (length before.calls.items) (length now.calls.items) (StoodSince before.stand before.calls.items)
+    (StoodSince now.stand now.calls.items) (images_of now)
 
 -- A call lacked capacity and did nothing. Or it was recorded, and failed exactly if it was set to; the first has the
 -- number 1.

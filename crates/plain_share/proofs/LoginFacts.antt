@@ -2,7 +2,7 @@
 use Rattle.std.proofs.Common.{◌≡◌, true, nat_lt, nat_le, ltb-true, leb-true, arith, ℕ, Bool, ◌+◌, ◌<◌, ◌++◌, append_assoc, take, [], ◌∷◌, sym, ◌∙◌, length, get_or, drop, cond, count_by, List, ap, Some}
 use Rattle.item_model.specs.declared.changes.Entry.{Entry}
 use Rattle.share_history.specs.Histories.{batches, all_edits, revision}
-use Rattle.share_history.specs.Limits.{takes_place, has_place, has_room_for}
+use Rattle.share_history.specs.Limits.{is_limited, is_below_entry_limit, has_room_for}
 use Rattle.share_history.specs.Numbers.{most_entries, most_edits}
 use Rattle.share_history.specs.Marks.{until_login}
 use Rattle.share_history.specs.Sessions.{is_login_of, after_login}
@@ -31,8 +31,8 @@ count_more p h i e lt is =
     ∙ ap (λ x. count_by p (take i h) + cond (p x) 1 0) (sym is)
 
 -- a history within the limit on entries has few revisions
-pub few_revisions : (h : List Entry) (b : Bool) → b ≡ has_place h → b ≡ true → revision (batches h) < 4294967296
-few_revisions h b is t = let place : nat_lt (count_by takes_place h) most_entries ≡ true = sym is ∙ t in omega (arith, few_batches h, ltb-true _ _ place)
+pub few_revisions : (h : List Entry) (b : Bool) → b ≡ is_below_entry_limit h → b ≡ true → revision (batches h) < 4294967296
+few_revisions h b is t = let place : nat_lt (count_by is_limited h) most_entries ≡ true = sym is ∙ t in omega (arith, few_batches h, ltb-true _ _ place)
 
 -- a history within the limit on edits has few edits
 pub few_edits : (h : List Entry) (b : Bool) → b ≡ has_room_for h 0 → b ≡ true → length (all_edits h) + 1 < 4294967296

@@ -6,38 +6,17 @@ ghost use Rattle.std.specs.Cmp.Lexicographic.{slice_cmp};
 ghost use Rattle.std.specs.BTreeSet.{insert_key};
 ghost use Rattle.item_model.specs.Items.{value_of};
 ghost use Rattle.share_history.specs.Histories.{batches, revision, all_edits};
-ghost use Rattle.share_history.specs.BrowseListings.{browsed, browse_code, text_in, is_filled, browse_values, value_tag, browse_body};
+ghost use Rattle.share_history.specs.BrowseListings.{browsed, text_in, is_filled, browse_values, value_tag, browse_body};
 ghost use Rattle.share_history.specs.RowSeen.{text_at};
 
 use crate::databases::whole_body;
 use crate::revisions::revision;
 use crate::selection::rows;
 use dmap_tags::{Code, Tag, Tags, Text, Value};
-use item_model::{Browse, Entry, PropValue, Property, Query, Row, Target};
+use item_model::{Browse, Entry, PropValue, Query, Row, Target};
+use share_history::{browse_code, browsed};
 use std::alloc::{AllocError, Global};
 use std::collections::BTreeSet;
-
-fn browsed(browse: Browse) -> Property
-    ensures { result ≡ browsed browse }
-{
-    match browse {
-        Browse::Artists => Property::Asar,
-        Browse::Albums => Property::Asal,
-        Browse::Genres => Property::Asgn,
-        Browse::Composers => Property::Ascp,
-    }
-}
-
-fn browse_code(browse: Browse) -> Code
-    ensures { result ≡ browse_code browse }
-{
-    match browse {
-        Browse::Artists => Code(*b"abar"),
-        Browse::Albums => Code(*b"abal"),
-        Browse::Genres => Code(*b"abgn"),
-        Browse::Composers => Code(*b"abcp"),
-    }
-}
 
 fn text_of(row: &Row, browse: Browse) -> &str
     ensures { result.now ≡ text_in (value_of (browsed browse) row.now.item) }

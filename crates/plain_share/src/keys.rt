@@ -5,10 +5,11 @@ ghost use Rattle.std.specs.Ordering.{nat_cmp};
 ghost use Rattle.std.specs.BTreeSet.{insert_key};
 ghost use Rattle.share_history.specs.Histories.{all_edits};
 ghost use Rattle.share_history.specs.Keyed.{ascending};
-ghost use Rattle.share_history.specs.Named.{keys_in, named_keys, lists_in, named_lists};
+ghost use Rattle.share_history.specs.Named.{keys_in, named_keys, named_lists};
 
 use crate::revisions::edits_of;
 use item_model::{Edit, Entry};
+use share_history::list_of;
 use std::alloc::{AllocError, Global};
 use std::collections::BTreeSet;
 
@@ -20,17 +21,6 @@ fn key_of(edit: &Edit) -> Option<u32>
         Edit::DropItem { id } => Some(*id),
         Edit::PutMember { member, .. } | Edit::DropMember { member, .. } => Some(*member),
         Edit::PutList { .. } | Edit::PutRule { .. } | Edit::DropList { .. } => None,
-    }
-}
-
-fn list_of(edit: &Edit) -> Option<u32>
-    ensures { option_to_list result ≡ lists_in edit.now }
-{
-    match edit {
-        Edit::PutList { list, .. } | Edit::PutRule { list, .. } | Edit::DropList { list } => {
-            Some(*list)
-        }
-        _ => None,
     }
 }
 

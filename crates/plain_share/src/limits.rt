@@ -2,7 +2,7 @@
 
 ghost use Rattle.std.specs.Prelude.{◌≡◌, ◌<◌, ◌+◌, ◌^◌, IfOk, count_by, length, if◌then◌else◌};
 ghost use Rattle.share_history.specs.Histories.{all_edits};
-ghost use Rattle.share_history.specs.Limits.{takes_place, has_place, has_room_for, has_few_lists, takes_batch};
+ghost use Rattle.share_history.specs.Limits.{is_limited, is_below_entry_limit, has_room_for, has_few_lists, takes_batch};
 
 use crate::databases::playlists_with;
 use crate::revisions::edits_of;
@@ -10,17 +10,17 @@ use item_model::{Batch, Edit, Entry};
 use share_history::{MAX_EDITS, MAX_ENTRIES, MAX_LISTS};
 use std::alloc::{AllocError, Global};
 
-fn does_take_place(entry: &Entry) -> bool
-    ensures { result ≡ takes_place entry.now }
+fn is_limited_entry(entry: &Entry) -> bool
+    ensures { result ≡ is_limited entry.now }
 {
     matches!(entry, Entry::Edits { .. } | Entry::Login { .. })
 }
 
 fn count_with(count: usize, entry: &Entry) -> usize
     requires { count < usize.MAX }
-    ensures { result ≡ count + (if takes_place entry.now then 1 else 0) }
+    ensures { result ≡ count + (if is_limited entry.now then 1 else 0) }
 {
-    if does_take_place(entry) {
+    if is_limited_entry(entry) {
         count + 1
     } else {
         count
@@ -29,8 +29,8 @@ fn count_with(count: usize, entry: &Entry) -> usize
 
 /// Returns whether one more login or batch is within the limit on entries.
 #[tactic(auto, using(crate::proofs::LoginFacts::count_more))]
-pub fn has_place(history: &[Entry]) -> bool
-    ensures { result ≡ has_place history.now }
+pub fn is_below_entry_limit(history: &[Entry]) -> bool
+    ensures { result ≡ is_below_entry_limit history.now }
 {
     let mut count = 0;
     for entry in history {
@@ -72,7 +72,7 @@ pub fn takes_batch(alloc: Global, history: &[Entry], batch: &Batch) -> Result<bo
     ensures { IfOk result (λ takes. takes ≡ takes_batch history.now batch.now) }
 {
     let edits = batch.edits.as_slice();
-    if !has_place(history) || !has_room_for(history, edits.len()) {
+    if !is_below_entry_limit(history) || !has_room_for(history, edits.len()) {
         return Ok(false);
     }
     has_few_lists(alloc, history, edits)

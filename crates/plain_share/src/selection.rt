@@ -4,7 +4,7 @@ ghost use Rattle.std.specs.Prelude.{◌≡◌, ◌<◌, ◌≤◌, ◌++◌, len
 ghost use Rattle.item_model.specs.QuerySeen.{tree_of};
 ghost use Rattle.song_query.specs.Holds.{holds};
 ghost use Rattle.share_history.specs.Histories.{all_edits};
-ghost use Rattle.share_history.specs.Rows.{is_asked, if_asked, in_list, in_target, row_at, rows, library, is_there};
+ghost use Rattle.share_history.specs.Rows.{is_selected, if_selected, in_list, in_target, row_at, rows, library, is_there};
 ghost use Rattle.plain_share.specs.PlaylistSeen.{playlist_of};
 ghost use Rattle.plain_share.specs.RowSeen.{row_of};
 
@@ -35,8 +35,8 @@ fn does_hold(query: &Query, row: &Row) -> bool
 }
 
 /// Returns whether the row matches the query. Without a query every row does.
-pub fn is_asked(query: Option<&Query>, row: &Row) -> bool
-    ensures { result ≡ is_asked (option_copied query.entry) row.now }
+pub fn is_selected(query: Option<&Query>, row: &Row) -> bool
+    ensures { result ≡ is_selected (option_copied query.entry) row.now }
 {
     match query {
         Some(query) => does_hold(query, row),
@@ -45,11 +45,11 @@ pub fn is_asked(query: Option<&Query>, row: &Row) -> bool
 }
 
 // Returns the row if it exists and matches.
-fn if_asked<'a>(query: Option<&Query>, found: Option<&'a Row>) -> Option<&'a Row>
-    ensures { option_copied result ≡ option_and_then (if_asked (option_copied query.entry)) (option_copied found.entry) }
+fn if_selected<'a>(query: Option<&Query>, found: Option<&'a Row>) -> Option<&'a Row>
+    ensures { option_copied result ≡ option_and_then (if_selected (option_copied query.entry)) (option_copied found.entry) }
 {
     let row = found?;
-    if is_asked(query, row) {
+    if is_selected(query, row) {
         Some(row)
     } else {
         None
@@ -70,7 +70,7 @@ fn in_list<'a>(
             Some(item_id) => item(history, item_id),
             None => None,
         },
-        Some(PlaylistRef::Ruled { rule, .. }) => if_asked(Some(rule), item(history, key)),
+        Some(PlaylistRef::Ruled { rule, .. }) => if_selected(Some(rule), item(history, key)),
     }
 }
 
@@ -102,7 +102,7 @@ pub fn row<'a>(
 ) -> Option<&'a Row>
     ensures { option_copied result ≡ row_at (all_edits history.now) target (option_copied query.entry) key }
 {
-    if_asked(query, in_target(history, target, key))
+    if_selected(query, in_target(history, target, key))
 }
 
 fn push_found<'a>(

@@ -18,7 +18,7 @@ use Rattle.item_model.specs.declared.request.Target.TheVariants.{Container}
 use Rattle.share_history.specs.Numbers.{base_list}
 use Rattle.share_history.specs.Keyed.{at, IsAscending, AreAscending, pairs_at}
 use Rattle.share_history.specs.LastSaid.{Playlist, Plain, Ruled, only_if, item_at, list_at}
-use Rattle.share_history.specs.Rows.{is_asked, if_asked, in_list, rows}
+use Rattle.share_history.specs.Rows.{is_selected, if_selected, in_list, rows}
 use Rattle.share_history.proofs.KeyedFacts.{has, same_pairs, at-map, ascending-map, at-pairs_at, ascending-pairs_at}
 use Rattle.share_history.proofs.OwnFacts.{item_id}
 use Rattle.share_history.proofs.RowFacts.{at-rows, ascending-rows, found_itself}
@@ -32,9 +32,9 @@ if_there es k row true is = sym is
 if_there es k row false is = refl
 
 ruled_item : (rule : Query) (es : List Edit) (k : ℕ) (found : Option Row) → item_at es k ≡ found
-    → option_and_then (if_asked (Some rule)) found ≡ option_and_then (item_at es) (ruled rule k found)
+    → option_and_then (if_selected (Some rule)) found ≡ option_and_then (item_at es) (ruled rule k found)
 ruled_item rule es k None is = refl
-ruled_item rule es k (Some row) is = if_there es k row (is_asked (Some rule) row) is
+ruled_item rule es k (Some row) is = if_there es k row (is_selected (Some rule) row) is
 
 pub in_list-standing : (list : Option Playlist) (es : List Edit) (c k : ℕ) → in_list list es c k ≡ option_and_then (item_at es) (standing list es c k)
 in_list-standing None es c k = refl

@@ -1,4 +1,4 @@
--- What looking at rules leaves.
+-- What checking rules leaves.
 use Rattle.std.proofs.Common.{◌≡◌, ◌<◌, ℕ, Bool, true, false, cond, ◌&&◌, ◌==◌, List, [], ◌∷◌, ◌++◌, length, Option, Some, None, refl, sym, ap, subst, ◌∙◌, ⊎_elim, true≢false, eqb-true, arith, Ok, Err}
 use Rattle.std.specs.Prelude.{Result, OnOk, nat_le, ⊤}
 use Rattle.share_history.specs.Histories.{edits}

@@ -39,7 +39,7 @@ puts_rule (DropList list) = false
 puts_rule (PutMember list member item) = false
 puts_rule (DropMember list member) = false
 
--- ---- one list in place
+-- ---- one list that remains
 
 -- from revision `n` on the picked keys have other values; what the list is stays
 pub record Sets (n : ℕ) (picks : ℕ → Bool) (value : ℕ → Option ℕ) (old new : ListVersion) : Type 0 where

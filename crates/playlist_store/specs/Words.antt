@@ -4,7 +4,7 @@ use Rattle.item_model.specs.declared.item.Row.{Row}
 use Rattle.item_model.specs.declared.query.Query.{Query}
 use Rattle.item_model.specs.declared.changes.Edit.{Edit}
 use Rattle.share_history.specs.LastSaid.{Playlist, Plain, Ruled, item_at, member_at}
-use Rattle.share_history.specs.Rows.{is_asked}
+use Rattle.share_history.specs.Rows.{is_selected}
 use Rattle.playlist_store.specs.declared.head.ListHead.{ListHead}
 use Rattle.playlist_store.specs.declared.head.Member.{Member}
 
@@ -16,7 +16,7 @@ head_of (Ruled name rule) = record { name = name; rule = Some rule }
 -- the id, if the rule matches the item
 abbrev pub ruled : Query → ℕ → Option Row → Option ℕ
 ruled rule id None = None
-ruled rule id (Some row) = if is_asked (Some rule) row then Some id else None
+ruled rule id (Some row) = if is_selected (Some rule) row then Some id else None
 
 -- the id of the item under a key of a list: for a playlist the member's, whether the library has it or not; for a
 -- smart playlist that of a matching item

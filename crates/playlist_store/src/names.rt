@@ -3,12 +3,13 @@
 ghost use Rattle.std.specs.Prelude.{◌≡◌, option_to_list, IfOk};
 ghost use Rattle.std.specs.List.{list_any};
 ghost use Rattle.item_store.specs.Stands.{items_in, named_items};
-ghost use Rattle.share_history.specs.Named.{lists_in, named_lists};
+ghost use Rattle.share_history.specs.Named.{named_lists};
 ghost use Rattle.playlist_store.specs.Names.{members_in, named_members, names_of};
 ghost use Rattle.playlist_store.specs.Changes.{puts_rule};
 
 use crate::named::Named;
 use item_model::Edit;
+use share_history::list_of;
 use std::alloc::{AllocError, Global};
 
 pub(crate) fn names_of(alloc: Global, batch: &[Edit]) -> Result<Named, AllocError>
@@ -34,17 +35,6 @@ fn lists_of(alloc: Global, batch: &[Edit]) -> Result<Vec<u32>, AllocError>
         }
     }
     Ok(ids)
-}
-
-fn list_of(edit: &Edit) -> Option<u32>
-    ensures { option_to_list result ≡ lists_in edit.now }
-{
-    match edit {
-        Edit::PutList { list, .. } | Edit::PutRule { list, .. } | Edit::DropList { list } => {
-            Some(*list)
-        }
-        _ => None,
-    }
 }
 
 fn members_of(alloc: Global, batch: &[Edit]) -> Result<Vec<(u32, u32)>, AllocError>

@@ -13,9 +13,9 @@ use Rattle.item_model.specs.declared.query.Query.{Query}
 use Rattle.item_model.specs.declared.request.Browse.{Browse}
 use Rattle.item_model.specs.declared.request.Target.TheVariants.{Items}
 use Rattle.item_model.specs.QuerySeen.{tree_of}
-use Rattle.share_history.specs.Rows.{is_asked, rows, library}
+use Rattle.share_history.specs.Rows.{is_selected, rows, library}
 use Rattle.share_history.specs.BrowseListings.{is_filled, browse_values}
-use Rattle.share_history.proofs.RowFacts.{rows_asked}
+use Rattle.share_history.proofs.RowFacts.{rows_selected}
 use Rattle.prop_index.specs.Forms.{spelled, browse_text, finds}
 use Rattle.prop_index.specs.Candidates.{needed_text, is_candidate}
 use Rattle.prop_index.specs.Laws.{CandidatesSuffice, ValuesByTheirItems}
@@ -37,14 +37,14 @@ filtered_twice {X} p f (x ∷ xs) all =
     (cases_Bool (f x))
 
 all_need : (query : Query) (text : Browse × List ℕ) (rows : List (ℕ × Row)) → needed_text (tree_of query) ≡ Some text
-    → AllByRecursion (λ row. is_asked (Some query) row.1 ≡ true → is_candidate text row.1 ≡ true) rows
+    → AllByRecursion (λ row. is_selected (Some query) row.1 ≡ true → is_candidate text row.1 ≡ true) rows
 all_need query text [] needed = tt
 all_need query text (r ∷ rows) needed =
     (query_needs (tree_of query) text.0 text.1 r.1 needed, all_need query text rows needed)
 
 pub candidates_suffice : CandidatesSuffice
 candidates_suffice rows query text needed =
-    filtered_twice (λ row. is_asked (Some query) row.1) (λ row. is_candidate text row.1) rows (all_need query text rows needed)
+    filtered_twice (λ row. is_selected (Some query) row.1) (λ row. is_candidate text row.1) rows (all_need query text rows needed)
 
 -- ---- values
 
@@ -96,7 +96,7 @@ texts browse rs = filter is_filled (map (λ row. browse_text browse row.1) rs)
 
 -- whether a query asks for an item with the value
 abbrev asks : List Edit → Browse → Option Query → List ℕ → Bool
-asks es browse query value = list_any (λ row. is_asked query row.1) (filter (λ row. finds spelled browse value row.1) (library es))
+asks es browse query value = list_any (λ row. is_selected query row.1) (filter (λ row. finds spelled browse value row.1) (library es))
 
 pub values_by_their_items : ValuesByTheirItems
 values_by_their_items es browse query =
@@ -104,9 +104,9 @@ values_by_their_items es browse query =
     (sorted_sorted (texts browse (rows es Items query)))
     (sorted_kept (asks es browse query) (browse_values es browse None) (sorted_sorted (texts browse (library es))))
     (λ q. among_sorted q browse (rows es Items query)
-    ∙ ap (list_any (λ row. finds spelled browse q row.1)) (rows_asked es query)
-    ∙ swapped (λ row. finds spelled browse q row.1) (λ row. is_asked query row.1) (library es)
+    ∙ ap (list_any (λ row. finds spelled browse q row.1)) (rows_selected es query)
+    ∙ swapped (λ row. finds spelled browse q row.1) (λ row. is_selected query row.1) (library es)
     ∙ and_implied (asks es browse query q) (list_any (λ row. finds spelled browse q row.1) (library es))
-    (found_in_all (λ row. finds spelled browse q row.1) (λ row. is_asked query row.1) (library es))
+    (found_in_all (λ row. finds spelled browse q row.1) (λ row. is_selected query row.1) (library es))
     ∙ ap (λ b. asks es browse query q && b) (sym (among_sorted q browse (library es)))
     ∙ sym (among_kept q (asks es browse query) (browse_values es browse None)))

@@ -28,7 +28,7 @@ use Rattle.item_model.proofs.FoldLaws.{folded_filled}
 use Rattle.song_query.specs.Holds.{absent, is_met, matches_value, named_value, property_value, meets, holds, all_hold}
 use Rattle.share_history.specs.BrowseListings.{browsed, text_in, is_filled}
 use Rattle.share_history.specs.Keyed.{at, IsAscending}
-use Rattle.share_history.specs.Rows.{is_asked, if_asked, row_at, library}
+use Rattle.share_history.specs.Rows.{is_selected, if_selected, row_at, library}
 use Rattle.share_history.specs.LastSaid.{only_if}
 use Rattle.share_history.proofs.RowFacts.{at-library}
 use Rattle.prop_index.specs.declared.index.PropIndex.{PropIndex}
@@ -215,7 +215,7 @@ needed_filled (or_of qs) browse text is = absurd (cc)
 -- ---- no other item is asked for
 
 not_found : (query : Query) (browse : Browse) (text : List ℕ) (row : Row) → needed_text (tree_of query) ≡ Some (browse, text)
-    → is_candidate (browse, text) row ≡ false → only_if (is_asked (Some query) row) row ≡ None
+    → is_candidate (browse, text) row ≡ false → only_if (is_selected (Some query) row) row ≡ None
 not_found query browse text row is missed =
     ⊎_elim
     (λ (h : holds (tree_of query) row ≡ true). absurd (true≢false (sym (query_needs (tree_of query) browse text row is h) ∙ missed)))
@@ -225,8 +225,8 @@ not_found query browse text row is missed =
 pub others_unasked : (es : List Edit) (index : PropIndex) (query : Query) (browse : Browse) (text : List ℕ) → IsUtf8 text → needed_text (tree_of query) ≡ Some (browse, text)
     → StandsFor (library es) index → (id : ℕ) → has id (found index browse any_case (folded text)) ≡ false → row_at es Items (Some query) id ≡ None
 others_unasked es index query browse text utf8 is stands id missed =
-    ap (option_and_then (if_asked (Some query))) (sym (at-library es id))
-    ∙ elim (at id (library es)) as (λ o. at id (library es) ≡ o → option_and_then (if_asked (Some query)) o ≡ None) [
+    ap (option_and_then (if_selected (Some query))) (sym (at-library es id))
+    ∙ elim (at id (library es)) as (λ o. at id (library es) ≡ o → option_and_then (if_selected (Some query)) o ≡ None) [
       | None ↦ λ e. refl
       | Some row ↦ λ e. not_found query browse text row is
           (sym (candidate_found browse text row utf8 (needed_filled (tree_of query) browse text is) (stands.texts id row e))

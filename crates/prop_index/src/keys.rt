@@ -9,7 +9,8 @@ ghost use Rattle.share_history.specs.BrowseListings.{browsed};
 ghost use Rattle.prop_index.specs.Forms.{Form, in_form, key_of, is_textual};
 
 use crate::lowered::Lowered;
-use item_model::{Browse, PropValue, Property, Row};
+use item_model::{Browse, PropValue, Row};
+use share_history::browsed;
 use std::alloc::{AllocError, Global};
 use std::string::String;
 
@@ -41,18 +42,6 @@ pub(crate) fn folded(alloc: Global, text: &str) -> Result<String, AllocError>
     let mut lowered = String::from_str(alloc, text)?;
     lowered.make_ascii_lowercase();
     Ok(lowered)
-}
-
-/// The property by which a library is browsed.
-pub(crate) fn browsed(browse: Browse) -> Property
-    ensures { result ≡ browsed browse }
-{
-    match browse {
-        Browse::Artists => Property::Asar,
-        Browse::Albums => Property::Asal,
-        Browse::Genres => Property::Asgn,
-        Browse::Composers => Property::Ascp,
-    }
 }
 
 fn text_of(row: &Row, browse: Browse) -> Option<&str>

@@ -34,7 +34,7 @@ abbrev pub AddedBy : Bool → Column → List ℕ → Values → Values → Type
 AddedBy true column cell before after = Added column cell before after
 AddedBy false column cell before after = after ≡ before
 
--- an error whose cause is not memory has this meaning
+-- if the error is not an allocation failure, its reason is right
 abbrev pub ForCause : CellError → (RecordWhy → Type 0) → Type 0
 ForCause (Refused why) Means = Means why
 ForCause Memory Means = Unit {0}

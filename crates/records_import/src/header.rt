@@ -33,7 +33,7 @@ pub struct Header {
 
 impl Column {
     /// Returns the column with the name.
-    pub fn named(name: &[u8]) -> Option<Column>
+    pub fn from_name(name: &[u8]) -> Option<Column>
         ensures { result ≡ column_named name.now }
     {
         if name == b"query".as_slice() {
@@ -111,7 +111,7 @@ fn further_columns(alloc: Global, cells: &ByteRecord) -> Result<Vec<Column>, Rec
 fn new_column(known: &[Column], name: &[u8]) -> Option<Column>
     ensures { result ≡ unless_known known.now (column_named name.now) }
 {
-    match Column::named(name) {
+    match Column::from_name(name) {
         Some(column) => {
             if is_among(column, known) {
                 return None;

@@ -62,7 +62,7 @@ asks_within period last count = within_filter count (is_due period last) (range_
 
 -- ---- what a mirror holds
 
--- the revision of the last ask
+-- the revision of the last request
 last_base : List (List Edit) → ℕ → List ℕ → ℕ
 last_base bs base ns = fold (λ _ n. revision (take n bs)) base ns
 

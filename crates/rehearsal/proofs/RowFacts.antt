@@ -23,7 +23,7 @@ use Rattle.share_history.specs.Keyed.{ascending, pairs_at}
 use Rattle.share_history.specs.LastSaid.{last_said, only_if, says_item, item_at}
 use Rattle.share_history.specs.Listings.{shown_rows}
 use Rattle.share_history.specs.Named.{named_keys}
-use Rattle.share_history.specs.Rows.{rows, row_at, is_asked, if_asked}
+use Rattle.share_history.specs.Rows.{rows, row_at, is_selected, if_selected}
 use Rattle.listing_plan.proofs.Spelled.{more_length, framed_length}
 use Rattle.rehearsal.specs.Edits.{row_by}
 use Rattle.rehearsal.specs.Made.{IsMade, AreMade}
@@ -73,16 +73,16 @@ found_says : (k : ℕ) (said : Option (Option Row)) → Says k said → Finds k 
 found_says k None h = tt
 found_says k (Some found) h = h
 
-asked_finds : (k : ℕ) (q : Option Query) (found : Option Row) → Finds k found → Finds k (option_and_then (if_asked q) found)
-asked_finds k q None h = tt
-asked_finds k q (Some row) h = kept (is_asked q row)
+selected_finds : (k : ℕ) (q : Option Query) (found : Option Row) → Finds k found → Finds k (option_and_then (if_selected q) found)
+selected_finds k q None h = tt
+selected_finds k q (Some row) h = kept (is_selected q row)
   where
     kept : (b : Bool) → Finds k (only_if b row)
     kept true = h
     kept false = tt
 
 row_finds : (es : List Edit) (q : Option Query) (k : ℕ) → AreMade es → Finds k (row_at es Items q k)
-row_finds es q k made = asked_finds k q (item_at es k) (found_says k (last_said (says_item k) es) (all_say k es made))
+row_finds es q k made = selected_finds k q (item_at es k) (found_says k (last_said (says_item k) es) (all_say k es made))
 
 abbrev pub AreMadeRows : List (ℕ × Row) → Type 0
 AreMadeRows pairs = AllByRecursion (λ pair. IsMadeRow pair.0 pair.1) pairs

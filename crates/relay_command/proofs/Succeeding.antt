@@ -50,9 +50,9 @@ successes_make_all_rounds relaying front net net' output output' left r success 
     end_done r.relay.report.end (other_none crew (end_fault r.relay.report.end) (end_none _ _ r.at_line output' left.status r.told success))
     (runs_are_not_stopped relaying front net net' output output' left r)
 
--- ---- what was told
+-- ---- what was written
 
--- what was told whole has its status
+-- if the line was written whole, the status is the wanted one
 told_as : (wanted : ℕ) (bytes : List ℕ) (before after : OutputSeen) (status : ℕ) → ¬ (Rose before.faults after.faults) → Tells wanted bytes before after status → status ≡ wanted
 told_as wanted bytes before after status steady (inl h) = h.0
 told_as wanted bytes before after status steady (inr h) = absurd (steady h.1.rose)
@@ -71,9 +71,9 @@ memory_said : (text : List ℕ) (before after : OutputSeen) (status : ℕ) → �
 memory_said text before after status steady (inl h) = told_as 9 _ before after status steady h
 memory_said text before after status steady (inr h) = told_as 9 _ before after status steady h
 
--- ---- faults that nothing outside makes
+-- ---- errors that nothing outside causes
 
--- a fault of memory or of a limit, or none
+-- an error of memory or of a limit, or none
 abbrev IsMild : Type 0 → Option (Fault RelayFault) → Type 0
 IsMild Limit fault = (fault ≡ None) ⊎ ((fault ≡ Some Memory) ⊎ (((fault ≡ Some (Own Requests)) ⊎ (fault ≡ Some (Own Library))) × Limit))
 
@@ -81,7 +81,7 @@ abbrev IsFine : Type 0 → ℕ → Type 0
 IsFine Limit status = (status ≡ 0) ⊎ ((status ≡ 9) ⊎ ((status ≡ 8) × Limit))
 
 module _ (Limit : Type 0) (lines : List ℕ) (before after : OutputSeen) (status : ℕ) (steady : ¬ (Rose before.faults after.faults)) where
-  -- without memory for the lines
+  -- if an allocation for the lines fails
   ruled : (fault : Option (Fault RelayFault)) → worse fault (Some Memory) ≡ Some Memory → TellsEnd lines fault before after status → (status ≡ status_of fault) ⊎ (status ≡ 9)
   ruled fault memory (inl h) = behind_said lines fault before after status steady h
   ruled fault memory (inr h) = inr (memory_said [] before after status steady (subst (λ (f : Option (Fault RelayFault)). TellsRuling f before after status) memory h))

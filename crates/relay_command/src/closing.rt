@@ -5,7 +5,7 @@ ghost use Rattle.command_core.specs.Seen.{output_seen};
 ghost use Rattle.command_core.specs.declared.fault.Fault.TheVariants.{Memory};
 ghost use Rattle.relay_command.specs.Faults.{worse};
 ghost use Rattle.share_history.specs.Histories.{batches, revision};
-ghost use Rattle.share_history.specs.Whole.{IsWhole};
+ghost use Rattle.share_crew.specs.Outcomes.{LeavesShare};
 ghost use Rattle.share_crew.specs.Lines.{ended_line, links_in, requests_in};
 ghost use Rattle.relay_command.specs.Lines.{round_line, round_lines};
 ghost use Rattle.relay_command.specs.Runs.{TellsBehind, TellsEnd, TellsRuling, last_lines};
@@ -14,7 +14,6 @@ use crate::fault::{RelayFault, rank_of};
 use command_core::{Fault, write_error};
 use daap_outside::{Sink, put_all};
 use fault_lines::push_number;
-use item_model::Entries;
 use relay_share::Relayed;
 use share_core::Share;
 use share_crew::{LinkReports, Outcome, ended_line_of};
@@ -32,9 +31,7 @@ pub(crate) fn finish<W: Sink>(
 ) -> Outcome
     requires links { links_in links < 2 ^ 64 }
     requires requests { requests_in links < 2 ^ 64 }
-    ensures history { result.history ≡ Some share.history }
-    ensures whole { IsWhole share.history }
-    ensures links { result.links ≡ links }
+    ensures left { LeavesShare share.history links result }
     ensures told { TellsEnd (last_lines (revision (batches share.history)) links rounds.now fault) fault
         (output_seen (W.taken output.old) (W.faults output.old))
         (output_seen (W.taken output.new) (W.faults output.new))
@@ -42,11 +39,7 @@ pub(crate) fn finish<W: Sink>(
 {
     let lines = last_lines(alloc, share.revision(), links.as_slice(), rounds, &fault);
     let status = write_end(alloc, output, lines, fault);
-    Outcome {
-        status,
-        history: Some(Entries::of(share.into_history())),
-        links,
-    }
+    Outcome::of_share(status, share, links)
 }
 
 // Returns the lines of the rounds, and the last line if there is no error.

@@ -37,39 +37,14 @@ pub fn relay<W: Sink, N: Net, R: Threads + Wait + Clock + Sync>(
     ensures open_stays { N.open_count net.new ≡ N.open_count net.old }
 {
     match opened(net, relaying) {
-        Ok(places) => relay_at(rt, alloc, relaying, output, net, places),
+        Ok(places) => match begin(alloc, relaying, output) {
+            Ok(begun) => relay_begun(rt, alloc, relaying, output, net, places, begun),
+            Err(status) => {
+                given_back(net, places);
+                unrelayed(alloc, status)
+            }
+        },
         Err(stop) => unrelayed(alloc, write_error(alloc, output, &stop).status),
-    }
-}
-
-// Relays a share over a connection that was made, at listeners that are open.
-fn relay_at<W: Sink, N: Net, R: Threads + Wait + Clock + Sync>(
-    rt: &R,
-    alloc: Global,
-    relaying: &Relaying,
-    output: &mut W,
-    net: &mut N,
-    places: Places<N::L, N::D>,
-) -> Outcome
-    requires may { MayRelay relaying.now }
-    requires doors { length places.doors.items ≡ relaying.now.workers + 1 }
-    ensures ends { (start : NetSeen)
-        → HasOpened relaying.now start (net_seen (N.asked net.old) (N.written net.old) (N.door_links net.old) (N.next_input net.old) (N.faults net.old))
-        (N.L.taken places.link) (N.L.left places.link) (N.L.faults places.link) (map N.D.coming places.doors.items)
-        → AreNew N.D.written N.D.faults start.written places.doors.items
-        → RelayEnds relaying.now start
-        (net_seen (N.asked net.new) (N.written net.new) (N.door_links net.new) (N.next_input net.new) (N.faults net.new))
-        (output_seen (W.taken output.old) (W.faults output.old))
-        (output_seen (W.taken output.new) (W.faults output.new))
-        result }
-    ensures closes { N.open_count net.new ≡ N.open_count net.old - (length places.doors.items + 1) }
-{
-    match begin(alloc, relaying, output) {
-        Ok(begun) => relay_begun(rt, alloc, relaying, output, net, places, begun),
-        Err(status) => {
-            given_back(net, places);
-            unrelayed(alloc, status)
-        }
     }
 }
 

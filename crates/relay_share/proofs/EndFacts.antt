@@ -13,11 +13,11 @@ use Rattle.mirror_client.specs.declared.refusal.FollowError.{FollowError}
 use Rattle.mirror_client.specs.declared.refusal.FollowError.TheVariants as follow
 use Rattle.mirror_client.specs.Exchanges.{Exchanged}
 use Rattle.mirror_client.specs.Points.{Point}
-use Rattle.mirror_client.specs.Stages.{Asking, Begun, Closed, Holding, Learned, Stage, UndueBehind, UndueIn, Walks, behind_round, due}
-use Rattle.mirror_client.specs.Steps.{FailsToOpen, IsNotTaken, IsRefusedBy, Known, Opened, TellsListing, UndueEnd, UndueListing, held_after, with_listings}
+use Rattle.mirror_client.specs.Stages.{Asking, Begun, Closed, Holding, Learned, Stage, UnexpectedAfter, UnexpectedIn, Walks, behind_round, due}
+use Rattle.mirror_client.specs.Steps.{FailsToOpen, IsNotTaken, IsRefusedBy, Known, Opened, TellsListing, UnexpectedEnd, UnexpectedListing, held_after, with_listings}
 use Rattle.mirror_client.specs.Stopping.{CountsFault, Stops}
-use Rattle.mirror_client.specs.Tellings.{Tells, TellsNumber, UndueNumber, UndueTag}
-use Rattle.mirror_client.proofs.ExchangeFacts.{undue_stops, went_nowhere}
+use Rattle.mirror_client.specs.Tellings.{Tells, TellsNumber, UnexpectedNumber, UnexpectedTag}
+use Rattle.mirror_client.proofs.ExchangeFacts.{unexpected_stops, went_nowhere}
 use Rattle.mirror_client.proofs.StageFacts.{closed_walks, listed_walks, opened_walks, waited_walks, walk_on, walk_one}
 use Rattle.mirror_core.specs.Bodies.{IsListing, IsNoListing}
 use Rattle.mirror_core.specs.declared.mirror.MirrorError.{MirrorError}
@@ -123,42 +123,42 @@ taken_round host rounds p known ls base q q' answer tag k k' k'' done done' old 
     )
 
 -- a body that is not a listing is unexpected
-undue_body : (rows : List CodeRow) (held : Held) (used : ℕ) (answer : Reply) (tag : Tree) (e : FollowError) → Tells rows answer tag → IsNotTaken (holding held) tag e
-    → UndueListing rows (holding held) used answer e
-undue_body rows held used answer tag (follow.Refused status) told is = absurd is
-undue_body rows held used answer tag (follow.BadReply at) told is = absurd is
-undue_body rows held used answer tag (follow.Ended at) told is = absurd is
-undue_body rows held used answer tag (follow.Listing error) told is = (tag, told, is)
-undue_body rows held used answer tag (follow.Codes error) told is = absurd is
-undue_body rows held used answer tag follow.LinkFault told is = absurd is
-undue_body rows held used answer tag follow.Memory told is = tt
+unexpected_body : (rows : List CodeRow) (held : Held) (used : ℕ) (answer : Reply) (tag : Tree) (e : FollowError) → Tells rows answer tag → IsNotTaken (holding held) tag e
+    → UnexpectedListing rows (holding held) used answer e
+unexpected_body rows held used answer tag (follow.Refused status) told is = absurd is
+unexpected_body rows held used answer tag (follow.BadReply at) told is = absurd is
+unexpected_body rows held used answer tag (follow.Ended at) told is = absurd is
+unexpected_body rows held used answer tag (follow.Listing error) told is = (tag, told, is)
+unexpected_body rows held used answer tag (follow.Codes error) told is = absurd is
+unexpected_body rows held used answer tag follow.LinkFault told is = absurd is
+unexpected_body rows held used answer tag follow.Memory told is = tt
 
 -- and so is one that is not a tag
-undue_tag : (rows : List CodeRow) (held : Held) (used : ℕ) (answer : Reply) (e : FollowError) → UndueTag rows used answer e → UndueListing rows (holding held) used answer e
-undue_tag rows held used answer (follow.Refused status) is = is
-undue_tag rows held used answer (follow.BadReply at) is = is
-undue_tag rows held used answer (follow.Ended at) is = is
-undue_tag rows held used answer (follow.Listing error) is = absurd is
-undue_tag rows held used answer (follow.Codes error) is = absurd is
-undue_tag rows held used answer follow.LinkFault is = is
-undue_tag rows held used answer follow.Memory is = is
+unexpected_tag : (rows : List CodeRow) (held : Held) (used : ℕ) (answer : Reply) (e : FollowError) → UnexpectedTag rows used answer e → UnexpectedListing rows (holding held) used answer e
+unexpected_tag rows held used answer (follow.Refused status) is = is
+unexpected_tag rows held used answer (follow.BadReply at) is = is
+unexpected_tag rows held used answer (follow.Ended at) is = is
+unexpected_tag rows held used answer (follow.Listing error) is = absurd is
+unexpected_tag rows held used answer (follow.Codes error) is = absurd is
+unexpected_tag rows held used answer follow.LinkFault is = is
+unexpected_tag rows held used answer follow.Memory is = is
 
-undue_stop : (request : List ℕ) (rows : List CodeRow) (held : Held) (q : Point) (taken : Option (List ℕ)) (e : FollowError) → Stops request (UndueTag rows) q taken e
-    → Stops request (UndueListing rows (holding held)) q taken e
-undue_stop request rows held q taken e (inl short) = inl short
-undue_stop request rows held q taken e (inr a) = inr (record {
+unexpected_stop : (request : List ℕ) (rows : List CodeRow) (held : Held) (q : Point) (taken : Option (List ℕ)) (e : FollowError) → Stops request (UnexpectedTag rows) q taken e
+    → Stops request (UnexpectedListing rows (holding held)) q taken e
+unexpected_stop request rows held q taken e (inl short) = inl short
+unexpected_stop request rows held q taken e (inr a) = inr (record {
   exchange = a.exchange;
   there = a.there;
   asked = a.asked;
   went = a.went;
   written = a.written;
-  undue = undue_tag rows held a.there.used a.exchange.answer e a.undue;
+  unexpected = unexpected_tag rows held a.there.used a.exchange.answer e a.unexpected;
 })
 
 -- no body came
 pub unasked_round : (host : List ℕ) (rounds : ℕ) (p : Point) (known : Known) (ls : List Listing) (base : ℕ) (q : Point) (taken : Option (List ℕ)) (k k' : Pass)
     (done : List Relayed) (old : Relaying) (e : FollowError) → Stands host rounds p (Asking known ls) q k k' done old → base ≡ old.revision
-    → Stops (request_text (want.Rows known.session Items (mirror_look None All base)) host) (UndueTag known.rows) q taken e
+    → Stops (request_text (want.Rows known.session Items (mirror_look None All base)) host) (UnexpectedTag known.rows) q taken e
     → EndsRelay host rounds p taken k k' done (end_of e)
 unasked_round host rounds p known ls base q taken k k' done old e one base_is stops =
     let at : base ≡ (held_after nothing_held ls).revision = base_is ∙ ap (λ (r : Relaying). r.revision) one.holds in
@@ -169,8 +169,8 @@ unasked_round host rounds p known ls base q taken k k' done old e one base_is st
       request = request_text (want.Rows known.session Items (mirror_look None All (held_after nothing_held ls).revision)) host;
       is_due = refl;
       stops =
-          undue_stop (request_text (want.Rows known.session Items (mirror_look None All (held_after nothing_held ls).revision)) host) known.rows (held_after nothing_held ls) q taken e
-          (subst (λ (n : ℕ). Stops (request_text (want.Rows known.session Items (mirror_look None All n)) host) (UndueTag known.rows) q taken e) at stops);
+          unexpected_stop (request_text (want.Rows known.session Items (mirror_look None All (held_after nothing_held ls).revision)) host) known.rows (held_after nothing_held ls) q taken e
+          (subst (λ (n : ℕ). Stops (request_text (want.Rows known.session Items (mirror_look None All n)) host) (UnexpectedTag known.rows) q taken e) at stops);
     })
 
 module _ (host : List ℕ) (rounds : ℕ) (p : Point) (known : Known) (ls : List Listing) (q q' : Point) (answer : Reply) (tag : Tree) (k k' : Pass) (done : List Relayed)
@@ -205,9 +205,9 @@ module _ (host : List ℕ) (rounds : ℕ) (p : Point) (known : Known) (ls : List
     request = request_text (want.Rows known.session Items (mirror_look None All (held_after nothing_held ls).revision)) host;
     is_due = refl;
     stops =
-        undue_stops (request_text (want.Rows known.session Items (mirror_look None All (held_after nothing_held ls).revision)) host)
-        (UndueListing known.rows (holding (held_after nothing_held ls))) q q' answer e x
-        (undue_body known.rows (held_after nothing_held ls) q'.used answer tag e told is);
+        unexpected_stops (request_text (want.Rows known.session Items (mirror_look None All (held_after nothing_held ls).revision)) host)
+        (UnexpectedListing known.rows (holding (held_after nothing_held ls))) q q' answer e x
+        (unexpected_body known.rows (held_after nothing_held ls) q'.used answer tag e told is);
   }
 
   no_memory : (k'' : Pass) → IsListed (held_after nothing_held ls) tag (λ l. IsUntaken (held_after nothing_held ls) l k' k'' Memory)
@@ -249,7 +249,7 @@ waited host rounds n p known ls base q q' answer k k' done old more one base_is 
 
 pub unwaited : (host : List ℕ) (rounds : ℕ) (p : Point) (known : Known) (ls : List Listing) (base : ℕ) (q : Point) (taken : Option (List ℕ)) (k k' : Pass) (done : List Relayed)
     (old : Relaying) (e : FollowError) → (length ls == rounds) ≡ false → Stands host rounds p (Holding known ls) q k k' done old → base ≡ old.revision
-    → Stops (request_text (want.Update known.session base) host) (UndueNumber (code "musr") known.rows) q taken e
+    → Stops (request_text (want.Update known.session base) host) (UnexpectedNumber (code "musr") known.rows) q taken e
     → EndsRelay host rounds p taken k k' done (end_of e)
 unwaited host rounds p known ls base q taken k k' done old e more one base_is stops =
     let at : base ≡ (held_after nothing_held ls).revision = base_is ∙ ap (λ (r : Relaying). r.revision) one.holds in
@@ -260,8 +260,8 @@ unwaited host rounds p known ls base q taken k k' done old e more one base_is st
       request = request_text (want.Update known.session (held_after nothing_held ls).revision) host;
       is_due = ap (λ (b : Bool). Some (request_text (behind_round b known (with_listings followed ls)) host)) more;
       stops =
-          subst (λ (b : Bool). Stops (request_text (want.Update known.session (held_after nothing_held ls).revision) host) (UndueBehind b known) q taken e) (sym more)
-          (subst (λ (r : ℕ). Stops (request_text (want.Update known.session r) host) (UndueNumber (code "musr") known.rows) q taken e) at stops);
+          subst (λ (b : Bool). Stops (request_text (want.Update known.session (held_after nothing_held ls).revision) host) (UnexpectedAfter b known) q taken e) (sym more)
+          (subst (λ (r : ℕ). Stops (request_text (want.Update known.session r) host) (UnexpectedNumber (code "musr") known.rows) q taken e) at stops);
     })
 
 -- ---- the logout
@@ -288,7 +288,7 @@ logged_out host rounds p known ls q q' answer k k' done old all one x fine = rec
 
 pub not_logged_out : (host : List ℕ) (rounds : ℕ) (p : Point) (known : Known) (ls : List Listing) (q : Point) (taken : Option (List ℕ)) (k k' : Pass) (done : List Relayed)
     (old : Relaying) (e : FollowError) → length ls ≡ rounds → Stands host rounds p (Holding known ls) q k k' done old
-    → Stops (request_text (want.Logout known.session) host) UndueEnd q taken e → EndsRelay host rounds p taken k k' done (end_of e)
+    → Stops (request_text (want.Logout known.session) host) UnexpectedEnd q taken e → EndsRelay host rounds p taken k k' done (end_of e)
 not_logged_out host rounds p known ls q taken k k' done old e all one stops =
     let last : (length ls == rounds) ≡ true = eq-eqb (length ls) rounds all in
     halts_end host rounds p taken k k' done e (record {
@@ -297,7 +297,7 @@ not_logged_out host rounds p known ls q taken k k' done old e all one stops =
       relays = one.relays;
       request = request_text (want.Logout known.session) host;
       is_due = ap (λ (b : Bool). Some (request_text (behind_round b known (with_listings followed ls)) host)) last;
-      stops = subst (λ (b : Bool). Stops (request_text (want.Logout known.session) host) (UndueBehind b known) q taken e) (sym last) stops;
+      stops = subst (λ (b : Bool). Stops (request_text (want.Logout known.session) host) (UnexpectedAfter b known) q taken e) (sym last) stops;
     })
 
 -- ---- a tag that is read

@@ -9,7 +9,7 @@ use Rattle.item_model.specs.declared.changes.Entry.{Entry}
 use Rattle.item_model.specs.declared.changes.Entry.TheVariants as entry
 use Rattle.mirror_client.specs.Exchanges.{requests}
 use Rattle.mirror_client.specs.Points.{Point}
-use Rattle.mirror_client.specs.Stages.{Asking, Begun, Stage, UndueIn, Walks, listings_in}
+use Rattle.mirror_client.specs.Stages.{Asking, Begun, Stage, UnexpectedIn, Walks, listings_in}
 use Rattle.mirror_client.specs.Steps.{held_after}
 use Rattle.mirror_client.specs.declared.refusal.FollowError.{FollowError}
 use Rattle.mirror_client.specs.declared.refusal.FollowError.TheVariants as follow
@@ -69,7 +69,7 @@ module _ (host : List ℕ) (rounds : ℕ) (p : Point) (taken : Option (List ℕ)
 
   halted : (k' : Pass) (done : List Relayed) (e : FollowError) → Halts host rounds p taken k k' done e → Stepped host rounds p taken k.number k'.seen
   halted k' done e x =
-      let part = part_written x.request (UndueIn followed rounds x.stage) x.there taken e x.stops in stepped k' done x.stage x.there part.0 part.1 x.relays
+      let part = part_written x.request (UnexpectedIn followed rounds x.stage) x.there taken e x.stops in stepped k' done x.stage x.there part.0 part.1 x.relays
 
   -- a refused edit adds none
   no_more : (reached k' : Pass) (held : Held) (l : Listing) (status : ℕ) (x : IsRefused held l reached k' status) → (status ≡ made_status (batch_of held l) → ⊥)

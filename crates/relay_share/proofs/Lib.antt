@@ -1,4 +1,3 @@
-pub mod ResultFacts
 pub mod TurnFacts
 pub mod EditFacts
 pub mod RoundFacts

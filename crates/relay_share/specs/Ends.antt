@@ -8,7 +8,7 @@ use Rattle.share_history.specs.Sessions.{is_stopped}
 use Rattle.mirror_client.specs.declared.refusal.FollowError.{FollowError}
 use Rattle.mirror_client.specs.declared.refusal.FollowError.TheVariants as follow
 use Rattle.mirror_client.specs.Points.{Point}
-use Rattle.mirror_client.specs.Stages.{Asking, Begun, Closed, Holding, Stage, UndueIn, Walks, due, listings_in}
+use Rattle.mirror_client.specs.Stages.{Asking, Begun, Closed, Holding, Stage, UnexpectedIn, Walks, due, listings_in}
 use Rattle.mirror_client.specs.Steps.{Known, held_after}
 use Rattle.mirror_client.specs.Stopping.{Stops}
 use Rattle.share_server.specs.declared.report.Served.{Served}
@@ -47,7 +47,7 @@ pub record Halts (host : List ℕ) (rounds : ℕ) (p : Point) (taken : Option (L
   pub relays : Relays host rounds p stage there k k' done
   pub request : List ℕ
   pub is_due : due host followed rounds stage ≡ Some request
-  pub stops : Stops request (UndueIn followed rounds stage) there taken e
+  pub stops : Stops request (UnexpectedIn followed rounds stage) there taken e
 
 -- One more listing was read, and no edit was requested for it.
 pub record Leaves (host : List ℕ) (rounds : ℕ) (p : Point) (taken : Option (List ℕ)) (k k' : Pass) (done : List Relayed) : Type 0 where

@@ -7,7 +7,7 @@ ghost use Rattle.relay_share.specs.Ends.{CountsRelay, EndsRelay, HasRelayed};
 
 use crate::report::{RelayEnd, RelayReport, Relayed, end_of};
 use crate::rounds::{next_round, relay_round};
-use crate::turns::stop;
+use crate::turns::{OwnShare, stop};
 use daap_outside::Link;
 use mirror_client::Follower;
 use relayed_rows::Relay;
@@ -39,28 +39,27 @@ pub fn relay_link<K: Link, R: Wait>(
     ensures relayed { HasRelayed host.now rounds (place (K.taken link.old) (K.left link.old) nothing_read) (K.taken link.new) (known pass.old) (known pass.new) result }
     ensures count { CountsRelay (K.faults link.old) (K.faults link.new) result.end }
 {
+    let own = OwnShare { rt, lock, bell };
     let mut done = Vec::new(alloc);
-    let end = relay_rounds(rt, alloc, lock, bell, pass, link, host, rounds, &mut done);
-    stop(rt, lock, bell, pass);
+    let end = relay_rounds(alloc, &own, pass, link, host, rounds, &mut done);
+    stop(&own, pass);
     RelayReport { rounds: done, end }
 }
 
 fn relay_rounds<K: Link, R: Wait>(
-    rt: &R,
     alloc: Global,
-    lock: &ShareLock<Share>,
-    bell: &Bell,
+    own: &OwnShare<'_, R>,
     pass: &mut Pass<Share>,
     link: &mut K,
     host: &str,
     rounds: u32,
     done: &mut Vec<Relayed>,
 ) -> RelayEnd
-    requires ready { IsReady (lock_id lock.now) pass.old }
+    requires ready { IsReady (lock_id own.now.lock.now) pass.old }
     requires some { 1 ≤ rounds }
     requires few { rounds ≤ 16384 }
     requires nothing { done.old.items ≡ [] }
-    ensures ready { IsReady (lock_id lock.now) pass.new }
+    ensures ready { IsReady (lock_id own.now.lock.now) pass.new }
     ensures ends { EndsRelay host.now rounds (place (K.taken link.old) (K.left link.old) nothing_read) (K.taken link.new) (known pass.old) (known pass.new) done.new.items result }
     ensures count { CountsRelay (K.faults link.old) (K.faults link.new) result }
 {
@@ -69,12 +68,12 @@ fn relay_rounds<K: Link, R: Wait>(
         Err(error) => return end_of(error),
     };
     let mut relay = Relay::new(alloc);
-    match relay_round(rt, lock, bell, pass, &mut follower, link, &mut relay, done) {
+    match relay_round(own, pass, &mut follower, link, &mut relay, done) {
         Ok(()) => {}
         Err(end) => return end,
     }
     for round in 1..rounds {
-        match next_round(rt, lock, bell, pass, &mut follower, link, &mut relay, done) {
+        match next_round(own, pass, &mut follower, link, &mut relay, done) {
             Ok(()) => {}
             Err(end) => return end,
         }

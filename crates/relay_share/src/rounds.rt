@@ -17,7 +17,7 @@ ghost use Rattle.relay_share.specs.Ends.{CountsRelay, EndsRelay, is_fault};
 ghost use Rattle.relay_share.specs.Steps.{IsListed, IsUnread, IsUntaken, Stands, Takes};
 
 use crate::report::{RelayEnd, Relayed, end_of, ending_of};
-use crate::turns::edit;
+use crate::turns::{OwnShare, edit};
 use daap_outside::Link;
 use dmap_tags::Tag;
 use item_model::{Look, Meta, Range, Target};
@@ -25,23 +25,21 @@ use mirror_client::{FollowError, Follower};
 use mirror_core::{MirrorError, ToldRef, told_by};
 use relayed_rows::{Change, Relay, Untaken};
 use share_core::Share;
-use share_lock::{Bell, Pass, ShareLock};
+use share_lock::Pass;
 use std::sync::Wait;
 
 /// Waits for another revision, and then does a round.
 pub(crate) fn next_round<K: Link, R: Wait>(
-    rt: &R,
-    lock: &ShareLock<Share>,
-    bell: &Bell,
+    own: &OwnShare<'_, R>,
     pass: &mut Pass<Share>,
     follower: &mut Follower,
     link: &mut K,
     relay: &mut Relay,
     done: &mut Vec<Relayed>,
 ) -> Result<(), RelayEnd>
-    requires ready { IsReady (lock_id lock.now) pass.old }
+    requires ready { IsReady (lock_id own.now.lock.now) pass.old }
     requires few { follower.old.calls < 65535 }
-    ensures ready { IsReady (lock_id lock.now) pass.new }
+    ensures ready { IsReady (lock_id own.now.lock.now) pass.new }
     ensures goes_on { OnOk result ((rounds : ℕ) (p : Point) (k : Seen) (ls : List Listing) → (length ls == rounds) ≡ false
         → Stands follower.old.host rounds p (Holding follower.old.known ls) (place (K.taken link.old) (K.left link.old) follower.old.ahead) k (known pass.old) done.old.items relay.old
         → (l : Listing) × Stands follower.old.host rounds p (Holding follower.old.known (ls ++ l ∷ [])) (place (K.taken link.new) (K.left link.new) follower.new.ahead) k (known pass.new) done.new.items relay.new) }
@@ -53,25 +51,23 @@ pub(crate) fn next_round<K: Link, R: Wait>(
     ensures count { MatchResult result (λ _. K.faults link.new ≡ K.faults link.old) (λ end. CountsRelay (K.faults link.old) (K.faults link.new) end) }
 {
     match follower.wait(link, relay.base()) {
-        Ok(_) => relay_round(rt, lock, bell, pass, follower, link, relay, done),
+        Ok(_) => relay_round(own, pass, follower, link, relay, done),
         Err(error) => Err(end_of(error)),
     }
 }
 
 /// Requests the listing, and makes it an edit of the relay's share.
 pub(crate) fn relay_round<K: Link, R: Wait>(
-    rt: &R,
-    lock: &ShareLock<Share>,
-    bell: &Bell,
+    own: &OwnShare<'_, R>,
     pass: &mut Pass<Share>,
     follower: &mut Follower,
     link: &mut K,
     relay: &mut Relay,
     done: &mut Vec<Relayed>,
 ) -> Result<(), RelayEnd>
-    requires ready { IsReady (lock_id lock.now) pass.old }
+    requires ready { IsReady (lock_id own.now.lock.now) pass.old }
     requires few { follower.old.calls < 65536 }
-    ensures ready { IsReady (lock_id lock.now) pass.new }
+    ensures ready { IsReady (lock_id own.now.lock.now) pass.new }
     ensures goes_on { OnOk result ((rounds : ℕ) (p : Point) (k : Seen) (ls : List Listing)
         → Stands follower.old.host rounds p (Asking follower.old.known ls) (place (K.taken link.old) (K.left link.old) follower.old.ahead) k (known pass.old) done.old.items relay.old
         → (l : Listing) × Stands follower.old.host rounds p (Holding follower.old.known (ls ++ l ∷ [])) (place (K.taken link.new) (K.left link.new) follower.new.ahead) k (known pass.new) done.new.items relay.new) }
@@ -89,23 +85,21 @@ pub(crate) fn relay_round<K: Link, R: Wait>(
         range: Range::All,
     };
     match follower.body(link, Target::Items, look) {
-        Ok(tag) => take_tag(rt, lock, bell, pass, relay, done, &tag),
+        Ok(tag) => take_tag(own, pass, relay, done, &tag),
         Err(error) => Err(end_of(error)),
     }
 }
 
 // Applies the body of a response, if it is a listing.
 fn take_tag<R: Wait>(
-    rt: &R,
-    lock: &ShareLock<Share>,
-    bell: &Bell,
+    own: &OwnShare<'_, R>,
     pass: &mut Pass<Share>,
     relay: &mut Relay,
     done: &mut Vec<Relayed>,
     tag: &Tag,
 ) -> Result<(), RelayEnd>
-    requires ready { IsReady (lock_id lock.now) pass.old }
-    ensures ready { IsReady (lock_id lock.now) pass.new }
+    requires ready { IsReady (lock_id own.now.lock.now) pass.old }
+    ensures ready { IsReady (lock_id own.now.lock.now) pass.new }
     ensures taken { OnOk result ((held : Held) → IsAscending held.rows → relay.old ≡ relaying_at held
         → IsListed held tag.now (λ l. Takes held l (known pass.old) (known pass.new) done.old.items done.new.items relay.new)) }
     ensures untaken { IfErr result (λ end. (held : Held) → IsAscending held.rows → relay.old ≡ relaying_at held
@@ -114,7 +108,7 @@ fn take_tag<R: Wait>(
     ensures faultless { IfErr result (λ end. is_fault end ≡ false) }
 {
     match told_by(Target::Items, relay.base(), tag) {
-        Ok(told) => take_listing(rt, lock, bell, pass, relay, done, told),
+        Ok(told) => take_listing(own, pass, relay, done, told),
         Err(error) => Err(refused_by(error)),
     }
 }
@@ -128,16 +122,14 @@ fn refused_by(error: MirrorError) -> RelayEnd
 
 // Applies a listing: requests its edit of the share, and reports it. Reserves capacity for the report first.
 fn take_listing<R: Wait>(
-    rt: &R,
-    lock: &ShareLock<Share>,
-    bell: &Bell,
+    own: &OwnShare<'_, R>,
     pass: &mut Pass<Share>,
     relay: &mut Relay,
     done: &mut Vec<Relayed>,
     told: ToldRef<'_>,
 ) -> Result<(), RelayEnd>
-    requires ready { IsReady (lock_id lock.now) pass.old }
-    ensures ready { IsReady (lock_id lock.now) pass.new }
+    requires ready { IsReady (lock_id own.now.lock.now) pass.old }
+    ensures ready { IsReady (lock_id own.now.lock.now) pass.new }
     ensures taken { OnOk result ((held : Held) → IsAscending held.rows → relay.old ≡ relaying_at held
         → All (IsRow Items) (listing_of Items (told_of told.entry)).rows
         → Takes held (listing_of Items (told_of told.entry)) (known pass.old) (known pass.new) done.old.items done.new.items relay.new) }
@@ -155,7 +147,7 @@ fn take_listing<R: Wait>(
         Err(Untaken::Row { index }) => return Err(RelayEnd::Row { index }),
         Err(Untaken::Memory) => return Err(RelayEnd::Memory),
     };
-    let answered = edit(rt, lock, bell, pass, batch);
+    let answered = edit(own, pass, batch);
     if let Some(end) = ending_of(answered.served.status) {
         return Err(end);
     }

@@ -22,6 +22,14 @@ use std::marker::Brand;
 use std::sync::Wait;
 use std::sync::ledger::{Blank, Ledger};
 
+/// The relay's own share: its lock, and the bell that is rung for each added entry.
+#[derive(Drop)]
+pub(crate) struct OwnShare<'a, R> {
+    pub(crate) rt: &'a R,
+    pub(crate) lock: &'a ShareLock<Share>,
+    pub(crate) bell: &'a Bell,
+}
+
 /// The report of a turn: the answer, and the share's revision at its history length.
 #[derive(Clone, Copy, Debug)]
 pub(crate) struct Told {
@@ -30,16 +38,10 @@ pub(crate) struct Told {
 }
 
 /// Requests an edit of the share, in a turn of the handle.
-pub(crate) fn edit<R: Wait>(
-    rt: &R,
-    lock: &ShareLock<Share>,
-    bell: &Bell,
-    pass: &mut Pass<Share>,
-    batch: Batch,
-) -> Told
-    requires ready { IsReady (lock_id lock.now) pass.old }
+pub(crate) fn edit<R: Wait>(own: &OwnShare<'_, R>, pass: &mut Pass<Share>, batch: Batch) -> Told
+    requires ready { IsReady (lock_id own.now.lock.now) pass.old }
     requires valid { AreValid batch }
-    ensures ready { IsReady (lock_id lock.now) pass.new }
+    ensures ready { IsReady (lock_id own.now.lock.now) pass.new }
     ensures told { IsTold (known pass.old) (known pass.new) (edit_ask batch) result }
 {
     let ask = Ask {
@@ -47,18 +49,13 @@ pub(crate) fn edit<R: Wait>(
         close: false,
         want: Want::Edit { body: Ok(batch) },
     };
-    turn(rt, lock, bell, pass, &ask)
+    turn(own, pass, &ask)
 }
 
 /// Stops the share, in a turn of the handle. A share that was stopped before is unchanged.
-pub(crate) fn stop<R: Wait>(
-    rt: &R,
-    lock: &ShareLock<Share>,
-    bell: &Bell,
-    pass: &mut Pass<Share>,
-) -> Told
-    requires ready { IsReady (lock_id lock.now) pass.old }
-    ensures ready { IsReady (lock_id lock.now) pass.new }
+pub(crate) fn stop<R: Wait>(own: &OwnShare<'_, R>, pass: &mut Pass<Share>) -> Told
+    requires ready { IsReady (lock_id own.now.lock.now) pass.old }
+    ensures ready { IsReady (lock_id own.now.lock.now) pass.new }
     ensures told { IsTold (known pass.old) (known pass.new) stop_ask result }
 {
     let ask = Ask {
@@ -66,47 +63,30 @@ pub(crate) fn stop<R: Wait>(
         close: false,
         want: Want::Stop,
     };
-    turn(rt, lock, bell, pass, &ask)
+    turn(own, pass, &ask)
 }
 
 // Takes a turn for a request, ends it, and rings the bell if an entry was added.
-fn turn<R: Wait>(
-    rt: &R,
-    lock: &ShareLock<Share>,
-    bell: &Bell,
-    pass: &mut Pass<Share>,
-    ask: &Ask,
-) -> Told
-    requires ready { IsReady (lock_id lock.now) pass.old }
+fn turn<R: Wait>(own: &OwnShare<'_, R>, pass: &mut Pass<Share>, ask: &Ask) -> Told
+    requires ready { IsReady (lock_id own.now.lock.now) pass.old }
     requires valid { IsValidWant ask.now.want }
     requires change { is_change ask.now.want ≡ true }
-    ensures ready { IsReady (lock_id lock.now) pass.new }
-    ensures told { IsTold (known pass.old) (known pass.new) ask.now result }
-{
-    let told = answer_in_turn(rt, lock, pass, ask);
-    if told.served.added {
-        bell.ring(rt, told.served.point);
-    }
-    told
-}
-
-fn answer_in_turn<R: Wait>(
-    rt: &R,
-    lock: &ShareLock<Share>,
-    pass: &mut Pass<Share>,
-    ask: &Ask,
-) -> Told
-    requires ready { IsReady (lock_id lock.now) pass.old }
-    requires valid { IsValidWant ask.now.want }
-    requires change { is_change ask.now.want ≡ true }
-    ensures ready { IsReady (lock_id lock.now) pass.new }
+    ensures ready { IsReady (lock_id own.now.lock.now) pass.new }
     ensures told { IsTold (known pass.old) (known pass.new) ask.now result }
 {
     let by = pass.number();
-    let mut turn = lock.take(rt, pass);
+    let mut turn = own.lock.take(own.rt, pass);
     let told = ask_share::<Brand>(Blank::new(1), turn.state(), by, ask);
-    lock.give(turn);
+    own.lock.give(turn);
+    ring_added(own, &told);
     told
+}
+
+// Rings the bell if a turn added an entry.
+fn ring_added<R: Wait>(own: &OwnShare<'_, R>, told: &Told) {
+    if told.served.added {
+        own.bell.ring(own.rt, told.served.point);
+    }
 }
 
 // Answers the request for handle `by`. Evaluations of rules are not counted.
@@ -136,7 +116,7 @@ fn told_of(answer: Result<Answer, AllocError>, revision: u32, end: u64) -> Told
             session: reply.session,
             seen: reply.seen,
             point: reply.point,
-            status: reply.said.status,
+            status: reply.content.status,
             added: reply.added,
         },
         Ok(Answer::Wait { .. }) | Err(_) => Served {

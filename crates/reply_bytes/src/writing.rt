@@ -23,7 +23,7 @@ pub enum ReplyError {
     #[error("write failed")]
     Failed,
     /// Allocating the head failed; nothing was written.
-    #[error("memory")]
+    #[error("out of memory")]
     Memory,
 }
 

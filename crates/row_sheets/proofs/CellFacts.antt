@@ -1,13 +1,14 @@
 -- Where cells start, and the bytes between two starts.
 use Rattle.std.proofs.Common.{◌≡◌, ◌≤◌, ◌<◌, ◌+◌, ◌-◌, ◌*◌, ◌++◌, ℕ, zero, suc, arith, List, [], ◌∷◌, length, get_or, take, drop, map, refl, sym, ap, ◌∙◌, subst, append_assoc, append-nil, length-append, ⊎_elim}
-use Rattle.std.proofs.lemmas.List.{take_more, map_more, get_or_default, drop_all, take_at, drop_at, take-append-drop, take-take, drop-take, drop-drop, drop-append-le, take-append-le, drop-map, take-map, drop_more, length-map, length-drop}
+use Rattle.std.proofs.lemmas.List.{take_more, map_more, get_or_default, drop_all, take_at, drop_at, take-append-drop, take-take, drop-take, drop-drop, drop-append-le, take-append-le, drop-map, take-map, drop_more, length-map, length-drop, length-take-le}
+use Rattle.std.proofs.lemmas.List.Sums.{sum_by_more}
 use Rattle.std.proofs.lemmas.List.Concat.{flat_map-append}
 use Rattle.std.proofs.lemmas.Bool.{cases_lt}
 use Rattle.std.proofs.Math.Nat.{suc-mul}
 use Rattle.item_model.specs.declared.item.PropValue.{PropValue}
 use Rattle.item_model.specs.declared.item.Row.{Row}
 use Rattle.item_model.specs.declared.property.Property.{Property}
-use Rattle.row_sheets.specs.Cells.{cell, row_cells, cells_of, joined, starts_of, AreCells}
+use Rattle.row_sheets.specs.Cells.{cell, row_cells, cells_of, joined, column_length, starts_of, AreCells}
 
 joined_append : (a b : List (List ℕ)) → joined (a ++ b) ≡ joined a ++ joined b
 joined_append a b = flat_map-append (λ c. c) a b
@@ -163,6 +164,10 @@ module _ (ps : List Property) (rows : List Row) (bytes starts : List ℕ) (are :
   count : get_or starts (row * length ps + to) 0 - get_or starts first 0 ≡ size (take (to - from) (drop first cells))
   count = omega (arith, first_start, last_start, between)
 
+  -- they are among the bytes from the first start on
+  pub part_fits : (len : ℕ) (behind : List ℕ) → len ≡ get_or starts (row * length ps + to) 0 - get_or starts first 0 → behind ≡ drop (get_or starts first 0) bytes → len ≤ length behind
+  part_fits len behind e f = omega (arith, e, ap length f, length-drop (get_or starts first 0) bytes, part_order, part_end)
+
   -- the bytes between the two are those of the cells between them
   pub part_is : (d : Row) → take (get_or starts (row * length ps + to) 0 - get_or starts first 0) (drop (get_or starts first 0) bytes) ≡ joined (row_cells (take (to - from) (drop from ps)) (get_or rows row d))
   part_is d =
@@ -172,3 +177,17 @@ module _ (ps : List Property) (rows : List Row) (bytes starts : List ℕ) (are :
       ∙ ap (λ bs. take (size (take (to - from) (drop first cells))) (drop (size (take first cells)) bs)) are.spelled
       ∙ ap (take (size (take (to - from) (drop first cells)))) (drop_cells first cells)
       ∙ take_cells (to - from) (drop first cells) ∙ ap joined (row_part ps rows row from (to - from) d lt fits)
+
+-- ---- the cells of a column
+
+-- where one property's cell is read, its length is found
+pub cell_length : (ps : List Property) (index len : ℕ) (bytes : List ℕ) (row : Row) (d : Property) → index < length ps → len ≤ length bytes → take len bytes ≡ joined (row_cells (take (index + 1 - index) (drop index ps)) row) → len ≡ length (cell row.item (get_or ps index d))
+cell_length ps index len bytes row d lt fits h =
+    let one : index + 1 - index ≡ 1 = omega arith in
+    sym (length-take-le len bytes fits) ∙ ap length h ∙ ap (λ n. size (row_cells (take n (drop index ps)) row)) one
+    ∙ ap (λ qs. size (row_cells (take 1 qs) row)) (drop_more ps index d lt) ∙ ap length (append-nil (cell row.item (get_or ps index d)))
+
+-- one row more
+pub column_more : (rows : List Row) (p : Property) (i len sum : ℕ) (d : Row) → i < length rows → len ≡ length (cell (get_or rows i d).item p) → sum ≡ column_length (take i rows) p + len → sum ≡ column_length (take (i + 1) rows) p
+column_more rows p i len sum d lt e f =
+    f ∙ ap (λ n. column_length (take i rows) p + n) e ∙ sym (sum_by_more (λ (row : Row). length (cell row.item p)) rows i d lt)

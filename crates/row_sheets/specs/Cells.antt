@@ -1,5 +1,6 @@
 -- The encoded tags of a sheet, row by row and within a row property by property, each with the offset at which it starts.
 use Rattle.std.specs.Prelude.{◌≡◌, ℕ, ◌+◌, ◌-◌, ◌<◌, List, [], ◌∷◌, length, map, flat_map, slice_index_or, true, false, All, IfSome}
+use Rattle.std.specs.List.{sum_by}
 use Rattle.dmap_tags.specs.Spelling.{spellings}
 use Rattle.dmap_tags.specs.Tree.{trees_of}
 use Rattle.item_model.specs.declared.item.PropValue.{PropValue}
@@ -23,6 +24,10 @@ cells_of ps rows = flat_map (row_cells ps) rows
 -- the bytes of some cells, one after the other
 abbrev pub joined : List (List ℕ) → List ℕ
 joined cells = flat_map (λ c. c) cells
+
+-- how many bytes some rows have of a property
+abbrev pub column_length : List Row → Property → ℕ
+column_length rows p = sum_by (λ row. length (cell row.item p)) rows
 
 -- where each cell starts, and where the last one ends
 abbrev pub starts_of : ℕ → List (List ℕ) → List ℕ
@@ -48,10 +53,15 @@ HasValues row = (p : Property) → HasValue row.item p
 abbrev pub IsLast : List Row → ℕ → Type 0
 IsLast rows last = (d : Row) → last ≡ (slice_index_or rows (length rows - 1) d).id
 
--- what is true of each sheet: it has rows, the last of which has the id `last`, and its buffer has their cells
-pub record IsSheet (ps : List Property) (rows : List Row) (bytes starts : List ℕ) (last : ℕ) : Type 0 where
+-- the ids of some rows
+abbrev pub ids_of : List Row → List ℕ
+ids_of rows = map (λ row. row.id) rows
+
+-- what is true of each sheet: it has rows, its buffer has their cells, and it keeps their ids and the lengths of its columns
+pub record IsSheet (ps : List Property) (rows : List Row) (bytes starts ids lens : List ℕ) : Type 0 where
   pub held : ps ≡ held_properties rows
   pub cells : AreCells (cells_of ps rows) bytes starts
   pub values : All HasValues rows
   pub some : 0 < length rows
-  pub ends : IsLast rows last
+  pub numbered : ids ≡ ids_of rows
+  pub measured : lens ≡ map (column_length rows) ps

@@ -1,11 +1,20 @@
 //! The cells of a sheet: the encoded tags of its rows in one buffer.
 
-ghost use Rattle.std.specs.Prelude.{◌≡◌, ◌≤◌, ◌<◌, ◌+◌, ◌-◌, ◌*◌, ◌++◌, ◌∷◌, [], ℕ, List, length, map, take, drop, slice_index, All, IfOk, OnOk};
-ghost use Rattle.row_sheets.specs.Cells.{cell, row_cells, cells_of, AreCells, HasValue};
+ghost use Rattle.std.specs.Prelude.{◌≡◌, ◌≤◌, ◌<◌, ◌+◌, ◌-◌, ◌*◌, ◌++◌, ◌∷◌, [], ℕ, List, length, map, take, drop, slice_index, slice_index_or, All, IfOk, OnOk};
+ghost use Rattle.item_model.specs.declared.item.Row.{Row};
+ghost use Rattle.row_sheets.specs.Cells.{cell, row_cells, cells_of, joined, AreCells, HasValue};
 
 use crate::tags::push_cell;
 use item_model::{Item, Property, SharedRow};
 use std::alloc::{AllocError, Global};
+
+/// The encoded tags of a row that are neighbours on its sheet: the first `len` of these bytes. The bytes of the cells
+/// after them follow, up to the end of the sheet's buffer, so a copy of a constant size can take more than `len`.
+#[derive(Clone, Copy, Debug)]
+pub struct RowTags<'a> {
+    pub bytes: &'a [u8],
+    pub len: usize,
+}
 
 // The cells one after the other, and where each one starts and the last one ends.
 #[derive(Debug, Drop)]
@@ -66,18 +75,42 @@ impl Cells {
         Ok(())
     }
 
+    // The tags of a row, of the properties from the index `from` up to the index `to`.
+    pub(crate) fn tags(
+        &self,
+        rows: &[SharedRow],
+        properties: &[Property],
+        row: usize,
+        from: usize,
+        to: usize,
+    ) -> RowTags<'_>
+        requires cells { AreCells (cells_of properties.now rows.now) self.now.bytes.items self.now.starts.items }
+        requires row { row < length rows.now }
+        requires order { from ≤ to }
+        requires within { to ≤ length properties.now }
+        ensures within { result.len ≤ length result.bytes.now }
+        ensures tags { (d : Row) → take result.len result.bytes.now ≡ joined (row_cells (take (to - from) (drop from properties.now)) (slice_index_or rows.now row d)) }
+    {
+        self.part(properties.len(), row, from, to)
+    }
+
     // The bytes of the cells from `from` up to `to` in a row of `wide` cells.
-    pub(crate) fn part(&self, wide: usize, row: usize, from: usize, to: usize) -> &[u8]
+    fn part(&self, wide: usize, row: usize, from: usize, to: usize) -> RowTags<'_>
         requires order { from ≤ to }
         requires within { row * wide + to < length self.now.starts.items }
         requires begin { slice_index self.now.starts.items (row * wide + from) ≤ slice_index self.now.starts.items (row * wide + to) }
         requires end { slice_index self.now.starts.items (row * wide + to) ≤ length self.now.bytes.items }
-        ensures { let begin = slice_index self.now.starts.items (row * wide + from) in result.now ≡ take (slice_index self.now.starts.items (row * wide + to) - begin) (drop begin self.now.bytes.items) }
+        ensures len { result.len ≡ slice_index self.now.starts.items (row * wide + to) - slice_index self.now.starts.items (row * wide + from) }
+        ensures bytes { result.bytes.now ≡ drop (slice_index self.now.starts.items (row * wide + from)) self.now.bytes.items }
     {
         let starts = self.starts.as_slice();
         let count = starts.len();
         let begin = starts[row * wide + from] as usize;
         let end = starts[row * wide + to] as usize;
-        &self.bytes.as_slice()[begin..end]
+        let (_, bytes) = self.bytes.as_slice().split_at(begin);
+        RowTags {
+            bytes,
+            len: end - begin,
+        }
     }
 }

@@ -3,6 +3,7 @@
 #![tactic(auto)]
 
 mod cells;
+mod columns;
 mod held;
 mod merging;
 mod sheet;
@@ -10,5 +11,6 @@ mod sheets;
 mod tags;
 mod turning;
 
+pub use cells::RowTags;
 pub use sheet::Sheet;
 pub use sheets::RowSheets;

@@ -167,7 +167,7 @@ pub(crate) fn count(sheets: &[Arc<Sheet, Global>]) -> Result<u32, AllocError>
     Ok(count)
 }
 
-fn plus(count: u32, more: usize) -> Result<u32, AllocError>
+pub(crate) fn plus(count: u32, more: usize) -> Result<u32, AllocError>
     ensures { IfOk result (λ sum. sum ≡ count + more) }
 {
     match u32::try_from(more) {

@@ -1,6 +1,7 @@
 -- The listeners of the two addresses, and what opening them does to a network.
-use Rattle.std.specs.Prelude.{◌≡◌, ◌⊎◌, ◌≤◌, ℕ, List, [], take, Option}
+use Rattle.std.specs.Prelude.{◌≡◌, ◌⊎◌, ◌≤◌, ◌++◌, ℕ, List, [], length, map, take, Option}
 use Rattle.daap_outside.specs.Counts.{Rose}
+use Rattle.daap_outside.specs.Places.{Returned}
 use Rattle.daap_outside.specs.Told.{Grows}
 use Rattle.command_core.specs.Seen.{NetSeen}
 use Rattle.command_core.specs.declared.fault.Fault.{Fault}
@@ -9,7 +10,7 @@ use Rattle.serve_command.specs.declared.fault.ServeFault.{ServeFault}
 use Rattle.serve_command.specs.declared.fault.ServeFault.TheVariants.{Network}
 use Rattle.serve_command.specs.declared.terms.Serving.{Serving}
 use Rattle.serve_command.specs.Terms.{places_of}
-use Rattle.share_crew.specs.Doors.{HaveLinks}
+use Rattle.share_crew.specs.Doors.{AreNew, HaveLinks}
 
 -- `listen` was called for these addresses, and no connection was closed
 pub record HasAsked (places : List (List ℕ × ℕ)) (before after : NetSeen) : Type 0 where
@@ -23,6 +24,13 @@ pub record HasOpened (serving : Serving) (before after : NetSeen) (listen edit :
   pub asked : HasAsked (places_of serving) before after
   pub links : HaveLinks before.door_links coming
   pub faultless : after.faults ≡ before.faults
+
+module _ {D : Type 0} (coming : D → Option (List (List ℕ))) (written : D → Option (List Returned)) (faults : D → ℕ) where
+  -- .. and no worker has accepted at these listeners
+  pub record HasListeners (serving : Serving) (before after : NetSeen) (listen edit : List D) : Type 0 where
+    pub opened : HasOpened serving before after (length listen) (length edit) (map coming (listen ++ edit))
+    pub new_listen : AreNew written faults before.written listen
+    pub new_edit : AreNew written faults before.written edit
 
 -- an address was not opened: that failed, or an allocation did
 abbrev pub StopsOpening : ℕ → ℕ → Fault ServeFault → Type 0

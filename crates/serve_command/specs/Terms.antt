@@ -18,6 +18,12 @@ pub record MayServe (serving : Serving) : Type 0 where
   pub few_editors : serving.editors ≤ 8
   pub one_editor : IfSome serving.file (λ file. serving.editors ≡ 1)
 
+-- .. and as many listeners as they say
+pub record MayServeAt (serving : Serving) (listen edit : ℕ) : Type 0 where
+  pub may : MayServe serving
+  pub listening : listen ≡ serving.workers
+  pub editing : edit ≡ serving.editors
+
 abbrev pub settings_of : Serving → Settings
 settings_of serving = record { name = serving.name; keep = serving.keep }
 

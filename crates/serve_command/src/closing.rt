@@ -1,16 +1,15 @@
 //! Writes the lines after the last connection, and returns the status.
 
-ghost use Rattle.std.specs.Prelude.{◌≡◌, ◌<◌, ◌^◌, ◌++◌, MatchResult, Some};
+ghost use Rattle.std.specs.Prelude.{◌<◌, ◌^◌, ◌++◌, MatchResult};
 ghost use Rattle.command_core.specs.Seen.{output_seen};
 ghost use Rattle.command_core.specs.Answers.{Tells};
 ghost use Rattle.share_history.specs.Histories.{batches, revision};
-ghost use Rattle.share_history.specs.Whole.{IsWhole};
+ghost use Rattle.share_crew.specs.Outcomes.{LeavesShare};
 ghost use Rattle.share_crew.specs.Lines.{ended_line, links_in, requests_in};
 ghost use Rattle.share_crew.specs.Verdicts.{verdict_line, verdict_status, with_memory};
 ghost use Rattle.serve_command.specs.Runs.{TellsEnd};
 
 use daap_outside::{Sink, put_all};
-use item_model::Entries;
 use share_core::Share;
 use share_crew::{LinkReports, Outcome, Verdict, ended_line_of};
 use std::alloc::{AllocError, Global};
@@ -25,9 +24,7 @@ pub(crate) fn finish<W: Sink>(
 ) -> Outcome
     requires links { links_in links < 2 ^ 64 }
     requires requests { requests_in links < 2 ^ 64 }
-    ensures history { result.history ≡ Some share.history }
-    ensures whole { IsWhole share.history }
-    ensures links { result.links ≡ links }
+    ensures left { LeavesShare share.history links result }
     ensures told { TellsEnd (ended_line (revision (batches share.history)) links) verdict
         (output_seen (W.taken output.old) (W.faults output.old))
         (output_seen (W.taken output.new) (W.faults output.new))
@@ -35,11 +32,7 @@ pub(crate) fn finish<W: Sink>(
 {
     let line = ended_line_of(alloc, share.revision(), links.as_slice());
     let status = write_end(output, line, verdict);
-    Outcome {
-        status,
-        history: Some(Entries::of(share.into_history())),
-        links,
-    }
+    Outcome::of_share(status, share, links)
 }
 
 // Writes the line, and then that of the verdict. Returns the status.

@@ -1,15 +1,13 @@
 //! The command `serve`.
 
-ghost use Rattle.std.specs.Prelude.{◌≡◌, ◌+◌, ◌-◌, ◌++◌, None, map, length};
-ghost use Rattle.command_core.specs.Seen.{NetSeen, input_seen, files_seen, net_seen, output_seen, seen, told_in};
-ghost use Rattle.share_crew.specs.Doors.{AreNew};
+ghost use Rattle.std.specs.Prelude.{◌≡◌, None};
+ghost use Rattle.command_core.specs.Seen.{input_seen, files_seen, net_seen, output_seen, seen, told_in};
 ghost use Rattle.serve_command.specs.Outcomes.{left_of};
-ghost use Rattle.serve_command.specs.Places.{HasOpened};
 ghost use Rattle.serve_command.specs.Runs.{ServeEnds};
 ghost use Rattle.serve_command.specs.Terms.{MayServe};
 
 use crate::fault::input_fault;
-use crate::places::{Doors, opened};
+use crate::places::opened;
 use crate::records::serve_records;
 use crate::terms::Serving;
 use crate::unserved::{turned_away, unserved};
@@ -47,42 +45,10 @@ pub fn serve<I: Source, W: Sink, F: Files, N: Net, R: Threads + Wait + Clock + S
     ensures open_stays { N.open_count net.new ≡ N.open_count net.old }
 {
     match opened(net, serving) {
-        Ok(doors) => serve_at(rt, alloc, serving, input, output, files, net, doors),
+        Ok(doors) => match read_records(alloc, input) {
+            Ok(first) => serve_records(rt, alloc, serving, output, files, net, doors, first),
+            Err(fault) => turned_away(alloc, output, net, doors, &input_fault(fault)),
+        },
         Err(stop) => unserved(alloc, write_error(alloc, output, &stop).status),
-    }
-}
-
-// Serves a share at listeners that are open.
-fn serve_at<I: Source, W: Sink, F: Files, N: Net, R: Threads + Wait + Clock + Sync>(
-    rt: &R,
-    alloc: Global,
-    serving: &Serving,
-    input: &mut I,
-    output: &mut W,
-    files: &mut F,
-    net: &mut N,
-    doors: Doors<N::D>,
-) -> Outcome
-    requires may { MayServe serving.now }
-    requires listening { length doors.listen.items ≡ serving.now.workers }
-    requires editing { length doors.edit.items ≡ serving.now.editors }
-    ensures ends { (start : NetSeen)
-        → HasOpened serving.now start (net_seen (N.asked net.old) (N.written net.old) (N.door_links net.old) (N.next_input net.old) (N.faults net.old))
-        (length doors.listen.items) (length doors.edit.items) (map N.D.coming (doors.listen.items ++ doors.edit.items))
-        → AreNew N.D.written N.D.faults start.written doors.listen.items → AreNew N.D.written N.D.faults start.written doors.edit.items
-        → ServeEnds serving.now (told_in
-        (seen (input_seen (I.left input.old) (I.faults input.old)) (files_seen (F.asked files.old) (F.contents files.old) (F.faults files.old)) start)
-        (seen (input_seen (I.left input.new) (I.faults input.new))
-        (files_seen (F.asked files.new) (F.contents files.new) (F.faults files.new))
-        (net_seen (N.asked net.new) (N.written net.new) (N.door_links net.new) (N.next_input net.new) (N.faults net.new)))
-        (output_seen (W.taken output.old) (W.faults output.old))
-        (output_seen (W.taken output.new) (W.faults output.new)))
-        (left_of result) }
-    ensures alone { serving.now.file ≡ None → files.new ≡ files.old }
-    ensures closes { N.open_count net.new ≡ N.open_count net.old - (length doors.listen.items + length doors.edit.items) }
-{
-    match read_records(alloc, input) {
-        Ok(first) => serve_records(rt, alloc, serving, output, files, net, doors, first),
-        Err(fault) => turned_away(alloc, output, net, doors, &input_fault(fault)),
     }
 }

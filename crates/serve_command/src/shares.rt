@@ -7,13 +7,12 @@ ghost use Rattle.command_core.specs.Endings.{IsWritten};
 ghost use Rattle.share_lock.specs.Passes.{lock_id, known, passes_of, IsReady};
 ghost use Rattle.share_replies.specs.Laws.{maker};
 ghost use Rattle.share_crew.specs.Crews.{IsStaff};
-ghost use Rattle.share_crew.specs.Doors.{AreNew};
 ghost use Rattle.serve_command.specs.Begun.{IsBegunWith};
 ghost use Rattle.serve_command.specs.Files.{HasKept};
 ghost use Rattle.serve_command.specs.Outcomes.{left_of};
-ghost use Rattle.serve_command.specs.Places.{HasOpened};
+ghost use Rattle.serve_command.specs.Places.{HasListeners};
 ghost use Rattle.serve_command.specs.Runs.{HasServed, ShareEnds};
-ghost use Rattle.serve_command.specs.Terms.{MayServe, settings_of};
+ghost use Rattle.serve_command.specs.Terms.{MayServeAt, settings_of};
 
 use crate::closing::finish;
 use crate::opening::begin;
@@ -45,16 +44,13 @@ pub(crate) fn serve_share<W: Sink, N: Net, K: Keeps, R: Threads + Wait + Clock +
     share: Share,
     keeper: K,
 ) -> (Outcome, K)
-    requires may { MayServe serving.now }
-    requires listening { length doors.listen.items ≡ serving.now.workers }
-    requires editing { length doors.edit.items ≡ serving.now.editors }
+    requires may { MayServeAt serving.now (length doors.listen.items) (length doors.edit.items) }
     requires opening { All (λ e. maker e ≡ 0) share.history }
     requires settings { share.settings ≡ settings_of serving.now }
     requires going { K.is_lost keeper ≡ false }
     ensures ends { (start : NetSeen)
-        → HasOpened serving.now start (net_seen (N.asked net.old) (N.written net.old) (N.door_links net.old) (N.next_input net.old) (N.faults net.old))
-        (length doors.listen.items) (length doors.edit.items) (map N.D.coming (doors.listen.items ++ doors.edit.items))
-        → AreNew N.D.written N.D.faults start.written doors.listen.items → AreNew N.D.written N.D.faults start.written doors.edit.items
+        → HasListeners N.D.coming N.D.written N.D.faults serving.now start
+        (net_seen (N.asked net.old) (N.written net.old) (N.door_links net.old) (N.next_input net.old) (N.faults net.old)) doors.listen.items doors.edit.items
         → ShareEnds serving.now share.history
         (HasKept serving.now.editors (K.keeps keeper) (K.keeps result.1) (K.is_lost result.1) (K.faults keeper) (K.faults result.1) share.history)
         start (net_seen (N.asked net.new) (N.written net.new) (N.door_links net.new) (N.next_input net.new) (N.faults net.new))
@@ -91,9 +87,8 @@ fn serve_begun<W: Sink, N: Net, K: Keeps, R: Threads + Wait + Clock + Sync>(
     requires going { K.is_lost keeper ≡ false }
     ensures serves { (serving : Serving) (opened : List Entry) (start : NetSeen) (before : OutputSeen) (front : List ℕ)
         → IsBegunWith serving opened begun → All (λ e. maker e ≡ 0) opened
-        → HasOpened serving start (net_seen (N.asked net.old) (N.written net.old) (N.door_links net.old) (N.next_input net.old) (N.faults net.old))
-        (length doors.listen.items) (length doors.edit.items) (map N.D.coming (doors.listen.items ++ doors.edit.items))
-        → AreNew N.D.written N.D.faults start.written doors.listen.items → AreNew N.D.written N.D.faults start.written doors.edit.items
+        → HasListeners N.D.coming N.D.written N.D.faults serving start
+        (net_seen (N.asked net.old) (N.written net.old) (N.door_links net.old) (N.next_input net.old) (N.faults net.old)) doors.listen.items doors.edit.items
         → IsWritten before (output_seen (W.taken output.old) (W.faults output.old)) front
         → HasServed serving opened
         (HasKept serving.editors (K.keeps keeper) (K.keeps result.1) (K.is_lost result.1) (K.faults keeper) (K.faults result.1) opened) front start

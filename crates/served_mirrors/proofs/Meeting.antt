@@ -14,7 +14,7 @@ use Rattle.mirror_core.specs.Mirrored.{Mirrored}
 use Rattle.mirror_client.specs.Exchanges.{Exchange, messages, requests}
 use Rattle.mirror_client.specs.Laws.{AreAnswers, last_point}
 use Rattle.mirror_client.specs.Points.{Point}
-use Rattle.mirror_client.specs.Stages.{Begun, Closed, Stage, UndueIn, Walks, listings_in}
+use Rattle.mirror_client.specs.Stages.{Begun, Closed, Stage, UnexpectedIn, Walks, listings_in}
 use Rattle.mirror_client.specs.Steps.{all_applied, held_after, with_listings}
 use Rattle.mirror_client.specs.declared.refusal.FollowError.{FollowError}
 use Rattle.mirror_client.proofs.FilterFacts.{followers_hold_the_filter}
@@ -85,7 +85,7 @@ walkers_hold_the_share host m rounds p t there s by limit role h later sent part
 
 pub stopped_mirrors_hold_the_share : StoppedMirrorsHoldTheShare
 stopped_mirrors_hold_the_share host m rounds p taken e now s by limit role h later input output x zero can whole nothing is owed served =
-    let part = part_written x.request (UndueIn m rounds x.stage) x.there taken e x.stops in
+    let part = part_written x.request (UnexpectedIn m rounds x.stage) x.there taken e x.stops in
     let split = written_before p.taken x.there.taken taken (requests x.walks.exchanges) part.0 input nothing is x.walks.went.written part.1 in
     walked host m rounds s by limit role h later p x.stage x.there part.0 output now x.walks zero can whole owed
     (subst (λ (bs : List ℕ). ServedLink s by limit role h bs output) split.1 served) (ap (λ (k : Mirrored). k.held) x.holds)

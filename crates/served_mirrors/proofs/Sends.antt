@@ -33,7 +33,7 @@ use Rattle.served_mirrors.specs.Links.{AnsweredAll, IsSuccess, ServedLink}
 abbrev pub IsGranted : Reply → Type 0
 IsGranted answer = (answer.0 ≡ 200) ⊎ (answer.0 ≡ 204)
 
--- if they begin with a reply, it is no success
+-- if they begin with a reply, it is not a success
 abbrev pub GrantsNothing : List ℕ → Type 0
 GrantsNothing bytes = (m : Message) (answer : Reply) (more : List ℕ) → IsReply m answer → bytes ≡ print_message m ++ more → IsGranted answer → ⊥
 

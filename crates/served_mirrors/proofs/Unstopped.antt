@@ -33,10 +33,10 @@ use Rattle.mirror_core.specs.Mirrored.{Mirrored}
 use Rattle.mirror_client.specs.declared.refusal.FollowError.{FollowError}
 use Rattle.mirror_client.specs.Exchanges.{messages, requests}
 use Rattle.mirror_client.specs.Points.{Point}
-use Rattle.mirror_client.specs.Stages.{Asking, Begun, Closed, Holding, Learned, Stage, UndueBehind, UndueIn, behind_round, due}
-use Rattle.mirror_client.specs.Steps.{Known, UndueEnd, UndueListing, UndueTable, held_after, with_listings}
+use Rattle.mirror_client.specs.Stages.{Asking, Begun, Closed, Holding, Learned, Stage, UnexpectedAfter, UnexpectedIn, behind_round, due}
+use Rattle.mirror_client.specs.Steps.{Known, UnexpectedEnd, UnexpectedListing, UnexpectedTable, held_after, with_listings}
 use Rattle.mirror_client.specs.Stopping.{Stops}
-use Rattle.mirror_client.specs.Tellings.{UndueNumber}
+use Rattle.mirror_client.specs.Tellings.{UnexpectedNumber}
 use Rattle.followed_shares.specs.Served.{Serves, due_status}
 use Rattle.share_history.specs.Whole.{IsWhole}
 use Rattle.followed_shares.proofs.Completes.{IsOutside, end_due, listing_due, number_due, stops_outside, table_due}
@@ -140,24 +140,24 @@ module _ (s : Settings) (by limit : ℕ) (role : Role) (h : List Entry) (low n :
 
 module _ (host : List ℕ) (m : Mirrored) (rounds : ℕ) (s : Settings) (by limit : ℕ) (role : Role) (h : List Entry) (whole : IsWhole h) (zero : m.held.revision ≡ 0) (can : CanBeAsked host m)
     (request bytes : List ℕ) (p : Point) (taken : Option (List ℕ)) (e : FollowError) (owed : p.owed ≡ Some bytes) where
-  from_begun : Stands host m rounds s by limit role h true Begun request bytes → due host m rounds Begun ≡ Some request → Stops request (UndueIn m rounds Begun) p taken e → IsOutside e
+  from_begun : Stands host m rounds s by limit role h true Begun request bytes → due host m rounds Begun ≡ Some request → Stops request (UnexpectedIn m rounds Begun) p taken e → IsOutside e
   from_begun st is_due stops =
       let same : request_text want.Codes host ≡ request = cc in
       let next = next_begins s by limit role h st.low st.n host want.Codes (λ p. (200, spelling (table_reply standard_rows))) request bytes whole
       (codes_back role host can.host_is) (codes_say s) (λ p. refl) same st.left in
-      stops_outside request UndueTable p taken e bytes next.rest (200, spelling (table_reply standard_rows)) owed next.begins (λ used u. table_due used e u) stops
+      stops_outside request UnexpectedTable p taken e bytes next.rest (200, spelling (table_reply standard_rows)) owed next.begins (λ used u. table_due used e u) stops
 
   from_learned : (rows : List CodeRow) → Stands host m rounds s by limit role h true (Learned rows) request bytes → due host m rounds (Learned rows) ≡ Some request
-      → Stops request (UndueIn m rounds (Learned rows)) p taken e → IsOutside e
+      → Stops request (UnexpectedIn m rounds (Learned rows)) p taken e → IsOutside e
   from_learned rows st is_due stops =
       let same : request_text want.Login host ≡ request = cc in
       let next = next_begins s by limit role h st.low st.n host want.Login (λ p. (200, spelling (login_body (next_session p)))) request bytes whole
       (login_back role host can.host_is) (login_says s) (λ p. refl) same st.left in
-      stops_outside request (UndueNumber (code "mlid") rows) p taken e bytes next.rest (200, spelling (login_body (next_session next.point))) owed next.begins
+      stops_outside request (UnexpectedNumber (code "mlid") rows) p taken e bytes next.rest (200, spelling (login_body (next_session next.point))) owed next.begins
       (λ used u. number_due (code "mlid") rows (login_body (next_session next.point)) (next_session next.point) used e st.knows (login_tag next.point next.whole) refl u) stops
 
   from_asking : (k : Known) (ls : List Listing) → Stands host m rounds s by limit role h true (Asking k ls) request bytes → due host m rounds (Asking k ls) ≡ Some request
-      → Stops request (UndueIn m rounds (Asking k ls)) p taken e → IsOutside e
+      → Stops request (UnexpectedIn m rounds (Asking k ls)) p taken e → IsOutside e
   from_asking k ls st is_due stops =
       let same : request_text (want.Rows k.session m.target (mirror_look m.query m.meta (held_after m.held ls).revision)) host ≡ request = cc in
       let next = next_begins s by limit role h st.low st.n host (want.Rows k.session m.target (mirror_look m.query m.meta (held_after m.held ls).revision))
@@ -165,29 +165,29 @@ module _ (host : List ℕ) (m : Mirrored) (rounds : ℕ) (s : Settings) (by limi
       (rows_back role host m k.session (held_after m.held ls).revision can st.knows.session (base_word host m rounds s by limit role h true whole st.low k ls st.knows))
       (rows_say s k.session m.target m.query m.meta (held_after m.held ls).revision) (λ p. refl) same st.left in
       let before = st.knows.earlier in
-      stops_outside request (UndueListing k.rows (with_listings m ls)) p taken e bytes next.rest
+      stops_outside request (UnexpectedListing k.rows (with_listings m ls)) p taken e bytes next.rest
       (200, spelling (listing_body s.keep next.point m.target (mirror_look m.query m.meta (held_after m.held ls).revision))) owed next.begins
       (λ used u. listing_due s.keep k.rows (with_listings m ls) next.point used e st.knows.standard
       (omega (arith, before, prefix_revision (take st.low h) next.point next.above)) next.whole u) stops
 
   from_holding : (k : Known) (ls : List Listing) (last : Bool) → Stands host m rounds s by limit role h true (Holding k ls) request bytes
-      → Some (request_text (behind_round last k (with_listings m ls)) host) ≡ Some request → Stops request (UndueBehind last k) p taken e → IsOutside e
+      → Some (request_text (behind_round last k (with_listings m ls)) host) ≡ Some request → Stops request (UnexpectedAfter last k) p taken e → IsOutside e
   from_holding k ls true st is_due stops =
       let same : request_text (want.Logout k.session) host ≡ request = cc in
       let next = next_begins s by limit role h st.low st.n host (want.Logout k.session) (λ p. (204, [])) request bytes whole
       (logout_back role host k.session can.host_is st.knows.session) (logout_says s k.session) (λ p. refl) same st.left in
-      stops_outside request UndueEnd p taken e bytes next.rest (204, []) owed next.begins (λ used u. end_due used e u) stops
+      stops_outside request UnexpectedEnd p taken e bytes next.rest (204, []) owed next.begins (λ used u. end_due used e u) stops
   from_holding k ls false st is_due stops =
       let same : request_text (want.Update k.session (held_after m.held ls).revision) host ≡ request = cc in
       let next = next_begins s by limit role h st.low st.n host (want.Update k.session (held_after m.held ls).revision) (λ p. (200, spelling (revision_body (revision (batches p)))))
       request bytes whole
       (update_back role host k.session (held_after m.held ls).revision can.host_is st.knows.session (base_word host m rounds s by limit role h true whole st.low k ls st.knows))
       (update_says s k.session (held_after m.held ls).revision) (λ p. refl) same st.left in
-      stops_outside request (UndueNumber (code "musr") k.rows) p taken e bytes next.rest (200, spelling (revision_body (revision (batches next.point)))) owed next.begins
+      stops_outside request (UnexpectedNumber (code "musr") k.rows) p taken e bytes next.rest (200, spelling (revision_body (revision (batches next.point)))) owed next.begins
       (λ used u. number_due (code "musr") k.rows (revision_body (revision (batches next.point))) (revision (batches next.point)) used e st.knows.standard
       (revision_tag next.point next.whole) refl u) stops
 
-  from_stage : (t : Stage) → Stands host m rounds s by limit role h true t request bytes → due host m rounds t ≡ Some request → Stops request (UndueIn m rounds t) p taken e → IsOutside e
+  from_stage : (t : Stage) → Stands host m rounds s by limit role h true t request bytes → due host m rounds t ≡ Some request → Stops request (UnexpectedIn m rounds t) p taken e → IsOutside e
   from_stage Begun st is_due stops = from_begun st is_due stops
   from_stage (Learned rows) st is_due stops = from_learned rows st is_due stops
   from_stage (Asking k ls) st is_due stops = from_asking k ls st is_due stops

@@ -79,6 +79,6 @@ FollowersAreNotStopped =
     → (x : StopsFrom host m rounds Begun p taken e now) → Appends x.there.taken taken x.request → m.held.revision ≡ 0 → CanBeAsked host m → IsWhole h
     → p.taken ≡ Some [] → taken ≡ Some input → p.owed ≡ Some output → AnsweredAll s by limit role h input output → (e ≡ LinkFault) ⊎ (e ≡ Memory)
 
--- Some share serves every mirror of all items that can be asked to its end.
+-- For each mirror of all items whose requests can be sent, some share serves it to its end.
 abbrev pub MirrorsAreServed : Type 0
 MirrorsAreServed = (host : List ℕ) (s : Settings) (by : ℕ) (query : Option Query) (meta : Meta) → CanBeAsked host (new_mirror query meta) → IsServedOnce host (new_mirror query meta) s by

@@ -14,7 +14,7 @@ use item_model::{Look, Meta, MetaError, Query, QueryError, Range};
 use song_query::read;
 use std::alloc::Global;
 
-/// Reads the texts of `--query` and `--meta`, if there are any. Returns a look at all rows.
+/// Reads the texts of `--query` and `--meta`, if there are any. Returns a `Look` at all rows.
 pub fn look_of(
     alloc: Global,
     query: Option<&Text>,

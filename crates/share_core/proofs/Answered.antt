@@ -6,7 +6,7 @@ use Rattle.item_model.specs.declared.changes.Entry.{Entry}
 use Rattle.item_model.specs.declared.changes.Entry.TheVariants as entry
 use Rattle.share_history.specs.Histories.{batches, revision}
 use Rattle.share_history.specs.LastSaid.{only_if}
-use Rattle.share_history.specs.Limits.{has_place, takes_batch}
+use Rattle.share_history.specs.Limits.{is_below_entry_limit, takes_batch}
 use Rattle.share_history.specs.Marks.{marks_after, until_login}
 use Rattle.share_history.specs.Sessions.{is_live, is_stopped, next_session}
 use Rattle.fault_lines.specs.Records.{records_line}
@@ -22,35 +22,35 @@ use Rattle.share_replies.specs.Answers.{Shared, mark_of, told, left}
 use Rattle.share_replies.proofs.ReplyFacts.{stopped_shares_refuse, others_are_forbidden}
 use Rattle.share_core.specs.declared.answer.Answer.TheVariants as answer
 use Rattle.share_core.specs.declared.answer.Reply.{Reply}
-use Rattle.share_core.specs.declared.answer.Said.{Said}
-use Rattle.share_core.specs.Said.{IsSaid}
+use Rattle.share_core.specs.declared.answer.ReplyContent.{ReplyContent}
+use Rattle.share_core.specs.Contents.{IsContent}
 use Rattle.share_core.specs.Told.{IsReply, IsTold, IsAnswer}
 use Rattle.share_core.specs.Steps.{reply_of, IsRead, HasGrown, IsBetween}
 use Rattle.share_core.specs.Wants.{is_read}
 
 -- a reply that adds nothing is the answer if the share replies this and adds nothing
-pub read_answer : (old new : Shared) (by : ℕ) (want : Want) (said : ℕ × Body) (id : ℕ) (r : Reply)
-    → answer_to old.settings old.history want ≡ Replies (reply_of said id) → adds old.history by want ≡ None → IsRead said id old new r
+pub read_answer : (old new : Shared) (by : ℕ) (want : Want) (content : ℕ × Body) (id : ℕ) (r : Reply)
+    → answer_to old.settings old.history want ≡ Replies (reply_of content id) → adds old.history by want ≡ None → IsRead content id old new r
     → IsAnswer old new by want (answer.Reply r)
-read_answer old new by want said id r is none read =
+read_answer old new by want content id r is none read =
     let same : old.history ≡ after old.history by want = sym (ap (λ o. old.history ++ option_to_list o) none ∙ append-nil old.history) in record {
       told =
           subst (λ a. IsTold (told old by want a) (answer.Reply r)) (sym is)
-          (subst (λ (h : List Entry). IsReply (reply_of said id) (length h) (mark_of old.marks id) (is_some (adds old.history by want)) r) same
-          (subst (λ (o : Option Entry). IsReply (reply_of said id) (length old.history) (mark_of old.marks id) (is_some o) r) (sym none) read.reply));
+          (subst (λ (h : List Entry). IsReply (reply_of content id) (length h) (mark_of old.marks id) (is_some (adds old.history by want)) r) same
+          (subst (λ (o : Option Entry). IsReply (reply_of content id) (length old.history) (mark_of old.marks id) (is_some o) r) (sym none) read.reply));
       share =
           read.share ∙ (λ i. record { settings = old.settings; history = same i; marks = marks_after (same i) id old.marks }) ∙ ap (left old by want) (sym is);
     }
 
-pub grown_answer : (old new : Shared) (by : ℕ) (want : Want) (said : ℕ × Body) (id : ℕ) (e : Entry) (r : Reply)
-    → answer_to old.settings old.history want ≡ Replies (reply_of said id) → adds old.history by want ≡ Some e → HasGrown said id e old new r
+pub grown_answer : (old new : Shared) (by : ℕ) (want : Want) (content : ℕ × Body) (id : ℕ) (e : Entry) (r : Reply)
+    → answer_to old.settings old.history want ≡ Replies (reply_of content id) → adds old.history by want ≡ Some e → HasGrown content id e old new r
     → IsAnswer old new by want (answer.Reply r)
-grown_answer old new by want said id e r is some grown =
+grown_answer old new by want content id e r is some grown =
     let same : old.history ++ e ∷ [] ≡ after old.history by want = ap (λ o. old.history ++ option_to_list o) (sym some) in record {
       told =
           subst (λ a. IsTold (told old by want a) (answer.Reply r)) (sym is)
-          (subst (λ (h : List Entry). IsReply (reply_of said id) (length h) (mark_of old.marks id) (is_some (adds old.history by want)) r) same
-          (subst (λ (o : Option Entry). IsReply (reply_of said id) (length (old.history ++ e ∷ [])) (mark_of old.marks id) (is_some o) r) (sym some) grown.reply));
+          (subst (λ (h : List Entry). IsReply (reply_of content id) (length h) (mark_of old.marks id) (is_some (adds old.history by want)) r) same
+          (subst (λ (o : Option Entry). IsReply (reply_of content id) (length (old.history ++ e ∷ [])) (mark_of old.marks id) (is_some o) r) (sym some) grown.reply));
       share =
           grown.share ∙ (λ i. record { settings = old.settings; history = same i; marks = marks_after (same i) id old.marks }) ∙ ap (left old by want) (sym is);
     }
@@ -100,18 +100,18 @@ no_session : (b : Bool) (n : ℕ) → cond (b && false) n 0 ≡ 0
 no_session true n = refl
 no_session false n = refl
 
-login_told : (s : Settings) (h : List Entry) (told : ℕ × Body) → is_stopped h ≡ false → has_place h ≡ false → answer_to s h Login ≡ Replies (reply_of (507, Nothing) 0)
+login_told : (s : Settings) (h : List Entry) (told : ℕ × Body) → is_stopped h ≡ false → is_below_entry_limit h ≡ false → answer_to s h Login ≡ Replies (reply_of (507, Nothing) 0)
 login_told s h told going full =
     let refused : refusal h Login ≡ Some (507, Nothing) = rw (going, full) refl in
     let nobody : session_of h Login ≡ 0 = ap (λ b. cond (not (is_stopped h) && b) (next_session h) 0) full ∙ no_session (not (is_stopped h)) (next_session h) in
     ap (λ found. option_map_or (replies.reply_with h Login) found (replies.reply_with h Login (success s h Login))) refused ∙ ap (λ n. Replies (reply_of (507, Nothing) n)) nobody
 
-pub login_refused : (old new : Shared) (by : ℕ) (r : Reply) → is_stopped old.history ≡ false → has_place old.history ≡ false → IsRead (507, Nothing) 0 old new r
+pub login_refused : (old new : Shared) (by : ℕ) (r : Reply) → is_stopped old.history ≡ false → is_below_entry_limit old.history ≡ false → IsRead (507, Nothing) 0 old new r
     → IsAnswer old new by Login (answer.Reply r)
 login_refused old new by r going full read =
     read_answer old new by Login (507, Nothing) 0 r (login_told old.settings old.history (507, Nothing) going full) (rw (going, full) refl) read
 
-pub login_answer : (old new : Shared) (by : ℕ) (r : Reply) → is_stopped old.history ≡ false → has_place old.history ≡ true
+pub login_answer : (old new : Shared) (by : ℕ) (r : Reply) → is_stopped old.history ≡ false → is_below_entry_limit old.history ≡ true
     → HasGrown (200, Tagged (login_body (next_session old.history))) (next_session old.history) (entry.Login by (next_session old.history)) old new r
     → IsAnswer old new by Login (answer.Reply r)
 login_answer old new by r going place grown =
@@ -237,10 +237,10 @@ pub look_answer : (old new : Shared) (by : ℕ) (want : Want) (id : ℕ) (r : Re
     → id ≡ unwrap_or (needed want) 0
     → IsRead (unwrap_or (refusal old.history want) (success old.settings old.history want)) id old new r → IsAnswer old new by want (answer.Reply r)
 look_answer old new by want id r kind going lacks same read =
-    let said = unwrap_or (refusal old.history want) (success old.settings old.history want) in
-    read_answer old new by want said id r
+    let content = unwrap_or (refusal old.history want) (success old.settings old.history want) in
+    read_answer old new by want content id r
     (read_reply old.settings old.history want kind
-    ∙ ap (λ n. Replies (reply_of said n)) (read_session old.history want kind going lacks ∙ sym same))
+    ∙ ap (λ n. Replies (reply_of content n)) (read_session old.history want kind going lacks ∙ sym same))
     (none_either (is_some (refusal old.history want)) (made_by by old.history want) (none_made by old.history want kind)) read
 
 -- ---- what calls on the register leave
@@ -249,12 +249,12 @@ look_answer old new by want id r kind going lacks same read =
 abbrev pub shared : Settings → List Entry → List (ℕ × ℕ) → Shared
 shared settings h marks = record { settings = settings; history = h; marks = marks }
 
-pub read_is : (s : Settings) (h h' : List Entry) (marks marks' : List (ℕ × ℕ)) (said : Said) (id : ℕ) (r : Reply) (told : ℕ × Body)
-    → h' ≡ h → marks' ≡ marks_after h id marks → r ≡ record { said = said; point = length h; session = id; seen = mark_of marks id; added = false } → IsSaid told said
+pub read_is : (s : Settings) (h h' : List Entry) (marks marks' : List (ℕ × ℕ)) (content : ReplyContent) (id : ℕ) (r : Reply) (told : ℕ × Body)
+    → h' ≡ h → marks' ≡ marks_after h id marks → r ≡ record { content = content; point = length h; session = id; seen = mark_of marks id; added = false } → IsContent told content
     → IsRead told id (shared s h marks) (shared s h' marks') r
-read_is s h h' marks marks' said id r told same moved is fits = record {
+read_is s h h' marks marks' content id r told same moved is fits = record {
   reply = record {
-    said = subst (λ (x : Reply). IsSaid told x.said) (sym is) fits;
+    content = subst (λ (x : Reply). IsContent told x.content) (sym is) fits;
     session = ap (λ (x : Reply). x.session) is;
     point = ap (λ (x : Reply). x.point) is;
     seen = ap (λ (x : Reply). x.seen) is;
@@ -263,13 +263,13 @@ read_is s h h' marks marks' said id r told same moved is fits = record {
   share = λ i. shared s (same i) (moved i);
 }
 
-pub grown_is : (s : Settings) (h h' : List Entry) (marks marks' : List (ℕ × ℕ)) (e : Entry) (said : Said) (id seen : ℕ) (r : Reply) (told : ℕ × Body)
+pub grown_is : (s : Settings) (h h' : List Entry) (marks marks' : List (ℕ × ℕ)) (e : Entry) (content : ReplyContent) (id seen : ℕ) (r : Reply) (told : ℕ × Body)
     → h' ≡ h ++ e ∷ [] → marks' ≡ marks_after h' id marks → seen ≡ mark_of marks id
-    → r ≡ record { said = said; point = length h'; session = id; seen = seen; added = true } → IsSaid told said
+    → r ≡ record { content = content; point = length h'; session = id; seen = seen; added = true } → IsContent told content
     → HasGrown told id e (shared s h marks) (shared s h' marks') r
-grown_is s h h' marks marks' e said id seen r told longer moved mark is fits = record {
+grown_is s h h' marks marks' e content id seen r told longer moved mark is fits = record {
   reply = record {
-    said = subst (λ (x : Reply). IsSaid told x.said) (sym is) fits;
+    content = subst (λ (x : Reply). IsContent told x.content) (sym is) fits;
     session = ap (λ (x : Reply). x.session) is;
     point = ap (λ (x : Reply). x.point) is ∙ ap length longer;
     seen = ap (λ (x : Reply). x.seen) is ∙ mark;
@@ -282,9 +282,9 @@ pub nothing_in : (batch : List Edit) → length batch ≡ 0 → batch ≡ []
 nothing_in [] none = refl
 nothing_in (e ∷ es) none = absurd (omega (arith, none))
 
-pub between : (h : List Entry) (r : Reply) (said : Said) (point id seen : ℕ) (added : Bool)
-    → r ≡ record { said = said; point = point; session = id; seen = seen; added = added } → seen ≤ length h → (is_live h id ≡ true → length (until_login id h) ≤ seen) → IsBetween h r
-between h r said point id seen added is below above = record {
+pub between : (h : List Entry) (r : Reply) (content : ReplyContent) (point id seen : ℕ) (added : Bool)
+    → r ≡ record { content = content; point = point; session = id; seen = seen; added = added } → seen ≤ length h → (is_live h id ≡ true → length (until_login id h) ≤ seen) → IsBetween h r
+between h r content point id seen added is below above = record {
   until = subst (λ (x : Reply). x.seen ≤ length h) (sym is) below;
   since = subst (λ (x : Reply). is_live h x.session ≡ true → length (until_login x.session h) ≤ x.seen) (sym is) above;
 }

@@ -4,7 +4,7 @@ use Rattle.std.specs.Option.{option_or, option_to_list}
 use Rattle.item_model.specs.declared.changes.Entry.{Entry}
 use Rattle.item_model.specs.declared.changes.Entry.TheVariants as entry
 use Rattle.share_history.specs.LastSaid.{only_if}
-use Rattle.share_history.specs.Limits.{has_place, takes_batch}
+use Rattle.share_history.specs.Limits.{is_below_entry_limit, takes_batch}
 use Rattle.share_history.specs.Sessions.{is_stopped, next_session}
 use Rattle.share_history.specs.Whole.{IsWhole}
 use Rattle.share_history.proofs.WholeFacts.{whole_batch, whole_login, whole_logout, whole_stop}
@@ -50,7 +50,7 @@ unchanged h whole = subst IsWhole (sym (append-nil h)) whole
 made_whole : (h : List Entry) (by : ℕ) (want : Want) → BringsWhole want → meets_limit h want ≡ false → IsWhole h → IsWhole (h ++ option_to_list (made_by by h want))
 made_whole h by ServerInfo brings fits whole = unchanged h whole
 made_whole h by Codes brings fits whole = unchanged h whole
-made_whole h by Login brings fits whole = whole_login h by (next_session h) (not_not (has_place h) fits) whole
+made_whole h by Login brings fits whole = whole_login h by (next_session h) (not_not (is_below_entry_limit h) fits) whole
 made_whole h by (Logout session) brings fits whole = whole_logout h by session whole
 made_whole h by (Update session number) brings fits whole = unchanged h whole
 made_whole h by (Databases session) brings fits whole = unchanged h whole

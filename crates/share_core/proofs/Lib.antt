@@ -1,6 +1,6 @@
 pub mod Spellable
 pub mod ItemTexts
-pub mod Places
+pub mod LimitedEntries
 pub mod Answered
 pub mod Turning
 pub mod ListNames

@@ -68,7 +68,7 @@ last_name c [] valid = tt
 last_name c (e ∷ es) valid =
     later_name (last_said (says_list c) es) (says_list c e) (last_name c es (λ k d lt. valid (suc k) d (omega (arith, lt)))) (said_name c e (valid zero e (omega arith)))
 
-found_name : (said : Option (Option Playlist)) → SaysName said → IsNamed (unwrap_or said None)
+found_name : (content : Option (Option Playlist)) → SaysName content → IsNamed (unwrap_or content None)
 found_name None h = tt
 found_name (Some found) h = h
 

@@ -10,7 +10,7 @@ use Rattle.std.proofs.lemmas.List.Sums.{sum_by-cons}
 use Rattle.item_model.specs.declared.changes.Edit.{Edit}
 use Rattle.item_model.specs.declared.changes.Entry.TheVariants.{Edits}
 use Rattle.share_history.specs.Histories.{batches, edits, opening}
-use Rattle.share_history.specs.Limits.{has_place, has_room_for, has_few_lists, takes_place}
+use Rattle.share_history.specs.Limits.{is_below_entry_limit, has_room_for, has_few_lists, is_limited}
 use Rattle.share_history.specs.Rows.{lists}
 use Rattle.share_history.specs.Sessions.{is_stopped}
 use Rattle.share_history.proofs.EditFacts.{edits_more, drop_more}
@@ -52,9 +52,9 @@ few_filled (b ∷ bs) filled =
     let rest = few_filled bs (All-tail (λ batch. batch ≢ []) b bs filled) in
     omega (arith, some, rest, length-append b (edits bs))
 
-places_opened : (bs : List (List Edit)) → count_by takes_place (opened_with bs) ≡ length bs
-places_opened [] = refl
-places_opened (b ∷ bs) = omega (arith, places_opened bs, sum_by-cons (λ x. cond (takes_place x) 1 0) (Edits 0 b) (opened_with bs))
+limited_opened : (bs : List (List Edit)) → count_by is_limited (opened_with bs) ≡ length bs
+limited_opened [] = refl
+limited_opened (b ∷ bs) = omega (arith, limited_opened bs, sum_by-cons (λ x. cond (is_limited x) 1 0) (Edits 0 b) (opened_with bs))
 
 -- the loop over batches
 pub edits_left : (bs : List (List Edit)) (i : ℕ) (b : List Edit) → i < length bs → b ≡ get_or bs i b → length (edits (drop i bs)) ≡ length b + length (edits (drop (i + 1) bs))
@@ -70,10 +70,10 @@ module _ (done : List (List Edit)) (b : List Edit) (rest all : List (List Edit))
   within : length (edits done) + length b ≤ 262144
   within = let here = edits_until done b rest in let same = ap (λ bs. length (edits bs)) are in omega (arith, here, same, few)
 
-  pub opens_place : All (λ batch. batch ≢ []) all → has_place (opened_with done) ≡ true
-  opens_place filled = lt-ltb _ _ (
+  pub opens_below_limit : All (λ batch. batch ≢ []) all → is_below_entry_limit (opened_with done) ≡ true
+  opens_below_limit filled = lt-ltb _ _ (
       let front = subst (All (λ batch. batch ≢ [])) (take-append_seam done (b ∷ rest)) (All-take (λ batch. batch ≢ []) (length done) (done ++ b ∷ rest) (subst (All (λ batch. batch ≢ [])) (sym are) filled)) in
-      let count = few_filled done front in let places = places_opened done in let inside = within in omega (arith, count, places, inside))
+      let count = few_filled done front in let places = limited_opened done in let inside = within in omega (arith, count, places, inside))
 
   pub opens_room : has_room_for (opened_with done) (length b) ≡ true
   opens_room = le-leb _ _ (let same = ap (λ bs. length (edits bs)) (batches-opened done) in let inside = within in omega (arith, same, inside))

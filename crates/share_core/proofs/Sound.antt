@@ -5,7 +5,7 @@ use Rattle.item_model.specs.declared.changes.Edit.{Edit}
 use Rattle.item_model.specs.declared.changes.Entry.{Entry}
 use Rattle.item_model.specs.declared.changes.Entry.TheVariants.{Edits}
 use Rattle.share_history.specs.Histories.{batches, edits, all_edits, revision}
-use Rattle.share_history.specs.Limits.{has_place, has_room_for, has_few_lists, takes_batch}
+use Rattle.share_history.specs.Limits.{is_below_entry_limit, has_room_for, has_few_lists, takes_batch}
 use Rattle.share_history.specs.Rows as rows
 use Rattle.share_history.specs.Whole.{AreWhole, IsWhole}
 use Rattle.share_history.proofs.EditFacts.{batches-append, edits_more}
@@ -43,7 +43,7 @@ batches_more h by batch = batches-append h (Edits by batch ∷ [])
 held_more : (h h' : List Entry) (batch : List Edit) (stores stores' : Stores) → batches h' ≡ batches h ++ batch ∷ [] → takes_batch h batch ≡ true
     → StandFor (batches h ++ batch ∷ []) stores' → AreHeld h' stores'
 held_more h h' batch stores stores' longer takes stand =
-    let limits = (and_parts (has_place h) (has_room_for h (length batch) && has_few_lists h batch) takes).1 in
+    let limits = (and_parts (is_below_entry_limit h) (has_room_for h (length batch) && has_few_lists h batch) takes).1 in
     let both = and_parts (has_room_for h (length batch)) (has_few_lists h batch) limits in
     let all : edits (batches h') ≡ all_edits h ++ batch = ap edits longer ∙ edits_more (batches h) batch in record {
       stand = subst (λ (bs : List (List Edit)). StandFor bs stores') (sym longer) stand;
@@ -86,8 +86,8 @@ sound_empty s h stores none stand items_keep lists_keep short = sound_on s [] h 
 })
 
 -- a batch within all limits is taken
-pub taken : (h : List Entry) (batch : List Edit) → has_place h ≡ true → has_room_for h (length batch) ≡ true → has_few_lists h batch ≡ true → takes_batch h batch ≡ true
-taken h batch place room few = and_from (has_place h) (has_room_for h (length batch) && has_few_lists h batch) place (and_from (has_room_for h (length batch)) (has_few_lists h batch) room few)
+pub taken : (h : List Entry) (batch : List Edit) → is_below_entry_limit h ≡ true → has_room_for h (length batch) ≡ true → has_few_lists h batch ≡ true → takes_batch h batch ≡ true
+taken h batch place room few = and_from (is_below_entry_limit h) (has_room_for h (length batch) && has_few_lists h batch) place (and_from (has_room_for h (length batch)) (has_few_lists h batch) room few)
 
 -- the lists that are counted after the edits of a batch are those that it leaves
 pub few_lists_by : (h : List Entry) (batch es : List Edit) (count : ℕ) → es ≡ batch → count ≡ length (rows.lists (edits (batches h) ++ es)) → count ≤ 1024 → has_few_lists h batch ≡ true
@@ -95,9 +95,9 @@ few_lists_by h batch es count same counted few =
     le-leb _ _ (let now = counted ∙ ap (λ l. length (rows.lists (all_edits h ++ l))) same in omega (arith, now, few))
 
 -- a history below the entry limit has few revisions
-pub few_next_at : (h : List Entry) → has_place h ≡ true → revision (batches h) + 1 < 4294967296
+pub few_next_at : (h : List Entry) → is_below_entry_limit h ≡ true → revision (batches h) + 1 < 4294967296
 few_next_at h place = omega (arith, few_batches h, ltb-true _ _ place)
 
 -- so has one that takes a batch
 pub few_next : (h : List Entry) (batch : List Edit) → takes_batch h batch ≡ true → revision (batches h) + 1 < 4294967296
-few_next h batch takes = few_next_at h (and_parts (has_place h) (has_room_for h (length batch) && has_few_lists h batch) takes).0
+few_next h batch takes = few_next_at h (and_parts (is_below_entry_limit h) (has_room_for h (length batch) && has_few_lists h batch) takes).0

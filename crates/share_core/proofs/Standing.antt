@@ -12,7 +12,7 @@ use Rattle.item_model.specs.declared.request.Target.TheVariants.{Items}
 use Rattle.share_history.specs.Histories.{batches, edits, all_edits, revision}
 use Rattle.share_history.specs.Keyed.{IsAscending, ascending}
 use Rattle.share_history.specs.LastSaid.{item_at}
-use Rattle.share_history.specs.Rows.{library, row_at, if_asked}
+use Rattle.share_history.specs.Rows.{library, row_at, if_selected}
 use Rattle.share_history.proofs.EditFacts.{edits_more}
 use Rattle.share_history.proofs.RowFacts.{ascending-library}
 use Rattle.item_store.specs.Stands as item_store
@@ -63,5 +63,5 @@ pub start_same : (bs cs : List (List Edit)) (s : Store) (q : Option Query) (ids 
 start_same bs cs s q None at_bs at_cs start = start
 start_same bs cs s q (Some ids) at_bs at_cs start = record {
   ascending = start.ascending;
-  others = λ id gone. ap (option_and_then (if_asked q)) (sym (same_item bs cs s at_bs at_cs id)) ∙ start.others id gone;
+  others = λ id gone. ap (option_and_then (if_selected q)) (sym (same_item bs cs s at_bs at_cs id)) ∙ start.others id gone;
 }

@@ -20,7 +20,7 @@ use Rattle.share_history.specs.BrowseListings.{is_filled, sorted_texts, browse_v
 use Rattle.share_history.specs.Keyed.{ascending, pairs_at, AreAscending}
 use Rattle.share_history.specs.LastSaid.{item_at}
 use Rattle.share_history.specs.Named.{named_keys}
-use Rattle.share_history.specs.Rows.{row_at, rows, library, is_asked, if_asked}
+use Rattle.share_history.specs.Rows.{row_at, rows, library, is_selected, if_selected}
 use Rattle.share_history.proofs.EditFacts.{drop_more}
 use Rattle.share_history.proofs.KeyedFacts.{has, has-keys_of, at-pairs_at, ascending-pairs_at}
 use Rattle.share_history.proofs.RowFacts.{rows_are, at-library, ascending-library, folded-longer, length-rows}
@@ -75,9 +75,9 @@ values_found es by q ids start = ap (λ (rs : List (ℕ × Row)). sorted_texts (
 abbrev pub IsShortText : List ℕ → Type 0
 IsShortText text = length text ≤ 255
 
-asked_item : (es : List Edit) (q : Option Query) (found : Option Row) (row : Row) → option_and_then (if_asked q) found ≡ Some row → found ≡ Some row
-asked_item es q None row is = absurd (cc)
-asked_item es q (Some found) row is = by_case (is_asked q found) is
+selected_item : (es : List Edit) (q : Option Query) (found : Option Row) (row : Row) → option_and_then (if_selected q) found ≡ Some row → found ≡ Some row
+selected_item es q None row is = absurd (cc)
+selected_item es q (Some found) row is = by_case (is_selected q found) is
   where
     by_case : (b : Bool) → cond b (Some found) None ≡ Some row → Some found ≡ Some row
     by_case true h = h
@@ -90,7 +90,7 @@ short_rows es by q (id ∷ ids) short =
     (elim (row_at es Items q id) as (λ (o : Option Row). row_at es Items q id ≡ o
     → AllByRecursion IsShortText (map (λ (row : ℕ × Row). browse_text by row.1) (cons_option (option_map (λ (row : Row). (id, row)) o) (pairs_at (row_at es Items q) ids)))) [
       | None ↦ λ is. short_rows es by q ids short
-      | Some row ↦ λ is. (short id row (asked_item es q (item_at es id) row is) by, short_rows es by q ids short)
+      | Some row ↦ λ is. (short id row (selected_item es q (item_at es id) row is) by, short_rows es by q ids short)
     ]) refl
 
 short_filled : (texts : List (List ℕ)) → AllByRecursion IsShortText texts → AllByRecursion IsShortText (filter is_filled texts)
@@ -153,6 +153,6 @@ library_starts es q ids all = record {
       none_there (item_at es id) (sym (ap is_some (at-library es id)) ∙ sym (has-keys_of id (library es)) ∙ sym (ap (has id) all) ∙ h);
 }
   where
-    none_there : (found : Option Row) → is_some found ≡ false → option_and_then (if_asked q) found ≡ None
+    none_there : (found : Option Row) → is_some found ≡ false → option_and_then (if_selected q) found ≡ None
     none_there None h = refl
     none_there (Some row) h = absurd (cc)

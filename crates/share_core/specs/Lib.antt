@@ -1,4 +1,4 @@
-pub mod Said
+pub mod Contents
 pub mod Told
 pub mod Short
 pub mod Turned

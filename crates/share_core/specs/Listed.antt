@@ -8,5 +8,5 @@ use Rattle.share_history.specs.Histories.{all_edits}
 use Rattle.share_history.specs.Rows.{is_there}
 use Rattle.share_replies.specs.Replies.{Body, Nothing, Tagged}
 
-abbrev pub rows_said : ℕ → List Entry → Target → Look → ℕ × Body
-rows_said keep h target look = if is_there (all_edits h) target then (200, Tagged (listing_body keep h target look)) else (404, Nothing)
+abbrev pub rows_content : ℕ → List Entry → Target → Look → ℕ × Body
+rows_content keep h target look = if is_there (all_edits h) target then (200, Tagged (listing_body keep h target look)) else (404, Nothing)

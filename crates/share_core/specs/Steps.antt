@@ -13,7 +13,7 @@ use Rattle.share_core.specs.Told.{IsReply}
 
 -- A status and a body as the response to session `id`.
 abbrev pub reply_of : ℕ × Body → ℕ → replies.Reply
-reply_of said id = record { status = said.0; body = said.1; session = id }
+reply_of content id = record { status = content.0; body = content.1; session = id }
 
 -- The reply is given at the end of the history. It sets the last-answered length of its session.
 pub record IsRead (told : ℕ × Body) (id : ℕ) (old new : Shared) (r : Reply) : Type 0 where

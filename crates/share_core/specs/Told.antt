@@ -7,10 +7,10 @@ use Rattle.share_replies.specs.Answers.{Shared, Told, Replied, Waiting, told_by,
 use Rattle.share_core.specs.declared.answer.Answer.{Answer}
 use Rattle.share_core.specs.declared.answer.Answer.TheVariants as answer
 use Rattle.share_core.specs.declared.answer.Reply.{Reply}
-use Rattle.share_core.specs.Said.{IsSaid}
+use Rattle.share_core.specs.Contents.{IsContent}
 
 pub record IsReply (told : replies.Reply) (at mark : ℕ) (adds : Bool) (reply : Reply) : Type 0 where
-  pub said : IsSaid (told.status, told.body) reply.said
+  pub content : IsContent (told.status, told.body) reply.content
   pub session : reply.session ≡ told.session
   pub point : reply.point ≡ at
   pub seen : reply.seen ≡ mark

@@ -14,7 +14,7 @@ pub enum Answer {
 /// A reply, given at one length of the share's history.
 #[derive(Debug, Drop)]
 pub struct Reply {
-    pub said: Said,
+    pub content: ReplyContent,
     /// The history length after the reply.
     pub point: u64,
     /// The session that this answers, 0 if none.
@@ -27,7 +27,7 @@ pub struct Reply {
 
 /// The status and the body of a reply.
 #[derive(Debug, Drop)]
-pub struct Said {
+pub struct ReplyContent {
     pub status: u16,
     pub form: BodyForm,
     /// Can be written at any later time, and knows its length.

@@ -12,22 +12,23 @@ ghost use Rattle.item_store.specs.Stands.{StandsFor};
 ghost use Rattle.share_history.specs.BrowseListings.{browse_body, browse_values, value_tag, is_filled, sorted_texts};
 ghost use Rattle.share_history.specs.Histories.{all_edits, edits};
 ghost use Rattle.share_history.specs.RowSeen.{text_at};
-ghost use Rattle.share_history.specs.Rows.{is_asked};
+ghost use Rattle.share_history.specs.Rows.{is_selected};
 ghost use Rattle.share_listings.specs.Answers.{AreCandidates, looked_at};
 ghost use Rattle.share_replies.specs.Replies.{Tagged};
-ghost use Rattle.share_core.specs.Said.{IsSaid};
+ghost use Rattle.share_core.specs.Contents.{IsContent};
 ghost use Rattle.share_core.specs.Held.{AreHeld};
 ghost use Rattle.share_core.specs.Ticks.{starts, value_ticks};
 ghost use Rattle.share_core.specs.ValuesAt.{values_at};
 
-use crate::answer::Said;
+use crate::answer::ReplyContent;
 use crate::listings::candidates;
 use crate::stores::Stores;
 use crate::tags::whole;
-use crate::texts::{browse_code, is_filled, text_of};
+use crate::texts::{is_filled, text_of};
 use dmap_tags::{Code, Tag, Tags, Text, Value};
 use item_model::{Browse, Query};
 use item_store::ItemStore;
+use share_history::browse_code;
 use song_query::{Steps, matches};
 use std::alloc::{AllocError, Global};
 use std::collections::BTreeSet;
@@ -41,9 +42,9 @@ pub(crate) fn browse<L: Ledger>(
     by: Browse,
     query: Option<&Query>,
     steps: &mut Steps<L>,
-) -> Result<Said, AllocError>
+) -> Result<ReplyContent, AllocError>
     requires held { (h : List Entry) × AreHeld h stores.now }
-    ensures said { IfOk result (λ said. (h : List Entry) → AreHeld h stores.now → IsSaid (200, Tagged (browse_body h by (option_copied query.entry))) said) }
+    ensures content { IfOk result (λ content. (h : List Entry) → AreHeld h stores.now → IsContent (200, Tagged (browse_body h by (option_copied query.entry))) content) }
     ensures cost { (h : List Entry) → AreHeld h stores.now → steps.new ≤ steps.old + value_ticks (all_edits h) (option_copied query.entry) }
 {
     let entries = entries(alloc, stores, by, query, steps)?;

@@ -14,11 +14,11 @@ ghost use Rattle.share_history.specs.LastSaid.{list_at};
 ghost use Rattle.share_history.specs.Numbers.{base_list};
 ghost use Rattle.share_history.specs.Rows.{rows, lists, library};
 ghost use Rattle.share_replies.specs.Replies.{Tagged};
-ghost use Rattle.share_core.specs.Said.{IsSaid};
+ghost use Rattle.share_core.specs.Contents.{IsContent};
 ghost use Rattle.share_core.specs.Held.{AreHeld};
 ghost use Rattle.share_core.specs.Entries.{entry_with, entry_at};
 
-use crate::answer::Said;
+use crate::answer::ReplyContent;
 use crate::stores::Stores;
 use crate::tags::{list, number, small_number, text, whole};
 use dmap_tags::{Code, Tag, Tags, Text};
@@ -27,10 +27,14 @@ use share_history::BASE_LIST;
 use std::alloc::{AllocError, Global};
 
 /// Returns the listing of the only database.
-pub(crate) fn databases(alloc: Global, name: &Text, stores: &Stores) -> Result<Said, AllocError>
+pub(crate) fn databases(
+    alloc: Global,
+    name: &Text,
+    stores: &Stores,
+) -> Result<ReplyContent, AllocError>
     requires name { length name.now ≤ text_limit }
     requires held { (h : List Entry) × AreHeld h stores.now }
-    ensures { IfOk result (λ said. (h : List Entry) → AreHeld h stores.now → IsSaid (200, Tagged (databases_body name.now h)) said) }
+    ensures { IfOk result (λ content. (h : List Entry) → AreHeld h stores.now → IsContent (200, Tagged (databases_body name.now h)) content) }
 {
     let containers = stores.lists.count();
     let items = stores.items.count();
@@ -58,10 +62,14 @@ fn database_entry(
 }
 
 /// Returns the listing of the containers.
-pub(crate) fn containers(alloc: Global, name: &Text, stores: &Stores) -> Result<Said, AllocError>
+pub(crate) fn containers(
+    alloc: Global,
+    name: &Text,
+    stores: &Stores,
+) -> Result<ReplyContent, AllocError>
     requires name { length name.now ≤ text_limit }
     requires held { (h : List Entry) × AreHeld h stores.now }
-    ensures { IfOk result (λ said. (h : List Entry) → AreHeld h stores.now → IsSaid (200, Tagged (containers_body name.now h)) said) }
+    ensures { IfOk result (λ content. (h : List Entry) → AreHeld h stores.now → IsContent (200, Tagged (containers_body name.now h)) content) }
 {
     let entries = entries(alloc, name, stores)?;
     let revision = stores.items.revision();

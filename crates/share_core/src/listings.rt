@@ -11,13 +11,13 @@ ghost use Rattle.share_history.specs.Rows.{is_there};
 ghost use Rattle.item_store.specs.Stands as item_store;
 ghost use Rattle.share_listings.specs.Answers.{StartFrom};
 ghost use Rattle.share_replies.specs.Replies.{Nothing, Tagged};
-ghost use Rattle.share_core.specs.Said.{IsSaid};
+ghost use Rattle.share_core.specs.Contents.{IsContent};
 ghost use Rattle.share_core.specs.Held.{AreHeld};
 ghost use Rattle.share_core.specs.Ticks.{starts, row_ticks};
-ghost use Rattle.share_core.specs.Listed.{rows_said};
+ghost use Rattle.share_core.specs.Listed.{rows_content};
 
-use crate::answer::Said;
-use crate::said::nothing;
+use crate::answer::ReplyContent;
+use crate::contents::nothing;
 use crate::stores::Stores;
 use item_model::{Look, Query, Target};
 use listing_plan::Plan;
@@ -57,17 +57,17 @@ pub(crate) fn rows<L: Ledger>(
     target: Target,
     look: &Look,
     steps: &mut Steps<L>,
-) -> Result<Said, AllocError>
+) -> Result<ReplyContent, AllocError>
     requires held { (h : List Entry) × AreHeld h stores.now }
     requires keep { stores.now.lists.keep ≡ stores.now.items.keep }
-    ensures said { IfOk result (λ said. (h : List Entry) → AreHeld h stores.now → IsSaid (rows_said stores.now.items.keep h target look.now) said) }
+    ensures content { IfOk result (λ content. (h : List Entry) → AreHeld h stores.now → IsContent (rows_content stores.now.items.keep h target look.now) content) }
     ensures cost { (h : List Entry) → AreHeld h stores.now → steps.new ≤ steps.old + row_ticks stores.now.items.keep h target look.now }
 {
     if !is_there(&stores.lists, target) {
         return Ok(nothing(404));
     }
     let plan = plan_listing(alloc, stores, target, look, steps)?;
-    Ok(Said {
+    Ok(ReplyContent {
         status: 200,
         form: BodyForm::Dmap,
         plan,

@@ -8,7 +8,7 @@ ghost use Rattle.share_asks.specs.Valid.{IsValidWant};
 ghost use Rattle.share_asks.specs.declared.ask.Want.TheVariants as want;
 ghost use Rattle.share_history.specs.Histories.{batches, edits, opening, revision};
 ghost use Rattle.share_history.specs.Keyed.{at};
-ghost use Rattle.share_history.specs.Limits.{has_few_lists, has_place, has_room_for, takes_batch};
+ghost use Rattle.share_history.specs.Limits.{has_few_lists, is_below_entry_limit, has_room_for, takes_batch};
 ghost use Rattle.share_history.specs.Marks.{until_login};
 ghost use Rattle.share_history.specs.Numbers.{most_edits};
 ghost use Rattle.share_history.specs.Sessions.{is_live, is_stopped};
@@ -17,19 +17,19 @@ ghost use Rattle.playlist_store.specs.Tests.{tests_of};
 ghost use Rattle.share_history.specs.Histories.{all_edits};
 ghost use Rattle.share_replies.specs.Replies.{Body, Nothing, lacks_session, needed, refusal, success};
 ghost use Rattle.share_core.specs.Opened.{LeaveFewLists, LeaveManyLists, if_filled, opened_with};
-ghost use Rattle.share_core.specs.Said.{IsSaid};
+ghost use Rattle.share_core.specs.Contents.{IsContent};
 ghost use Rattle.share_core.specs.Told.{IsAnswer};
 ghost use Rattle.share_core.specs.Steps.{IsRead, HasGrown, IsBetween, IsMarked};
 ghost use Rattle.share_core.specs.Wants.{is_free, is_read};
 ghost use Rattle.share_core.specs.Ticks.{want_ticks};
 
-use crate::answer::{Answer, Reply, Said};
+use crate::answer::{Answer, Reply, ReplyContent};
 use crate::browse::browse;
 use crate::containers::{containers, databases};
+use crate::contents::nothing;
 use crate::faults::{fault, records};
 use crate::listings::rows;
 use crate::replies::{end, enter, log_in, log_out, next_session, read};
-use crate::said::nothing;
 use crate::settings::Settings;
 use crate::small::{codes, login_reply, revision_reply, server_info};
 use crate::stores::Stores;
@@ -185,7 +185,7 @@ impl Share {
         ensures marked { IfOk result (IsMarked self.old.history) }
         ensures cost { steps.new ≤ steps.old + want_ticks self.old.settings.keep self.old.history ask.now.want }
     {
-        if self.register.stopped() {
+        if self.register.is_stopped() {
             return Ok(Answer::Reply(self.read(nothing(503), 0)));
         }
         if self.lacks_session(&ask.want) {
@@ -233,10 +233,10 @@ impl Share {
     }
 
     /// Returns whether the share was stopped.
-    pub fn stopped(&self) -> bool
+    pub fn is_stopped(&self) -> bool
         ensures { result ≡ is_stopped self.now.history }
     {
-        self.register.stopped()
+        self.register.is_stopped()
     }
 
     /// Returns the entries, oldest first. Does not allocate. The history keeps all limits, and its rows are whole.
@@ -248,11 +248,11 @@ impl Share {
     }
 
     // Returns a reply that adds no entry.
-    fn read(&mut self, said: Said, session: u32) -> Reply
-        ensures read { (told : ℕ × Body) → IsSaid told said → IsRead told session self.old self.new result }
+    fn read(&mut self, content: ReplyContent, session: u32) -> Reply
+        ensures read { (told : ℕ × Body) → IsContent told content → IsRead told session self.old self.new result }
         ensures marked { IsBetween self.old.history result }
     {
-        read(&mut self.register, said, session)
+        read(&mut self.register, content, session)
     }
 
     // Returns whether the operation needs a session that is not live.
@@ -297,12 +297,12 @@ impl Share {
         ensures unchanged { OnErr result (self.new ≡ self.old) }
         ensures marked { IfOk result (IsMarked self.old.history) }
     {
-        if !self.register.has_place() {
+        if !self.register.is_below_entry_limit() {
             return Ok(Answer::Reply(self.read(nothing(507), 0)));
         }
         let id = next_session(&self.register);
-        let said = login_reply(self.alloc, id)?;
-        let reply = log_in(&mut self.register, by, said, id)?;
+        let content = login_reply(self.alloc, id)?;
+        let reply = log_in(&mut self.register, by, content, id)?;
         Ok(Answer::Reply(reply))
     }
 
@@ -327,8 +327,8 @@ impl Share {
             let point = self.register.len();
             return Ok(Answer::Wait { revision, point });
         }
-        let said = revision_reply(self.alloc, revision)?;
-        Ok(Answer::Reply(self.read(said, session)))
+        let content = revision_reply(self.alloc, revision)?;
+        Ok(Answer::Reply(self.read(content, session)))
     }
 
     fn refuse_records(&mut self, by: u32, error: &RecordError) -> Result<Answer, AllocError>
@@ -337,8 +337,8 @@ impl Share {
         ensures unchanged { OnErr result (self.new ≡ self.old) }
         ensures marked { IfOk result (IsMarked self.old.history) }
     {
-        let said = records(self.alloc, error)?;
-        Ok(Answer::Reply(self.read(said, 0)))
+        let content = records(self.alloc, error)?;
+        Ok(Answer::Reply(self.read(content, 0)))
     }
 
     fn stop(&mut self, by: u32) -> Answer
@@ -372,8 +372,8 @@ impl Share {
         }
         let revision = self.register.revision();
         let next = revision + 1;
-        let said = revision_reply(self.alloc, next)?;
-        let reply = self.add(by, batch, said, steps)?;
+        let content = revision_reply(self.alloc, next)?;
+        let reply = self.add(by, batch, content, steps)?;
         Ok(Answer::Reply(reply))
     }
 
@@ -382,7 +382,7 @@ impl Share {
         ensures { IfOk result (λ takes. takes ≡ takes_batch self.now.history batch.now) }
     {
         let edits = batch.edits.as_slice();
-        if !self.register.has_place() || edits.len() > MAX_EDITS {
+        if !self.register.is_below_entry_limit() || edits.len() > MAX_EDITS {
             return Ok(false);
         }
         if !self.register.has_room_for(edits.len()) {
@@ -395,7 +395,7 @@ impl Share {
     fn begin<L: Ledger>(&mut self, batch: Batch, steps: &mut Steps<L>) -> Result<(), OpenError>
         requires going { is_stopped self.old.history ≡ false }
         requires valid { AreValid batch }
-        requires place { has_place self.old.history ≡ true }
+        requires below { is_below_entry_limit self.old.history ≡ true }
         requires room { has_room_for self.old.history (length batch) ≡ true }
         ensures grown { OnOk result (self.new ≡ record { settings = self.old.settings; history = self.old.history ++ entry.Edits 0 batch ∷ []; marks = self.old.marks }) }
         ensures fits { OnOk result (has_few_lists self.old.history batch ≡ true) }
@@ -419,13 +419,13 @@ impl Share {
         &mut self,
         by: u32,
         batch: &Batch,
-        said: Said,
+        content: ReplyContent,
         steps: &mut Steps<L>,
     ) -> Result<Reply, AllocError>
         requires going { is_stopped self.old.history ≡ false }
         requires valid { AreValid batch.now }
         requires takes { takes_batch self.old.history batch.now ≡ true }
-        ensures grown { IfOk result (λ reply. (told : ℕ × Body) → IsSaid told said → HasGrown told 0 (entry.Edits by batch.now) self.old self.new reply) }
+        ensures grown { IfOk result (λ reply. (told : ℕ × Body) → IsContent told content → HasGrown told 0 (entry.Edits by batch.now) self.old self.new reply) }
         ensures unchanged { OnErr result (self.new ≡ self.old) }
         ensures marked { IfOk result (IsBetween self.old.history) }
         ensures cost { steps.new ≤ steps.old + tests_of (all_edits self.old.history ++ batch.now) batch.now }
@@ -436,7 +436,7 @@ impl Share {
         let edits = batch.edits.as_slice();
         rows_are_whole(edits);
         self.stores.apply(self.alloc, edits, next, steps)?;
-        Ok(enter(&mut self.register, by, own, said))
+        Ok(enter(&mut self.register, by, own, content))
     }
 
     fn look_up<L: Ledger>(
@@ -453,17 +453,21 @@ impl Share {
         ensures marked { IfOk result (IsMarked self.old.history) }
         ensures cost { steps.new ≤ steps.old + want_ticks self.old.settings.keep self.old.history want.now }
     {
-        let said = self.said(want, steps)?;
+        let content = self.content_for(want, steps)?;
         let session = session_in(want).unwrap_or(0);
-        Ok(Answer::Reply(self.read(said, session)))
+        Ok(Answer::Reply(self.read(content, session)))
     }
 
     // Returns the reply to an operation that changes nothing.
-    fn said<L: Ledger>(&self, want: &Want, steps: &mut Steps<L>) -> Result<Said, AllocError>
+    fn content_for<L: Ledger>(
+        &self,
+        want: &Want,
+        steps: &mut Steps<L>,
+    ) -> Result<ReplyContent, AllocError>
         requires read { is_read want.now ≡ true }
         requires going { is_stopped self.now.history ≡ false }
         requires live { lacks_session self.now.history want.now ≡ false }
-        ensures said { IfOk result (λ said. IsSaid (unwrap_or (refusal self.now.history want.now) (success self.now.settings self.now.history want.now)) said) }
+        ensures content { IfOk result (λ content. IsContent (unwrap_or (refusal self.now.history want.now) (success self.now.settings self.now.history want.now)) content) }
         ensures cost { steps.new ≤ steps.old + want_ticks self.now.settings.keep self.now.history want.now }
     {
         let name = self.settings.name();

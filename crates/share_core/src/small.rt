@@ -8,10 +8,10 @@ ghost use Rattle.code_table.specs.Reply.{table_reply};
 ghost use Rattle.item_model.specs.Limits.{text_limit};
 ghost use Rattle.share_replies.specs.Replies.{Tagged};
 ghost use Rattle.share_replies.specs.SmallBodies.{server_info_body, login_body, revision_body};
-ghost use Rattle.share_core.specs.Said.{IsSaid};
+ghost use Rattle.share_core.specs.Contents.{IsContent};
 
-use crate::answer::Said;
-use crate::said::tagged;
+use crate::answer::ReplyContent;
+use crate::contents::tagged;
 use crate::tags::{list, number, small_number, text};
 use code_table::CodeTable;
 use dmap_tags::{Code, Tag, Tags, Text, Value};
@@ -28,9 +28,9 @@ fn version(of: Code, n: u32) -> Tag
 
 /// Returns the reply that describes the share.
 #[tactic(auto, using(crate::proofs::Spellable::server_info_spellable))]
-pub(crate) fn server_info(alloc: Global, name: &Text) -> Result<Said, AllocError>
+pub(crate) fn server_info(alloc: Global, name: &Text) -> Result<ReplyContent, AllocError>
     requires { length name.now ≤ text_limit }
-    ensures { IfOk result (λ said. IsSaid (200, Tagged (server_info_body name.now)) said) }
+    ensures { IfOk result (λ content. IsContent (200, Tagged (server_info_body name.now)) content) }
 {
     let mut tags = Tags::new(alloc);
     tags.push(number(Code(*b"mstt"), 200))?;
@@ -49,16 +49,16 @@ pub(crate) fn server_info(alloc: Global, name: &Text) -> Result<Said, AllocError
 }
 
 /// Returns the reply with the table of content codes.
-pub(crate) fn codes(alloc: Global) -> Result<Said, AllocError>
-    ensures { IfOk result (λ said. IsSaid (200, Tagged (table_reply standard_rows)) said) }
+pub(crate) fn codes(alloc: Global) -> Result<ReplyContent, AllocError>
+    ensures { IfOk result (λ content. IsContent (200, Tagged (table_reply standard_rows)) content) }
 {
     let table = CodeTable::standard(alloc)?;
     Ok(tagged(table.reply()?))
 }
 
 /// Returns the reply to a login, with the id of the new session.
-pub(crate) fn login_reply(alloc: Global, session: u32) -> Result<Said, AllocError>
-    ensures { IfOk result (λ said. IsSaid (200, Tagged (login_body session)) said) }
+pub(crate) fn login_reply(alloc: Global, session: u32) -> Result<ReplyContent, AllocError>
+    ensures { IfOk result (λ content. IsContent (200, Tagged (login_body session)) content) }
 {
     let mut tags = Tags::new(alloc);
     tags.push(number(Code(*b"mstt"), 200))?;
@@ -67,8 +67,8 @@ pub(crate) fn login_reply(alloc: Global, session: u32) -> Result<Said, AllocErro
 }
 
 /// Returns the reply to an update, with a revision.
-pub(crate) fn revision_reply(alloc: Global, revision: u32) -> Result<Said, AllocError>
-    ensures { IfOk result (λ said. IsSaid (200, Tagged (revision_body revision)) said) }
+pub(crate) fn revision_reply(alloc: Global, revision: u32) -> Result<ReplyContent, AllocError>
+    ensures { IfOk result (λ content. IsContent (200, Tagged (revision_body revision)) content) }
 {
     let mut tags = Tags::new(alloc);
     tags.push(number(Code(*b"mstt"), 200))?;

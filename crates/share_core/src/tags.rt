@@ -5,11 +5,11 @@ ghost use Rattle.dmap_tags.specs.Tree.{leaf, list, trees_of, U8, U32, Text as Wo
 ghost use Rattle.share_history.specs.Bodies.{start_tags};
 ghost use Rattle.share_history.specs.Databases.{whole_body, entry_tag};
 ghost use Rattle.share_replies.specs.Replies.{Tagged};
-ghost use Rattle.share_core.specs.Said.{IsSaid};
+ghost use Rattle.share_core.specs.Contents.{IsContent};
 ghost use Rattle.share_core.specs.Short.{AreShort, entries_limit};
 
-use crate::answer::Said;
-use crate::said::tagged;
+use crate::answer::ReplyContent;
+use crate::contents::tagged;
 use dmap_tags::{Code, Tag, Tags, Text, Value};
 use std::alloc::{AllocError, Global};
 
@@ -68,10 +68,10 @@ pub(crate) fn whole(
     entries_of: Code,
     revision: u32,
     entries: Tags,
-) -> Result<Said, AllocError>
+) -> Result<ReplyContent, AllocError>
     requires few { length entries ≤ entries_limit }
     requires short { AreShort entries }
-    ensures { IfOk result (λ said. IsSaid (200, Tagged (whole_body of entries_of revision entries)) said) }
+    ensures { IfOk result (λ content. IsContent (200, Tagged (whole_body of entries_of revision entries)) content) }
 {
     let count = entries.as_slice().len() as u32;
     let mut tags = start(alloc, revision, count)?;

@@ -2,34 +2,12 @@
 
 ghost use Rattle.std.specs.Prelude.{◌≡◌, ◌≤◌, length};
 ghost use Rattle.item_model.specs.Limits.{text_limit};
-ghost use Rattle.share_history.specs.BrowseListings.{browsed, browse_code, is_filled};
+ghost use Rattle.share_history.specs.BrowseListings.{is_filled};
 ghost use Rattle.prop_index.specs.Forms.{browse_text};
 ghost use Rattle.share_core.specs.Short.{HasShortTexts};
 
-use dmap_tags::Code;
-use item_model::{Browse, PropValue, Property, Row};
-
-fn browsed(browse: Browse) -> Property
-    ensures { result ≡ browsed browse }
-{
-    match browse {
-        Browse::Artists => Property::Asar,
-        Browse::Albums => Property::Asal,
-        Browse::Genres => Property::Asgn,
-        Browse::Composers => Property::Ascp,
-    }
-}
-
-pub(crate) fn browse_code(browse: Browse) -> Code
-    ensures { result ≡ browse_code browse }
-{
-    match browse {
-        Browse::Artists => Code(*b"abar"),
-        Browse::Albums => Code(*b"abal"),
-        Browse::Genres => Code(*b"abgn"),
-        Browse::Composers => Code(*b"abcp"),
-    }
-}
+use item_model::{Browse, PropValue, Row};
+use share_history::browsed;
 
 pub(crate) fn is_filled(text: &str) -> bool
     ensures { result ≡ is_filled text.now }

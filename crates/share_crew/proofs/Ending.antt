@@ -1,5 +1,6 @@
 -- What the verdict `Done` says of workers.
 use Rattle.std.proofs.Common.{◌≡◌, ◌||◌, ℕ, Bool, true, false, cond, List, [], ◌∷◌, ◌++◌, length, map, Option, None, Some, refl, sym, ap, ◌∙◌, inl, inr, arith, append-nil, length-append}
+use Rattle.std.proofs.lemmas.Bool.{or_parts}
 use Rattle.std.proofs.lemmas.List.Folds.{list_any-append}
 use Rattle.std.specs.List.{AllByRecursion, list_any}
 use Rattle.std.specs.Prelude.{nat_eq}
@@ -28,14 +29,6 @@ none_failed ends false true memory spent n f m s is = absurd (cc)
 none_failed ends false false true spent n f m s is = absurd (cc)
 none_failed ends false false false true n f m s is = absurd (cc)
 none_failed ends false false false false n f m s is = record { network = n; file = f; memory = m; spent = s }
-
-or_left : (a b : Bool) → (a || b) ≡ false → a ≡ false
-or_left true b is = absurd (cc)
-or_left false b is = refl
-
-or_right : (a b : Bool) → (a || b) ≡ false → b ≡ false
-or_right true b is = absurd (cc)
-or_right false b is = is
 
 stopped_longer : (seen later history : List Entry) → history ≡ seen ++ later → is_stopped seen ≡ true → is_stopped history ≡ true
 stopped_longer seen later history is stopped = ap is_stopped is ∙ (list_any-append is_stop seen later ∙ ap (λ (b : Bool). b || list_any is_stop later) stopped)
@@ -74,9 +67,9 @@ module _ {settings : Settings} {opening : List Entry} where
   wholes history (stint ∷ stints) parts none =
       let ends = map (λ (s : Stint settings opening). s.end) stints in
       let first : (end : WorkerEnd) → has_end end (stint.end ∷ ends) ≡ false → has_end end (stint.end ∷ []) ≡ false =
-      λ end is. ap (λ (b : Bool). b || false) (or_left (nat_eq (end_number stint.end) (end_number end)) (has_end end ends) is) in
+      λ end is. ap (λ (b : Bool). b || false) ((or_parts (nat_eq (end_number stint.end) (end_number end)) (has_end end ends) is).0) in
       let rest : (end : WorkerEnd) → has_end end (stint.end ∷ ends) ≡ false → has_end end ends ≡ false =
-      λ end is. or_right (nat_eq (end_number stint.end) (end_number end)) (has_end end ends) is in (
+      λ end is. (or_parts (nat_eq (end_number stint.end) (end_number end)) (has_end end ends) is).1 in (
         whole_as history stint stint.end parts.0 stint.served.ends
             (record { network = first worker.AcceptFault none.network; file = first worker.FileFault none.file; memory = first worker.Memory none.memory; spent = first worker.Spent none.spent }),
         wholes history stints parts.1

@@ -1,5 +1,6 @@
 -- Players change nothing: none of the entries of a worker that serves them is an edit, or a stop.
 use Rattle.std.proofs.Common.{◌≡◌, ◌⊎◌, ◌==◌, ◌||◌, ◌≤◌, ◌-◌, ℕ, suc, Bool, true, false, cond, List, [], ◌∷◌, ◌++◌, get_or, length, Option, refl, sym, subst, ap, ◌∙◌, inl, inr, arith, append_assoc, append-nil, eq-eqb}
+use Rattle.std.proofs.lemmas.Bool.{or_parts}
 use Rattle.std.proofs.lemmas.List.Elements.{All-nil, All-cons, All-append}
 use Rattle.std.specs.List.{AllByRecursion, list_any}
 use Rattle.std.specs.Prelude.{All, Contains}
@@ -56,14 +57,6 @@ quiet_links kind none settings by budget h (input ∷ inputs) (report ∷ report
     let rest = quiet_links kind none settings by (budget - length report.served) h inputs reports returns links.1 in
     ap (list_any kind) (added_joined h report.served (all_served reports)) ∙ any_neither kind (added_entries h report.served) (added_entries h (all_served reports)) one rest
 
-or_left : (a b : Bool) → (a || b) ≡ false → a ≡ false
-or_left true b is = absurd (cc)
-or_left false b is = refl
-
-or_right : (a b : Bool) → (a || b) ≡ false → b ≡ false
-or_right true b is = absurd (cc)
-or_right false b is = is
-
 -- if the entries of a number have no edit, no entry with that number is an edit
 abbrev pub IsQuiet : ℕ → Entry → Type 0
 IsQuiet n e = maker e ≡ n → is_edit e ≡ false
@@ -78,11 +71,11 @@ quiet_all kind n (e ∷ es) none =
     All-cons (IsQuietIn kind n) e es (λ is. head (maker e == n) (eq-eqb (maker e) n is) none) (quiet_all kind n es (tail (maker e == n) none))
   where
     head : (b : Bool) → b ≡ true → list_any kind (cond b (e ∷ entries_of maker n es) (entries_of maker n es)) ≡ false → kind e ≡ false
-    head true is none = or_left (kind e) (list_any kind (entries_of maker n es)) none
+    head true is none = (or_parts (kind e) (list_any kind (entries_of maker n es)) none).0
     head false is none = absurd (cc)
 
     tail : (b : Bool) → list_any kind (cond b (e ∷ entries_of maker n es) (entries_of maker n es)) ≡ false → list_any kind (entries_of maker n es) ≡ false
-    tail true none = or_right (kind e) (list_any kind (entries_of maker n es)) none
+    tail true none = (or_parts (kind e) (list_any kind (entries_of maker n es)) none).1
     tail false none = none
 
 no_loss : (k k' : Pass) (served : List Served) (loses : Bool) (lost : List Entry) → loses ≡ false → IsLostBy k k' served loses lost → lost ≡ []

@@ -1,15 +1,11 @@
 -- What is written after a prefix.
-use Rattle.std.proofs.Common.{◌≡◌, ◌⊎◌, ◌++◌, ℕ, List, Result, Ok, Err, MatchResult, sym, subst, inl, inr, arith, length-append}
+use Rattle.std.proofs.Common.{◌++◌, ℕ, List, sym, subst, inl, inr, arith, length-append}
 use Rattle.std.proofs.lemmas.List.{take-append-le}
 use Rattle.std.specs.Io.KnownBytes.{Appends}
 use Rattle.command_core.specs.Seen.{OutputSeen}
 use Rattle.command_core.specs.Endings.{IsWritten, IsCut}
 use Rattle.command_core.specs.Answers.{Tells}
 use Rattle.command_core.proofs.Appending.{written_more, cut_more}
-use Rattle.share_replies.specs.Answers.{Shared}
-use Rattle.share_crew.specs.declared.opening.LockedShare.{LockedShare}
-use Rattle.share_crew.specs.declared.opening.WorkerBuffers.{WorkerBuffers}
-use Rattle.share_crew.specs.Begun.{Locks, Announces}
 
 -- after a prefix
 pub told_behind : (start mid after : OutputSeen) (front bytes : List ℕ) (wanted status : ℕ) → IsWritten start mid front → Tells wanted bytes mid after status → Tells wanted (front ++ bytes) start after status
@@ -26,9 +22,3 @@ cut_wider before after bytes more h = record {
   );
   rose = h.rose;
 }
-
-module _ {D : Type 0} where
-  pub announces : (passes : ℕ) (share : Shared) (room : WorkerBuffers D) (line : List ℕ) (before after : OutputSeen) (result : Result (LockedShare D) ℕ) → Locks passes share room line before after result
-      → Announces passes share room line before after result
-  announces passes share room line before after (Ok begun) h = h
-  announces passes share room line before after (Err status) h = inr h

@@ -25,14 +25,8 @@ module _ {D : Type 0} where
     pub pass : known begun.first ≡ fresh 0 share.settings share.history
     pub room_is : begun.room ≡ room
 
-  -- the share is under its lock, or an allocation failed after `front` was written
-  abbrev pub Locks : (passes : ℕ) → Shared → WorkerBuffers D → (front : List ℕ) → OutputSeen → OutputSeen → Result (LockedShare D) ℕ → Type 0
-  Locks passes share room front start after result =
-      MatchResult result
-      (λ begun. IsBegun passes share room begun × IsWritten start after front)
-      (λ status. Tells 9 (front ++ memory_line) start after status)
-
-  -- .. after its line was written, or the output failed in that line
+  -- the share is under its lock after its line was written; or the output failed in that line, or an allocation after
+  -- it
   abbrev pub Announces : (passes : ℕ) → Shared → WorkerBuffers D → (line : List ℕ) → OutputSeen → OutputSeen → Result (LockedShare D) ℕ → Type 0
   Announces passes share room line before after result =
       MatchResult result

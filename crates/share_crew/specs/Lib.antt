@@ -5,3 +5,4 @@ pub mod Stints
 pub mod Crews
 pub mod Gathered
 pub mod Begun
+pub mod Outcomes

@@ -1,10 +1,9 @@
 //! Writes the first line of a share, and puts the share under its lock.
 
-ghost use Rattle.std.specs.Prelude.{◌≡◌, ◌≤◌, ℕ, List, All, IfOk};
-ghost use Rattle.command_core.specs.Seen.{OutputSeen, output_seen};
-ghost use Rattle.command_core.specs.Endings.{IsWritten};
+ghost use Rattle.std.specs.Prelude.{◌≡◌, ◌≤◌, All, IfOk};
+ghost use Rattle.command_core.specs.Seen.{output_seen};
 ghost use Rattle.share_replies.specs.Laws.{maker};
-ghost use Rattle.share_crew.specs.Begun.{Announces, HasRoom, Locks};
+ghost use Rattle.share_crew.specs.Begun.{Announces, HasRoom};
 
 use command_core::out_of_memory;
 use daap_outside::{Sink, put_all};
@@ -65,27 +64,10 @@ pub fn announced<W: Sink, D: Drop>(
         result }
 {
     match put_all(output, line) {
-        Ok(()) => lock_share(alloc, output, share, passes, room),
+        Ok(()) => match ShareLock::open(alloc, share, passes) {
+            Ok((lock, first)) => Ok(LockedShare { lock, first, room }),
+            Err(AllocError) => Err(out_of_memory(output, None).status),
+        },
         Err(_) => Err(5),
-    }
-}
-
-// Puts the share under a lock for `passes` handles.
-fn lock_share<W: Sink, D: Drop>(
-    alloc: Global,
-    output: &mut W,
-    share: Share,
-    passes: u32,
-    room: WorkerBuffers<D>,
-) -> Result<LockedShare<D>, u8>
-    requires passes { 1 ≤ passes }
-    requires opening { All (λ e. maker e ≡ 0) share.history }
-    ensures { (start : OutputSeen) (front : List ℕ)
-        → IsWritten start (output_seen (W.taken output.old) (W.faults output.old)) front
-        → Locks passes share room front start (output_seen (W.taken output.new) (W.faults output.new)) result }
-{
-    match ShareLock::open(alloc, share, passes) {
-        Ok((lock, first)) => Ok(LockedShare { lock, first, room }),
-        Err(AllocError) => Err(out_of_memory(output, None).status),
     }
 }

@@ -3,6 +3,7 @@
 ghost use Rattle.std.specs.Prelude.{◌≡◌, [], map};
 
 use item_model::Entries;
+use share_core::Share;
 use share_server::LinkReport;
 use std::alloc::Global;
 use std::marker::Model;
@@ -13,6 +14,22 @@ pub struct Outcome {
     pub status: u8,
     pub history: Option<Entries>,
     pub links: LinkReports,
+}
+
+impl Outcome {
+    ghost use Rattle.share_crew.specs.Outcomes.{LeavesShare};
+
+    /// Returns the outcome of a run that served `share`. Does not allocate.
+    pub fn of_share(status: u8, share: Share, links: LinkReports) -> Outcome
+        ensures status { result.status ≡ status }
+        ensures left { LeavesShare share.history links result }
+    {
+        Outcome {
+            status,
+            history: Some(Entries::of(share.into_history())),
+            links,
+        }
+    }
 }
 
 /// The reports of connections, worker by worker, for each worker in the order in which it accepted them.

@@ -13,7 +13,7 @@ use Rattle.share_history.specs.Numbers.{first_revision, base_list}
 use Rattle.share_history.specs.Histories.{edits, later, revision}
 use Rattle.share_history.specs.LastSaid.{Playlist, Plain, Ruled, only_if, says_list, says_member, item_at, list_at, member_at}
 use Rattle.share_history.specs.Named.{names_list}
-use Rattle.share_history.specs.Rows.{if_asked, in_list, row_at, rows}
+use Rattle.share_history.specs.Rows.{if_selected, in_list, row_at, rows}
 use Rattle.share_history.specs.Kept.{is_kept, is_left}
 use Rattle.share_history.specs.Differences.{new_tags, gone_keys}
 use Rattle.share_history.specs.Listings.{shown_after}
@@ -47,12 +47,12 @@ lists_begin_without_members es e c m h = member_more es e c m ∙ ap (λ said. u
 
 -- what a target shows of a container that is not container 1
 container_row : (es : List Edit) (c : ℕ) (q : Option Query) (k : ℕ) → (c == base_list) ≡ false
-    → row_at es (Container c) q k ≡ option_and_then (if_asked q) (in_list (list_at es c) es c k)
-container_row es c q k h = ap (λ b. option_and_then (if_asked q) (cond b (item_at es k) (in_list (list_at es c) es c k))) h
+    → row_at es (Container c) q k ≡ option_and_then (if_selected q) (in_list (list_at es c) es c k)
+container_row es c q k h = ap (λ b. option_and_then (if_selected q) (cond b (item_at es k) (in_list (list_at es c) es c k))) h
 
 no_rows : (es : List Edit) (c : ℕ) (q : Option Query) → (c == base_list) ≡ false → ((k : ℕ) → in_list (list_at es c) es c k ≡ None) → rows es (Container c) q ≡ []
 no_rows es c q h empty =
-    sym (rows_are es (Container c) q [] (sorted-ascending []) (λ k. sym (container_row es c q k h ∙ ap (option_and_then (if_asked q)) (empty k))))
+    sym (rows_are es (Container c) q [] (sorted-ascending []) (λ k. sym (container_row es c q k h ∙ ap (option_and_then (if_selected q)) (empty k))))
 
 itself : (c : ℕ) → (c == c) ≡ true
 itself c = eq-eqb c c refl
@@ -112,7 +112,7 @@ members_need_a_list es ds c m item off n =
 pub members_follow_their_items : MembersFollowTheirItems
 members_follow_their_items es ds c m item name q h list member unlisted unnamed =
     container_row (es ++ ds) c q m h
-    ∙ ap (option_and_then (if_asked q))
+    ∙ ap (option_and_then (if_selected q))
     (ap (λ l. in_list l (es ++ ds) c m) (list_stays es ds c unlisted ∙ list) ∙ ap (option_and_then (item_at (es ++ ds))) (member_stays es ds c m unlisted unnamed ∙ member))
 
 -- ---- bases

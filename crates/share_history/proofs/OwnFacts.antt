@@ -12,7 +12,7 @@ use Rattle.item_model.specs.declared.request.Target.TheVariants.{Items, Containe
 use Rattle.share_history.specs.Keyed.{ascending, pairs_at}
 use Rattle.share_history.specs.LastSaid.{last_said, says_item, item_at, only_if}
 use Rattle.share_history.specs.Named.{named_keys}
-use Rattle.share_history.specs.Rows.{rows, row_at, is_asked, if_asked}
+use Rattle.share_history.specs.Rows.{rows, row_at, is_selected, if_selected}
 
 -- a row that is found under an id has that id
 abbrev HasId : ℕ → Option Row → Type 0
@@ -56,9 +56,9 @@ found_id id (Some found) h = h
 pub item_id : (es : List Edit) (id : ℕ) (row : Row) → item_at es id ≡ Some row → row.id ≡ id
 item_id es id row is = subst (HasId id) is (found_id id (last_said (says_item id) es) (last_id id es))
 
-pub asked_some : (q : Option Query) (found : Option Row) (row : Row) → option_and_then (if_asked q) found ≡ Some row → found ≡ Some row
-asked_some q None row is = absurd (cc)
-asked_some q (Some other) row is = kept (is_asked q other) is
+pub selected_some : (q : Option Query) (found : Option Row) (row : Row) → option_and_then (if_selected q) found ≡ Some row → found ≡ Some row
+selected_some q None row is = absurd (cc)
+selected_some q (Some other) row is = kept (is_selected q other) is
   where
     kept : (b : Bool) → only_if b other ≡ Some row → Some other ≡ Some row
     kept true is = is
@@ -77,7 +77,7 @@ own_more k (Some row) rest own all = All-cons (IsOwn Items) (k, row) rest (own r
 own_pairs : (es : List Edit) (q : Option Query) (ks : List ℕ) → All (IsOwn Items) (pairs_at (row_at es Items q) ks)
 own_pairs es q [] = λ i d lt. absurd (omega arith)
 own_pairs es q (k ∷ ks) =
-    own_more k (row_at es Items q k) (pairs_at (row_at es Items q) ks) (λ row is. item_id es k row (asked_some q (item_at es k) row is)) (own_pairs es q ks)
+    own_more k (row_at es Items q k) (pairs_at (row_at es Items q) ks) (λ row is. item_id es k row (selected_some q (item_at es k) row is)) (own_pairs es q ks)
 
 pub own_rows : (es : List Edit) (t : Target) (q : Option Query) → All (IsOwn t) (rows es t q)
 own_rows es Items q = own_pairs es q (ascending (named_keys es))

@@ -16,11 +16,11 @@ use Rattle.share_history.specs.Numbers.{base_list}
 use Rattle.share_history.specs.Keyed.{at, put_in, taken_out, IsAscending, AreAscending, ascending, pairs_at}
 use Rattle.share_history.specs.LastSaid.{Playlist, Plain, Ruled, only_if, says_item, item_at, list_at}
 use Rattle.share_history.specs.Named.{keys_in, named_keys, lists_in, named_lists}
-use Rattle.share_history.specs.Rows.{is_asked, if_asked, in_list, in_target, row_at, rows, library, lists}
+use Rattle.share_history.specs.Rows.{is_selected, if_selected, in_list, in_target, row_at, rows, library, lists}
 use Rattle.share_history.proofs.KeyedFacts.{has, is_eq-cmp, at-put, ascending-put, at-out, ascending-out, same_pairs, same_keys_same, sorted-ascending, has-ascending, ascending-pairs_at, at-pairs_at, has-keys_of, few_pairs}
 use Rattle.share_history.proofs.EditFacts.{item_more, item_unnamed, member_unnamed, list_unnamed}
 
--- a value that is there only under the keys of some list is under each key what the list's pairs have there
+-- if values exist only under the keys of a list, then the pairs at these keys have under each key its value
 at_all : {A : Type 0} (k : ℕ) (value : ℕ → Option A) (keys : List ℕ) → (has k keys ≡ false → value k ≡ None) → at k (pairs_at value (ascending keys)) ≡ value k
 at_all k value keys h =
     at-pairs_at k value (ascending keys) ∙ ap (λ b. cond b (value k) None) (has-ascending k keys)
@@ -29,7 +29,7 @@ at_all k value keys h =
 list_row_unnamed : (list : Option Playlist) (es : List Edit) (c k : ℕ) → has k (named_keys es) ≡ false → in_list list es c k ≡ None
 list_row_unnamed None es c k h = refl
 list_row_unnamed (Some (Plain name)) es c k h = ap (option_and_then (item_at es)) (member_unnamed es c k h)
-list_row_unnamed (Some (Ruled name rule)) es c k h = ap (option_and_then (if_asked (Some rule))) (item_unnamed es k h)
+list_row_unnamed (Some (Ruled name rule)) es c k h = ap (option_and_then (if_selected (Some rule))) (item_unnamed es k h)
 
 target_unnamed : (es : List Edit) (t : Target) (k : ℕ) → has k (named_keys es) ≡ false → in_target es t k ≡ None
 target_unnamed es Items k h = item_unnamed es k h
@@ -38,7 +38,7 @@ target_unnamed es (Container c) k h =
 
 -- a key that no edit names has no row
 pub row_unnamed : (es : List Edit) (t : Target) (q : Option Query) (k : ℕ) → has k (named_keys es) ≡ false → row_at es t q k ≡ None
-row_unnamed es t q k h = ap (option_and_then (if_asked q)) (target_unnamed es t k h)
+row_unnamed es t q k h = ap (option_and_then (if_selected q)) (target_unnamed es t k h)
 
 pub at-rows : (es : List Edit) (t : Target) (q : Option Query) (k : ℕ) → at k (rows es t q) ≡ row_at es t q k
 at-rows es t q k = at_all k (row_at es t q) (named_keys es) (row_unnamed es t q k)
@@ -69,26 +69,26 @@ pub ascending-library : (es : List Edit) → IsAscending (library es)
 ascending-library es = ascending-rows es Items None
 
 -- one more key of a listing with a query
-asked_next : (q : Option Query) (k : ℕ) (o : Option Row) (found all : List (ℕ × Row)) → found ≡ filter (λ row. is_asked q row.1) all
-    → cons_option (option_map (λ row. (k, row)) (option_and_then (if_asked q) o)) found
-    ≡ filter (λ row. is_asked q row.1) (cons_option (option_map (λ row. (k, row)) (option_and_then (if_asked None) o)) all)
-asked_next q k None found all h = h
-asked_next q k (Some row) found all h = kept (is_asked q row)
+selected_next : (q : Option Query) (k : ℕ) (o : Option Row) (found all : List (ℕ × Row)) → found ≡ filter (λ row. is_selected q row.1) all
+    → cons_option (option_map (λ row. (k, row)) (option_and_then (if_selected q) o)) found
+    ≡ filter (λ row. is_selected q row.1) (cons_option (option_map (λ row. (k, row)) (option_and_then (if_selected None) o)) all)
+selected_next q k None found all h = h
+selected_next q k (Some row) found all h = kept (is_selected q row)
   where
     kept : (b : Bool) → cons_option (option_map (λ row. (k, row)) (only_if b row)) found
-        ≡ cond b ((k, row) ∷ filter (λ row. is_asked q row.1) all) (filter (λ row. is_asked q row.1) all)
+        ≡ cond b ((k, row) ∷ filter (λ row. is_selected q row.1) all) (filter (λ row. is_selected q row.1) all)
     kept true = ap (λ rs. (k, row) ∷ rs) h
     kept false = h
 
-asked_among : (es : List Edit) (q : Option Query) (ks : List ℕ)
-    → pairs_at (row_at es Items q) ks ≡ filter (λ row. is_asked q row.1) (pairs_at (row_at es Items None) ks)
-asked_among es q [] = refl
-asked_among es q (k ∷ ks) =
-    asked_next q k (item_at es k) (pairs_at (row_at es Items q) ks) (pairs_at (row_at es Items None) ks) (asked_among es q ks)
+selected_among : (es : List Edit) (q : Option Query) (ks : List ℕ)
+    → pairs_at (row_at es Items q) ks ≡ filter (λ row. is_selected q row.1) (pairs_at (row_at es Items None) ks)
+selected_among es q [] = refl
+selected_among es q (k ∷ ks) =
+    selected_next q k (item_at es k) (pairs_at (row_at es Items q) ks) (pairs_at (row_at es Items None) ks) (selected_among es q ks)
 
 -- the items of which a query holds are a filter of the library
-pub rows_asked : (es : List Edit) (q : Option Query) → rows es Items q ≡ filter (λ row. is_asked q row.1) (library es)
-rows_asked es q = asked_among es q (ascending (named_keys es))
+pub rows_selected : (es : List Edit) (q : Option Query) → rows es Items q ≡ filter (λ row. is_selected q row.1) (library es)
+rows_selected es q = selected_among es q (ascending (named_keys es))
 
 -- the library after one edit more: a put replaces the item's row, a drop removes it
 abbrev pub with_edit : List (ℕ × Row) → Edit → List (ℕ × Row)

@@ -5,7 +5,7 @@ use Rattle.std.proofs.lemmas.List.Sums.{sum_by-cons}
 use Rattle.item_model.specs.declared.changes.Entry.{Entry}
 use Rattle.item_model.specs.declared.changes.Entry.TheVariants.{Edits, Login, Logout, Stop}
 use Rattle.share_history.specs.Histories.{batches}
-use Rattle.share_history.specs.Limits.{takes_place}
+use Rattle.share_history.specs.Limits.{is_limited}
 use Rattle.share_history.specs.Keyed.{at, put_in}
 use Rattle.share_history.specs.Laws.{LoginsStayOrderly, MarksFollowAnswers}
 use Rattle.share_history.specs.Marks.{Marks, is_orderly}
@@ -13,20 +13,20 @@ use Rattle.share_history.specs.Sessions.{is_login, is_live}
 use Rattle.share_history.proofs.KeyedFacts.{at-filter, at-put, is_eq-cmp}
 
 -- each batch counts
-pub few_batches : (h : List Entry) → length (batches h) ≤ count_by takes_place h
+pub few_batches : (h : List Entry) → length (batches h) ≤ count_by is_limited h
 few_batches [] = omega arith
-few_batches (Edits by batch ∷ h) = omega (arith, few_batches h, sum_by-cons (λ x. cond (takes_place x) 1 0) (Edits by batch) h)
-few_batches (Login by id ∷ h) = omega (arith, few_batches h, sum_by-cons (λ x. cond (takes_place x) 1 0) (Login by id) h)
-few_batches (Logout by id ∷ h) = omega (arith, few_batches h, sum_by-cons (λ x. cond (takes_place x) 1 0) (Logout by id) h)
-few_batches (Stop by ∷ h) = omega (arith, few_batches h, sum_by-cons (λ x. cond (takes_place x) 1 0) (Stop by) h)
+few_batches (Edits by batch ∷ h) = omega (arith, few_batches h, sum_by-cons (λ x. cond (is_limited x) 1 0) (Edits by batch) h)
+few_batches (Login by id ∷ h) = omega (arith, few_batches h, sum_by-cons (λ x. cond (is_limited x) 1 0) (Login by id) h)
+few_batches (Logout by id ∷ h) = omega (arith, few_batches h, sum_by-cons (λ x. cond (is_limited x) 1 0) (Logout by id) h)
+few_batches (Stop by ∷ h) = omega (arith, few_batches h, sum_by-cons (λ x. cond (is_limited x) 1 0) (Stop by) h)
 
 -- and so does each login
-pub few_logins : (h : List Entry) → count_by is_login h ≤ count_by takes_place h
+pub few_logins : (h : List Entry) → count_by is_login h ≤ count_by is_limited h
 few_logins [] = omega arith
-few_logins (Edits by batch ∷ h) = omega (arith, few_logins h, sum_by-cons (λ e. cond (takes_place e) 1 0) (Edits by batch) h, sum_by-cons (λ e. cond (is_login e) 1 0) (Edits by batch) h)
-few_logins (Login by id ∷ h) = omega (arith, few_logins h, sum_by-cons (λ e. cond (takes_place e) 1 0) (Login by id) h, sum_by-cons (λ e. cond (is_login e) 1 0) (Login by id) h)
-few_logins (Logout by id ∷ h) = omega (arith, few_logins h, sum_by-cons (λ e. cond (takes_place e) 1 0) (Logout by id) h, sum_by-cons (λ e. cond (is_login e) 1 0) (Logout by id) h)
-few_logins (Stop by ∷ h) = omega (arith, few_logins h, sum_by-cons (λ e. cond (takes_place e) 1 0) (Stop by) h, sum_by-cons (λ e. cond (is_login e) 1 0) (Stop by) h)
+few_logins (Edits by batch ∷ h) = omega (arith, few_logins h, sum_by-cons (λ e. cond (is_limited e) 1 0) (Edits by batch) h, sum_by-cons (λ e. cond (is_login e) 1 0) (Edits by batch) h)
+few_logins (Login by id ∷ h) = omega (arith, few_logins h, sum_by-cons (λ e. cond (is_limited e) 1 0) (Login by id) h, sum_by-cons (λ e. cond (is_login e) 1 0) (Login by id) h)
+few_logins (Logout by id ∷ h) = omega (arith, few_logins h, sum_by-cons (λ e. cond (is_limited e) 1 0) (Logout by id) h, sum_by-cons (λ e. cond (is_login e) 1 0) (Logout by id) h)
+few_logins (Stop by ∷ h) = omega (arith, few_logins h, sum_by-cons (λ e. cond (is_limited e) 1 0) (Stop by) h, sum_by-cons (λ e. cond (is_login e) 1 0) (Stop by) h)
 
 -- a login with the next id keeps the ids in order
 orderly_login : (next by id : ℕ) (h : List Entry) → id ≡ count_by is_login h + next → is_orderly next h ≡ true → is_orderly next (h ++ Login by id ∷ []) ≡ true

@@ -14,7 +14,7 @@ use Rattle.share_history.specs.Keyed.{AreAscending, ascending}
 use Rattle.share_history.specs.Histories.{edits, later, up_to}
 use Rattle.share_history.specs.LastSaid.{Playlist, Plain, Ruled, item_at, list_at, member_at}
 use Rattle.share_history.specs.Named.{names_item, names_list, names_member, keys_in, named_keys}
-use Rattle.share_history.specs.Rows.{if_asked, in_list, in_target, row_at}
+use Rattle.share_history.specs.Rows.{if_selected, in_list, in_target, row_at}
 use Rattle.share_history.specs.Kept.{is_left, names_its_item, touches_in, touches, touched}
 use Rattle.share_history.proofs.KeyedFacts.{has, same_keys_same, sorted-ascending, has-ascending, has-filter, sorted-filter}
 use Rattle.share_history.proofs.EditFacts.{edits-split, first_false, second_false, both_false, has-append, other_key, item_stays, list_stays, member_stays, member_unnamed, and_second_false}
@@ -32,7 +32,7 @@ list_row_stays (Some (Plain name)) es ds c k h t =
     let named : Bool = list_any (names_member c k) ds in
     let item : Bool = names_its_item (member_at (es ++ ds) c k) ds in
     member_row_stays (member_at (es ++ ds) c k) es ds (second_false named item t) ∙ ap (option_and_then (item_at es)) (member_stays es ds c k h (first_false named item t))
-list_row_stays (Some (Ruled name rule)) es ds c k h t = ap (option_and_then (if_asked (Some rule))) (item_stays es ds k t)
+list_row_stays (Some (Ruled name rule)) es ds c k h t = ap (option_and_then (if_selected (Some rule))) (item_stays es ds k t)
 
 container_row_stays : (b : Bool) (es ds : List Edit) (c k : ℕ) → (b || not (list_any (names_list c) ds)) ≡ true
     → cond b (list_any (names_item k) ds) (touches_in (list_at (es ++ ds) c) (es ++ ds) c ds k) ≡ false
@@ -49,7 +49,7 @@ target_stays es ds (Container c) k l h = container_row_stays (c == base_list) es
 -- if some edits neither touch a key nor put or drop its list, its row stays as before them
 pub row_stays : (es ds : List Edit) (t : Target) (q : Option Query) (k : ℕ) → is_left t ds ≡ true → touches (es ++ ds) t ds k ≡ false
     → row_at (es ++ ds) t q k ≡ row_at es t q k
-row_stays es ds t q k l h = ap (option_and_then (if_asked q)) (target_stays es ds t k l h)
+row_stays es ds t q k l h = ap (option_and_then (if_selected q)) (target_stays es ds t k l h)
 
 -- ---- only named keys are touched
 

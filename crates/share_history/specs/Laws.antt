@@ -19,7 +19,7 @@ use Rattle.share_history.specs.Keyed.{IsAscending, at}
 use Rattle.share_history.specs.Histories.{at_revision, batches, edits, later, revision, up_to, opening}
 use Rattle.share_history.specs.LastSaid.{Playlist, Plain, Ruled, item_at, list_at, member_at}
 use Rattle.share_history.specs.Named.{names_list, names_member}
-use Rattle.share_history.specs.Rows.{if_asked, row_at, rows, library, is_there}
+use Rattle.share_history.specs.Rows.{if_selected, row_at, rows, library, is_there}
 use Rattle.share_history.specs.Kept.{is_kept, touches}
 use Rattle.share_history.specs.Listings.{Listing, shown_after, delta_listing, full_listing, listing}
 use Rattle.share_history.specs.Bodies.{body_tree}
@@ -76,7 +76,7 @@ MembersFollowTheirItems =
     (es ds : List Edit) (c m item : ℕ) (name : List ℕ) (query : Option Query) → (c == base_list) ≡ false
     → list_at es c ≡ Some (Plain name) → member_at es c m ≡ Some item
     → list_any (names_list c) ds ≡ false → list_any (names_member c m) ds ≡ false
-    → row_at (es ++ ds) (Container c) query m ≡ option_and_then (if_asked query) (item_at (es ++ ds) item)
+    → row_at (es ++ ds) (Container c) query m ≡ option_and_then (if_selected query) (item_at (es ++ ds) item)
 
 -- a base below the first revision or above the present one is outside the delta window
 abbrev pub BasesArePast : Type 0

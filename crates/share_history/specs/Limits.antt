@@ -7,15 +7,16 @@ use Rattle.share_history.specs.Numbers.{most_entries, most_edits, most_lists}
 use Rattle.share_history.specs.Histories.{all_edits}
 use Rattle.share_history.specs.Rows.{lists}
 
-abbrev pub takes_place : Entry → Bool
-takes_place (Edits by batch) = true
-takes_place (Login by id) = true
-takes_place (Logout by id) = false
-takes_place (Stop by) = false
+-- the limit on entries counts batches and logins
+abbrev pub is_limited : Entry → Bool
+is_limited (Edits by batch) = true
+is_limited (Login by id) = true
+is_limited (Logout by id) = false
+is_limited (Stop by) = false
 
 -- a batch or a login more stays within the limit on entries
-abbrev pub has_place : List Entry → Bool
-has_place h = nat_lt (count_by takes_place h) most_entries
+abbrev pub is_below_entry_limit : List Entry → Bool
+is_below_entry_limit h = nat_lt (count_by is_limited h) most_entries
 
 -- `count` edits more stay within the limit on edits
 abbrev pub has_room_for : List Entry → ℕ → Bool
@@ -27,4 +28,4 @@ has_few_lists h es = nat_le (length (lists (all_edits h ++ es))) most_lists
 
 -- a batch is accepted if it stays within all limits
 abbrev pub takes_batch : List Entry → List Edit → Bool
-takes_batch h es = has_place h && (has_room_for h (length es) && has_few_lists h es)
+takes_batch h es = is_below_entry_limit h && (has_room_for h (length es) && has_few_lists h es)

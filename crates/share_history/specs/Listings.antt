@@ -1,5 +1,5 @@
--- What a listing of items says. A full listing has the rows that the query selects, cut to the range. A delta has the
--- rows that are new or shown differently since its base, and the keys of rows that are no longer shown.
+-- What a listing of items says. A full listing has the rows that the query selects, or those of them in the range. A
+-- delta has the rows that are new or shown differently since its base, and the keys of rows that are no longer shown.
 use Rattle.std.specs.Prelude.{ℕ, List, [], Bool, true, false, length, map, Option, Some, None, if◌then◌else◌}
 use Rattle.dmap_tags.specs.Tree.{Tree}
 use Rattle.item_model.specs.declared.item.Row.{Row}

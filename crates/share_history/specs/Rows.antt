@@ -14,19 +14,19 @@ use Rattle.share_history.specs.LastSaid.{Playlist, Plain, Ruled, item_at, list_a
 use Rattle.share_history.specs.Named.{named_keys, named_lists}
 
 -- whether a row matches the query; without a query every row does
-abbrev pub is_asked : Option Query → Row → Bool
-is_asked None row = true
-is_asked (Some query) row = holds (tree_of query) row
+abbrev pub is_selected : Option Query → Row → Bool
+is_selected None row = true
+is_selected (Some query) row = holds (tree_of query) row
 
 -- the row, if it matches
-abbrev pub if_asked : Option Query → Row → Option Row
-if_asked query row = only_if (is_asked query row) row
+abbrev pub if_selected : Option Query → Row → Option Row
+if_selected query row = only_if (is_selected query row) row
 
 -- the row under a key of a list: in a playlist, the member's item, if the library has it
 abbrev pub in_list : Option Playlist → List Edit → ℕ → ℕ → Option Row
 in_list None es c key = None
 in_list (Some (Plain name)) es c key = option_and_then (item_at es) (member_at es c key)
-in_list (Some (Ruled name rule)) es c key = option_and_then (if_asked (Some rule)) (item_at es key)
+in_list (Some (Ruled name rule)) es c key = option_and_then (if_selected (Some rule)) (item_at es key)
 
 abbrev pub in_target : List Edit → Target → ℕ → Option Row
 in_target es Items key = item_at es key
@@ -34,7 +34,7 @@ in_target es (Container c) key = if c == base_list then item_at es key else in_l
 
 -- the row of a listing under a key
 abbrev pub row_at : List Edit → Target → Option Query → ℕ → Option Row
-row_at es target query key = option_and_then (if_asked query) (in_target es target key)
+row_at es target query key = option_and_then (if_selected query) (in_target es target key)
 
 -- all rows of a listing, ascending by key
 abbrev pub rows : List Edit → Target → Option Query → List (ℕ × Row)

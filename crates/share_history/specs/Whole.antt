@@ -8,7 +8,7 @@ use Rattle.item_model.specs.declared.item.Row.{Row}
 use Rattle.item_model.specs.Items.{AreTexts, is_item}
 use Rattle.item_model.specs.Valid.{is_valid}
 use Rattle.share_history.specs.Histories.{all_edits}
-use Rattle.share_history.specs.Limits.{takes_place}
+use Rattle.share_history.specs.Limits.{is_limited}
 use Rattle.share_history.specs.Numbers.{most_edits, most_entries}
 
 -- an item has each property once, with a value of its kind, and its texts are UTF-8
@@ -31,4 +31,4 @@ AreWhole edits = AllByRecursion (λ e. (is_valid e ≡ true) × PutsWhole e) edi
 pub record IsWhole (h : List Entry) : Type 0 where
   pub edits : AreWhole (all_edits h)
   pub few_edits : length (all_edits h) ≤ most_edits
-  pub few_entries : count_by takes_place h ≤ most_entries
+  pub few_entries : count_by is_limited h ≤ most_entries

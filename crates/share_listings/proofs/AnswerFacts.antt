@@ -19,9 +19,9 @@ use Rattle.share_history.specs.LastSaid.{Playlist, Plain, Ruled, only_if, item_a
 use Rattle.share_history.specs.Listings.{member_of, full_of, full_listing}
 use Rattle.share_history.specs.Named.{named_keys}
 use Rattle.share_history.specs.Numbers.{base_list}
-use Rattle.share_history.specs.Rows.{rows, row_at, library, is_asked, if_asked, in_list, in_target}
+use Rattle.share_history.specs.Rows.{rows, row_at, library, is_selected, if_selected, in_list, in_target}
 use Rattle.share_history.proofs.KeyedFacts.{has, has-keys_of, at-pairs_at, ascending-pairs_at, sorted-filter, sorted-ascending, few_pairs}
-use Rattle.share_history.proofs.OwnFacts.{item_id, asked_some}
+use Rattle.share_history.proofs.OwnFacts.{item_id, selected_some}
 use Rattle.share_history.proofs.RowFacts.{at-rows, ascending-rows, rows_are, length-rows, folded-longer, few_keys}
 use Rattle.share_history.proofs.RangeFacts.{length-filter}
 use Rattle.listing_plan.specs.declared.row.PlanRow.{PlanRow}
@@ -67,17 +67,17 @@ asked_pair shown key row false is = refl
 
 -- what a key adds whose item is there: its row, if it is asked for
 pub asked_more : (es : List Edit) (t : Target) (q : Option Query) (key : ℕ) (member : Option ℕ) (row : Row) (old new : List (ℕ × Row)) → member ≡ member_of t key
-    → in_target es t key ≡ Some row → new ≡ old ++ (if is_asked q row then (unwrap_or member row.id, row) ∷ [] else []) → new ≡ old ++ pairs_at (row_at es t q) (key ∷ [])
+    → in_target es t key ≡ Some row → new ≡ old ++ (if is_selected q row then (unwrap_or member row.id, row) ∷ [] else []) → new ≡ old ++ pairs_at (row_at es t q) (key ∷ [])
 asked_more es t q key member row old new is found pushed =
     pushed
     ∙ ap (λ l. old ++ l)
-    (asked_pair (unwrap_or member row.id) key row (is_asked q row) (ap (λ m. unwrap_or m row.id) is ∙ key_shown es t key row found)
-    ∙ ap (λ o. one_pair key (option_and_then (if_asked q) o)) (sym found))
+    (asked_pair (unwrap_or member row.id) key row (is_selected q row) (ap (λ m. unwrap_or m row.id) is ∙ key_shown es t key row found)
+    ∙ ap (λ o. one_pair key (option_and_then (if_selected q) o)) (sym found))
 
 -- and one whose item is not there: nothing
 pub none_more : (es : List Edit) (t : Target) (q : Option Query) (key : ℕ) (old : List (ℕ × Row)) → in_target es t key ≡ None
     → old ≡ old ++ pairs_at (row_at es t q) (key ∷ [])
-none_more es t q key old none = sym (ap (λ o. old ++ one_pair key (option_and_then (if_asked q) o)) none ∙ append-nil old)
+none_more es t q key old none = sym (ap (λ o. old ++ one_pair key (option_and_then (if_selected q) o)) none ∙ append-nil old)
 
 -- ---- keys from which a full listing may start
 
@@ -90,7 +90,7 @@ pub record Starts (es : List Edit) (t : Target) (q : Option Query) (keys : List 
 pub candidates_start : (es : List Edit) (t : Target) (q : Option Query) (ids : List ℕ) → is_library t ≡ true → AreCandidates es q ids → Starts es t q ids
 candidates_start es t q ids all h = record { ascending = h.ascending; others = λ k out. library_rows es t q k all ∙ h.others k out }
 
-none_asked : (q : Option Query) (found : Option Row) → is_some (option_and_then (if_asked None) found) ≡ false → option_and_then (if_asked q) found ≡ None
+none_asked : (q : Option Query) (found : Option Row) → is_some (option_and_then (if_selected None) found) ≡ false → option_and_then (if_selected q) found ≡ None
 none_asked q None h = refl
 none_asked q (Some row) h = absurd (cc)
 
@@ -147,7 +147,7 @@ own_member es (Some id) row is = own_item es id row is
 own_listed : (es : List Edit) (list : Option Playlist) (c key : ℕ) (row : Row) → in_list list es c key ≡ Some row → item_at es row.id ≡ Some row
 own_listed es None c key row is = absurd (cc)
 own_listed es (Some (Plain name)) c key row is = own_member es (member_at es c key) row is
-own_listed es (Some (Ruled name rule)) c key row is = own_item es key row (asked_some (Some rule) (item_at es key) row is)
+own_listed es (Some (Ruled name rule)) c key row is = own_item es key row (selected_some (Some rule) (item_at es key) row is)
 
 pub own_row : (es : List Edit) (t : Target) (key : ℕ) (row : Row) → in_target es t key ≡ Some row → item_at es row.id ≡ Some row
 own_row es Items key row is = own_item es key row is
@@ -165,7 +165,7 @@ abbrev id_pair : ℕ × Row → ℕ × ℕ
 id_pair row = (row.0, row.1.id)
 
 id_more : (es : List Edit) (t : Target) (key : ℕ) (rest : List (ℕ × Row)) (found : Option Row) → in_target es t key ≡ found → All (IsAt es t) (map id_pair rest)
-    → All (IsAt es t) (map id_pair (cons_option (option_map (λ row. (key, row)) (option_and_then (if_asked None) found)) rest))
+    → All (IsAt es t) (map id_pair (cons_option (option_map (λ row. (key, row)) (option_and_then (if_selected None) found)) rest))
 id_more es t key rest None is all = all
 id_more es t key rest (Some row) is all = All-cons (IsAt es t) (key, row.id) (map id_pair rest) (is ∙ sym (own_row es t key row is)) all
 
@@ -192,8 +192,8 @@ rows_unlisted es c other none = no_pairs (ascending (named_keys es))
   where
     no_row : (k : ℕ) → row_at es (Container c) None k ≡ None
     no_row k =
-        ap (λ b. option_and_then (if_asked None) (cond b (item_at es k) (in_list (list_at es c) es c k))) other
-        ∙ ap (λ l. option_and_then (if_asked None) (in_list l es c k)) none
+        ap (λ b. option_and_then (if_selected None) (cond b (item_at es k) (in_list (list_at es c) es c k))) other
+        ∙ ap (λ l. option_and_then (if_selected None) (in_list l es c k)) none
 
     no_pairs : (ks : List ℕ) → pairs_at (row_at es (Container c) None) ks ≡ []
     no_pairs [] = refl

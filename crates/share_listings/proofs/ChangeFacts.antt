@@ -25,7 +25,7 @@ use Rattle.share_history.proofs.TouchFacts.{has-touched}
 use Rattle.share_history.proofs.DifferenceFacts.{at-new, has-gone, ascending-new, same_not_new, new_at, none_and_some}
 use Rattle.share_history.proofs.MirrorFacts.{shown_at, at-shown, ascending-shown, ascending-after}
 use Rattle.share_history.proofs.DeltaFacts.{at-shown_rows, kept_left, row_as_then, none_shown}
-use Rattle.share_history.proofs.OwnFacts.{asked_some}
+use Rattle.share_history.proofs.OwnFacts.{selected_some}
 use Rattle.listing_plan.specs.declared.row.PlanRow.{PlanRow}
 use Rattle.listing_plan.specs.Plans.{key_of, keyed, delta_plan}
 use Rattle.share_listings.specs.Changes.{unless_shown, row_then, row_now, listed_at, is_deleted}
@@ -130,7 +130,7 @@ there_now member meta (Some old) (Some other) row h = by_test (is_same_tag (list
 -- it is the item of its key
 pub listed_there : (bs : List (List Edit)) (t : Target) (look : Look) (key : ℕ) (row : Row) → Some row ≡ listed_at bs t look key → in_target (edits bs) t key ≡ Some row
 listed_there bs t look key row h =
-    asked_some look.query (in_target (edits bs) t key) row (there_now (member_of t key) look.meta (row_then bs t look key) (row_now bs t look key) row h)
+    selected_some look.query (in_target (edits bs) t key) row (there_now (member_of t key) look.meta (row_then bs t look key) (row_now bs t look key) row h)
 
 -- ---- one key more
 

@@ -6,3 +6,4 @@ pub mod SheetFacts
 pub mod LibraryFacts
 pub mod Samples
 pub mod ChangeFacts
+pub mod SheetRowFacts

@@ -1,21 +1,22 @@
 -- Full listings of all items, from the rows of the library.
-use Rattle.std.proofs.Common.{◌≡◌, ◌≤◌, ℕ, List, [], true, false, Option, None, filter, All, length, refl, sym, subst, ap, ◌∙◌, arith}
+use Rattle.std.proofs.Common.{◌≡◌, ◌≤◌, ℕ, List, [], true, false, Option, None, filter, All, length, drop, refl, sym, subst, ap, ◌∙◌, arith}
+use Rattle.std.specs.Prelude.{nat_eq}
 use Rattle.std.specs.Map.{keys_of}
+use Rattle.std.proofs.lemmas.Bool.{eqb-true}
 use Rattle.item_model.specs.declared.changes.Edit.{Edit}
 use Rattle.item_model.specs.declared.item.Row.{Row}
 use Rattle.item_model.specs.declared.query.Query.{Query}
 use Rattle.item_model.specs.declared.request.Look.{Look}
 use Rattle.item_model.specs.declared.request.Range.{Range}
-use Rattle.item_model.specs.declared.request.Range.TheVariants.{All as whole_range}
 use Rattle.item_model.specs.declared.request.Target.{Target}
 use Rattle.item_model.specs.declared.request.Target.TheVariants.{Items}
 use Rattle.share_history.specs.Histories.{edits, revision}
 use Rattle.share_history.specs.Keyed.{AreAscending}
 use Rattle.share_history.specs.Listings.{member_of, shown_rows, full_of, full_listing}
 use Rattle.share_history.specs.Ranges.{in_range}
-use Rattle.share_history.specs.Rows.{rows, library, is_asked}
+use Rattle.share_history.specs.Rows.{rows, library, is_selected}
 use Rattle.share_history.proofs.RangeFacts.{in_range-map, length-in_range}
-use Rattle.share_history.proofs.RowFacts.{ascending-rows, rows_asked, length-rows}
+use Rattle.share_history.proofs.RowFacts.{ascending-rows, rows_selected, length-rows}
 use Rattle.listing_plan.specs.declared.row.PlanRow.{PlanRow}
 use Rattle.listing_plan.specs.Plans.{key_of, keyed, full_keyed, AreRowsOf}
 use Rattle.share_listings.specs.Answers.{is_library}
@@ -36,9 +37,9 @@ few_items es rs is few = omega (arith, ap length is, length-rows es Items None, 
 
 -- the rows that a query selects are those of the target
 pub selected : (es : List Edit) (t : Target) (asked query : Option Query) (rs found : List (ℕ × Row)) → is_library t ≡ true → rs ≡ library es → asked ≡ query
-    → found ≡ filter (λ row. is_asked asked row.1) rs → found ≡ rows es t query
+    → found ≡ filter (λ row. is_selected asked row.1) rs → found ≡ rows es t query
 selected es t asked query rs found all is same kept =
-    kept ∙ ap (filter (λ row. is_asked asked row.1)) is ∙ sym (rows_asked es asked) ∙ library_of es t asked all ∙ ap (rows es t) same
+    kept ∙ ap (filter (λ row. is_selected asked row.1)) is ∙ sym (rows_selected es asked) ∙ library_of es t asked all ∙ ap (rows es t) same
 
 -- ---- rows that can be planned
 
@@ -77,9 +78,9 @@ listed_is bs t look v total rs listed all query now is count cut =
       gone = [];
     }
 
--- all rows are those of the range
-pub all_in_range : (range : Range) (rs : List (ℕ × Row)) → range ≡ whole_range → rs ≡ in_range range rs
-all_in_range range rs whole = ap (λ r. in_range r rs) (sym whole)
+-- no row comes before the first
+pub from_first : (at : ℕ) → nat_eq at 0 ≡ true → (rows : List (ℕ × Row)) → drop at rows ≡ rows
+from_first at h rows = let e : at ≡ 0 = eqb-true at 0 h in ap (λ n. drop n rows) e
 
 pub selected_is : (bs : List (List Edit)) (t : Target) (look : Look) (v : ℕ) (found : List PlanRow) → v ≡ revision bs → keyed found ≡ rows (edits bs) t look.query
     → full_of v t look (keyed found) ≡ full_listing bs t look

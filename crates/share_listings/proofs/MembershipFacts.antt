@@ -14,7 +14,7 @@ use Rattle.share_history.specs.Kept.{is_kept, is_left, touched}
 use Rattle.share_history.specs.LastSaid.{Playlist, Plain, Ruled, only_if, item_at, list_at}
 use Rattle.share_history.specs.Named.{names_list}
 use Rattle.share_history.specs.Numbers.{first_revision, base_list}
-use Rattle.share_history.specs.Rows.{is_asked, if_asked, in_list, in_target, row_at}
+use Rattle.share_history.specs.Rows.{is_selected, if_selected, in_list, in_target, row_at}
 use Rattle.share_history.proofs.EditFacts.{edits-split, list_stays, up_to-now}
 use Rattle.share_history.proofs.DeltaFacts.{kept_left}
 use Rattle.item_store.specs.Stands.{floor_of}
@@ -44,9 +44,9 @@ library_kept keep bs t base h = library_case (λ t. is_kept keep bs Items base �
 
 -- the item of a member is the one in its list
 ruled_item : (es : List Edit) (rule : Query) (k : ℕ) (found : Option Row) → item_at es k ≡ found
-    → option_and_then (item_at es) (ruled rule k found) ≡ option_and_then (if_asked (Some rule)) found
+    → option_and_then (item_at es) (ruled rule k found) ≡ option_and_then (if_selected (Some rule)) found
 ruled_item es rule k None is = refl
-ruled_item es rule k (Some row) is = asked (is_asked (Some rule) row)
+ruled_item es rule k (Some row) is = asked (is_selected (Some rule) row)
   where
     asked : (b : Bool) → option_and_then (item_at es) (cond b (Some k) None) ≡ only_if b row
     asked true = is

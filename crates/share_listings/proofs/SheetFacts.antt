@@ -9,7 +9,7 @@ use Rattle.item_model.specs.declared.item.Row.{Row}
 use Rattle.item_model.specs.declared.query.Query.{Query}
 use Rattle.row_sheets.specs.Spelled.{Spelled}
 use Rattle.row_sheets.specs.Sheets.{by_id, rows_on, rows_in}
-use Rattle.share_history.specs.Rows.{is_asked}
+use Rattle.share_history.specs.Rows.{is_selected}
 use Rattle.share_history.proofs.EditFacts.{drop_more}
 
 -- ---- windows
@@ -104,7 +104,7 @@ rows_all rows i found all past is = sym (append-nil found) ∙ ap (λ l. found +
 -- ---- queries
 
 abbrev pub selected_by : Option Query → List (ℕ × Row) → List (ℕ × Row)
-selected_by query rows = filter (λ row. is_asked query row.1) rows
+selected_by query rows = filter (λ row. is_selected query row.1) rows
 
 -- the selected rows of one sheet more
 pub selected_more : {Z : Type 0} (sheets : List (Arc Spelled Z)) (i : ℕ) (sheet : Arc Spelled Z) (rows : List Row) (query : Option Query) (old new all : List (ℕ × Row))
@@ -114,7 +114,7 @@ selected_more sheets i sheet rows query old new all lt is on added so_far =
     let behind : List (ℕ × Row) = by_id (rows_in (drop (i + 1) sheets)) in
     let parts : by_id (rows_in (drop i sheets)) ≡ by_id rows ++ behind = sheet_more sheets i sheet lt is ∙ ap (λ rs. by_id rs ++ behind) (sym on) in
     part_more (selected_by query (by_id rows)) (selected_by query behind) (selected_by query (by_id (rows_in (drop i sheets)))) old new all
-    (ap (selected_by query) parts ∙ filter-append (λ row. is_asked query row.1) (by_id rows) behind) added so_far
+    (ap (selected_by query) parts ∙ filter-append (λ row. is_selected query row.1) (by_id rows) behind) added so_far
 
 -- and how many rows are left then
 pub fewer_left : {Z : Type 0} (sheets : List (Arc Spelled Z)) (i : ℕ) (sheet : Arc Spelled Z) (rows : List Row)
@@ -131,4 +131,4 @@ pub selected_row_more : (rows : List Row) (i : ℕ) (row : Row) (query : Option 
 selected_row_more rows i row query old new all lt is added so_far =
     part_more (selected_by query ((row.id, row) ∷ [])) (selected_by query (by_id (drop (i + 1) rows))) (selected_by query (by_id (drop i rows))) old new all
     (ap (λ rs. selected_by query (by_id rs)) (drop_more rows i row lt is)
-    ∙ filter-append (λ row. is_asked query row.1) ((row.id, row) ∷ []) (by_id (drop (i + 1) rows))) added so_far
+    ∙ filter-append (λ row. is_selected query row.1) ((row.id, row) ∷ []) (by_id (drop (i + 1) rows))) added so_far

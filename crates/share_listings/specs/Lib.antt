@@ -1,3 +1,4 @@
 pub mod Answers
 pub mod Memberships
 pub mod Changes
+pub mod SheetRows

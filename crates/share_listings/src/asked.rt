@@ -9,15 +9,15 @@ ghost use Rattle.share_history.specs.Histories.{edits};
 ghost use Rattle.share_history.specs.Keyed.{pairs_at};
 ghost use Rattle.share_history.specs.LastSaid.{item_at};
 ghost use Rattle.share_history.specs.Listings.{member_of};
-ghost use Rattle.share_history.specs.Rows.{in_target, row_at, is_asked};
+ghost use Rattle.share_history.specs.Rows.{in_target, row_at, is_selected};
 ghost use Rattle.share_listings.specs.Memberships.{IsBeside, Tells, AreMembersOf};
 
 use crate::membership::{Membership, item_under};
-use item_model::{Query, Row, SharedRow, Target};
+use item_model::{Query, SharedRow, Target};
 use item_store::ItemStore;
 use listing_plan::PlanRow;
 use playlist_store::Member;
-use song_query::{Steps, matches};
+use song_query::{Searched, Steps, matches};
 use std::alloc::{AllocError, Global};
 use std::sync::ledger::Ledger;
 
@@ -117,12 +117,12 @@ fn push_asked<L: Ledger>(
     steps: &mut Steps<L>,
 ) -> Result<(), AllocError>
     ensures rows { OnOk result (keyed rows.new.items ≡ keyed rows.old.items
-        ++ (if is_asked (option_copied query.entry) row then (unwrap_or member row.id, row) ∷ [] else [])) }
+        ++ (if is_selected (option_copied query.entry) row then (unwrap_or member row.id, row) ∷ [] else [])) }
     ensures members { (target : Target) → member ≡ member_of target (unwrap_or member row.id)
         → AllOf (λ row. row.member ≡ member_of target (key_of row)) rows.old.items → AllOf (λ row. row.member ≡ member_of target (key_of row)) rows.new.items }
     ensures cost { steps.new ≤ steps.old + 1 }
 {
-    if is_asked(query, row.row(), steps) {
+    if is_selected(query, row.row(), steps) {
         rows.push(PlanRow { member, row })?;
     }
     Ok(())
@@ -138,9 +138,13 @@ pub(crate) fn member_of(target: Target, key: u32) -> Option<u32>
     }
 }
 
-/// Returns whether a look with this query selects the row.
-pub(crate) fn is_asked<L: Ledger>(query: Option<&Query>, row: &Row, steps: &mut Steps<L>) -> bool
-    ensures asked { result ≡ is_asked (option_copied query.entry) row.now }
+/// Returns whether a look with this query selects the row that `row` represents.
+pub(crate) fn is_selected<R: Searched, L: Ledger>(
+    query: Option<&Query>,
+    row: &R,
+    steps: &mut Steps<L>,
+) -> bool
+    ensures asked { result ≡ is_selected (option_copied query.entry) (R.represents row.now) }
     ensures cost { steps.new ≤ steps.old + 1 }
 {
     match query {

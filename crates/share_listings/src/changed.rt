@@ -12,11 +12,11 @@ ghost use Rattle.listing_plan.specs.Plans.{key_of, keyed};
 ghost use Rattle.share_history.specs.Histories.{edits, up_to};
 ghost use Rattle.share_history.specs.Keyed.{pairs_at};
 ghost use Rattle.share_history.specs.Listings.{member_of};
-ghost use Rattle.share_history.specs.Rows.{in_target, row_at, if_asked};
+ghost use Rattle.share_history.specs.Rows.{in_target, row_at, if_selected};
 ghost use Rattle.share_listings.specs.Changes.{TellsSince, IsChange, unless_shown, listed_at, is_deleted, listed_in, is_deletion};
 ghost use Rattle.share_listings.specs.Memberships.{IsBeside, Tells};
 
-use crate::asked::{is_asked, member_of};
+use crate::asked::{is_selected, member_of};
 use crate::membership::{Membership, item_then, item_under};
 use item_model::{Look, Property, Query, Row, ShownProperties, Target, is_shown_alike};
 use item_store::ItemStore;
@@ -157,11 +157,11 @@ fn if_asked<'a, L: Ledger>(
     row: Option<&'a Row>,
     steps: &mut Steps<L>,
 ) -> Option<&'a Row>
-    ensures row { option_copied result ≡ option_and_then (if_asked (option_copied query.entry)) (option_copied row.entry) }
+    ensures row { option_copied result ≡ option_and_then (if_selected (option_copied query.entry)) (option_copied row.entry) }
     ensures cost { steps.new ≤ steps.old + 1 }
 {
     let row = row?;
-    if is_asked(query, row, steps) {
+    if is_selected(query, row, steps) {
         Some(row)
     } else {
         None

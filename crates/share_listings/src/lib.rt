@@ -9,6 +9,7 @@ mod library;
 mod membership;
 mod plans;
 mod ranges;
+mod sheet_row;
 mod sheets;
 mod targets;
 mod uncounted;

@@ -1,6 +1,6 @@
 //! The part of the rows that a range asks for.
 
-ghost use Rattle.std.specs.Prelude.{◌≡◌, ◌-◌, ℕ, List, take, drop, length};
+ghost use Rattle.std.specs.Prelude.{◌≡◌, ◌-◌, ℕ, List, true, take, drop, length};
 ghost use Rattle.item_model.specs.declared.item.Row.{Row};
 ghost use Rattle.share_history.specs.Ranges.{in_range};
 
@@ -33,6 +33,18 @@ impl Window {
         let (front, _) = rows.split_at(self.to.min(rows.len()));
         let (_, part) = front.split_at(self.from.min(front.len()));
         part
+    }
+}
+
+/// Whether a range says that it has all rows, however many there are.
+#[tactic(auto, using(crate::proofs::LibraryFacts::from_first))]
+pub(crate) fn has_all(range: Range) -> bool
+    ensures { result ≡ true → (rows : List (ℕ × Row)) → in_range range rows ≡ rows }
+{
+    match range {
+        Range::All => true,
+        Range::From { at } => at == 0,
+        _ => false,
     }
 }
 

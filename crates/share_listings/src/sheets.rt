@@ -1,16 +1,18 @@
 //! Rows from sheets.
 
-ghost use Rattle.std.specs.Prelude.{◌≡◌, ◌≤◌, ◌+◌, ◌++◌, ◌∷◌, [], All as AllOf, length, take, drop, filter, map, option_copied, IfOk, OnOk};
+ghost use Rattle.std.specs.Prelude.{◌≡◌, ◌≤◌, ◌<◌, ◌+◌, ◌++◌, ◌∷◌, [], All as AllOf, length, take, drop, filter, map, option_copied, IfOk, OnOk};
 ghost use Rattle.listing_plan.specs.Plans.{key_of, keyed};
 ghost use Rattle.row_sheets.specs.Sheets.{by_id};
 ghost use Rattle.share_history.specs.Listings.{member_of};
-ghost use Rattle.share_history.specs.Rows.{is_asked};
+ghost use Rattle.share_history.specs.Rows.{is_selected};
+ghost use Rattle.share_listings.specs.SheetRows.{sheet_row};
 
-use crate::asked::{is_asked, member_of};
+use crate::asked::{is_selected, member_of};
 use crate::ranges::Window;
+use crate::sheet_row::SheetRow;
 use item_model::{Query, SharedRow, Target};
 use listing_plan::PlanRow;
-use row_sheets::RowSheets;
+use row_sheets::{RowSheets, Sheet};
 use song_query::Steps;
 use std::alloc::{AllocError, Global};
 use std::sync::ledger::Ledger;
@@ -47,15 +49,14 @@ pub(crate) fn rows_asked<L: Ledger>(
     query: Option<&Query>,
     steps: &mut Steps<L>,
 ) -> Result<Vec<PlanRow>, AllocError>
-    ensures rows { IfOk result (λ found. keyed found.items ≡ filter (λ row. is_asked (option_copied query.entry) row.1) rows.now) }
+    ensures rows { IfOk result (λ found. keyed found.items ≡ filter (λ row. is_selected (option_copied query.entry) row.1) rows.now) }
     ensures members { IfOk result (λ found. AllOf (λ row. row.member ≡ member_of target (key_of row)) found.items) }
     ensures cost { steps.new ≤ steps.old + length rows.now }
 {
     let sheets = rows.sheets();
     let mut found = Vec::new(alloc);
     for sheet in sheets {
-        let on_sheet = sheet.rows();
-        push_asked(&mut found, target, on_sheet, query, steps)?;
+        push_asked(&mut found, target, sheet, query, steps)?;
     }
     Ok(found)
 }
@@ -77,37 +78,43 @@ fn push_within(
     Ok(())
 }
 
-// Adds those of some rows that a query selects.
+// Adds those rows of a sheet that a query selects.
 fn push_asked<L: Ledger>(
     found: &mut Vec<PlanRow>,
     target: Target,
-    rows: &[SharedRow],
+    sheet: &Sheet,
     query: Option<&Query>,
     steps: &mut Steps<L>,
 ) -> Result<(), AllocError>
-    ensures rows { OnOk result (keyed found.new.items ≡ keyed found.old.items ++ filter (λ row. is_asked (option_copied query.entry) row.1) (by_id rows.now)) }
+    ensures rows { OnOk result (keyed found.new.items ≡ keyed found.old.items ++ filter (λ row. is_selected (option_copied query.entry) row.1) (by_id sheet.now.rows)) }
     ensures members { AllOf (λ row. row.member ≡ member_of target (key_of row)) found.old.items → AllOf (λ row. row.member ≡ member_of target (key_of row)) found.new.items }
-    ensures cost { steps.new ≤ steps.old + length rows.now }
+    ensures cost { steps.new ≤ steps.old + length sheet.now.rows }
 {
-    for row in rows {
-        push_if_asked(found, target, row, query, steps)?;
+    let count = sheet.rows().len();
+    for index in 0..count {
+        push_if_asked(found, target, sheet, index, query, steps)?;
     }
     Ok(())
 }
 
+// Adds the row at an index of a sheet, if a query selects it. The query is evaluated on the tags of the sheet.
 fn push_if_asked<L: Ledger>(
     found: &mut Vec<PlanRow>,
     target: Target,
-    row: &SharedRow,
+    sheet: &Sheet,
+    index: usize,
     query: Option<&Query>,
     steps: &mut Steps<L>,
 ) -> Result<(), AllocError>
-    ensures rows { OnOk result (keyed found.new.items ≡ keyed found.old.items ++ filter (λ row. is_asked (option_copied query.entry) row.1) ((row.now.id, row.now) ∷ [])) }
+    requires { index < length sheet.now.rows }
+    ensures rows { OnOk result (keyed found.new.items ≡ keyed found.old.items
+        ++ filter (λ row. is_selected (option_copied query.entry) row.1) (by_id (sheet_row sheet.now index ∷ []))) }
     ensures members { AllOf (λ row. row.member ≡ member_of target (key_of row)) found.old.items → AllOf (λ row. row.member ≡ member_of target (key_of row)) found.new.items }
     ensures cost { steps.new ≤ steps.old + 1 }
 {
-    if is_asked(query, row.row(), steps) {
-        push(found, target, row)?;
+    let row = SheetRow::at(sheet, index);
+    if is_selected(query, &row, steps) {
+        push(found, target, row.shared())?;
     }
     Ok(())
 }

@@ -10,7 +10,7 @@ use mathlib.Core.List.{IsPrefix}
 use Rattle.share_lock.specs.Histories.{entries_of, NoneOf, Continues, Adds, AddsOwn, longer}
 
 module _ {E : Type 0} where
-  -- what holds of each element of a list holds of each element of its front, and of its rest
+  -- what holds of each element of a list holds of each element of its prefixes, and of the rest
   all_front : (P : E → Type 0) (xs ys : List E) → All P (xs ++ ys) → All P xs
   all_front P xs ys all k d less =
       let len = length-append xs ys in

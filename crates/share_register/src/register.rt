@@ -1,7 +1,7 @@
 ghost use Rattle.std.specs.Prelude.{◌≡◌, ◌≤◌, ◌<◌, ◌+◌, ◌++◌, ◌∷◌, [], ℕ, true, false, length, count_by, is_some, IfOk, IfSome, IfErr, OnOk, OnErr, IsOk, slice_get, option_copied};
 ghost use Rattle.share_history.specs.Histories.{all_edits, batches, opening, revision};
 ghost use Rattle.share_history.specs.Keyed.{at};
-ghost use Rattle.share_history.specs.Limits.{has_place, has_room_for, takes_place};
+ghost use Rattle.share_history.specs.Limits.{is_below_entry_limit, has_room_for, is_limited};
 ghost use Rattle.share_history.specs.Marks.{marks_after, until_login};
 ghost use Rattle.share_history.specs.Numbers.{most_edits};
 ghost use Rattle.share_history.specs.Sessions.{is_live, is_stopped, next_session};
@@ -19,7 +19,7 @@ fn begin(log: &mut EditLog, first: Batch) -> u32
     requires room { 2 ≤ log.old.spare }
     ensures history { log.new.entries ≡ opening first }
     ensures room { 1 ≤ log.new.spare }
-    ensures places { result ≡ count_by takes_place log.new.entries }
+    ensures limited { result ≡ count_by is_limited log.new.entries }
 {
     if first.edits.as_slice().is_empty() {
         return 0;
@@ -35,7 +35,7 @@ fn begin(log: &mut EditLog, first: Batch) -> u32
 #[derive(Drop)]
 pub struct Register {
     log: EditLog,
-    places: u32,
+    limited_entries: u32,
     edits: u32,
     logins: u32,
     is_stopped: bool,
@@ -54,7 +54,7 @@ impl Model for Register {
 
     ghost view = { λ a. record { history = a.log.entries; marks = a.marks.entries; spare = a.log.spare } };
 
-    ghost invariant = { λ a. IsSound a.log.entries a.places a.edits a.logins a.is_stopped a.marks.entries a.log.spare };
+    ghost invariant = { λ a. IsSound a.log.entries a.limited_entries a.edits a.logins a.is_stopped a.marks.entries a.log.spare };
 }
 
 impl Register {
@@ -68,10 +68,10 @@ impl Register {
         let mut log = EditLog::new(alloc);
         log.reserve(2)?;
         let edits = first.edits.as_slice().len();
-        let places = begin(&mut log, first);
+        let limited_entries = begin(&mut log, first);
         Ok(Register {
             log,
-            places,
+            limited_entries,
             edits: edits as u32,
             logins: 0,
             is_stopped: false,
@@ -93,7 +93,7 @@ impl Register {
     /// Returns `AllocError` if allocation fails; history and last-answered lengths are then unchanged.
     pub fn login(&mut self, by: u32) -> Result<u32, AllocError>
         requires going { is_stopped self.old.history ≡ false }
-        requires place { has_place self.old.history ≡ true }
+        requires below { is_below_entry_limit self.old.history ≡ true }
         ensures id { IfOk result (λ id. id ≡ next_session self.old.history) }
         ensures history { OnOk result (self.new.history ≡ self.old.history ++ Entry.Login by (next_session self.old.history) ∷ []) }
         ensures marks { OnOk result (self.new.marks ≡ marks_after self.new.history (next_session self.old.history) self.old.marks) }
@@ -106,7 +106,7 @@ impl Register {
         self.marks.remove(&id.saturating_sub(LIVE_SESSIONS));
         self.log.append(Entry::Login { by, id });
         self.logins = id;
-        self.places += 1;
+        self.limited_entries += 1;
         Ok(id)
     }
 
@@ -124,7 +124,7 @@ impl Register {
     /// Appends a batch in capacity reserved before. No last-answered length changes.
     pub fn edit(&mut self, by: u32, batch: Batch)
         requires going { is_stopped self.old.history ≡ false }
-        requires place { has_place self.old.history ≡ true }
+        requires below { is_below_entry_limit self.old.history ≡ true }
         requires few { has_room_for self.old.history (length batch) ≡ true }
         requires room { length self.old.marks + 2 ≤ self.old.spare }
         ensures history { self.new.history ≡ self.old.history ++ Entry.Edits by batch ∷ [] }
@@ -133,7 +133,7 @@ impl Register {
         let count = batch.edits.as_slice().len();
         self.log.append(Entry::Edits { by, batch });
         self.edits += count as u32;
-        self.places += 1;
+        self.limited_entries += 1;
     }
 
     /// Stops the share. Does not allocate. No last-answered length changes.
@@ -184,17 +184,17 @@ impl Register {
     }
 
     /// Returns whether the share was stopped.
-    pub fn stopped(&self) -> bool
+    pub fn is_stopped(&self) -> bool
         ensures { result ≡ is_stopped self.now.history }
     {
         self.is_stopped
     }
 
     /// Returns the number of entries of edits and of logins.
-    pub fn places(&self) -> u32
-        ensures { result ≡ count_by takes_place self.now.history }
+    pub fn limited_entries(&self) -> u32
+        ensures { result ≡ count_by is_limited self.now.history }
     {
-        self.places
+        self.limited_entries
     }
 
     /// Returns the number of edits in all batches.
@@ -205,10 +205,10 @@ impl Register {
     }
 
     /// Returns whether one more login or batch is within the limit on entries.
-    pub fn has_place(&self) -> bool
-        ensures { result ≡ has_place self.now.history }
+    pub fn is_below_entry_limit(&self) -> bool
+        ensures { result ≡ is_below_entry_limit self.now.history }
     {
-        (self.places as usize) < MAX_ENTRIES
+        (self.limited_entries as usize) < MAX_ENTRIES
     }
 
     /// Returns whether `count` more edits are within the limit on edits.

@@ -10,16 +10,16 @@ use Rattle.reply_bytes.specs.ReplyBytes.{body_bytes, form_of, with_head}
 use Rattle.reply_bytes.proofs.ReasonFacts.{replies_have_reasons}
 use Rattle.share_asks.specs.declared.ask.Want.{Want}
 use Rattle.share_asks.specs.declared.form.BodyForm.{BodyForm}
-use Rattle.share_core.specs.Said.{IsBody, IsSaid, tree_of}
+use Rattle.share_core.specs.Contents.{IsBody, IsContent, tree_of}
 use Rattle.share_core.specs.Told.{IsAnswer, IsTold}
 use Rattle.share_core.specs.declared.answer.Answer.{Answer}
 use Rattle.share_core.specs.declared.answer.Answer.TheVariants as answer
-use Rattle.share_core.specs.declared.answer.Said.{Said}
+use Rattle.share_core.specs.declared.answer.ReplyContent.{ReplyContent}
 use Rattle.share_history.specs.Bodies.{body_tree}
 use Rattle.share_replies.specs.Answers.{Shared, told, left}
 use Rattle.share_replies.specs.Replies.{Body, Nothing, Allowed, Line, Tagged, Reply, Replies, Holds, answer_to}
 use Rattle.share_replies.specs.Replies as replies
-use Rattle.share_replay.specs.Asked.{IsSaidTo, Spells}
+use Rattle.share_replay.specs.Asked.{IsContentTo, Spells}
 
 -- a body's plan writes it
 record Writes (body : Body) (form : BodyForm) (written : Plan) : Type 0 where
@@ -51,33 +51,33 @@ writes (Line text) form written is = record {
 }
 writes (Tagged tag) form written is = record { form_is = is.0; bytes = tag_bytes tag written is.1.0; writable = is.1.1 }
 
-spells : (reply : Reply) (said : Said) → HasReason reply.status → IsSaid (reply.status, reply.body) said → Spells said reply
-spells reply said reason is = let body = writes reply.body said.form said.plan is.1 in record {
+spells : (reply : Reply) (content : ReplyContent) → HasReason reply.status → IsContent (reply.status, reply.body) content → Spells content reply
+spells reply content reason is = let body = writes reply.body content.form content.plan is.1 in record {
   reason = subst HasReason (sym is.0) reason;
   writable = body.writable;
   bytes = λ last.
-      ap (λ (n : ℕ). with_head n said.form (plan_bytes said.plan) last) is.0
-      ∙ ap (λ (f : BodyForm). with_head reply.status f (plan_bytes said.plan) last) body.form_is
+      ap (λ (n : ℕ). with_head n content.form (plan_bytes content.plan) last) is.0
+      ∙ ap (λ (f : BodyForm). with_head reply.status f (plan_bytes content.plan) last) body.form_is
       ∙ ap (λ (b : List ℕ). with_head reply.status (form_of reply.body) b last) body.bytes;
 }
 
 -- the reply in an answer
-abbrev pub said_in : Answer → Option Said
-said_in (answer.Reply reply) = Some reply.said
-said_in (answer.Wait now point) = None
+abbrev pub content_in : Answer → Option ReplyContent
+content_in (answer.Reply reply) = Some reply.content
+content_in (answer.Wait now point) = None
 
-said_by : (old new : Shared) (number : ℕ) (want : Want) (x : replies.Answer) (a : Answer) → answer_to old.settings old.history want ≡ x
-    → IsTold (told old number want x) a → new ≡ left old number want x → IsSaidTo old new number want (said_in a)
-said_by old new number want (Replies reply) (answer.Reply r) is tells share = record {
+content_by : (old new : Shared) (number : ℕ) (want : Want) (x : replies.Answer) (a : Answer) → answer_to old.settings old.history want ≡ x
+    → IsTold (told old number want x) a → new ≡ left old number want x → IsContentTo old new number want (content_in a)
+content_by old new number want (Replies reply) (answer.Reply r) is tells share = record {
   reply = reply;
   answer = is;
-  spells = spells reply r.said (replies_have_reasons old.settings old.history want reply is) tells.said;
+  spells = spells reply r.content (replies_have_reasons old.settings old.history want reply is) tells.content;
   settings = ap (λ (s : Shared). s.settings) share;
   history = ap (λ (s : Shared). s.history) share;
 }
-said_by old new number want (Replies reply) (answer.Wait now point) is tells share = absurd tells
-said_by old new number want Holds (answer.Reply r) is tells share = absurd tells
-said_by old new number want Holds (answer.Wait now point) is tells share = record { answer = is; stays = share }
+content_by old new number want (Replies reply) (answer.Wait now point) is tells share = absurd tells
+content_by old new number want Holds (answer.Reply r) is tells share = absurd tells
+content_by old new number want Holds (answer.Wait now point) is tells share = record { answer = is; stays = share }
 
-pub says : (old new : Shared) (number : ℕ) (want : Want) (a : Answer) → IsAnswer old new number want a → IsSaidTo old new number want (said_in a)
-says old new number want a is = said_by old new number want (answer_to old.settings old.history want) a refl is.told is.share
+pub says : (old new : Shared) (number : ℕ) (want : Want) (a : Answer) → IsAnswer old new number want a → IsContentTo old new number want (content_in a)
+says old new number want a is = content_by old new number want (answer_to old.settings old.history want) a refl is.told is.share

@@ -10,7 +10,7 @@ use Rattle.listing_plan.specs.Plans.{plan_bytes}
 use Rattle.reply_bytes.specs.ReplyBytes.{reply_bytes, status_of, with_head}
 use Rattle.reply_bytes.proofs.Cut.{cut_behind}
 use Rattle.share_asks.specs.declared.ask.Ask.{Ask}
-use Rattle.share_core.specs.declared.answer.Said.{Said}
+use Rattle.share_core.specs.declared.answer.ReplyContent.{ReplyContent}
 use Rattle.share_history.specs.Sessions.{is_stopped}
 use Rattle.share_replies.specs.Added.{after}
 use Rattle.share_replies.specs.Answers.{Shared}
@@ -137,19 +137,19 @@ told_end number h c f close last end b t u v is some ends told line =
 
 -- ---- whole turns
 
-replied_bytes : (old new : Shared) (number : ℕ) (c : Connection) (said : Said) (close : Bool) → (told : IsDueReply old new number c said close)
-    → (turn_with number new.history c (with_head said.status said.form (plan_bytes said.plan)) close).written
+replied_bytes : (old new : Shared) (number : ℕ) (c : Connection) (content : ReplyContent) (close : Bool) → (told : IsDueReply old new number c content close)
+    → (turn_with number new.history c (with_head content.status content.form (plan_bytes content.plan)) close).written
     ≡ (turn_for number old.history c (Answers told.ask told.says.reply)).written
-replied_bytes old new number c said close told =
-    same_written number new.history c (with_head said.status said.form (plan_bytes said.plan)) (reply_bytes told.says.reply) close told.says.spells.bytes
+replied_bytes old new number c content close told =
+    same_written number new.history c (with_head content.status content.form (plan_bytes content.plan)) (reply_bytes told.says.reply) close told.says.spells.bytes
     ∙ ap (λ (h : List Entry). (turn_with number h c (reply_bytes told.says.reply) close).written) told.says.history
     ∙ ap (λ (b : Bool). (turn_with number (after old.history number told.ask.want) c (reply_bytes told.says.reply) b).written) told.closes
 
-pub replied : (old new : Shared) (number : ℕ) (c c' : Connection) (said : Said) (close : Bool) (t t' : Option (List ℕ)) → IsDueReply old new number c said close
-    → c' ≡ (turn_with number new.history c (with_head said.status said.form (plan_bytes said.plan)) close).connection
-    → Appends t t' (turn_with number new.history c (with_head said.status said.form (plan_bytes said.plan)) close).written
+pub replied : (old new : Shared) (number : ℕ) (c c' : Connection) (content : ReplyContent) (close : Bool) (t t' : Option (List ℕ)) → IsDueReply old new number c content close
+    → c' ≡ (turn_with number new.history c (with_head content.status content.form (plan_bytes content.plan)) close).connection
+    → Appends t t' (turn_with number new.history c (with_head content.status content.form (plan_bytes content.plan)) close).written
     → HasAnswered old.settings number old.history c new.history c' t t'
-replied old new number c c' said close t t' told connection written = record {
+replied old new number c c' content close t t' told connection written = record {
   due = Answers told.ask told.says.reply;
   is_due = due_asked old.settings old.history c told.ask told.asked ∙ ap (due_for told.ask) told.says.answer;
   history = told.says.history;
@@ -157,18 +157,18 @@ replied old new number c c' said close t t' told connection written = record {
       connection
       ∙ ap (λ (h : List Entry). (turn_with number h c (reply_bytes told.says.reply) close).connection) told.says.history
       ∙ ap (λ (b : Bool). (turn_with number (after old.history number told.ask.want) c (reply_bytes told.says.reply) b).connection) told.closes;
-  written = subst (Appends t t') (replied_bytes old new number c said close told) written;
+  written = subst (Appends t t') (replied_bytes old new number c content close told) written;
 }
 
-pub half_replied : (old new : Shared) (number : ℕ) (c : Connection) (said : Said) (close : Bool) (t t' : Option (List ℕ)) → IsDueReply old new number c said close
-    → AppendsPrefix t t' (turn_with number new.history c (with_head said.status said.form (plan_bytes said.plan)) close).written
+pub half_replied : (old new : Shared) (number : ℕ) (c : Connection) (content : ReplyContent) (close : Bool) (t t' : Option (List ℕ)) → IsDueReply old new number c content close
+    → AppendsPrefix t t' (turn_with number new.history c (with_head content.status content.form (plan_bytes content.plan)) close).written
     → IsHalfTold old.settings number old.history c new.history t t'
-half_replied old new number c said close t t' told written = record {
+half_replied old new number c content close t t' told written = record {
   due = Answers told.ask told.says.reply;
   is_due = due_asked old.settings old.history c told.ask told.asked ∙ ap (due_for told.ask) told.says.answer;
   some = some_left c (goes_on c told.ask told.asked) told.few;
   history = told.says.history;
-  taken = subst (AppendsPrefix t t') (replied_bytes old new number c said close told) written;
+  taken = subst (AppendsPrefix t t') (replied_bytes old new number c content close told) written;
 }
 
 refused_bytes : (number : ℕ) (h : List Entry) (c : Connection) (status : ℕ) (e : HeadError) → status ≡ status_of e
@@ -202,20 +202,20 @@ untold h h' t same = record { history = same; taken = Appends-nil t }
 
 -- ---- by the result of the call
 
-pub reply_answered : (r : Result Bool ReplayError) (old new : Shared) (number : ℕ) (c c' : Connection) (said : Said) (close : Bool) (t t' : Option (List ℕ))
-    → IsDueReply old new number c said close
-    → OnOk r (c' ≡ (turn_with number new.history c (with_head said.status said.form (plan_bytes said.plan)) close).connection)
-    → OnOk r (Appends t t' (turn_with number new.history c (with_head said.status said.form (plan_bytes said.plan)) close).written)
+pub reply_answered : (r : Result Bool ReplayError) (old new : Shared) (number : ℕ) (c c' : Connection) (content : ReplyContent) (close : Bool) (t t' : Option (List ℕ))
+    → IsDueReply old new number c content close
+    → OnOk r (c' ≡ (turn_with number new.history c (with_head content.status content.form (plan_bytes content.plan)) close).connection)
+    → OnOk r (Appends t t' (turn_with number new.history c (with_head content.status content.form (plan_bytes content.plan)) close).written)
     → IfOk r (λ was. was ≡ true → HasAnswered old.settings number old.history c new.history c' t t')
-reply_answered (Ok b) old new number c c' said close t t' told connection written = λ is. replied old new number c c' said close t t' told connection written
-reply_answered (Err e) old new number c c' said close t t' told connection written = tt
+reply_answered (Ok b) old new number c c' content close t t' told connection written = λ is. replied old new number c c' content close t t' told connection written
+reply_answered (Err e) old new number c c' content close t t' told connection written = tt
 
-pub reply_broken : (r : Result Bool ReplayError) (old new : Shared) (number : ℕ) (c : Connection) (said : Said) (close : Bool) (t t' : Option (List ℕ))
-    → IsDueReply old new number c said close
-    → OnErr r (AppendsPrefix t t' (turn_with number new.history c (with_head said.status said.form (plan_bytes said.plan)) close).written)
+pub reply_broken : (r : Result Bool ReplayError) (old new : Shared) (number : ℕ) (c : Connection) (content : ReplyContent) (close : Bool) (t t' : Option (List ℕ))
+    → IsDueReply old new number c content close
+    → OnErr r (AppendsPrefix t t' (turn_with number new.history c (with_head content.status content.form (plan_bytes content.plan)) close).written)
     → OnErr r (BreaksOff old.settings number old.history c new.history t t')
-reply_broken (Ok b) old new number c said close t t' told part = tt
-reply_broken (Err e) old new number c said close t t' told part = inr (half_replied old new number c said close t t' told part)
+reply_broken (Ok b) old new number c content close t t' told part = tt
+reply_broken (Err e) old new number c content close t t' told part = inr (half_replied old new number c content close t t' told part)
 
 pub refusal_answered : (r : Result Bool ReplayError) (old new : Shared) (number : ℕ) (c c' : Connection) (status : ℕ) (t t' : Option (List ℕ))
     → IsDueRefusal old new c status → OnOk r (c' ≡ record c { is_ended = true })

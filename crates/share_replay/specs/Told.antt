@@ -4,7 +4,7 @@ use Rattle.http_front.specs.ReplyHeads.{HasReason}
 use Rattle.http_heads.specs.declared.refusal.HeadError.{HeadError}
 use Rattle.reply_bytes.specs.ReplyBytes.{status_of}
 use Rattle.share_asks.specs.declared.ask.Ask.{Ask}
-use Rattle.share_core.specs.declared.answer.Said.{Said}
+use Rattle.share_core.specs.declared.answer.ReplyContent.{ReplyContent}
 use Rattle.share_replies.specs.Answers.{Shared}
 use Rattle.share_replay.specs.Asked.{IsReplied}
 use Rattle.share_replay.specs.Connections.{Connection, asked_on, fault_on}
@@ -13,12 +13,12 @@ use Rattle.share_replay.specs.declared.asking.Output.{Output}
 use Rattle.share_replay.specs.declared.asking.Output.TheVariants.{Reply, Refusal, Nothing}
 
 -- The reply to the next request.
-pub record IsDueReply (old new : Shared) (number : ℕ) (c : Connection) (said : Said) (close : Bool) : Type 0 where
+pub record IsDueReply (old new : Shared) (number : ℕ) (c : Connection) (content : ReplyContent) (close : Bool) : Type 0 where
   pub ask : Ask
   pub asked : asked_on c ≡ Some ask
   pub few : c.served < most_requests
   pub closes : close ≡ ask.close
-  pub says : IsReplied old new number ask.want said
+  pub says : IsReplied old new number ask.want content
 
 -- A refusal.
 pub record IsDueRefusal (old new : Shared) (c : Connection) (status : ℕ) : Type 0 where
@@ -36,6 +36,6 @@ pub record IsNotDue (old new : Shared) (c : Connection) : Type 0 where
   pub stays : new ≡ old
 
 abbrev pub IsDue : Shared → Shared → ℕ → Connection → Output → Type 0
-IsDue old new number c (Reply said close) = IsDueReply old new number c said close
+IsDue old new number c (Reply content close) = IsDueReply old new number c content close
 IsDue old new number c (Refusal status) = IsDueRefusal old new c status
 IsDue old new number c Nothing = IsNotDue old new c

@@ -20,7 +20,7 @@ use crate::telling::{tell_end, tell_reply};
 use daap_outside::Sink;
 use listing_plan::Plan;
 use share_asks::BodyForm;
-use share_core::{Said, Share};
+use share_core::{ReplyContent, Share};
 use std::alloc::{AllocError, Global};
 
 /// Gives the next answer on connection `number`, if there is one. Returns whether there was.
@@ -40,8 +40,8 @@ pub(crate) fn answer_on<W: Sink>(
     ensures count { MatchResult result (λ _. W.faults sink.new ≡ W.faults sink.old) (λ e. CountsFault (W.faults sink.old) (W.faults sink.new) e) }
 {
     match next_output(number, connection, share) {
-        Ok(Output::Reply { said, close }) => {
-            reply_on(alloc, number, connection, &said, share, close, sink)
+        Ok(Output::Reply { content, close }) => {
+            reply_on(alloc, number, connection, &content, share, close, sink)
         }
         Ok(Output::Refusal { status }) => refuse_on(alloc, number, connection, status, sink),
         Ok(Output::Nothing) => Ok(false),
@@ -54,19 +54,19 @@ fn reply_on<W: Sink>(
     alloc: Global,
     number: u32,
     connection: &mut Connection,
-    said: &Said,
+    content: &ReplyContent,
     share: &Share,
     close: bool,
     sink: &mut W,
 ) -> Result<bool, ReplayError>
-    requires reason { HasReason said.now.status }
-    requires writable { IsWritable said.now.plan }
+    requires reason { HasReason content.now.status }
+    requires writable { IsWritable content.now.plan }
     requires asked { is_some (asked_on connection.old) ≡ true }
     requires few { connection.old.served < most_requests }
     ensures was { IfOk result (λ was. was ≡ true) }
-    ensures connection { OnOk result (connection.new ≡ (turn_with number share.now.history connection.old (with_head said.now.status said.now.form (plan_bytes said.now.plan)) close).connection) }
-    ensures written { OnOk result (Appends (W.taken sink.old) (W.taken sink.new) (turn_with number share.now.history connection.old (with_head said.now.status said.now.form (plan_bytes said.now.plan)) close).written) }
-    ensures part { OnErr result (AppendsPrefix (W.taken sink.old) (W.taken sink.new) (turn_with number share.now.history connection.old (with_head said.now.status said.now.form (plan_bytes said.now.plan)) close).written) }
+    ensures connection { OnOk result (connection.new ≡ (turn_with number share.now.history connection.old (with_head content.now.status content.now.form (plan_bytes content.now.plan)) close).connection) }
+    ensures written { OnOk result (Appends (W.taken sink.old) (W.taken sink.new) (turn_with number share.now.history connection.old (with_head content.now.status content.now.form (plan_bytes content.now.plan)) close).written) }
+    ensures part { OnErr result (AppendsPrefix (W.taken sink.old) (W.taken sink.new) (turn_with number share.now.history connection.old (with_head content.now.status content.now.form (plan_bytes content.now.plan)) close).written) }
     ensures fewer { OnOk result (left_on connection.new < left_on connection.old) }
     ensures count { MatchResult result (λ _. W.faults sink.new ≡ W.faults sink.old) (λ e. CountsFault (W.faults sink.old) (W.faults sink.new) e) }
 {
@@ -74,9 +74,9 @@ fn reply_on<W: Sink>(
     match tell_reply(
         alloc,
         number,
-        said.status,
-        said.form,
-        &said.plan,
+        content.status,
+        content.form,
+        &content.plan,
         last.is_some(),
         sink,
     ) {

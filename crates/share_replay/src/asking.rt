@@ -2,13 +2,13 @@
 
 ghost use Rattle.std.specs.Prelude.{◌≡◌, ◌<◌, IfOk, OnErr};
 ghost use Rattle.share_asks.specs.Valid.{IsValidWant};
-ghost use Rattle.share_replay.specs.Asked.{IsSaidTo};
+ghost use Rattle.share_replay.specs.Asked.{IsContentTo};
 ghost use Rattle.share_replay.specs.Told.{IsDue};
 
 use crate::connection::Connection;
 use reply_bytes::status_of;
 use share_asks::Ask;
-use share_core::{Answer, Said, Share};
+use share_core::{Answer, ReplyContent, Share};
 use song_query::Steps;
 use std::alloc::AllocError;
 use std::marker::Brand;
@@ -18,7 +18,7 @@ use std::sync::ledger::{Blank, Ledger};
 #[derive(Drop)]
 pub(crate) enum Output {
     /// The reply to its next request. If `close`, the connection ends after it.
-    Reply { said: Said, close: bool },
+    Reply { content: ReplyContent, close: bool },
     /// The refusal of its bytes, with its status.
     Refusal { status: u16 },
     Nothing,
@@ -34,9 +34,9 @@ pub(crate) fn next_output(
     ensures unchanged { OnErr result (share.new ≡ share.old) }
 {
     match connection.next() {
-        Some(ask) => match said_to(share, number, ask) {
-            Ok(Some(said)) => Ok(Output::Reply {
-                said,
+        Some(ask) => match ask_share(share, number, ask) {
+            Ok(Some(content)) => Ok(Output::Reply {
+                content,
                 close: ask.close,
             }),
             Ok(None) => Ok(Output::Nothing),
@@ -52,30 +52,30 @@ pub(crate) fn next_output(
 }
 
 // Returns the share's response to a request of connection `number`; `None` if the update is pending.
-fn said_to(share: &mut Share, number: u32, ask: &Ask) -> Result<Option<Said>, AllocError>
+fn ask_share(share: &mut Share, number: u32, ask: &Ask) -> Result<Option<ReplyContent>, AllocError>
     requires valid { IsValidWant ask.now.want }
-    ensures said { IfOk result (IsSaidTo share.old share.new number ask.now.want) }
+    ensures content { IfOk result (IsContentTo share.old share.new number ask.now.want) }
     ensures unchanged { OnErr result (share.new ≡ share.old) }
 {
-    said_by::<Brand>(Blank::new(1), share, number, ask)
+    ask_share_with::<Brand>(Blank::new(1), share, number, ask)
 }
 
-fn said_by<L: Ledger>(
+fn ask_share_with<L: Ledger>(
     blank: Blank,
     share: &mut Share,
     number: u32,
     ask: &Ask,
-) -> Result<Option<Said>, AllocError>
+) -> Result<Option<ReplyContent>, AllocError>
     requires name { blank.name ≡ L.name }
     requires parts { blank.parts ≡ L.parts }
     requires any { 0 < blank.parts }
     requires valid { IsValidWant ask.now.want }
-    ensures said { IfOk result (IsSaidTo share.old share.new number ask.now.want) }
+    ensures content { IfOk result (IsContentTo share.old share.new number ask.now.want) }
     ensures unchanged { OnErr result (share.new ≡ share.old) }
 {
     let mut steps = Steps::<L>::open(blank);
     match share.answer(number, ask, &mut steps) {
-        Ok(Answer::Reply(reply)) => Ok(Some(reply.said)),
+        Ok(Answer::Reply(reply)) => Ok(Some(reply.content)),
         Ok(Answer::Wait { .. }) => Ok(None),
         Err(error) => Err(error),
     }

@@ -112,7 +112,7 @@ impl Connection {
         requires { self.now.served < most_requests }
         ensures { result ≡ last_by share.now.history (self.now.served + 1) close }
     {
-        if share.stopped() {
+        if share.is_stopped() {
             Some(End::Stopped)
         } else if self.served + 1 == MOST_REQUESTS {
             Some(End::Spent)

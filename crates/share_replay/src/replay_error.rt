@@ -10,7 +10,7 @@ pub enum ReplayError {
     /// The sink failed.
     #[error("write failed")]
     Failed,
-    #[error("memory")]
+    #[error("out of memory")]
     Memory,
 }
 

@@ -19,7 +19,7 @@ pub enum ScriptError {
     /// The first line, counted from 1, that is malformed, may not follow those before it, or has no line feed.
     #[error("line {line}")]
     Line { line: u64 },
-    #[error("memory")]
+    #[error("out of memory")]
     Memory,
 }
 

@@ -9,7 +9,7 @@ use Rattle.item_model.specs.declared.changes.Entry.{Entry}
 use Rattle.share_history.specs.Histories.{batches, all_edits, revision}
 use Rattle.share_history.specs.LastSaid.{only_if}
 use Rattle.share_history.specs.Rows.{is_there}
-use Rattle.share_history.specs.Limits.{has_place, takes_batch}
+use Rattle.share_history.specs.Limits.{is_below_entry_limit, takes_batch}
 use Rattle.share_history.specs.Sessions.{is_live, is_stopped, next_session}
 use Rattle.share_history.specs.Bodies.{listing_body}
 use Rattle.share_history.specs.Databases.{databases_body, containers_body}
@@ -80,7 +80,7 @@ records_fault (Edit (Err error)) = Some (400, Line (records_line error))
 records_fault want = None
 
 abbrev pub meets_limit : List Entry → Want → Bool
-meets_limit h Login = not (has_place h)
+meets_limit h Login = not (is_below_entry_limit h)
 meets_limit h (Edit (Ok (e ∷ es))) = not (takes_batch h (e ∷ es))
 meets_limit h want = false
 
@@ -118,7 +118,7 @@ is_held h want = false
 -- the session of a reply, granted or refused: the one that the request needs, if it is live and the share is not
 -- stopped; for a login within the limit, the new one
 abbrev pub session_of : List Entry → Want → ℕ
-session_of h Login = if not (is_stopped h) && has_place h then next_session h else 0
+session_of h Login = if not (is_stopped h) && is_below_entry_limit h then next_session h else 0
 session_of h want = option_map_or (λ session. if not (is_stopped h) && is_live h session then session else 0) (needed want) 0
 
 abbrev pub reply_with : List Entry → Want → ℕ × Body → Answer

@@ -5,6 +5,7 @@ use Rattle.item_model.specs.declared.changes.Edit.{Edit}
 use Rattle.item_model.specs.declared.changes.Entry.{Entry}
 use Rattle.share_asks.specs.declared.ask.Ask.{Ask}
 use Rattle.share_lock.specs.Histories.{entries_of}
+use Rattle.share_lock.specs.Known.{after_turn}
 use Rattle.share_lock.proofs.Fronts.{continues}
 use Rattle.share_replies.specs.Settings.{Settings}
 use Rattle.share_replies.specs.Laws.{maker}
@@ -59,6 +60,12 @@ added_joined h (s ∷ served) more_served =
     ∙ sym (append_assoc (added_part s.added (at_point h s)) (added_entries h served) (added_entries h more_served))
 
 -- ---- one turn after the other
+
+-- a turn in which the handle served nothing
+pub looked_once : (k : Pass) (h more : List Entry) → h ≡ k.seen ++ more → Fresh k (after_turn k h) []
+looked_once k h more grows =
+    let len : length h ≡ length k.seen + length more = ap length grows ∙ length-append k.seen more in
+    record { more = more; grows = grows; looks = length h ∷ []; looked = refl; rises = omega arith; among = tt; marked = tt }
 
 -- a handle that served made no other entries
 pub but_nothing : (k k' : Pass) (asks : List Ask) (served : List Served) → Serves k k' asks served → ServesBut k k' asks served []
@@ -176,17 +183,8 @@ lost_before k k' k'' more served batch lost grows made = record {
 
 pub quiet_turns_serve_nothing : QuietTurnsServeNothing
 quiet_turns_serve_nothing k more none =
-    let seen : length (k.seen ++ more) ≡ length k.seen + length more = length-append k.seen more in
     record {
-      fresh = record {
-        more = more;
-        grows = refl;
-        looks = length (k.seen ++ more) ∷ [];
-        looked = refl;
-        rises = omega arith;
-        among = tt;
-        marked = tt;
-      };
+      fresh = looked_once k (k.seen ++ more) more refl;
       stays = refl;
       are_served = tt;
       own = (continues {E = Entry} maker (k.number ∷ []) k.seen (k.seen ++ more) more refl none).own k.number (0, omega arith, refl)

@@ -25,6 +25,7 @@ use Rattle.share_server.specs.Passes.{Pass}
 use Rattle.share_server.specs.Losses.{edit_and_stop}
 use Rattle.share_server.specs.Answering.{Finds, HasAdded, IsLost}
 use Rattle.share_server.specs.Kept.{IsReadyFor, Keeping, edits_wanted}
+use Rattle.share_server.proofs.InTurn.{looked_once}
 use Rattle.share_server.proofs.Listening.{any_neither}
 use Rattle.share_server.proofs.Losing.{keeping_none}
 use Rattle.share_server.proofs.Turning.{own_stays, serves_nothing}
@@ -190,15 +191,7 @@ module _ (k : Pass) (h : List Entry) (on : Continues maker (numbers_of k) k.seen
             asks_it = is ∙ (brings some).asks_it;
             lost = lost_here;
             serves = record {
-              fresh = record {
-                more = on.more ++ lost_here;
-                grows = both ∙ (ap (λ l. l ++ lost_here) on.begins ∙ append_assoc k.seen on.more lost_here);
-                looks = length h'' ∷ [];
-                looked = refl;
-                rises = omega arith;
-                among = tt;
-                marked = tt;
-              };
+              fresh = looked_once k h'' (on.more ++ lost_here) (both ∙ (ap (λ l. l ++ lost_here) on.begins ∙ append_assoc k.seen on.more lost_here));
               stays = refl;
               are_served = tt;
               own = own_lost;

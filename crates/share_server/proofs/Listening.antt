@@ -22,11 +22,11 @@ use Rattle.http_front.specs.Asks.{Spells}
 use Rattle.http_front.specs.Readings.{Joins}
 use Rattle.http_front.specs.Numbers.{number_in, range_in}
 use Rattle.http_front.specs.Parameters.{nonempty_value, meta_in}
-use Rattle.http_front.specs.Routes.{for_role, place_at, place_of, verb_of, verb_text}
+use Rattle.http_front.specs.Routes.{for_role, resource_at, resource_of, verb_of, verb_text}
 use Rattle.http_front.specs.Targets.{local_part, path_of, query_of}
-use Rattle.http_front.specs.Wants.{NumberThen, MetaThen, RangeThen, QueryThen, filter_or, PlaceWant, WithMethod, AtPlace}
-use Rattle.http_front.specs.declared.routes.Place.{Place}
-use Rattle.http_front.specs.declared.routes.Place.TheVariants as place
+use Rattle.http_front.specs.Wants.{NumberThen, MetaThen, RangeThen, QueryThen, filter_or, ResourceWant, WithMethod, ForResource}
+use Rattle.http_front.specs.declared.routes.Resource.{Resource}
+use Rattle.http_front.specs.declared.routes.Resource.TheVariants as resource
 use Rattle.share_server.specs.declared.report.Served.{Served}
 use Rattle.share_server.specs.Served.{at_point, answered_on, added_part, IsGivenUp, IsReplied, IsServed, AreServed, added_entries}
 use Rattle.share_server.specs.Laws.{PlayersChangeNothing}
@@ -62,7 +62,7 @@ quiet_session : (query : List ℕ) (of : ℕ → Want) → ((session : ℕ) → 
 quiet_session query of quiet =
     quiet_number (codes "session-id") (number_in (nonempty_value (codes "session-id") query)) (λ session want. want ≡ of session) (λ session. quiet_is (of session) (quiet session))
 
-quiet_rows : (target : Target) (query : List ℕ) → IsQuiet (PlaceWant (place.Rows target) query [])
+quiet_rows : (target : Target) (query : List ℕ) → IsQuiet (ResourceWant (resource.Rows target) query [])
 quiet_rows target query =
     quiet_number (codes "session-id") (number_in (nonempty_value (codes "session-id") query)) _ (λ session.
     quiet_number (codes "delta") (number_in (nonempty_value (codes "delta") query)) _ (λ base.
@@ -71,65 +71,65 @@ quiet_rows target query =
     quiet_range (range_in (nonempty_value (codes "index") query)) _ (λ range. quiet_is _ refl)))))
 
 -- a resource that is neither that of edits nor that of the stop
-abbrev is_listening : Place → Bool
-is_listening place.Edit = false
-is_listening place.Stop = false
+abbrev is_listening : Resource → Bool
+is_listening resource.Edit = false
+is_listening resource.Stop = false
 is_listening p = true
 
-quiet_place : (p : Place) (query body : List ℕ) → is_listening p ≡ true → IsQuiet (PlaceWant p query body)
-quiet_place place.ServerInfo query body at = quiet_is ServerInfo refl
-quiet_place place.Codes query body at = quiet_is Codes refl
-quiet_place place.Login query body at = quiet_is Login refl
-quiet_place place.Logout query body at = quiet_session query (λ session. Logout session) (λ session. refl)
-quiet_place place.Update query body at =
+quiet_resource : (p : Resource) (query body : List ℕ) → is_listening p ≡ true → IsQuiet (ResourceWant p query body)
+quiet_resource resource.ServerInfo query body at = quiet_is ServerInfo refl
+quiet_resource resource.Codes query body at = quiet_is Codes refl
+quiet_resource resource.Login query body at = quiet_is Login refl
+quiet_resource resource.Logout query body at = quiet_session query (λ session. Logout session) (λ session. refl)
+quiet_resource resource.Update query body at =
     quiet_number (codes "session-id") (number_in (nonempty_value (codes "session-id") query)) _ (λ session.
     quiet_number (codes "revision-number") (number_in (nonempty_value (codes "revision-number") query)) _ (λ revision. quiet_is (Update session revision) refl))
-quiet_place place.Databases query body at = quiet_session query (λ session. Databases session) (λ session. refl)
-quiet_place place.Lists query body at = quiet_session query (λ session. Lists session) (λ session. refl)
-quiet_place (place.Rows target) query body at = quiet_rows target query
-quiet_place (place.Values browse) query body at =
+quiet_resource resource.Databases query body at = quiet_session query (λ session. Databases session) (λ session. refl)
+quiet_resource resource.Lists query body at = quiet_session query (λ session. Lists session) (λ session. refl)
+quiet_resource (resource.Rows target) query body at = quiet_rows target query
+quiet_resource (resource.Values browse) query body at =
     quiet_number (codes "session-id") (number_in (nonempty_value (codes "session-id") query)) _ (λ session.
     quiet_query (filter_or (nonempty_value (codes "filter") query) (nonempty_value (codes "query") query)) _ (λ asked. quiet_is (Values session browse asked) refl))
-quiet_place place.Edit query body at = absurd (cc)
-quiet_place place.Stop query body at = absurd (cc)
+quiet_resource resource.Edit query body at = absurd (cc)
+quiet_resource resource.Stop query body at = absurd (cc)
 
-quiet_method : (right : Bool) (p : Place) (query body : List ℕ) → is_listening p ≡ true → IsQuiet (WithMethod right p query body)
-quiet_method true p query body at w is = quiet_place p query body at w is
+quiet_method : (right : Bool) (p : Resource) (query body : List ℕ) → is_listening p ≡ true → IsQuiet (WithMethod right p query body)
+quiet_method true p query body at w is = quiet_resource p query body at w is
 quiet_method false p query body at w is = ap is_change is
 
 -- if a resource is found, it is one for players
-abbrev AllListening : Option Place → Type 0
+abbrev AllListening : Option Resource → Type 0
 AllListening None = Unit {0}
 AllListening (Some p) = is_listening p ≡ true
 
-quiet_at : (o : Option Place) (method query body : List ℕ) → AllListening o → IsQuiet (AtPlace o method query body)
+quiet_at : (o : Option Resource) (method query body : List ℕ) → AllListening o → IsQuiet (ForResource o method query body)
 quiet_at None method query body at w is = ap is_change is
 quiet_at (Some p) method query body at w is = quiet_method (bytes_eq method (verb_text (verb_of p))) p query body at w is
 
-for_players : (o : Option Place) → AllListening (option_and_then (for_role Listen) o)
+for_players : (o : Option Resource) → AllListening (option_and_then (for_role Listen) o)
 for_players None = tt
-for_players (Some place.ServerInfo) = refl
-for_players (Some place.Codes) = refl
-for_players (Some place.Login) = refl
-for_players (Some place.Logout) = refl
-for_players (Some place.Update) = refl
-for_players (Some place.Databases) = refl
-for_players (Some place.Lists) = refl
-for_players (Some (place.Rows target)) = refl
-for_players (Some (place.Values browse)) = refl
-for_players (Some place.Edit) = tt
-for_players (Some place.Stop) = tt
+for_players (Some resource.ServerInfo) = refl
+for_players (Some resource.Codes) = refl
+for_players (Some resource.Login) = refl
+for_players (Some resource.Logout) = refl
+for_players (Some resource.Update) = refl
+for_players (Some resource.Databases) = refl
+for_players (Some resource.Lists) = refl
+for_players (Some (resource.Rows target)) = refl
+for_players (Some (resource.Values browse)) = refl
+for_players (Some resource.Edit) = tt
+for_players (Some resource.Stop) = tt
 
-players_place : (path : List ℕ) → AllListening (place_of Listen path)
+players_place : (path : List ℕ) → AllListening (resource_of Listen path)
 players_place path = by_text (is_utf8 path)
   where
-    by_text : (b : Bool) → AllListening (cond b (option_and_then (for_role Listen) (place_at path)) None)
-    by_text true = for_players (place_at path)
+    by_text : (b : Bool) → AllListening (cond b (option_and_then (for_role Listen) (resource_at path)) None)
+    by_text true = for_players (resource_at path)
     by_text false = tt
 
 pub player_is_quiet : (m : Message) (ask : Ask) → Spells Listen m ask → is_change ask.want ≡ false
 player_is_quiet m ask (h, is, asks) =
-    quiet_at (place_of Listen (path_of (local_part h.target))) h.method (query_of (local_part h.target)) m.body (players_place (path_of (local_part h.target)))
+    quiet_at (resource_of Listen (path_of (local_part h.target))) h.method (query_of (local_part h.target)) m.body (players_place (path_of (local_part h.target)))
     ask.want asks.want_is
 
 -- ---- what it adds

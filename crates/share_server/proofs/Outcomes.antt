@@ -1,7 +1,7 @@
 -- How a connection ended, by what came of the last write on it.
 use Rattle.std.proofs.Common.{◌≡◌, ◌≢◌, ℕ, ◌+◌, List, [], ◌++◌, length, take, drop, refl, sym, ap, ◌∙◌, subst, inl, inr, Bool, true, false, cond, ◌==◌, Option, Some, None, append_assoc, append-nil, take-append-drop}
 use Rattle.std.specs.Io.KnownBytes.{Appends}
-use Rattle.std.proofs.KnownBytes.{Appends-trans}
+use Rattle.std.proofs.KnownBytes.{Appends-nil, Appends-trans}
 use Rattle.item_model.specs.declared.changes.Entry.{Entry}
 use Rattle.http_heads.specs.declared.refusal.HeadError.{HeadError}
 use Rattle.share_asks.specs.declared.ask.Ask.{Ask}
@@ -111,17 +111,8 @@ module _ (role : Role) (bytes : List ℕ) (limit : ℕ) (k k' : Pass) (taken tak
 
   -- with nothing more
   pub ended_at : (end : LinkEnd) → is_loss end ≡ false → taken'' ≡ taken' → Inside base end → Ends role bytes limit k k' taken taken'' served end
-  ended_at end unlost same how = record {
-    asks = asks;
-    rest = rest;
-    joins = joins;
-    lost = [];
-    serves = but_nothing k k' asks served serves;
-    loses = loses_none role asks k k' served end bytes unlost;
-    output = base;
-    written = subst (λ t. Appends taken t base) (sym same) written;
-    how = how;
-  }
+  ended_at end unlost same how =
+      ended_with [] end unlost (subst (λ t. Appends taken' t []) (sym same) (Appends-nil taken')) (subst (λ l. Inside l end) (sym (append-nil base)) how)
 
   -- an allocation failed: the 500 may follow this base
   pub up_given : (end : LinkEnd) → GoOnToLast limit k'.seen asks served

@@ -5,7 +5,7 @@ use Rattle.std.proofs.KnownBytes.{Appends-trans}
 use Rattle.std.proofs.lemmas.Bool.{eq-eqb}
 use Rattle.item_model.specs.declared.changes.Entry.{Entry}
 use Rattle.share_asks.specs.declared.ask.Ask.{Ask}
-use Rattle.share_core.specs.declared.answer.Said.{Said}
+use Rattle.share_core.specs.declared.answer.ReplyContent.{ReplyContent}
 use Rattle.share_history.specs.Sessions.{is_stopped}
 use Rattle.share_replies.specs.Settings.{Settings}
 use Rattle.share_replies.specs.Replies.{answer_to}
@@ -127,19 +127,19 @@ module _ (limit : ℕ) (k k' : Pass) (taken taken' taken'' : Option (List ℕ)) 
       up_given role bytes limit k k' taken taken' taken'' (asks ++ ask ∷ []) (served ++ s ∷ []) begin.rest base begin.all all.serves all.written
       up to_last (in_its_place parts none refl) given)
 
-said_as : (settings : Settings) (p : List Entry) (ask : Ask) (s : Served) (said : Option Said) → Says settings p ask s said → (last : Bool)
+said_as : (settings : Settings) (p : List Entry) (ask : Ask) (s : Served) (said : Option ReplyContent) → Says settings p ask s said → (last : Bool)
     → said_bytes said last ≡ served_bytes settings p ask s last
 said_as settings p ask s None says last =
     let failed : true ≡ (s.status == 500) = sym (eq-eqb s.status 500 says) in
     ap (λ b. cond b (failure_bytes last) (answer_bytes (answer_to settings (answered_on s.added p) ask.want) last)) failed
 said_as settings p ask s (Some said) says last = says.2 last
 
-pub sayable : (settings : Settings) (p : List Entry) (ask : Ask) (s : Served) (said : Option Said) → Says settings p ask s said → IsSayable said
+pub sayable : (settings : Settings) (p : List Entry) (ask : Ask) (s : Served) (said : Option ReplyContent) → Says settings p ask s said → IsSayable said
 sayable settings p ask s None says = tt
 sayable settings p ask s (Some said) says = (says.0, says.1)
 
 -- a request was answered, and its reply was written or not
-pub exchanged : (limit : ℕ) (k k1 k2 : Pass) (taken taken' taken'' : Option (List ℕ)) (asks : List Ask) (ask : Ask) (served : List Served) (s : Served) (said : Option Said) (stopped : Bool) (d end : Option LinkEnd)
+pub exchanged : (limit : ℕ) (k k1 k2 : Pass) (taken taken' taken'' : Option (List ℕ)) (asks : List Ask) (ask : Ask) (served : List Served) (s : Served) (said : Option ReplyContent) (stopped : Bool) (d end : Option LinkEnd)
     → Goes limit k k1 taken taken' asks served → Serves k1 k2 (ask ∷ []) (s ∷ []) → Says k1.settings (at_point k2.seen s) ask s said
     → stopped ≡ is_stopped (at_point k2.seen s) → d ≡ end_behind limit (length served + 1) ask.close stopped
     → WasWritten (said_bytes said (is_some d)) s.added d taken' taken'' end

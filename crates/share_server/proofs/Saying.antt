@@ -8,8 +8,8 @@ use Rattle.listing_plan.specs.declared.plan.Plan.TheVariants as plan
 use Rattle.listing_plan.specs.Plans.{plan_bytes, IsWritable}
 use Rattle.reply_bytes.specs.ReplyBytes.{form_of, body_bytes, with_head, reply_bytes}
 use Rattle.share_replies.specs.Replies.{Body, Nothing, Allowed, Line, Tagged, Reply}
-use Rattle.share_core.specs.declared.answer.Said.{Said}
-use Rattle.share_core.specs.Said.{tree_of, IsBody, IsSaid}
+use Rattle.share_core.specs.declared.answer.ReplyContent.{ReplyContent}
+use Rattle.share_core.specs.Contents.{tree_of, IsBody, IsContent}
 
 -- the bytes of a tag that is there
 abbrev spelled : Option Tree → List ℕ → List ℕ
@@ -35,7 +35,7 @@ writes (Line text) form written is = record { form_is = is.0; bytes = ap plan_by
 writes (Tagged tag) form written is =
     record { form_is = is.0; bytes = spells written ∙ ap (λ tree. spelled tree (plan_bytes written)) is.1.0; writable = is.1.1 }
 
-pub said_bytes : (reply : Reply) (said : Said) (last : Bool) → IsSaid (reply.status, reply.body) said
+pub said_bytes : (reply : Reply) (said : ReplyContent) (last : Bool) → IsContent (reply.status, reply.body) said
     → with_head said.status said.form (plan_bytes said.plan) last ≡ reply_bytes reply last
 said_bytes reply said last is =
     let w : Writes reply.body said.form said.plan = writes reply.body said.form said.plan is.1 in

@@ -38,6 +38,7 @@ use Rattle.share_server.specs.Passes.{Pass, Serves}
 use Rattle.share_server.specs.declared.turns.outcome.TurnOutcome.{TurnOutcome}
 use Rattle.share_server.specs.declared.turns.outcome.TurnOutcome.TheVariants as outcome
 use Rattle.share_server.specs.Answering.{Says, IsTurnOutcome, Finds, HasAdded, has_added, loses_in, served_of, given_up, turn_outcome}
+use Rattle.share_server.proofs.InTurn.{looked_once}
 use Rattle.share_server.proofs.Saying.{writes, said_bytes}
 
 -- ---- a history, and what was added to it
@@ -61,13 +62,12 @@ pub own_stays : (k : Pass) (h : List Entry) → Continues maker (numbers_of k) k
 own_stays k h on = on.own k.number (0, omega arith, refl)
 
 pub serves_nothing : (k : Pass) (h : List Entry) → Continues maker (numbers_of k) k.seen h → Serves k (after_turn k h) [] []
-serves_nothing k h on =
-    let len : length h ≡ length k.seen + length on.more = ap length on.begins ∙ length-append k.seen on.more in record {
-      fresh = record { more = on.more; grows = on.begins; looks = length h ∷ []; looked = refl; rises = omega arith; among = tt; marked = tt };
-      stays = refl;
-      are_served = tt;
-      own = own_stays k h on ∙ sym (append-nil (entries_of maker k.number k.seen));
-    }
+serves_nothing k h on = record {
+  fresh = looked_once k h on.more on.begins;
+  stays = refl;
+  are_served = tt;
+  own = own_stays k h on ∙ sym (append-nil (entries_of maker k.number k.seen));
+}
 
 -- one request, at the end of the history, after what was added for it
 record Shows (k : Pass) (h new : List Entry) (want : Want) (s : Served) : Type 0 where
@@ -138,7 +138,7 @@ failed_at k h ask point stopped revised on at is is_now free =
 -- ---- a reply
 
 abbrev pub answered_by : Reply → Bool → ℕ → TurnOutcome
-answered_by r stopped revised = outcome.Answered (record { served = served_of r; said = Some r.said; stopped = stopped; revision = revised })
+answered_by r stopped revised = outcome.Answered (record { served = served_of r; said = Some r.content; stopped = stopped; revision = revised })
 
 count_of : (new : Option Entry) → cond (is_some new) 1 0 ≤ length (option_to_list new)
 count_of None = omega arith
@@ -166,7 +166,7 @@ module _ (k : Pass) (h : List Entry) (ask : Ask) (reply : replies.Reply) (mark :
   part = (λ i. added_part (is.added i) (whole i)) ∙ (parts h added).part
 
   other : (s.status == 500) ≡ false
-  other = ap (λ n. n == 500) is.said.0 ∙ no_reply_is_a_failure k.settings h ask.want reply answers
+  other = ap (λ n. n == 500) is.content.0 ∙ no_reply_is_a_failure k.settings h ask.want reply answers
 
   replying : answer_to k.settings (answered_on s.added (at_point h' s)) ask.want ≡ Replies reply
   replying = ap (λ p. answer_to k.settings p ask.want) before ∙ answers
@@ -175,7 +175,7 @@ module _ (k : Pass) (h : List Entry) (ask : Ask) (reply : replies.Reply) (mark :
   replied = record {
     reply = reply;
     replies = replying;
-    status = is.said.0;
+    status = is.content.0;
     session = is.session;
     adds_it = part ∙ ap (λ p. option_to_list (adds p k.number ask.want)) (sym before);
     added = is.added ∙ ap (λ p. is_some (adds p k.number ask.want)) (sym before);
@@ -203,11 +203,11 @@ module _ (k : Pass) (h : List Entry) (ask : Ask) (reply : replies.Reply) (mark :
       ap (λ b. cond b (failure_bytes last) (answer_bytes (answer_to k.settings (answered_on s.added (at_point h' s)) ask.want) last)) other
       ∙ ap (λ a. answer_bytes a last) replying
 
-  says : Says k.settings (at_point h' s) ask s (Some r.said)
+  says : Says k.settings (at_point h' s) ask s (Some r.content)
   says = (
-    subst (λ n. HasReason n) (sym is.said.0) (replies_have_reasons k.settings h ask.want reply answers),
-    (writes reply.body r.said.form r.said.plan is.said.1).writable,
-    λ last. said_bytes reply r.said last is.said ∙ sym (bytes last),
+    subst (λ n. HasReason n) (sym is.content.0) (replies_have_reasons k.settings h ask.want reply answers),
+    (writes reply.body r.content.form r.content.plan is.content.1).writable,
+    λ last. said_bytes reply r.content last is.content ∙ sym (bytes last),
   )
 
   replied_at : (stopped : Bool) (revised : ℕ) → Continues maker (numbers_of k) k.seen h → All (λ e. maker e ≡ k.number) (option_to_list added) → IsBetween h r

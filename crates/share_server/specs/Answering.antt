@@ -17,7 +17,7 @@ use Rattle.share_lock.specs.Known.{numbers_of}
 use Rattle.share_core.specs.declared.answer.Answer.{Answer}
 use Rattle.share_core.specs.declared.answer.Answer.TheVariants as answer
 use Rattle.share_core.specs.declared.answer.Reply.{Reply}
-use Rattle.share_core.specs.declared.answer.Said.{Said}
+use Rattle.share_core.specs.declared.answer.ReplyContent.{ReplyContent}
 use Rattle.share_core.specs.Wants.{is_free}
 use Rattle.share_replies.specs.Added.{adds}
 use Rattle.share_replies.specs.Answers.{Shared}
@@ -36,7 +36,7 @@ use Rattle.share_server.specs.declared.turns.outcome.TurnOutcome.TheVariants as 
 
 -- If allocating the answer failed, the status is 500. Otherwise the answer can be written, and its bytes are those of
 -- the request on the history `p`.
-abbrev pub Says : Settings → List Entry → Ask → Served → Option Said → Type 0
+abbrev pub Says : Settings → List Entry → Ask → Served → Option ReplyContent → Type 0
 Says settings p ask s None = s.status ≡ 500
 Says settings p ask s (Some said) =
     HasReason said.status × IsWritable said.plan
@@ -106,12 +106,12 @@ pub record Finds (k : Pass) (share : Shared) : Type 0 where
 
 -- The report of a reply, or of an answer that failed to allocate at the end of the history.
 abbrev pub served_of : Reply → Served
-served_of r = record { session = r.session; seen = r.seen; point = r.point; status = r.said.status; added = r.added }
+served_of r = record { session = r.session; seen = r.seen; point = r.point; status = r.content.status; added = r.added }
 
 abbrev pub given_up : ℕ → Served
 given_up point = record { session = 0; seen = 0; point = point; status = 500; added = false }
 
 abbrev pub turn_outcome : Result Answer AllocError → Bool → ℕ → ℕ → TurnOutcome
-turn_outcome (Ok (answer.Reply r)) stopped revision end = outcome.Answered (record { served = served_of r; said = Some r.said; stopped = stopped; revision = revision })
+turn_outcome (Ok (answer.Reply r)) stopped revision end = outcome.Answered (record { served = served_of r; said = Some r.content; stopped = stopped; revision = revision })
 turn_outcome (Ok (answer.Wait now point)) stopped revision end = outcome.Held point
 turn_outcome (Err error) stopped revision end = outcome.Answered (record { served = given_up end; said = None; stopped = stopped; revision = revision })

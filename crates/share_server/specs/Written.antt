@@ -6,7 +6,7 @@ use Rattle.http_front.specs.ReplyHeads.{HasReason}
 use Rattle.http_heads.specs.declared.refusal.HeadError.{HeadError}
 use Rattle.listing_plan.specs.Plans.{IsWritable, plan_bytes}
 use Rattle.reply_bytes.specs.ReplyBytes.{with_head, failure_bytes, refusal_bytes, status_of}
-use Rattle.share_core.specs.declared.answer.Said.{Said}
+use Rattle.share_core.specs.declared.answer.ReplyContent.{ReplyContent}
 use Rattle.share_server.specs.declared.report.LinkEnd.{LinkEnd}
 use Rattle.share_server.specs.declared.report.LinkEnd.TheVariants.{Closed, Cut, Refused, Spent, Stopped, LinkFault, FileFault, Memory}
 use Rattle.share_server.specs.Serving.{CountsEnd}
@@ -34,12 +34,12 @@ IsRefused error taken taken' FileFault = ⊥
 IsRefused error taken taken' Memory = Appends taken taken' (failure_bytes true)
 
 -- An answer that can be written, if there is one.
-abbrev pub IsSayable : Option Said → Type 0
+abbrev pub IsSayable : Option ReplyContent → Type 0
 IsSayable None = Unit {0}
 IsSayable (Some said) = HasReason said.status × IsWritable said.plan
 
 -- The bytes of an answer; those of the 500 if allocating it failed.
-abbrev pub said_bytes : Option Said → Bool → List ℕ
+abbrev pub said_bytes : Option ReplyContent → Bool → List ℕ
 said_bytes None last = failure_bytes last
 said_bytes (Some said) last = with_head said.status said.form (plan_bytes said.plan) last
 

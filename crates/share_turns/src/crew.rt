@@ -2,7 +2,7 @@
 ghost use Rattle.std.specs.Prelude.{◌≡◌, ◌+◌, ◌<◌, ◌^◌, All, IfOk};
 ghost use Rattle.share_lock.specs.Passes.{lock_id, IsReady};
 
-use crate::gather::gathered;
+use crate::gather::join_all;
 use crate::numbers::Numbers;
 use crate::threads::work_all;
 use crate::work::Worker;
@@ -12,7 +12,7 @@ use std::sync::Wait;
 use std::thread::Threads;
 
 /// Returns `count` workers, each with a handle that is split from the first.
-pub fn hired<R: Wait>(
+pub fn new_workers<R: Wait>(
     rt: &R,
     alloc: Global,
     lock: &ShareLock<Numbers>,
@@ -22,7 +22,7 @@ pub fn hired<R: Wait>(
 ) -> Result<Vec<Worker>, AllocError>
     requires ready { IsReady (lock_id lock.now) first.old }
     ensures ready { IsReady (lock_id lock.now) first.new }
-    ensures hired { IfOk result (λ v. All (λ w. IsReady (lock_id lock.now) w.pass) v.items) }
+    ensures made { IfOk result (λ v. All (λ w. IsReady (lock_id lock.now) w.pass) v.items) }
 {
     let mut workers = Vec::new(alloc);
     for _ in 0..count {
@@ -62,8 +62,8 @@ pub fn crew<R: Threads + Wait + Sync>(
     requires { count + 1 < 2 ^ 32 }
 {
     let (lock, mut first) = ShareLock::open(alloc, Numbers::new(alloc), count + 1)?;
-    let mut workers = hired(rt, alloc, &lock, &mut first, count, turns)?;
+    let mut workers = new_workers(rt, alloc, &lock, &mut first, count, turns)?;
     work_all(rt, &lock, workers.as_mut_slice(), count as usize + 1);
     let passes = passes_of(alloc, &lock, workers)?;
-    Ok(gathered(rt, &lock, first, passes))
+    Ok(join_all(rt, &lock, first, passes))
 }

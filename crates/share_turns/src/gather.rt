@@ -10,7 +10,7 @@ use share_lock::{Pass, ShareLock};
 use std::sync::Wait;
 
 /// Returns the first handle, with all others joined to it.
-fn joined(
+fn join_others(
     lock: &ShareLock<Numbers>,
     first: Pass<Numbers>,
     others: Vec<Pass<Numbers>>,
@@ -30,7 +30,7 @@ fn joined(
 
 /// Joins all handles, and takes the list out for good in a last turn. The list begins with what each of them had
 /// seen, has no later number of theirs, and no two of them have a number in common.
-pub fn gathered<R: Wait>(
+pub fn join_all<R: Wait>(
     rt: &R,
     lock: &ShareLock<Numbers>,
     first: Pass<Numbers>,
@@ -41,7 +41,7 @@ pub fn gathered<R: Wait>(
     ensures seen { All (λ p. IsIn (numbers_in result) (known p)) (first ∷ others.items) }
     ensures apart { AreApart (first ∷ others.items) }
 {
-    let mut pass = joined(lock, first, others);
+    let mut pass = join_others(lock, first, others);
     let turn = lock.take(rt, &mut pass);
     lock.end(turn)
 }

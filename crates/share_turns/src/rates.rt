@@ -3,7 +3,7 @@ ghost use Rattle.std.specs.Prelude.{All};
 ghost use Rattle.std.specs.Thread.{IsSync};
 ghost use Rattle.share_lock.specs.Passes.{lock_id, IsReady};
 
-use crate::crew::hired;
+use crate::crew::new_workers;
 use crate::numbers::Numbers;
 use crate::work::Worker;
 use share_lock::ShareLock;
@@ -52,7 +52,7 @@ fn idle_all<R: Threads + Wait + Sync>(rt: &R, lock: &ShareLock<Numbers>, workers
 // Returns the time of the lock's turns.
 fn lock_time<R: Threads + Wait + Sync + Clock>(rt: &R, alloc: Global) -> io::Result<Duration> {
     let (lock, mut first) = ShareLock::open(alloc, Numbers::new(alloc), THREADS as u32 + 1)?;
-    let mut workers = hired(rt, alloc, &lock, &mut first, THREADS as u32, TURNS)?;
+    let mut workers = new_workers(rt, alloc, &lock, &mut first, THREADS as u32, TURNS)?;
     let begin = Instant::now(rt)?;
     idle_all(rt, &lock, workers.as_mut_slice());
     begin.elapsed(rt)

@@ -3,7 +3,7 @@
 ghost use Rattle.std.specs.Prelude.{All};
 ghost use Rattle.share_lock.specs.Passes.{lock_id, IsReady};
 
-use crate::crew::{crew, hired};
+use crate::crew::{crew, new_workers};
 use crate::numbers::Numbers;
 use crate::threads::work_all;
 use crate::work::{Worker, add};
@@ -126,7 +126,7 @@ fn time_of_waiting<R: Threads + Wait + Clock + CpuClock + Sync>(
     alloc: Global,
 ) -> Result<Duration, Fail> {
     let (lock, mut first) = ShareLock::open(alloc, Numbers::new(alloc), 9)?;
-    let mut workers = hired(rt, alloc, &lock, &mut first, 8, 1)?;
+    let mut workers = new_workers(rt, alloc, &lock, &mut first, 8, 1)?;
     let workers = workers.as_mut_slice();
     let taken = AtomicU64::new(0);
     let before = rt.process_cpu_time()?;

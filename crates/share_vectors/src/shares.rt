@@ -46,7 +46,7 @@ fn told(share: &mut Share, want: Want) -> Result<Told, AllocError>
         want,
     };
     match answered::<Brand>(Blank::new(1), share, &ask)? {
-        Answer::Reply(r) => Ok((r.said.status, r.session, r.point, r.seen, r.added)),
+        Answer::Reply(r) => Ok((r.content.status, r.session, r.point, r.seen, r.added)),
         Answer::Wait { point, .. } => Ok((0, 0, point, 0, false)),
     }
 }

@@ -33,7 +33,7 @@ keeping_same keeps is_lost faults k k' going same = record {
   counts = refl;
 }
 
--- entries of others are none of its own
+-- entries of other handles are not its own
 own_stays : (n : ℕ) (seen more h : List Entry) → h ≡ seen ++ more → NoneOf maker (n ∷ []) more → entries_of maker n h ≡ entries_of maker n seen
 own_stays n seen more h grows none = (continues {E = Entry} maker (n ∷ []) seen h more grows none).own n (0, omega arith, refl)
 
@@ -77,7 +77,7 @@ own_batches n (entry.Logout by id ∷ es) are =
 own_batches n (entry.Stop by ∷ es) are =
     either_way (by == n) (entry.Stop by) (entries_of maker n es) (batches es) refl (own_batches n es (All-tail (IsBy n) (entry.Stop by) es are))
 
--- the own entries behind the begin are those that were made
+-- the own entries after the beginning are those that were added
 own_behind : (n : ℕ) (seen seen' h behind later made : List Entry) → h ≡ seen ++ behind → h ≡ seen' ++ later → NoneOf maker (n ∷ []) later
     → entries_of maker n seen' ≡ entries_of maker n seen ++ made → entries_of maker n behind ≡ made
 own_behind n seen seen' h behind later made begins ends none own =

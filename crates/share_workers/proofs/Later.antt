@@ -1,4 +1,4 @@
--- What was told of links stays right, however the history goes on.
+-- What the reports of connections claim remains true when the history grows.
 use Rattle.std.proofs.Common.{◌⊎◌, ℕ, List, [], ◌∷◌, ◌++◌, length, ◌+◌, ◌-◌, ◌≡◌, sym, ◌∙◌, subst, inl, inr, append-nil, length-append, None, arith}
 use Rattle.item_model.specs.declared.changes.Entry.{Entry}
 use Rattle.daap_outside.specs.Places.{Returned}

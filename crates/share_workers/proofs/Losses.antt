@@ -1,4 +1,4 @@
--- Edits that were lost: what is told of them over one link more.
+-- Edits that were lost: what is known of them after one more connection.
 use Rattle.std.proofs.Common.{◌≡◌, ℕ, List, [], ◌∷◌, ◌++◌, refl, sym, ap, ◌∙◌, subst, Bool, true, false, ◌||◌, MatchBool}
 use Rattle.std.specs.List.{list_any}
 use Rattle.item_model.specs.declared.changes.Entry.{Entry}
@@ -33,20 +33,20 @@ loses_last reports reports' report lost none are is = ap loses_any are ∙ loses
 
 -- ---- which entries were lost
 
--- nothing where no link lost any
+-- nothing if no connection lost any
 pub none_lost : (k k' : Pass) (served : List Served) (lost : List Entry) (loses : Bool) → loses ≡ false → IsLostBy k k' served loses lost → lost ≡ []
 none_lost k k' served lost loses none is = subst (λ (b : Bool). IsLostBy k k' served b lost) none is
 
 pub is_nothing : (k k' : Pass) (served : List Served) (loses : Bool) → loses ≡ false → IsLostBy k k' served loses []
 is_nothing k k' served loses none = subst (λ (b : Bool). IsLostBy k k' served b []) (sym none) refl
 
--- the link's end tells of its pass, and of a later turn of it, what was lost
+-- the end of a connection shows what its handle lost, also at a later turn of it
 pub link_loses : (role : Role) (input : List ℕ) (asks : List Ask) (k k' k'' : Pass) (served : List Served) (lost more : List Entry) (loses : Bool)
     → MatchBool loses (LosesEdit role input asks k k' served lost) (lost ≡ []) → k''.seen ≡ k'.seen ++ more → IsLostBy k k'' served loses lost
 link_loses role input asks k k' k'' served lost more true made longer = (made.batch, lost_before k k' k'' more served made.batch lost longer made.made)
 link_loses role input asks k k' k'' served lost more false none longer = none
 
--- and a stop was seen behind it
+-- and a stop was seen after it
 any_behind : (p : Entry → Bool) (front others : List Entry) → list_any p others ≡ true → list_any p (front ++ others) ≡ true
 any_behind p [] others some = some
 any_behind p (e ∷ front) others some = or_some (p e) (list_any p (front ++ others)) (any_behind p front others some)

@@ -1,4 +1,4 @@
--- A worker's links, one more behind the others.
+-- A worker's connections, with one more after the others.
 use Rattle.std.proofs.Common.{◌≡◌, ◌≢◌, ◌⊎◌, ℕ, ◌+◌, ◌-◌, ◌≤◌, ◌<◌, min, List, [], ◌∷◌, ◌++◌, length, get_or, refl, sym, ap, ◌∙◌, subst, inl, inr, Bool, true, false, nat_lt, Option, Some, None, MatchOption, append_assoc, append-nil, length-append, arith}
 use Rattle.std.proofs.lemmas.List.Concat.{flat_map-append}
 use Rattle.std.proofs.lemmas.List.Elements.{Contains-append_left}
@@ -29,7 +29,7 @@ use Rattle.share_workers.proofs.Later.{link_later, links_later}
 use Rattle.share_workers.proofs.Losses.{link_loses, loses_more, lost_stops, none_lost}
 use Rattle.share_workers.proofs.Telling.{came_more, grown_more, is_over, counted}
 
--- ---- one link
+-- ---- one connection
 
 pub link_within : (role : Role) (budget : ℕ) (k k' : Pass) (left taken taken' : Option (List ℕ)) (report : LinkReport) → LinkServed role budget k k' left taken taken' report → length report.served ≤ budget
 link_within role budget k k' left taken taken' report served =
@@ -55,7 +55,7 @@ link_done role budget k j k' left taken taken' written written' faults faults' r
   looks = looks;
 }
 
--- ---- lists of links
+-- ---- lists of connections
 
 links_more : (settings : Settings) (by : ℕ) (role : Role) (budget : ℕ) (h : List Entry) (inputs : List (List ℕ)) (reports : List LinkReport) (returns : List Returned) (input : List ℕ) (report : LinkReport) (returned : Returned)
     → LinksAt settings by role budget h inputs reports returns → LinkAt settings by (limit_of (budget - length (all_served reports))) role h input report returned
@@ -89,19 +89,19 @@ behind : (k k' : Pass) (reports : List LinkReport) (report : LinkReport) (lost :
 behind k k' [] report lost serves = serves
 behind k k' (r ∷ reports) report lost serves = serves
 
--- where nothing was lost
+-- if nothing was lost
 looks_whole : (k k' : Pass) (reports : List LinkReport) (lost : List Entry) → lost ≡ [] → LooksBehind k k' reports lost → LooksBehind k k' reports []
 looks_whole k k' reports lost none looks = subst (λ (l : List Entry). LooksBehind k k' reports l) none looks
 
--- what links lost behind others that lost nothing
+-- what connections lost after others that lost nothing
 lost_by_more : (k j k' : Pass) (asks : List Ask) (earlier served : List Served) (lost : List Entry) (loses : Bool) → Serves k j asks earlier → IsLostBy j k' served loses lost
     → IsLostBy k k' (earlier ++ served) loses lost
 lost_by_more k j k' asks earlier served lost true serves is = (is.0, lost_behind k j k' asks earlier served is.0 lost serves is.1)
 lost_by_more k j k' asks earlier served lost false serves is = is
 
--- ---- one link more
+-- ---- one connection more
 
--- what one link more leaves of a worker
+-- what one more connection leaves of a worker
 pub record HasOneMore (role : Role) (k k' : Pass) (coming coming' : Option (List (List ℕ))) (written written' : Option (List Returned)) (reports : List LinkReport) (budget : ℕ) (lost : Bool) : Type 0 where
   pub works : Works role k k' coming coming' written written' reports
   pub to_last : GoesOnToLast k k' reports
@@ -241,7 +241,7 @@ module _ {L : Type 0} (left taken : L → Option (List ℕ)) (link : L) (role : 
         omega arith;
   }
 
--- ---- how it goes on
+-- ---- how a worker continues
 
 pub more_at : {L : Type 0} (left taken : L → Option (List ℕ)) (link : L) (role : Role) (k j k' : Pass) (coming before now now' : Option (List (List ℕ))) (written wrote written' written'' : Option (List Returned))
     (reports reports' : List LinkReport) (report : LinkReport) (budget budget' : ℕ) (lost : Bool) → Underway role k j coming before written wrote reports budget
@@ -290,7 +290,7 @@ module _ (role : Role) (k k' : Pass) (coming now : Option (List (List ℕ))) (wr
       less : (a n : ℕ) → a + n ≡ 262144 → a ≢ 0 → n < 262144
       less a n is some = omega arith
 
--- ---- where no link came
+-- ---- no connection came
 
 module _ (role : Role) (k j : Pass) (coming before now : Option (List (List ℕ))) (written wrote : Option (List Returned)) (reports : List LinkReport) (budget : ℕ)
     (under : Underway role k j coming before written wrote reports budget) where
@@ -324,7 +324,7 @@ module _ (role : Role) (k j : Pass) (coming before now : Option (List (List ℕ)
 
 -- ---- the begin and the end
 
--- an edit was lost exactly where the end says so
+-- an edit was lost exactly if the end says so
 whole_by : (k k' : Pass) (coming coming' : Option (List (List ℕ))) (reports : List LinkReport) (end : WorkerEnd) → EndsWorker k k' coming coming' reports end
     → loses_any reports ≡ is_worker_loss end
 whole_by k k' coming coming' reports Running ends = absurd ends

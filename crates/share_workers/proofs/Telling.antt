@@ -1,4 +1,4 @@
--- What doors and links tell, over one link more.
+-- What is known of listeners and connections after one connection more.
 use Rattle.std.proofs.Common.{◌≡◌, ℕ, ◌+◌, ◌-◌, ◌≤◌, ◌^◌, min, List, [], ◌∷◌, ◌++◌, sym, ap, ◌∙◌, subst, Bool, true, false, nat_lt, Option, Some, None, MatchBool, IfSome, append_assoc, arith}
 use Rattle.std.proofs.lemmas.Bool.{lt-ltb}
 use Rattle.std.specs.Io.KnownBytes.{Appends}
@@ -9,7 +9,7 @@ use Rattle.share_server.specs.declared.report.LinkEnd.{LinkEnd}
 use Rattle.share_server.specs.Serving.{is_fault, CountsEnd}
 use Rattle.share_workers.specs.Works.{Came, IsOver}
 
--- where links to come are told, one more is the first of the rest
+-- if the connections to come are known, one more is the first of the rest
 pub came_more : {L : Type 0} (left taken : L → Option (List ℕ)) (link : L) (coming before now : Option (List (List ℕ))) (inputs : List (List ℕ)) (input : List ℕ) → Came coming before inputs
     → Accepts left taken before now (Some link) → IfSome (left link) (λ bytes. bytes ≡ input) → Came coming now (inputs ++ input ∷ [])
 came_more left taken link None before now inputs input came accepts told = tt
@@ -21,7 +21,7 @@ came_more left taken link (Some all) (Some (first ∷ rest)) (Some now) inputs i
     let is : first ≡ input = subst (λ l. IfSome l (λ bytes. bytes ≡ input)) accepts.1 told in
     came ∙ (ap (λ bytes. inputs ++ bytes ∷ rest) is ∙ (ap (λ r. inputs ++ input ∷ r) (sym accepts.0) ∙ sym (append_assoc inputs (input ∷ []) now)))
 
--- where none comes, none is left
+-- if none comes, none is left
 pub is_over : {L : Type 0} (left taken : L → Option (List ℕ)) (coming before now : Option (List (List ℕ))) (inputs : List (List ℕ)) → Came coming before inputs → Accepts left taken before now None
     → IsOver coming now × Came coming now inputs
 is_over left taken None before now inputs came accepts = (tt, tt)
@@ -31,7 +31,7 @@ is_over left taken (Some all) (Some []) (Some now) inputs came accepts = (ap Som
 is_over left taken (Some all) (Some (first ∷ rest)) None inputs came accepts = absurd accepts
 is_over left taken (Some all) (Some (first ∷ rest)) (Some now) inputs came accepts = absurd accepts
 
--- what a door tells of links given back grows by what stands on one more
+-- the known list of returned connections grows by what was written on one more
 pub grown_more : (written before now : Option (List Returned)) (taken taken' : Option (List ℕ)) (returns : List Returned) (output : List ℕ) (faults : ℕ) → Grows written before returns
     → BeginsEmpty before taken → Appends taken taken' output → GrowsByTold before now (returned taken' faults) → Grows written now (returns ++ (output, nat_lt 0 faults) ∷ [])
 grown_more None None now taken None returns output faults grows begins appends given = subst (λ l. Grows None l (returns ++ (output, nat_lt 0 faults) ∷ [])) (sym given) tt
@@ -49,7 +49,7 @@ grown_more (Some written) (Some before) (Some now) taken taken' returns output f
     told (Some bytes) is grown =
         grown ∙ (ap (λ b. before ++ (b, nat_lt 0 faults) ∷ []) is ∙ (ap (λ l. l ++ (output, nat_lt 0 faults) ∷ []) grows ∙ append_assoc written returns ((output, nat_lt 0 faults) ∷ [])))
 
--- a link's count is above 0 exactly where it ended by a fault
+-- a connection's error counter is above 0 exactly if an error ended it
 pub counted : (faults : ℕ) (end : LinkEnd) → CountsEnd 0 faults end → nat_lt 0 faults ≡ is_fault end
 counted faults end counts = by_fault (is_fault end) counts
   where

@@ -1,4 +1,4 @@
--- What holds at each place of two lists.
+-- What holds at each index of two lists.
 use Rattle.std.proofs.Common.{◌≡◌, ℕ, suc, ◌<◌, List, [], ◌∷◌, length, get_or, subst, arith}
 use Rattle.std.specs.List.{AllZip}
 

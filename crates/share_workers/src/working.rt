@@ -239,7 +239,7 @@ fn look<R: Wait>(rt: &R, lock: &ShareLock<Share>, pass: &mut Pass<Share>) -> boo
     ensures stopped { result ≡ is_stopped (known pass.new).seen }
 {
     let mut turn = lock.take(rt, pass);
-    let stopped = turn.state().stopped();
+    let stopped = turn.state().is_stopped();
     lock.give(turn);
     stopped
 }

@@ -1,5 +1,5 @@
 -- How parts that are joined by runs occur in a text, one after another.
-use Rattle.std.proofs.Common.{◌==◌, ◌≡◌, ◌≢◌, map, ◌≤◌, ◌<◌, ◌++◌, ◌-◌, ◌&&◌, ◌||◌, ℕ, zero, suc, Bool, true, false, List, [], ◌∷◌, length, take, drop, refl, ap, sym, ◌∙◌, subst, Decides, ⊎_elim, arith}
+use Rattle.std.proofs.Common.{◌==◌, ◌≡◌, ◌≢◌, map, length-take, ◌≤◌, ◌<◌, ◌++◌, ◌-◌, ◌&&◌, ◌||◌, ℕ, zero, suc, Bool, true, false, List, [], ◌∷◌, length, take, drop, refl, ap, sym, ◌∙◌, subst, Decides, ⊎_elim, arith}
 use Rattle.std.proofs.Math.Seq.{take-append_seam, drop-append_seam}
 use Rattle.std.proofs.lemmas.List.{take-append-drop}
 use Rattle.std.proofs.lemmas.Bool.{and_right, and_left, and_parts, and_from, or_parts, or_from, or_left, or_right, false_from_ne_true, false≢true, cases_Bool, cases_lt}
@@ -157,9 +157,9 @@ found piece left rest q ps h e =
     ∙ ap (from_some (joins (q ∷ ps))) (ap (λ k. drop k (lowered left)) n ∙ sym e)
 
 -- a part that does not occur here is searched from the next offset
-pub not_found : (piece left tail : List ℕ) (q : List ℕ) (ps : List (List ℕ)) → take (length piece) (lowered left) ≢ lowered piece → false ≡ (length left == 0) → tail ≡ drop 1 left
+pub not_found : (piece left tail : List ℕ) (q : List ℕ) (ps : List (List ℕ)) → take (length piece) (lowered left) ≢ lowered piece → 0 < length left → tail ≡ drop 1 left
     → from_some (joins (lowered piece ∷ q ∷ ps)) (lowered left) ≡ from_some (joins (lowered piece ∷ q ∷ ps)) (lowered tail)
-not_found piece [] tail q ps h k e = absurd (false≢true k)
+not_found piece [] tail q ps h k e = absurd (omega arith)
 not_found piece (c ∷ cs) tail q ps h k e =
     let n : length (lowered piece) ≡ length piece = length-map piece to_ascii_lowercase in
     behind_next (lowered piece) q ps (to_ascii_lowercase c) (lowered cs) (λ e. h (ap (λ k. take k (lowered (c ∷ cs))) (sym n) ∙ e))
@@ -172,6 +172,23 @@ not_at_end piece [] q ps h k =
     let n : length (lowered piece) ≡ length piece = length-map piece to_ascii_lowercase in
     behind_none (lowered piece) q ps (λ e. h (ap (λ k. take k []) (sym n) ∙ e))
 not_at_end piece (c ∷ cs) q ps h k = absurd (omega arith)
+
+-- a part without bytes is found at once
+pub nothing_first : (piece text : List ℕ) (q : List ℕ) (ps : List (List ℕ)) → true ≡ (length piece == 0)
+    → from_some (joins (lowered piece ∷ q ∷ ps)) (lowered text) ≡ from_some (joins (q ∷ ps)) (lowered text)
+nothing_first [] text q ps h = found [] text text q ps refl refl
+nothing_first (c ∷ cs) text q ps h = grind (arith, nat_tests)
+
+-- a text that is shorter than a part does not begin with it
+not_begun : (piece left : List ℕ) → length left < length piece → take (length piece) (lowered left) ≢ lowered piece
+not_begun piece left h e =
+    omega (arith, ap length e, length-take (length piece) (lowered left), length-map left to_ascii_lowercase, length-map piece to_ascii_lowercase, h)
+
+-- nor has it a rest that does
+pub not_in_less : (piece left : List ℕ) (q : List ℕ) (ps : List (List ℕ)) → length left < length piece → from_some (joins (lowered piece ∷ q ∷ ps)) (lowered left) ≡ false
+not_in_less piece [] q ps h = not_at_end piece [] q ps (not_begun piece [] h) refl
+not_in_less piece (c ∷ cs) q ps h =
+    not_found piece (c ∷ cs) cs q ps (not_begun piece (c ∷ cs) h) (omega arith) refl ∙ not_in_less piece cs q ps (omega (arith, h))
 
 -- a text that is shorter than a part does not end with it
 pub not_the_end : (piece text : List ℕ) → length text < length piece → from_some (joins (lowered piece ∷ [])) (lowered text) ≡ false

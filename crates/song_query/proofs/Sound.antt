@@ -40,7 +40,7 @@ mark_at c h = mark_by (eqb c 39) (eqb c 92) (eqb c 42) refl refl refl h
     mark_by false false true p q r k = (star, sym (eqb-true c 42 r))
     mark_by false false false p q r k = absurd (false≢true k)
 
--- within the same levels
+-- a step that opens and closes no level
 within_same : (outs : List Out) (old new : Draft) (c : ℕ) (t : State) → is_draft new ≡ true → are_outs outs ≡ true
     → print_draft new ≡ print_draft old ++ c ∷ [] → Some (here (draft_place new) (draft_level new) (map out_level outs)) ≡ Some t
     → Grown (record { draft = old; outer = outs }) c t

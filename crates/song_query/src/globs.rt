@@ -1,6 +1,7 @@
 //! Patterns over texts.
 
-ghost use Rattle.std.specs.Prelude.{◌≡◌, ℕ, List, [], ◌∷◌, map, length, take, drop, Decides, MatchOption, false, ◌≢◌};
+ghost use Rattle.std.specs.Prelude.{◌≡◌, ◌<◌, ◌≤◌, ℕ, List, [], ◌∷◌, map, length, take, drop, slice_index, Decides, MatchOption, false, ◌≢◌};
+ghost use Rattle.std.specs.Char.{to_ascii_lowercase};
 ghost use Rattle.item_model.specs.Folding.{lowered, IsSearchedFor};
 ghost use Rattle.song_query.specs.Glob.{Glob, glob, joins, from_some};
 
@@ -65,17 +66,37 @@ fn behind_first<'a>(text: &'a [u8], piece: &[u8]) -> Option<&'a [u8]>
         (λ rest. (q : List ℕ) (ps : List (List ℕ)) →
         from_some (joins (lowered piece.now ∷ q ∷ ps)) (lowered text.now) ≡ from_some (joins (q ∷ ps)) (lowered rest.now)) }
 {
+    if piece.is_empty() {
+        return Some(text);
+    }
+    let first = piece[0].to_ascii_lowercase();
     let mut left = text;
-    loop {
-        if let Some(rest) = behind_front(left, piece) {
+    while piece.len() <= left.len() {
+        if let Some(rest) = behind_first_byte(left, first, piece) {
             return Some(rest);
-        }
-        if left.is_empty() {
-            return None;
         }
         let (_, tail) = left.split_at(1);
         left = tail;
     }
+    None
+}
+
+// Returns the text after `piece`, if the text begins with it. `first` is the lowered first byte of `piece`: most texts
+// begin with another byte, and then no other bytes are compared.
+#[inline(always)]
+fn behind_first_byte<'a>(text: &'a [u8], first: u8, piece: &[u8]) -> Option<&'a [u8]>
+    requires some { 0 < length piece.now }
+    requires long { length piece.now ≤ length text.now }
+    requires first { first ≡ to_ascii_lowercase (slice_index piece.now 0) }
+    ensures { MatchOption result
+        (take (length piece.now) (lowered text.now) ≢ lowered piece.now)
+        (λ rest. (take (length piece.now) (lowered text.now) ≡ lowered piece.now)
+        × (lowered rest.now ≡ drop (length piece.now) (lowered text.now))) }
+{
+    if text[0].to_ascii_lowercase() != first {
+        return None;
+    }
+    behind_front(text, piece)
 }
 
 // Returns whether the text has the parts in order, the last one at its end.

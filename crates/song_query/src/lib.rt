@@ -11,6 +11,7 @@ mod parts;
 mod printing;
 mod reader;
 mod reading;
+mod searched;
 mod steps;
 
 pub use globs::is_glob;
@@ -18,4 +19,5 @@ pub use limits::{OPEN_PARENTHESES, QUERY_BYTES};
 pub use matching::matches;
 pub use printing::print;
 pub use reading::read;
+pub use searched::Searched;
 pub use steps::Steps;

@@ -11,18 +11,19 @@ ghost use Rattle.item_model.specs.QuerySeen.{tree_of};
 ghost use Rattle.song_query.specs.Holds.{absent, all_hold, holds, is_met, meets, named_value, number_asked, number_of, some_hold};
 
 use crate::globs::is_glob;
+use crate::searched::Searched;
 use crate::steps::Steps;
 use dmap_tags::{Kind, Text};
-use item_model::{Cond, Op, Pattern, Property, Query, Row, Sought};
+use item_model::{Cond, Op, Pattern, Property, Query, Sought};
 use std::sync::ledger::Ledger;
 
 /// The name of a row's id in queries.
 const ITEM_ID: &str = "dmap.itemid";
 
-/// Returns whether the row matches the query, and adds 1 to `steps`. Does not allocate. No offset of a text is tried
-/// twice against a pattern.
-pub fn matches<L: Ledger>(query: &Query, row: &Row, steps: &mut Steps<L>) -> bool
-    ensures meaning { result ≡ holds (tree_of query.now) row.now }
+/// Returns whether the row that `row` represents matches the query, and adds 1 to `steps`. Does not allocate. No offset of
+/// a text is tried twice against a pattern.
+pub fn matches<R: Searched, L: Ledger>(query: &Query, row: &R, steps: &mut Steps<L>) -> bool
+    ensures meaning { result ≡ holds (tree_of query.now) (R.represents row.now) }
     ensures globs { (pieces : List (List ℕ)) (text : List ℕ) → Decides (glob pieces text) (Glob pieces text) }
     ensures cost { steps.new ≡ steps.old + 1 }
 {
@@ -31,8 +32,8 @@ pub fn matches<L: Ledger>(query: &Query, row: &Row, steps: &mut Steps<L>) -> boo
 }
 
 #[cycle(holding)]
-fn does_hold(query: &Query, row: &Row) -> bool
-    ensures { result ≡ holds (tree_of query.now) row.now }
+fn does_hold<R: Searched>(query: &Query, row: &R) -> bool
+    ensures { result ≡ holds (tree_of query.now) (R.represents row.now) }
 {
     match query {
         Query::Cond(cond) => does_meet(cond, row),
@@ -43,8 +44,8 @@ fn does_hold(query: &Query, row: &Row) -> bool
 
 #[cycle(holding)]
 #[tactic(auto, using(crate::proofs::Sizes::member_falls))]
-fn do_all_hold(members: &[Query], row: &Row) -> bool
-    ensures { result ≡ all_hold (queries_of (map tree_of members.now)) row.now }
+fn do_all_hold<R: Searched>(members: &[Query], row: &R) -> bool
+    ensures { result ≡ all_hold (queries_of (map tree_of members.now)) (R.represents row.now) }
 {
     for member in members {
         if !does_hold(member, row) {
@@ -56,8 +57,8 @@ fn do_all_hold(members: &[Query], row: &Row) -> bool
 
 #[cycle(holding)]
 #[tactic(auto, using(crate::proofs::Sizes::member_falls))]
-fn does_one_hold(members: &[Query], row: &Row) -> bool
-    ensures { result ≡ some_hold (queries_of (map tree_of members.now)) row.now }
+fn does_one_hold<R: Searched>(members: &[Query], row: &R) -> bool
+    ensures { result ≡ some_hold (queries_of (map tree_of members.now)) (R.represents row.now) }
 {
     for member in members {
         if does_hold(member, row) {
@@ -67,8 +68,8 @@ fn does_one_hold(members: &[Query], row: &Row) -> bool
     false
 }
 
-fn does_meet(cond: &Cond, row: &Row) -> bool
-    ensures { result ≡ meets cond.now row.now }
+fn does_meet<R: Searched>(cond: &Cond, row: &R) -> bool
+    ensures { result ≡ meets cond.now (R.represents row.now) }
 {
     match sought(cond.name.as_str(), row) {
         Sought::Number(n) => is_met_by_number(cond.op, &cond.pattern, n),
@@ -77,16 +78,16 @@ fn does_meet(cond: &Cond, row: &Row) -> bool
 }
 
 // Returns the value of the row that a condition with this name compares.
-fn sought<'a>(name: &str, row: &'a Row) -> Sought<'a>
-    ensures { IsSought (named_value name.now row.now) result }
+fn sought<'a, R: Searched>(name: &str, row: &'a R) -> Sought<'a>
+    ensures { IsSought (named_value name.now (R.represents row.now)) result }
 {
     if name == ITEM_ID {
-        return Sought::Number(u64::from(row.id));
+        return Sought::Number(u64::from(row.id()));
     }
     let Some(property) = Property::by_name(name) else {
         return Sought::Text("");
     };
-    match row.item.sought(property) {
+    match row.sought(property) {
         Some(sought) => sought,
         None => absent(property.kind()),
     }

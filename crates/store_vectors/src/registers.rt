@@ -26,7 +26,7 @@ fn opened(alloc: Global, edits: usize) -> Result<Register, AllocError> {
 /// Logs in `count` times, up to the limit on entries.
 fn log_in(register: &mut Register, count: usize) -> Result<(), AllocError> {
     for _ in 0..count {
-        if register.stopped() || !register.has_place() {
+        if register.is_stopped() || !register.is_below_entry_limit() {
             break;
         }
         register.login(7)?;
@@ -71,12 +71,12 @@ fn the_65th_login_ends_the_first_session(rt: HostRuntime) -> Result<(), Fail> {
 
 /// Logs out the first of two sessions, answers both, and stops.
 fn end(register: &mut Register) {
-    if register.seen(1).is_some() && !register.stopped() {
+    if register.seen(1).is_some() && !register.is_stopped() {
         register.logout(3, 1);
     }
     register.touch(1);
     register.touch(2);
-    if !register.stopped() {
+    if !register.is_stopped() {
         register.stop(4);
     }
 }
@@ -91,7 +91,7 @@ fn ended(alloc: Global) -> Result<Register, AllocError> {
 /// the limit, and entries.
 fn shown_end(alloc: Global, register: &Register) -> Result<String, AllocError> {
     let marks = (register.seen(1), register.seen(2));
-    let counts = (register.stopped(), register.places());
+    let counts = (register.is_stopped(), register.limited_entries());
     let (third, fourth, none) = (register.entry(2), register.entry(3), register.entry(4));
     format!(in alloc; "{marks:?} {counts:?} {third:?} {fourth:?} {none:?}")
 }
@@ -122,7 +122,7 @@ fn edit(alloc: Global, register: &mut Register) -> Result<(), AllocError> {
     let count = batch.edits.as_slice().len();
     let fits = count <= MAX_EDITS && register.has_room_for(count);
     register.reserve()?;
-    if fits && register.has_place() && !register.stopped() {
+    if fits && register.is_below_entry_limit() && !register.is_stopped() {
         register.edit(5, batch);
     }
     Ok(())
@@ -130,7 +130,11 @@ fn edit(alloc: Global, register: &mut Register) -> Result<(), AllocError> {
 
 /// Returns the revision, the numbers of edits and of entries that count for the limit, and the second entry.
 fn shown_edits(alloc: Global, register: &Register) -> Result<String, AllocError> {
-    let counts = (register.revision(), register.edits(), register.places());
+    let counts = (
+        register.revision(),
+        register.edits(),
+        register.limited_entries(),
+    );
     format!(in alloc; "{counts:?} {:?}", register.entry(1))
 }
 
@@ -167,9 +171,13 @@ fn the_limit_of_edits_is_the_number(rt: HostRuntime) -> Result<(), Fail> {
 
 /// Returns whether an entry is within the limit, the same after two more logins, and the length then.
 fn fill(register: &mut Register) -> Result<(bool, bool, u64), AllocError> {
-    let had_place = register.has_place();
+    let was_below_limit = register.is_below_entry_limit();
     log_in(register, 2)?;
-    Ok((had_place, register.has_place(), register.len()))
+    Ok((
+        was_below_limit,
+        register.is_below_entry_limit(),
+        register.len(),
+    ))
 }
 
 fn filled(alloc: Global, logins: usize) -> Result<(bool, bool, u64), AllocError> {

@@ -1,4 +1,4 @@
--- What a text that is no shown one is refused for.
+-- Why a text that does not show tags is refused.
 use Rattle.std.proofs.Common.{Vec, Global, ◌≡◌, ◌+◌, ◌<◌, ◌≤◌, ℕ, List, length, Bool, true, false, Err, IfSome, inl, inr, refl, ap, ◌∙◌, arith}
 use Rattle.std.specs.Io.KnownBytes.{Consumes, IsAtEnd}
 use Rattle.std.specs.Str.{IsUtf8, is_utf8}
@@ -38,7 +38,7 @@ pub bad_line : (bytes : List ℕ) (e : ShowError) → is_utf8 bytes ≡ true →
 bad_line bytes (show.Line line) good why = inr (good, why)
 bad_line bytes show.Memory good why = tt
 
--- the tags of a text within the limit have spellings
+-- the tags of a text within the limit have encodings
 pub back_spellable : (bytes : List ℕ) (tags : List Tree) → length bytes ≤ text_limit → Shows standard_rows bytes tags → are_spellable (trees_of tags) ≡ true
 back_spellable bytes tags within shows = spellable_by_text 0 (trees_of tags) (omega (arith, ap length shows.lines))
 
@@ -56,7 +56,7 @@ from_one : (bytes : List ℕ) (line : ℕ) → StopsOn line bytes → 1 ≤ line
 from_one bytes line (inl bad) = let is = bad.1 in omega arith
 from_one bytes line (inr bad) = let is = bad.1.1.0 in omega arith
 
--- the fault of the text is one of the input
+-- the error of the text is one of the input
 pub text_cause : (before after : InputSeen) (bytes : List ℕ) (f : Fault TextFault) → Consumes before.left after.left bytes → IsAtEnd after.left → IsWithin bytes
     → after.faults ≡ before.faults → IsTextFault bytes f → StopsReading before after f
 text_cause before after bytes (fault.Own (Line line)) read end within faultless h = record {

@@ -32,7 +32,7 @@ pub none_left : (bytes : List ℕ) → length bytes ≡ 0 → bytes ≡ []
 none_left [] h = refl
 none_left (b ∷ bytes) h = absurd (cc)
 
--- a front of a piece is all of it if nothing follows
+-- a prefix of a chunk is all of it if nothing follows
 pub whole_piece : (piece front behind : List ℕ) → piece ≡ front ++ behind → length behind ≡ 0 → piece ≡ front
 whole_piece piece front behind split end = split ∙ ap (λ l. front ++ l) (none_left behind end) ∙ append-nil front
 
@@ -40,7 +40,7 @@ whole_piece piece front behind split end = split ∙ ap (λ l. front ++ l) (none
 pub few_counted_tops : (fed : List ℕ) (r : Reader) (tops : Tops) → HasCounted fed r tops → length fed < 2 ^ 63 → tops.depth + tops.ended < 2 ^ 63
 few_counted_tops fed r tops h few = omega (arith, few_tops fed h.handed r h.read, ap total h.counted)
 
--- one event more is handed out and counted
+-- one event more is returned and counted
 pub counted_next : (fed : List ℕ) (old new : Reader) (tops tops_new : Tops) (event : Event) → HasCounted fed old tops
     → (new.rows ≡ old.rows) × (new.limit ≡ old.limit) → new.error ≡ old.error
     → ((bytes : List ℕ) (handed : List Event) → HasRead bytes handed old → HasRead bytes (handed ++ event ∷ []) new)
@@ -54,7 +54,7 @@ counted_next fed old new tops tops_new event h same error read is = record {
   counted = is ∙ ap (λ t. after_event t event) h.counted ∙ sym (counted_more h.handed no_tops event);
 }
 
--- more bytes are fed, and nothing is handed out
+-- more bytes are fed, and no event is returned
 pub counted_fed : (fed more bytes : List ℕ) (old new : Reader) (tops : Tops) → HasCounted fed old tops
     → (new.rows ≡ old.rows) × (new.limit ≡ old.limit) → new.error ≡ None
     → ((bytes : List ℕ) (handed : List Event) → HasRead bytes handed old → HasRead (bytes ++ more) handed new)
@@ -72,7 +72,7 @@ counted_fed fed more bytes old new tops h same going read is = record {
 pub counted_taken : (fed : List ℕ) (r : Reader) (tops : Tops) → HasCounted fed r tops → taken r ≡ length fed
 counted_taken fed r tops h = count_told fed h.handed r h.read h.going
 
--- a call of the reader takes a byte where nothing is ready
+-- a call of the reader takes a byte if nothing is ready
 pub counted_takes : (fed piece : List ℕ) (old new : Reader) (tops : Tops) (n : ℕ) → HasCounted fed old tops → ready old ≡ []
     → (new.rows ≡ old.rows) × (new.limit ≡ old.limit) → new.error ≡ None
     → ((bytes : List ℕ) (handed : List Event) → HasRead bytes handed old → HasRead (bytes ++ take n piece) handed new)
@@ -84,7 +84,7 @@ at_most_one : (es : List Event) → (if is_empty es then 0 else 1) ≤ 1
 at_most_one [] = omega arith
 at_most_one (e ∷ es) = omega arith
 
--- a step takes a byte, or it hands out all that was ready
+-- a step takes a byte, or it returns all that was ready
 pub fewer_left : (before after : List Event) (left behind n : ℕ) → 0 < left → n ≤ left → behind ≡ left - n
     → (before ≡ [] → 0 < n) → (n ≡ 0 → after ≡ []) → 2 * behind + (if is_empty after then 0 else 1) < 2 * left + (if is_empty before then 0 else 1)
 fewer_left before after left behind (suc n) some within is takes none = omega (arith, is, within, some, at_most_one after)
@@ -131,7 +131,7 @@ pub ended_err : (fed : List ℕ) (r : Reader) (tops : Tops) (e : StreamError) �
     → ((walk_of r.rows r.limit fed).ending ≡ inside) × (e ≡ stream.Truncated (length fed)) → EndsCounted fed (Err e)
 ended_err fed r tops e h is = (sym (ap (λ w. w.ending) (walked_by fed r h.rows h.limit)) ∙ is.0, is.1)
 
--- bytes within the limit stand whole in what is read of an input that begins with them
+-- bytes within the limit are all in what is read of an input that begins with them
 pub within_limit : (bytes more : List ℕ) → length bytes ≤ tags_limit → take tags_limit (bytes ++ more) ≡ bytes ++ take (tags_limit - length bytes) more
 within_limit bytes more within =
     ap (λ n. take n (bytes ++ more)) (let long : tags_limit ≡ length bytes + (tags_limit - length bytes) = omega (arith, within) in long)
@@ -155,7 +155,7 @@ stops fed front piece e within h split = stops_by (fed ++ piece) e (λ known res
     ∙ ap (λ l. (walked l).ending) (within_limit (fed ++ front) (split.0 ++ rest) within)
     ∙ h known (take (tags_limit - length (fed ++ front)) (split.0 ++ rest)))
 
--- more bytes than are read, in which no place is faulty
+-- there are more bytes than are read, and no tag in those that are read is malformed
 pub too_long : (fed front behind piece : List ℕ) (r : Reader) (tops : Tops) → length (fed ++ front) ≡ tags_limit → 0 < length behind → piece ≡ front ++ behind
     → HasCounted (fed ++ front) r tops → IsTooLong (fed ++ piece)
 too_long fed front behind piece r tops full more split h =
@@ -172,7 +172,7 @@ too_long_more bytes rest long = record {
   sound = λ e is. long.sound e (ap (λ l. (walked l).ending) (sym (take-append-le tags_limit bytes rest (let more = long.long in omega arith))) ∙ is);
 }
 
--- what was read, piece by piece
+-- what was read, chunk by chunk
 pub on_piece : (before after : InputSeen) (fed piece : List ℕ) (counter : Counter) → Consumes before.left after.left (fed ++ piece) → length piece ≤ piece_limit
     → IsCounted fed counter → length fed ≤ tags_limit → HasReadOn IsSoundSoFar before after
 on_piece before after fed piece counter read short counted within = record {
@@ -183,7 +183,7 @@ on_piece before after fed piece counter read short counted within = record {
   on = record { within = within; sound = λ e is. unbroken fed counter.reader counter.tops e counted.counted is };
 }
 
--- the fault of what was read is one of the input
+-- the error of what was read is one of the input
 pub stopped_cause : (before after : InputSeen) (bytes : List ℕ) (fault : Fault TagsFault) → Consumes before.left after.left bytes → after.faults ≡ before.faults
     → HasReadOn IsSoundSoFar before after → StopsAt bytes fault → StopsReading before after fault
 stopped_cause before after bytes (Own (Broken error)) read faultless on stop =
@@ -193,7 +193,7 @@ stopped_cause before after bytes (Own TooLong) read faultless on stop =
 stopped_cause before after bytes Read read faultless on stop = absurd stop
 stopped_cause before after bytes Memory read faultless on stop = tt
 
--- the input failed, behind bytes that are not refused
+-- the input failed, after bytes that are not refused
 pub failed_cause : (before after : InputSeen) (bytes : List ℕ) (counter : Counter) → Consumes before.left after.left bytes → IsCounted bytes counter
     → length bytes ≤ tags_limit → Rose before.faults after.faults → StopsReading before after Read
 failed_cause before after bytes counter read counted within rose = record {

@@ -97,7 +97,7 @@ few_as fed handed r None t =
 few_as fed handed r (Some e) t =
     omega (arith, few_events r.rows r.limit fed, ap length t.0.1, length-append (handed ++ ready r) t.0.0, length-append handed (ready r))
 
--- no more events are handed out than bytes were fed
+-- no more events are returned than bytes were fed
 pub few_handed : (fed : List ℕ) (handed : List Event) (r : Reader) → HasRead fed handed r → length handed ≤ length fed
 few_handed fed handed r h = few_as fed handed r r.error (told fed handed r h)
 
@@ -130,7 +130,7 @@ told_none fed handed r h goes =
     let t : TellsAs fed handed r None = subst (TellsAs fed handed r) goes (told fed handed r h) in
     ap events_in t ∙ length-append handed (ready r)
 
--- where nothing is ready, a call takes a byte
+-- if nothing is ready, a call takes a byte
 pub takes_some : (fed piece : List ℕ) (handed : List Event) (old new : Reader) (n : ℕ) → HasRead fed handed old → old.error ≡ None → ready old ≡ []
     → HasRead (fed ++ take n piece) handed new → new.error ≡ None → new.rows ≡ old.rows → new.limit ≡ old.limit
     → (n < length piece → ready new ≢ []) → 0 < length piece → 0 < n

@@ -44,13 +44,13 @@ consumes_none a b c fed room n end front read =
     let none : take n room ≡ [] = none_left (take n room) (omega (arith, end, length-take n room)) in
     subst (Consumes a c) (ap (λ (l : List ℕ). fed ++ l) none ∙ append-nil fed) (Consumes-trans a b c fed (take n room) front read)
 
--- what was taken where a step stopped
+-- what was taken when a step stopped
 stop_took : (bytes lines more : List ℕ) (mid after : OutputSeen) (stop : Stop) → StepStops bytes lines more mid after stop
     → (some : List ℕ) × Appends mid.taken after.taken some
 stop_took bytes lines more mid after (Input fault) stops = (more, stops.1.taken)
 stop_took bytes lines more mid after Output stops = (take stops.1.taken.0 more, stops.1.taken.2)
 
--- a step stopped within a piece, behind what was written
+-- a step stopped within a chunk, after what was written
 pub step_stopped : (before after : InputSeen) (output_before mid output_after : OutputSeen) (fed piece written lines more : List ℕ) (stop : Stop) → written ≡ shown_text fed
     → Consumes before.left after.left (fed ++ piece) → length piece ≤ piece_limit → after.faults ≡ before.faults → Appends output_before.taken mid.taken written
     → StepStops (fed ++ piece) lines more mid output_after stop → IsInStep before after output_before output_after
@@ -68,7 +68,7 @@ step_stopped before after output_before mid output_after fed piece written lines
       steady = inr faultless;
     }
 
--- more was taken behind it
+-- more was taken after it
 step_more : (before after : InputSeen) (output_before mid output_after : OutputSeen) (bytes : List ℕ) → IsInStep before after output_before mid
     → Appends mid.taken output_after.taken bytes → IsInStep before after output_before output_after
 step_more before after output_before mid output_after bytes h taken = record {
@@ -89,7 +89,7 @@ step_told before after output_before mid output_after wanted bytes status h (inl
 step_told before after output_before mid output_after wanted bytes status h (inr t) =
     step_more before after output_before mid output_after (take t.1.taken.0 bytes) h t.1.taken.2
 
--- the line of a fault was, perhaps in part
+-- the line of an error was written, perhaps only a prefix of it
 pub step_fault : {F : Type 0} (line : F → List ℕ) (status : F → ℕ) (fault : Fault F) (before after : InputSeen) (output_before mid output_after : OutputSeen) (outcome : Outcome)
     → IsInStep before after output_before mid → TellsFault line status fault mid output_after outcome → IsInStep before after output_before output_after
 step_fault {F} line status fault before after output_before mid output_after outcome h t = by_line t.told

@@ -1,4 +1,4 @@
--- What the bytes of a reply, read so far, tell of the whole input.
+-- What the bytes of a reply, read so far, show of the whole input.
 use Rattle.std.proofs.Common.{◌≡◌, ◌≢◌, ◌<◌, ◌≤◌, ◌⊎◌, ◌++◌, nat_le, ℕ, List, [], ◌∷◌, length, take, drop, true, false, Option, Some, None, IfOk, IfErr, MatchOption, Result, Ok, Err, inl, inr, refl, sym, ap, subst, ◌∙◌, arith, length-append, append_assoc, append-nil}
 use Rattle.std.specs.Io.KnownBytes.{Consumes, IsAtEnd}
 use Rattle.std.proofs.Math.Seq.{take-append_seam}
@@ -39,11 +39,11 @@ use Rattle.tag_commands.proofs.Counted.{unbroken}
 within_limit : (t : Tree) → is_accepted standard_rows tag_limit t ≡ true → length (payload t) ≤ tag_limit
 within_limit t accepted = leb-true (length (payload t)) tag_limit (and_parts _ _ (and_parts _ _ accepted).1).1
 
--- the head in front of eight bytes and more
+-- the head at the beginning of eight bytes and more
 head_in_front : (bytes : List ℕ) → 8 ≤ length bytes → IsHead (take 8 bytes) (code_of (take 8 bytes)) (told_length (take 8 bytes))
 head_in_front bytes many = record { count = length-take 8 bytes ∙ (omega arith); code = refl; told = refl }
 
--- a whole tag in front has a head, and as many bytes behind it as that tells
+-- a whole tag at the beginning has a head, and after it as many bytes as the head states
 whole_in_front : (t : Tree) (rest bytes : List ℕ) → BeginsWith t rest bytes → is_whole bytes ≡ true
 whole_in_front t rest bytes h =
     let many : 8 ≤ length bytes = omega (arith, ap length h.spelled) in
@@ -55,13 +55,13 @@ whole_in_front t rest bytes h =
 pub none_yet : (bytes : List ℕ) → is_whole bytes ≡ false → HasNoTag bytes
 none_yet bytes short t rest h = let same : true ≡ false = sym (whole_in_front t rest bytes h) ∙ short in absurd (cc)
 
--- a tag alone ends between two
+-- the bytes of one tag and nothing else end between two tags
 alone : (t : Tree) (bytes : List ℕ) → spelling t ≡ bytes → is_accepted standard_rows tag_limit t ≡ true → IsProperTag t → (walked bytes).ending ≡ between
 alone t bytes is accepted proper =
     ap (λ l. (walked l).ending) (sym (append-nil (spelling t) ∙ is))
     ∙ ap (λ (w : Walk). w.ending) (tags_read standard_rows tag_limit (t ∷ []) (omega arith) ((accepted, proper), tt))
 
--- where bytes are broken, whatever follows them, and no tag stands in front of them, none does in front of all
+-- if bytes are broken, whatever follows them, and do not begin with a tag, then no longer bytes that begin with them do
 none_in_all : (bytes : List ℕ) (e : StreamError) → HasNoTag bytes → ((rest : List ℕ) → (walked (bytes ++ rest)).ending ≡ broken e) → (rest : List ℕ) → HasNoTag (bytes ++ rest)
 none_in_all bytes e none breaks rest t more h = elim (cases_lt (length bytes) (length (spelling t))) [
   | inl less ↦
@@ -79,7 +79,7 @@ none_in_all bytes e none breaks rest t more h = elim (cases_lt (length bytes) (l
       })
 ]
 
--- a tag that was read off the front
+-- a tag that was read from the beginning
 pub front_tag : (tag : Tree) (len : ℕ) (bytes : List ℕ) → take len bytes ≡ spelling tag → is_accepted standard_rows tag_limit tag ≡ true → IsProperTag tag
     → BeginsWith tag (drop len bytes) bytes
 front_tag tag len bytes is accepted proper = record {
@@ -136,7 +136,7 @@ no_tag bytes (stream.ShortHead at) none told more =
 no_tag bytes (stream.Truncated at) none told more = absurd (more at refl)
 no_tag bytes stream.Memory none told more = tt
 
--- what is said of a tag in front of bytes is said of it in front of more
+-- what is said of a tag at the beginning of bytes is said of it at the beginning of more
 begins_more : (tag : Tree) (rest bytes more : List ℕ) → BeginsWith tag rest bytes → BeginsWith tag (rest ++ more) (bytes ++ more)
 begins_more tag rest bytes more h =
     record { spelled = ap (λ l. l ++ more) h.spelled ∙ append_assoc (spelling tag) rest more; accepted = h.accepted; proper = h.proper }
@@ -159,7 +159,7 @@ broken_whole bytes d e shown known is rest =
     let same : broken d ≡ broken e = sym (shown known []) ∙ ap (λ l. (walked l).ending) (append-nil bytes) ∙ is in
     shown known rest ∙ same
 
--- a fault of the bytes is one of all that begin with them
+-- an error of the bytes is one of all that begin with them
 pub stops_all : (bytes : List ℕ) (f : Fault LearnFault) → ((e : StreamError) → (walked bytes).ending ≡ broken e → (rest : List ℕ) → (walked (bytes ++ rest)).ending ≡ broken e)
     → IsRefusal bytes f → LearnStops bytes f
 stops_all bytes (Own (Broken error)) breaks h = (
@@ -173,7 +173,7 @@ stops_all bytes (Own (Table error)) breaks h = (h.0, λ rest. refused_more error
 stops_all bytes Read breaks h = h
 stops_all bytes Memory breaks h = h
 
--- the fault of what was read is one of the input
+-- the error of what was read is one of the input
 pub learn_cause : (before after : InputSeen) (bytes : List ℕ) (f : Fault LearnFault) → Consumes before.left after.left bytes → after.faults ≡ before.faults
     → HasReadOn IsReplySoFar before after → LearnStops bytes f → StopsReading before after f
 learn_cause before after bytes (Own (Broken error)) read faultless on stop =
@@ -205,7 +205,7 @@ early_cause before after bytes read end faultless h = record {
   read_on = all_read_on IsReplySoFar before after bytes read (inl h);
 }
 
--- more bytes were read behind the reply
+-- more bytes were read after the reply
 pub behind_cause : (before after : InputSeen) (bytes more : List ℕ) (rows : List CodeRow) → Consumes before.left after.left (bytes ++ more) → more ≢ []
     → length more ≤ piece_limit → after.faults ≡ before.faults → IsReply rows bytes → StopsReading before after (Own (Table table.NotReply))
 behind_cause before after bytes more rows read some short faultless reply =
@@ -228,7 +228,7 @@ pub failed_behind : (before after : InputSeen) (bytes : List ℕ) (rows : List C
     → Rose before.faults after.faults → StopsReading before after Read
 failed_behind before after bytes rows read reply rose = record { bytes = bytes; read = read; on = inr (rows, reply); rose = rose }
 
--- what judging the bytes says, where they are broken
+-- what judging the bytes says if they are broken
 pub told_broken : (P : Type 0) (bytes : List ℕ) (r : Result (Option (List CodeRow)) (Fault LearnFault)) → (IsUnfinished bytes → ⊥)
     → IfOk r (λ learned. MatchOption learned (IsUnfinished bytes) (λ rows. IsReply rows bytes)) → IfOk r (λ learned. MatchOption learned P (λ rows. IsReply rows bytes))
 told_broken P bytes (Ok None) sound told = absurd (sound told)

@@ -1,5 +1,5 @@
--- What the meanings of the commands on tags owe: words and an input say one status, and no fault where the command is
--- done.
+-- What the specifications of the commands on tags have to meet: arguments and an input have one status, and no error if
+-- the command is done.
 use Rattle.std.proofs.Common.{◌≡◌, ℕ, List, [], Some, Ok, Err, true, false, inl, inr, refl, sym, subst, ap, ◌∙◌, arith}
 use Rattle.std.proofs.lemmas.List.{take_all}
 use Rattle.dmap_tags.specs.Tree.{Tree}
@@ -61,7 +61,7 @@ reads_once m one_status not_both given = record {
 
 -- ---- check and show
 
--- bytes that are too long have no faulty place in those that are read
+-- bytes that are too long have no malformed tag in those that are read
 long_or_faulty : (input : List ℕ) (error : StreamError) → HasTagFault error input → IsTooLong input → ⊥
 long_or_faulty input error (inl shown) too_long = too_long.sound error shown
 long_or_faulty input error (inr cut) too_long = let within = cut.within in let long = too_long.long in absurd (omega arith)
@@ -76,7 +76,7 @@ one_tags_status input tags.TooLong tags.TooLong says said = refl
 ends_between : (input : List ℕ) → IsSound input → (walked input).ending ≡ between
 ends_between input sound = ap (λ (w : Walk). w.ending) (tags_walked sound.1.0 input sound.1.1)
 
--- so they have no fault
+-- so they have no error
 sound_or_faulty : (input : List ℕ) (error : StreamError) → IsSound input → HasTagFault error input → ⊥
 sound_or_faulty input error sound (inl shown) =
     let ending : between ≡ broken error =
@@ -155,7 +155,7 @@ codes_sense = record {
 
 -- ---- codes --learn
 
--- a reply is refused for nothing: its one tag tells a table, and is the whole input
+-- there is no cause to refuse a reply whose only tag is a table and is the whole input
 tells_not : (rows : List CodeRow) (error : CodeError) (tag : Tree) (rest : List ℕ) → table_of tag ≡ Ok rows → rest ≡ [] → TellsNone error tag rest → ⊥
 tells_not rows error tag rest told none (inl bad) = let same : Ok rows ≡ Err error = sym told ∙ bad in absurd (cc)
 tells_not rows error tag rest told none (inr bad) = bad.1.0 none

@@ -40,7 +40,7 @@ pred_is : (n : ℕ) → pred n ≡ n - 1
 pred_is zero = refl
 pred_is (suc n) = omega arith
 
--- the level behind an event is the number of open lists
+-- the level after an event is the number of open lists
 level_is : (tops : Tops) (e : Event) → level_after tops.depth e ≡ (after_event tops e).depth
 level_is tops (Open c len at) = omega arith
 level_is tops (Leaf c value at) = refl
@@ -56,7 +56,7 @@ shown_more (f ∷ es) tops e =
     ∙ ap (λ n. shown_events n es ++ shown_event (fold after_event (after_event tops f) es).depth e) (sym (level_is tops f)))
     ∙ sym (append_assoc (shown_event tops.depth f) (shown_events (level_after tops.depth f) es) (shown_event (fold after_event (after_event tops f) es).depth e))
 
--- one event more is handed out, and its lines are made
+-- one event more is returned, and its lines are made
 pub shown_next : (fed written lines lines_new : List ℕ) (old new : Reader) (tops tops_new : Tops) (event : Event) → HasShown fed written old tops lines
     → (new.rows ≡ old.rows) × (new.limit ≡ old.limit)
     → ((bytes : List ℕ) (handed : List Event) → HasRead bytes handed old → HasRead bytes (handed ++ event ∷ []) new)
@@ -76,14 +76,14 @@ shown_next fed written lines lines_new old new tops tops_new event h same read m
     counted_more_of [] tops e = refl
     counted_more_of (f ∷ es) tops e = counted_more_of es (after_event tops f) e
 
--- an event that is handed out is one of few, so that the counts are small
+-- an event that is returned is one of few, so that the counts are small
 pub few_shown : (fed written lines : List ℕ) (old new : Reader) (tops : Tops) (event : Event) → HasShown fed written old tops lines
     → ((bytes : List ℕ) (handed : List Event) → HasRead bytes handed old → HasRead bytes (handed ++ event ∷ []) new)
     → length fed ≤ tags_limit → tops.depth + tops.ended < 4294967296
 few_shown fed written lines old new tops event h read few =
     omega (arith, few, few_handed fed (h.handed ++ event ∷ []) new (read fed h.handed h.read), length-append h.handed (event ∷ []), few_counted h.handed no_tops, ap total h.counted)
 
--- more bytes are fed, and nothing is handed out
+-- more bytes are fed, and no event is returned
 pub shown_fed : (fed more bytes written lines : List ℕ) (old new : Reader) (tops : Tops) → HasShown fed written old tops lines
     → (new.rows ≡ old.rows) × (new.limit ≡ old.limit)
     → ((bytes : List ℕ) (handed : List Event) → HasRead bytes handed old → HasRead (bytes ++ more) handed new)
@@ -132,7 +132,7 @@ shows_some fed written lines r tops h rest =
 all_events : (handed : List Event) (r : Reader) → ready r ≡ [] → handed ++ ready r ≡ handed
 all_events handed r quiet = ap (λ es. handed ++ es) quiet ∙ append-nil handed
 
--- behind a refusal no event is left
+-- after a refusal no event is left
 pub shows_broken : (bytes written lines : List ℕ) (r : Reader) (tops : Tops) (e : StreamError) → HasShown bytes written r tops lines → ready r ≡ []
     → r.error ≡ Some e → e ≢ stream.Memory → ShowsBroken bytes (written ++ lines) e
 shows_broken bytes written lines r tops e h quiet stopped known rest =
@@ -140,7 +140,7 @@ shows_broken bytes written lines r tops e h quiet stopped known rest =
     let events : (walked (bytes ++ rest)).events ≡ h.handed = ap (λ w. w.events) walk ∙ append-nil (h.handed ++ ready r) ∙ all_events h.handed r quiet in
     (ap (λ w. w.ending) walk, h.shown ∙ ap (shown_events 0) (sym events))
 
--- where all bytes were taken, the lines are those of all events
+-- if all bytes were taken, the lines are those of all events
 pub shows_whole : (fed written lines : List ℕ) (r : Reader) (tops : Tops) → HasShown fed written r tops lines → r.error ≡ None → ready r ≡ []
     → written ++ lines ≡ shown_events 0 (walked fed).events
 shows_whole fed written lines r tops h going quiet =
@@ -201,7 +201,7 @@ stops_long fed front behind piece written shower full more split h =
           ∙ ap (λ l. shown_events 0 (walked l).events) (sym cut),
     )
 
--- what is shown where showing stops
+-- what is shown when showing stops
 pub begins_stopped : (bytes lines : List ℕ) (fault : Fault TagsFault) → StopsShowing bytes lines fault → BeginsShown bytes lines
 begins_stopped bytes lines (Own (Broken error)) stop = begins_all bytes lines ((stop.1 []).1 ∙ ap shown_text (append-nil bytes))
 begins_stopped bytes lines (Own TooLong) stop = begins_all bytes lines stop.1
@@ -228,7 +228,7 @@ shows_all before after bytes lines (Own TooLong) read stop =
 shows_all before after bytes lines Read read stop = absurd stop
 shows_all before after bytes lines Memory read stop = tt
 
--- the cause of a fault, and the lines before it
+-- the cause of an error, and the lines before it
 pub show_cause : (before after : InputSeen) (bytes lines : List ℕ) (fault : Fault TagsFault) → Consumes before.left after.left bytes → after.faults ≡ before.faults
     → HasReadOn IsSoundSoFar before after → StopsShowing bytes lines fault → StopsReading before after fault × IsShownBefore before after fault lines
 show_cause before after bytes lines fault read faultless on stop = (
@@ -327,17 +327,17 @@ show_read before after fed written shower h empty within read =
       all = (fed, read, text);
     }
 
--- a read failed behind bytes that are not refused
+-- a read failed after bytes that are not refused
 pub show_failed : (before after : InputSeen) (fed written : List ℕ) (shower : Shower) → IsShowing fed written shower → Consumes before.left after.left fed
     → length fed ≤ tags_limit → Rose before.faults after.faults → StopsReading before after Read
 show_failed before after fed written shower h read within rose = failed_cause before after fed shower.counter read (is_counted fed written shower h) within rose
 
--- what was read, piece by piece
+-- what was read, chunk by chunk
 pub on_shown : (before after : InputSeen) (fed piece written : List ℕ) (shower : Shower) → Consumes before.left after.left (fed ++ piece) → length piece ≤ piece_limit
     → IsShowing fed written shower → length fed ≤ tags_limit → HasReadOn IsSoundSoFar before after
 on_shown before after fed piece written shower read short h within = on_piece before after fed piece shower.counter read short (is_counted fed written shower h) within
 
--- a step stopped behind what was written
+-- a step stopped after what was written
 pub step_stops : (input_before input_after : InputSeen) (before mid after : OutputSeen) (bytes written more : List ℕ) (stop : Stop)
     → Consumes input_before.left input_after.left bytes → input_after.faults ≡ input_before.faults → HasReadOn IsSoundSoFar input_before input_after
     → IsWritten before mid written → StepStops bytes (written ++ more) more mid after stop

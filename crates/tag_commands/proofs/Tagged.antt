@@ -1,4 +1,4 @@
--- Bytes that are tags: what the walk over them tells, and how many top tags it counts.
+-- Bytes that are tags: the events of the walk over them, and how many top tags it counts.
 use Rattle.std.proofs.Common.{◌≡◌, ◌+◌, ◌-◌, ◌<◌, ℕ, suc, List, [], ◌∷◌, ◌++◌, length, take, drop, get_or, fold, if◌then◌else◌, refl, sym, ap, ◌∙◌, arith, append-nil, append_assoc, add-one}
 use Rattle.std.proofs.lemmas.Bool.{ne_eqb}
 use Rattle.std.proofs.lemmas.List.{take-append-drop}
@@ -25,18 +25,18 @@ pub each_small : (bytes : List ℕ) → ((i : ℕ) → get_or bytes i 0 < 256) �
 each_small [] h = tt
 each_small (b ∷ bytes) h = (h 0, each_small bytes (λ i. h (suc i)))
 
--- more of a piece is behind its front, and less is left
+-- a longer prefix of a chunk was taken, and less is left
 pub taken_more : (piece front rest left : List ℕ) (taken : ℕ) → piece ≡ front ++ rest → left ≡ drop taken rest → piece ≡ (front ++ take taken rest) ++ left
 taken_more piece front rest left taken split is =
     split ∙ ap (λ l. front ++ l) (sym (take-append-drop taken rest)) ∙ sym (append_assoc front (take taken rest) (drop taken rest))
     ∙ ap (λ l. (front ++ take taken rest) ++ l) (sym is)
 
--- two runs of bytes, one behind the other
+-- two runs of bytes, one after the other
 pub both_small : (xs ys : List ℕ) → AreBytes xs → AreBytes ys → AreBytes (xs ++ ys)
 both_small [] ys h k = k
 both_small (x ∷ xs) ys h k = (h.0, both_small xs ys h.1 k)
 
--- the counts where that many lists are open
+-- the counts if that many lists are open
 abbrev counts : ℕ → ℕ → Tops
 counts depth ended = record { depth = depth; ended = ended }
 
@@ -44,7 +44,7 @@ counts depth ended = record { depth = depth; ended = ended }
 none_ends : (depth ended : ℕ) → with_tag (suc depth) ended ≡ counts (suc depth) ended
 none_ends depth ended = ap (λ b. counts (suc depth) (if b then ended + 1 else ended)) (ne_eqb (suc depth) 0 (λ is. absurd (omega arith)))
 
--- a tag ends one, where no list is open, and what is in a list ends none
+-- a tag ends one if no list is open, and what is in a list ends none
 mutual
   one_counted : (depth ended at : ℕ) (t : Tree) (rest : List Event) → fold after_event (counts depth ended) (events_of at t rest) ≡ fold after_event (with_tag depth ended) rest
   one_counted depth ended at (leaf c l) rest = refl
@@ -78,7 +78,7 @@ some_tags bytes small is =
     let found = tags_found standard_rows tag_limit bytes small is in
     (found.0, record { spelled = found.1; accepted = found.2 })
 
--- the walk over tags tells their events, and ends between two
+-- the walk over tags has their events, and ends between two
 pub tags_walked : (tags : List Tree) (bytes : List ℕ) → AreTopTags tags bytes → walked bytes ≡ record { events = events_of_all 0 (trees_of tags) []; ending = between }
 tags_walked tags bytes h = ap walked h.spelled ∙ tags_read standard_rows tag_limit tags (omega arith) h.accepted
 

@@ -84,7 +84,7 @@ nothing_in_line : (front y : List ℕ) (z : ℕ) (r : List ℕ) → IsWhole fron
 nothing_in_line front y z r (inl empty) free e = empty
 nothing_in_line front y z r (inr w) free e = absurd (true≢false (sym (has_mark 10 w.0 []) ∙ sym (ap (has 10) w.1) ∙ feed_last front y z r free (sym e)))
 
--- one of two texts is cut
+-- one of two texts is split
 abbrev Split : List ℕ → List ℕ → List ℕ → List ℕ → Type 0
 Split a b front rest = ((f : List ℕ) × ((front ≡ a ++ f) × (b ≡ f ++ rest))) ⊎ ((z : ℕ) × ((r : List ℕ) × (a ≡ front ++ z ∷ r)))
 

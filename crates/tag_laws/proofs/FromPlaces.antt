@@ -30,7 +30,7 @@ TellsFrom rows limit bytes p (broken e) = FirstFrom rows limit bytes p e
 pub first_here : (rows : List CodeRow) (limit : ℕ) (bytes : List ℕ) (p : Place) (e : StreamError) → HasFault limit bytes p e → FirstFrom rows limit bytes p e
 first_here rows limit bytes p e h = record { place = p; way = []; leads = refl; fault = h; first = λ path q f l k. way_later rows bytes path p q l }
 
--- without a next place there is none behind it
+-- without a next place there is none after it
 pub none_behind : (rows : List CodeRow) (limit : ℕ) (bytes : List ℕ) (p : Place) → NoFaultAt limit bytes p → ((q : Place) → Next rows bytes p q → ⊥) → NoneFrom rows limit bytes p
 none_behind rows limit bytes p none last [] q e l h = none e (subst (λ (x : Place). HasFault limit bytes x e) (sym l) h)
 none_behind rows limit bytes p none last (r ∷ way) q e l h = last r l.0

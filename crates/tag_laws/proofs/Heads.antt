@@ -33,7 +33,7 @@ short_not at [] h k = k
 short_not at (c ∷ around) h k =
     absurd (let bad : true ≡ false = sym (and_from (nat_lt at c.end) (nat_lt c.end (at + 8)) (lt-ltb at c.end k.0) (lt-ltb c.end (at + 8) k.1)) ∙ h in cc)
 
--- the lists around a place end there or behind it, the inner ones before the outer
+-- the lists around a place end there or after it, the inner ones before the outer
 abbrev pub Nested : ℕ → List Container → Type 0
 Nested at [] = Unit {0}
 Nested at (c ∷ around) = (at ≤ c.end) × Nested c.end around
@@ -50,7 +50,7 @@ room at (c ∷ around) nested going short = by (nat_lt at c.end) (nat_lt c.end (
         let within = nested.0 in
         absurd (going (omega arith))
 
--- a tag that keeps to its list ends where the lists around it are nested
+-- a tag that ends inside its list leaves the lists around it nested
 pub nested_within : (at end : ℕ) (around : List Container) → Nested at around → passes end around ≡ false → Nested end around
 nested_within at end [] nested h = tt
 nested_within at end (c ∷ around) nested h = (ltb-false c.end end h, nested.1)

@@ -157,7 +157,7 @@ halved_64 = record {
   down_back = λ n h. let k = h.sfits in omega arith;
 }
 
--- how many bytes a value has, if it is no number
+-- how many bytes a value has, if it is not a number
 abbrev pub leaf_size : Leaf → ℕ
 leaf_size (Text bytes) = length bytes
 leaf_size (Opaque bytes) = length bytes

@@ -30,7 +30,7 @@ remain at (c ∷ around) = by (c.end == at) refl (remain at around)
     by true is later = record { closed = c ∷ later.closed; parts = ap (λ l. c ∷ l) later.parts; ended = (eqb-true c.end at is, later.ended); kept = later.kept }
     by false is later = record { closed = []; parts = refl; ended = tt; kept = eqb-false c.end at is }
 
--- the place behind a list's head, and the one behind a value's tag
+-- the place after a list's head, and the one after a value's tag
 abbrev pub in_list : List ℕ → Place → Place
 in_list bytes p = place (p.at + 8) (open_after (p.at + 8) (container (code_at bytes p) p.at (length_at bytes p) ∷ p.around))
 
@@ -58,7 +58,7 @@ pub next_later : (rows : List CodeRow) (bytes : List ℕ) (p q : Place) → Next
 next_later rows bytes p q (inl a) = let h = a.next in omega arith
 next_later rows bytes p q (inr a) = let h = a.next in omega arith
 
--- places lead on
+-- places on the way are in ascending order
 pub way_later : (rows : List CodeRow) (bytes : List ℕ) (way : List Place) (p q : Place) → Leads rows bytes p way q → p.at ≤ q.at
 way_later rows bytes [] p q h = subst (λ (x : Place). p.at ≤ x.at) h (omega arith)
 way_later rows bytes (r ∷ way) p q h =
@@ -82,7 +82,7 @@ one_place rows bytes (s ∷ way) [] p q r h k same =
 one_place rows bytes (s ∷ way) (t ∷ path) p q r h k same =
     one_place rows bytes way path t q r (subst (λ x. Leads rows bytes x way q) (next_one rows bytes p s t h.0 k.0) h.1) k.1 same
 
--- a list with room for a head is not short
+-- a list with space for a head is not short
 pub room_or_short : (at : ℕ) (around : List Container) → HasRoom at around → IsShort at around → ⊥
 room_or_short at [] h k = k
 room_or_short at (c ∷ around) h k = let a = k.0 in let b = k.1 in omega arith

@@ -1,4 +1,4 @@
--- The places of bytes of tags, by the lengths in their heads alone. A place is an offset at which a tag's head is
+-- The places of bytes of tags, found only by the lengths in their heads. A place is an offset at which a tag's head is
 -- expected, with the lists that are open there, the innermost first. No open list ends there. A tag may be malformed.
 use Rattle.std.specs.Prelude.{◌≡◌, ◌≢◌, ◌⊎◌, ◌+◌, ◌≤◌, ℕ, List, [], ◌∷◌, ◌++◌, length, drop, true, false}
 use Rattle.std.specs.List.{AllByRecursion}

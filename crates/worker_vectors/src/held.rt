@@ -1,13 +1,14 @@
 //! A player whose long polls are pending, and an editor, each in its own thread, with calls that fail.
-ghost use Rattle.share_lock.specs.Passes.{lock_id, IsReady};
 
 use crate::gated::GatedDoor;
-use crate::hiring::{LinkPlan, STOP, WorkerPlan, Written, hired, new_share, of_one, plain};
+use crate::hiring::{
+    LinkPlan, MANY_LOOKS, STOP, WorkerPlan, Written, of_one, plain, posts_of, run,
+};
+use daap_outside::MemLink;
 use item_model::Entry;
 use share_asks::Role;
-use share_lock::{Bell, ShareLock};
 use share_server::{LinkEnd, LinkReport};
-use share_workers::{Worker, WorkerEnd, serve_all};
+use share_workers::{Worker, WorkerEnd};
 use std::alloc::{AllocError, Global};
 use std::process::Abort;
 use std::sync::Wait;
@@ -113,27 +114,24 @@ fn named_points(alloc: Global, reports: &[LinkReport]) -> Result<Vec<u64>, Alloc
     Ok(points)
 }
 
+fn first_taken(alloc: Global, links: &[MemLink]) -> Result<Vec<u8>, AllocError> {
+    match links.first() {
+        Some(link) => Vec::from_slice(alloc, link.taken()),
+        None => Ok(Vec::new(alloc)),
+    }
+}
+
 pub fn told_of(
     alloc: Global,
     worker: Worker<GatedDoor<'_>>,
     history: &[Entry],
 ) -> Result<Told, AllocError> {
-    let Worker {
-        pass,
-        door,
-        role: _,
-        reports,
-        end,
-    } = worker;
-    let own = points_of(alloc, history, pass.number())?;
-    let named = named_points(alloc, reports.as_slice())?;
-    let mut bytes = Vec::new(alloc);
-    if let Some(link) = door.given_back.first() {
-        bytes.extend_from_slice(link.taken())?;
-    }
+    let own = points_of(alloc, history, worker.pass.number())?;
+    let named = named_points(alloc, worker.reports.as_slice())?;
+    let bytes = first_taken(alloc, worker.door.given_back.as_slice())?;
     Ok(Told {
-        end,
-        reports,
+        end: worker.end,
+        reports: worker.reports,
         bytes,
         own,
         named,
@@ -146,12 +144,9 @@ fn served<R: Threads + Wait + Clock + Sync>(
     alloc: Global,
     plans: &(WorkerPlan, WorkerPlan),
 ) -> Result<(Told, Told), AllocError> {
-    let (lock, mut first) = ShareLock::open(alloc, new_share(alloc)?, 3)?;
     let written = Written::new();
-    let mut workers = hired(rt, alloc, &lock, &mut first, plans, &written)?;
-    serve_all(rt, alloc, &lock, &Bell::new(), &mut workers);
-    let turn = lock.take(rt, &mut first);
-    let history = lock.end(turn).into_history();
+    let posts = posts_of(alloc, plans, MANY_LOOKS, &written)?;
+    let (mut workers, history) = run(rt, alloc, posts)?;
     let (Some(editor), Some(player)) = (workers.pop(), workers.pop()) else {
         return Err(AllocError);
     };
@@ -206,17 +201,31 @@ fn woken<R: Threads + Wait + Clock + Sync>(
     Ok((player, other, spent < Duration::from_secs(5)))
 }
 
+fn is_woken(player: &Told, editor: &Told) -> bool {
+    tells(player.reports.first(), &ALL_HEARD, LinkEnd::Stopped)
+        && player.bytes.len() == 410
+        && player.bytes.as_slice().ends_with(WOKEN)
+        && tells(editor.reports.first(), &[200, 204], LinkEnd::Stopped)
+        && editor.reports.len() == 1
+        && editor.end == WorkerEnd::Stopped
+        && owns(player, &[1])
+        && owns(editor, &[2, 3])
+}
+
 #[test]
 fn an_edit_and_a_stop_wake_what_is_held(rt: HostRuntime) -> Result<(), Fail> {
     let plans = (player(0), editor(0, 0, &[]));
     let (player, editor, prompt) = woken(&rt, rt.alloc(), &plans)?;
-    assert!(rt; prompt);
-    assert!(rt; tells(player.reports.first(), &ALL_HEARD, LinkEnd::Stopped));
-    assert!(rt; player.bytes.len() == 410 && player.bytes.as_slice().ends_with(WOKEN));
-    assert!(rt; tells(editor.reports.first(), &[200, 204], LinkEnd::Stopped));
-    assert!(rt; editor.reports.len() == 1 && editor.end == WorkerEnd::Stopped);
-    assert!(rt; owns(&player, &[1]) && owns(&editor, &[2, 3]));
+    assert!(rt; prompt && is_woken(&player, &editor));
     Ok(())
+}
+
+fn is_logged_out(player: &Told, other: &Told) -> bool {
+    let refused = [200, 200, 403, 403];
+    tells(player.reports.first(), &refused, LinkEnd::Closed)
+        && tells(other.reports.first(), &[204], LinkEnd::Closed)
+        && owns(player, &[1])
+        && owns(other, &[2])
 }
 
 #[test]
@@ -227,16 +236,7 @@ fn a_logout_wakes_what_is_held(rt: HostRuntime) -> Result<(), Fail> {
     };
     let plans = (player(0), of_one(Role::Listen, other));
     let (player, other, prompt) = woken(&rt, rt.alloc(), &plans)?;
-    assert!(rt; prompt);
-    assert!(rt;
-        tells(
-            player.reports.first(),
-            &[200, 200, 403, 403],
-            LinkEnd::Closed
-        )
-    );
-    assert!(rt; tells(other.reports.first(), &[204], LinkEnd::Closed));
-    assert!(rt; owns(&player, &[1]) && owns(&other, &[2]));
+    assert!(rt; prompt && is_logged_out(&player, &other));
     Ok(())
 }
 
@@ -252,89 +252,77 @@ struct Failure {
     heard: &'static [u16],
 }
 
-/// Returns a read that fails before the edit is whole: the player hears only of the stop on the second connection.
-fn before_edit(read: u64) -> Failure {
-    Failure {
-        read,
-        write: 0,
-        stop_waits: &[BEFORE_EDIT],
-        statuses: &[],
-        links: 2,
-        heard: &[200, 200, 503],
-    }
-}
+/// A read that fails before the edit is whole: the player hears only of the stop on the second connection.
+const BEFORE: Failure = Failure {
+    read: 0,
+    write: 0,
+    stop_waits: &[BEFORE_EDIT],
+    statuses: &[],
+    links: 2,
+    heard: &[200, 200, 503],
+};
 
-/// Returns a read or a write that fails after the edit: the player hears of the edit, and of the stop on the second
-/// connection.
-fn after_edit(read: u64, write: u64) -> Failure {
-    Failure {
-        read,
-        write,
-        stop_waits: &[AFTER_EDIT],
-        statuses: &[200],
-        links: 2,
-        heard: &ALL_HEARD,
-    }
-}
+/// A read or a write that fails after the edit: the player hears of the edit, and of the stop on the second connection.
+const AFTER: Failure = Failure {
+    stop_waits: &[AFTER_EDIT],
+    statuses: &[200],
+    heard: &ALL_HEARD,
+    ..BEFORE
+};
 
 // The first connection has four reads, three writes of the edit's reply and one write of the stop's.
-fn failures() -> [Failure; 8] {
-    [
-        before_edit(1),
-        before_edit(2),
-        before_edit(3),
-        after_edit(4, 0),
-        after_edit(0, 1),
-        after_edit(0, 2),
-        after_edit(0, 3),
-        Failure {
-            statuses: &[200, 204],
-            links: 1,
-            ..after_edit(0, 4)
-        },
-    ]
+const FAILURES: [Failure; 8] = [
+    Failure { read: 1, ..BEFORE },
+    Failure { read: 2, ..BEFORE },
+    Failure { read: 3, ..BEFORE },
+    Failure { read: 4, ..AFTER },
+    Failure { write: 1, ..AFTER },
+    Failure { write: 2, ..AFTER },
+    Failure { write: 3, ..AFTER },
+    Failure {
+        write: 4,
+        statuses: &[200, 204],
+        links: 1,
+        ..AFTER
+    },
+];
+
+/// Returns whether the editor and the player leave what is expected of a failure.
+fn has_failed(failure: &Failure, player: &Told, editor: &Told) -> bool {
+    editor.own.as_slice() == editor.named.as_slice()
+        && player.own.as_slice() == player.named.as_slice()
+        && tells(editor.reports.first(), failure.statuses, LinkEnd::LinkFault)
+        && editor.reports.len() == failure.links
+        && editor.end == WorkerEnd::Stopped
+        && tells(player.reports.first(), failure.heard, LinkEnd::Stopped)
 }
 
-/// Lets a call on the editor's first connection fail, and compares what the editor and the player leave.
-fn fails<R: Threads + Wait + Clock + Sync + Abort>(
+/// Lets a call on the editor's first connection fail. Returns whether the editor and the player leave what is expected.
+fn fails<R: Threads + Wait + Clock + Sync>(
     rt: &R,
     alloc: Global,
     failure: &Failure,
-) -> Result<(), AllocError> {
+) -> Result<bool, AllocError> {
     let editor = editor(failure.read, failure.write, failure.stop_waits);
     let (player, editor) = served(rt, alloc, &(player(0), editor))?;
-    let place = (failure.read, failure.write);
-    assert!(rt;
-        editor.own == editor.named && player.own == player.named,
-        "{place:?}"
-    );
-    assert!(rt;
-        tells(editor.reports.first(), failure.statuses, LinkEnd::LinkFault),
-        "{place:?}"
-    );
-    assert!(rt; editor.reports.len() == failure.links, "{place:?}");
-    assert!(rt; editor.end == WorkerEnd::Stopped, "{place:?}");
-    assert!(rt;
-        tells(player.reports.first(), failure.heard, LinkEnd::Stopped),
-        "{place:?}"
-    );
-    Ok(())
+    Ok(has_failed(failure, &player, &editor))
 }
 
-fn fail<R: Threads + Wait + Clock + Sync + Abort>(
+fn all_fail<R: Threads + Wait + Clock + Sync + Abort>(
     rt: &R,
     alloc: Global,
     failures: &[Failure],
 ) -> Result<(), AllocError> {
     for failure in failures {
-        fails(rt, alloc, failure)?;
+        let place = (failure.read, failure.write);
+        assert!(rt; fails(rt, alloc, failure)?, "{place:?}");
     }
     Ok(())
 }
 
 #[test]
 fn what_the_editor_added_before_a_call_failed_is_named(rt: HostRuntime) -> Result<(), Fail> {
-    fail(&rt, rt.alloc(), &failures())?;
+    all_fail(&rt, rt.alloc(), &FAILURES)?;
     Ok(())
 }
 
@@ -354,25 +342,24 @@ const UNWRITTEN: [(u64, &[u16]); 11] = [
     (11, &ALL_HEARD),
 ];
 
-/// Lets a write on the player's connection fail, and compares what the player and the editor leave.
-fn is_unwritten<R: Threads + Wait + Clock + Sync + Abort>(
+/// Returns whether the player and the editor leave what is expected if a write on the player's connection fails.
+fn has_unwritten(statuses: &[u16], player: &Told, editor: &Told) -> bool {
+    tells(player.reports.first(), statuses, LinkEnd::LinkFault)
+        && owns(player, &[1])
+        && owns(editor, &[2, 3])
+        && tells(editor.reports.first(), &[200, 204], LinkEnd::Stopped)
+}
+
+/// Lets a write on the player's connection fail. Returns whether the player and the editor leave what is expected.
+fn is_unwritten<R: Threads + Wait + Clock + Sync>(
     rt: &R,
     alloc: Global,
     failing: u64,
     statuses: &[u16],
-) -> Result<(), AllocError> {
+) -> Result<bool, AllocError> {
     let plans = (player(failing), editor(0, 0, &[]));
     let (player, editor) = served(rt, alloc, &plans)?;
-    assert!(rt;
-        tells(player.reports.first(), statuses, LinkEnd::LinkFault),
-        "{failing}"
-    );
-    assert!(rt; owns(&player, &[1]) && owns(&editor, &[2, 3]), "{failing}");
-    assert!(rt;
-        tells(editor.reports.first(), &[200, 204], LinkEnd::Stopped),
-        "{failing}"
-    );
-    Ok(())
+    Ok(has_unwritten(statuses, &player, &editor))
 }
 
 fn are_unwritten<R: Threads + Wait + Clock + Sync + Abort>(
@@ -381,7 +368,7 @@ fn are_unwritten<R: Threads + Wait + Clock + Sync + Abort>(
     failures: &[(u64, &'static [u16])],
 ) -> Result<(), AllocError> {
     for (failing, statuses) in failures {
-        is_unwritten(rt, alloc, *failing, statuses)?;
+        assert!(rt; is_unwritten(rt, alloc, *failing, statuses)?, "{failing}");
     }
     Ok(())
 }

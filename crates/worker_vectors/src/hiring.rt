@@ -1,19 +1,22 @@
-//! Makes shares, connections that may wait for another worker's connections, and workers that have not begun.
-ghost use Rattle.std.specs.Prelude.{◌≡◌, ◌<◌, [], All, IfOk, OnOk};
+//! Makes shares and connections that may wait for another worker's connections, and runs workers of a new share.
+ghost use Rattle.std.specs.Prelude.{◌≡◌, ◌<◌, [], false, All, IfOk};
 ghost use Rattle.share_lock.specs.Passes.{lock_id, IsReady};
 ghost use Rattle.share_replies.specs.Laws.{maker};
 
 use crate::gated::{Gated, GatedDoor};
-use daap_outside::{MemLink, MemSink, MemSource};
-use item_model::{Batch, Edits};
+use daap_outside::{Door, MemLink, MemSink, MemSource};
+use edit_keeping::Keeps;
+use item_model::{Batch, Edits, Entry};
 use share_asks::Role;
 use share_core::Share;
-use share_lock::{Pass, ShareLock};
-use share_workers::{Worker, WorkerEnd};
+use share_lock::{Bell, Pass, ShareLock};
+use share_workers::{Worker, WorkerEnd, serve_all, serve_kept, serve_worker};
 use std::alloc::{AllocError, Global};
 use std::collections::VecDeque;
 use std::sync::Wait;
 use std::sync::atomic::AtomicU64;
+use std::thread::Threads;
+use std::time::Clock;
 
 /// The maximum number of bytes that one read returns: the length of a request for the server's info.
 pub const PIECE: usize = 29;
@@ -27,6 +30,9 @@ pub const STOP: &str = "POST /stop HTTP/1.1\r\n\r\n";
 /// How often a call checks whether it may go on, if it should never give up. These checks take longer than any turn,
 /// and less than a test may take.
 pub const MANY_LOOKS: u64 = 10_000_000;
+
+// The number of lock handles: nine for workers, and the one from which theirs are drawn.
+const HANDLES: u32 = 10;
 
 /// A connection that comes to a worker: its input; how many bytes on the other worker's connections each read and each
 /// write waits for; and which read and which write fail, counted from 1 (0: no call fails).
@@ -60,18 +66,6 @@ impl Written {
             first: AtomicU64::new(0),
             second: AtomicU64::new(0),
         }
-    }
-}
-
-pub fn new_share(alloc: Global) -> Result<Share, AllocError>
-    ensures { IfOk result (λ s. All (λ e. maker e ≡ 0) s.history) }
-{
-    let first = Batch {
-        edits: Edits::new(alloc),
-    };
-    match Share::open(alloc, "Demo", 16, first) {
-        Ok(share) => Ok(share),
-        Err(_) => Err(AllocError),
     }
 }
 
@@ -114,23 +108,79 @@ fn coming_link<'a>(
     })
 }
 
-/// Returns the listener at which the connections of `plan` come.
-fn door_of<'a>(
+/// A worker that is to begin: which requests are allowed on its connections, and its listener.
+#[derive(Drop)]
+pub struct Post<D> {
+    pub role: Role,
+    pub door: D,
+}
+
+fn add_link<'a>(
+    alloc: Global,
+    plan: &LinkPlan,
+    looks: u64,
+    own: &'a AtomicU64,
+    other: &'a AtomicU64,
+    coming: &mut VecDeque<Gated<'a>>,
+) -> Result<(), AllocError> {
+    coming.push_back(coming_link(alloc, plan, looks, own, other)?)?;
+    Ok(())
+}
+
+/// Returns a worker at whose listener the connections of `plan` come.
+fn post_of<'a>(
     alloc: Global,
     plan: &WorkerPlan,
     looks: u64,
     own: &'a AtomicU64,
     other: &'a AtomicU64,
-) -> Result<GatedDoor<'a>, AllocError> {
+) -> Result<Post<GatedDoor<'a>>, AllocError> {
     let mut coming = VecDeque::new(alloc);
-    coming.push_back(coming_link(alloc, &plan.first, looks, own, other)?)?;
+    add_link(alloc, &plan.first, looks, own, other, &mut coming)?;
     if let Some(second) = &plan.second {
-        coming.push_back(coming_link(alloc, second, looks, own, other)?)?;
+        add_link(alloc, second, looks, own, other, &mut coming)?;
     }
-    Ok(GatedDoor {
+    let door = GatedDoor {
         coming,
         given_back: Vec::new(alloc),
+    };
+    Ok(Post {
+        role: plan.role,
+        door,
     })
+}
+
+/// Returns two workers whose connections may wait for each other's.
+pub fn posts_of<'a>(
+    alloc: Global,
+    plans: &(WorkerPlan, WorkerPlan),
+    looks: u64,
+    written: &'a Written,
+) -> Result<Vec<Post<GatedDoor<'a>>>, AllocError> {
+    let (one, two) = (&written.first, &written.second);
+    let mut posts = Vec::new(alloc);
+    posts.push(post_of(alloc, &plans.0, looks, one, two)?)?;
+    posts.push(post_of(alloc, &plans.1, looks, two, one)?)?;
+    Ok(posts)
+}
+
+fn new_share(alloc: Global) -> Result<Share, AllocError>
+    ensures { IfOk result (λ s. All (λ e. maker e ≡ 0) s.history) }
+{
+    let first = Batch {
+        edits: Edits::new(alloc),
+    };
+    match Share::open(alloc, "Demo", 16, first) {
+        Ok(share) => Ok(share),
+        Err(_) => Err(AllocError),
+    }
+}
+
+/// Returns a new share under its lock, and the handle from which those of the workers are drawn.
+fn locked_share(alloc: Global) -> Result<(ShareLock<Share>, Pass<Share>), AllocError>
+    ensures { IfOk result (λ r. IsReady (lock_id r.0) r.1) }
+{
+    ShareLock::open(alloc, new_share(alloc)?, HANDLES)
 }
 
 /// Returns a new handle of the lock, for a worker that has not begun.
@@ -142,14 +192,13 @@ fn drawn<R: Wait>(rt: &R, lock: &ShareLock<Share>, first: &mut Pass<Share>) -> P
     lock.split(rt, first).unwrap()
 }
 
-/// Returns a worker at `door` that has not begun.
-pub fn worker_at<D: Drop, R: Wait>(
+/// Returns a worker that has not begun.
+fn worker_at<D: Drop, R: Wait>(
     rt: &R,
     alloc: Global,
     lock: &ShareLock<Share>,
     first: &mut Pass<Share>,
-    role: Role,
-    door: D,
+    post: Post<D>,
 ) -> Worker<D>
     requires first { IsReady (lock_id lock.now) first.old }
     ensures first { IsReady (lock_id lock.now) first.new }
@@ -157,6 +206,7 @@ pub fn worker_at<D: Drop, R: Wait>(
     ensures running { result.end ≡ WorkerEnd.Running }
     ensures unreported { result.reports.items ≡ [] }
 {
+    let Post { role, door } = post;
     Worker {
         pass: drawn(rt, lock, first),
         door,
@@ -166,113 +216,133 @@ pub fn worker_at<D: Drop, R: Wait>(
     }
 }
 
-/// Appends a worker at `door` to `workers`.
-pub fn hire<D: Drop, R: Wait>(
+/// Returns a worker for each of `posts`, none of which has begun.
+fn workers_at<D: Drop, R: Wait>(
     rt: &R,
     alloc: Global,
     lock: &ShareLock<Share>,
     first: &mut Pass<Share>,
-    role: Role,
-    door: D,
-    workers: &mut Vec<Worker<D>>,
-) -> Result<(), AllocError>
-    requires first { IsReady (lock_id lock.now) first.old }
-    requires ready { All (λ w. IsReady (lock_id lock.now) w.pass) workers.old.items }
-    requires running { All (λ w. w.end ≡ WorkerEnd.Running) workers.old.items }
-    requires unreported { All (λ w. w.reports.items ≡ []) workers.old.items }
-    ensures first { IsReady (lock_id lock.now) first.new }
-    ensures ready { OnOk result (All (λ w. IsReady (lock_id lock.now) w.pass) workers.new.items) }
-    ensures running { OnOk result (All (λ w. w.end ≡ WorkerEnd.Running) workers.new.items) }
-    ensures unreported { OnOk result (All (λ w. w.reports.items ≡ []) workers.new.items) }
-{
-    workers.push(worker_at(rt, alloc, lock, first, role, door))?;
-    Ok(())
-}
-
-/// Returns a worker whose connections may wait for those of another worker.
-pub fn planned<'a, R: Wait>(
-    rt: &R,
-    alloc: Global,
-    lock: &ShareLock<Share>,
-    first: &mut Pass<Share>,
-    plan: &WorkerPlan,
-    looks: u64,
-    own: &'a AtomicU64,
-    other: &'a AtomicU64,
-) -> Result<Worker<GatedDoor<'a>>, AllocError>
-    requires first { IsReady (lock_id lock.now) first.old }
-    ensures first { IsReady (lock_id lock.now) first.new }
-    ensures ready { IfOk result (λ w. IsReady (lock_id lock.now) w.pass) }
-    ensures running { IfOk result (λ w. w.end ≡ WorkerEnd.Running) }
-    ensures unreported { IfOk result (λ w. w.reports.items ≡ []) }
-{
-    let door = door_of(alloc, plan, looks, own, other)?;
-    Ok(worker_at(rt, alloc, lock, first, plan.role, door))
-}
-
-/// Appends a worker whose connections may wait for those of another worker to `workers`.
-pub fn hire_planned<'a, R: Wait>(
-    rt: &R,
-    alloc: Global,
-    lock: &ShareLock<Share>,
-    first: &mut Pass<Share>,
-    plan: &WorkerPlan,
-    looks: u64,
-    own: &'a AtomicU64,
-    other: &'a AtomicU64,
-    workers: &mut Vec<Worker<GatedDoor<'a>>>,
-) -> Result<(), AllocError>
-    requires first { IsReady (lock_id lock.now) first.old }
-    requires ready { All (λ w. IsReady (lock_id lock.now) w.pass) workers.old.items }
-    requires running { All (λ w. w.end ≡ WorkerEnd.Running) workers.old.items }
-    requires unreported { All (λ w. w.reports.items ≡ []) workers.old.items }
-    ensures first { IsReady (lock_id lock.now) first.new }
-    ensures ready { OnOk result (All (λ w. IsReady (lock_id lock.now) w.pass) workers.new.items) }
-    ensures running { OnOk result (All (λ w. w.end ≡ WorkerEnd.Running) workers.new.items) }
-    ensures unreported { OnOk result (All (λ w. w.reports.items ≡ []) workers.new.items) }
-{
-    let door = door_of(alloc, plan, looks, own, other)?;
-    hire(rt, alloc, lock, first, plan.role, door, workers)
-}
-
-/// Returns two workers whose connections may wait for each other's.
-pub fn hired<'a, R: Wait>(
-    rt: &R,
-    alloc: Global,
-    lock: &ShareLock<Share>,
-    first: &mut Pass<Share>,
-    plans: &(WorkerPlan, WorkerPlan),
-    written: &'a Written,
-) -> Result<Vec<Worker<GatedDoor<'a>>>, AllocError>
-    requires first { IsReady (lock_id lock.now) first.old }
+    posts: Vec<Post<D>>,
+) -> Result<Vec<Worker<D>>, AllocError>
+    requires { IsReady (lock_id lock.now) first.old }
     ensures first { IsReady (lock_id lock.now) first.new }
     ensures ready { IfOk result (λ ws. All (λ w. IsReady (lock_id lock.now) w.pass) ws.items) }
     ensures running { IfOk result (λ ws. All (λ w. w.end ≡ WorkerEnd.Running) ws.items) }
     ensures unreported { IfOk result (λ ws. All (λ w. w.reports.items ≡ []) ws.items) }
 {
     let mut workers = Vec::new(alloc);
-    let (one, two) = (&written.first, &written.second);
-    hire_planned(
-        rt,
-        alloc,
-        lock,
-        first,
-        &plans.0,
-        MANY_LOOKS,
-        one,
-        two,
-        &mut workers,
-    )?;
-    hire_planned(
-        rt,
-        alloc,
-        lock,
-        first,
-        &plans.1,
-        MANY_LOOKS,
-        two,
-        one,
-        &mut workers,
-    )?;
+    for post in posts {
+        workers.push(worker_at(rt, alloc, lock, first, post))?;
+    }
     Ok(workers)
+}
+
+/// Takes the share out of its lock. Returns its history.
+fn history_of<R: Wait>(rt: &R, lock: &ShareLock<Share>, first: &mut Pass<Share>) -> Vec<Entry>
+    requires { IsReady (lock_id lock.now) first.old }
+{
+    let turn = lock.take(rt, first);
+    lock.end(turn).into_history()
+}
+
+// Without clauses on what is served, so that other proofs do not unfold it.
+fn serve<D: Door + Drop + Send, R: Threads + Wait + Clock + Sync>(
+    rt: &R,
+    alloc: Global,
+    lock: &ShareLock<Share>,
+    workers: &mut Vec<Worker<D>>,
+)
+    requires ready { All (λ w. IsReady (lock_id lock.now) w.pass) workers.old.items }
+    requires running { All (λ w. w.end ≡ WorkerEnd.Running) workers.old.items }
+    requires unreported { All (λ w. w.reports.items ≡ []) workers.old.items }
+{
+    serve_all(rt, alloc, lock, &Bell::new(), workers);
+}
+
+fn serve_only<D: Door, R: Wait + Clock>(
+    rt: &R,
+    alloc: Global,
+    worker: &mut Worker<D>,
+    lock: &ShareLock<Share>,
+    bell: &Bell,
+)
+    requires ready { IsReady (lock_id lock.now) worker.old.pass }
+    requires running { worker.old.end ≡ WorkerEnd.Running }
+    requires unreported { worker.old.reports.items ≡ [] }
+{
+    serve_worker(rt, alloc, lock, bell, worker);
+}
+
+/// Puts a new share under a lock, and lets a worker serve at each of `posts`, each in its own thread. Returns the
+/// workers after all have ended, and the share's history.
+pub fn run<D: Door + Drop + Send, R: Threads + Wait + Clock + Sync>(
+    rt: &R,
+    alloc: Global,
+    posts: Vec<Post<D>>,
+) -> Result<(Vec<Worker<D>>, Vec<Entry>), AllocError> {
+    let (lock, mut first) = locked_share(alloc)?;
+    let mut workers = workers_at(rt, alloc, &lock, &mut first, posts)?;
+    serve(rt, alloc, &lock, &mut workers);
+    let history = history_of(rt, &lock, &mut first);
+    Ok((workers, history))
+}
+
+/// Does what `run` does, and at the same time lets another worker serve at `kept`, whose edits `keeper` keeps. Returns
+/// the workers, that other worker, and the history.
+pub fn run_kept<D: Door + Drop + Send, F: Keeps + Send, R: Threads + Wait + Clock + Sync>(
+    rt: &R,
+    alloc: Global,
+    posts: Vec<Post<D>>,
+    kept: Post<D>,
+    keeper: &mut F,
+) -> Result<(Vec<Worker<D>>, Worker<D>, Vec<Entry>), AllocError>
+    requires { F.is_lost keeper.old ≡ false }
+{
+    let (lock, mut first) = locked_share(alloc)?;
+    let mut workers = workers_at(rt, alloc, &lock, &mut first, posts)?;
+    let mut worker = worker_at(rt, alloc, &lock, &mut first, kept);
+    serve_kept(
+        rt,
+        alloc,
+        &lock,
+        &Bell::new(),
+        &mut workers,
+        &mut worker,
+        keeper,
+    );
+    let history = history_of(rt, &lock, &mut first);
+    Ok((workers, worker, history))
+}
+
+/// Puts a new share under a lock, and lets a worker serve at each of `posts`, one after the other: each begins when the
+/// one before it has ended. Returns the workers.
+pub fn run_in_turn<D: Door + Drop, R: Wait + Clock>(
+    rt: &R,
+    alloc: Global,
+    posts: Vec<Post<D>>,
+) -> Result<Vec<Worker<D>>, AllocError> {
+    let (lock, mut first) = locked_share(alloc)?;
+    let bell = Bell::new();
+    let mut done = Vec::new(alloc);
+    for post in posts {
+        let mut worker = worker_at(rt, alloc, &lock, &mut first, post);
+        serve_only(rt, alloc, &mut worker, &lock, &bell);
+        done.push(worker)?;
+    }
+    Ok(done)
+}
+
+/// Returns a worker of a new share after it has served at `door`.
+pub fn run_alone<D: Door + Drop, R: Wait + Clock>(
+    rt: &R,
+    alloc: Global,
+    role: Role,
+    door: D,
+) -> Result<Worker<D>, AllocError> {
+    let mut posts = Vec::new(alloc);
+    posts.push(Post { role, door })?;
+    match run_in_turn(rt, alloc, posts)?.pop() {
+        Some(worker) => Ok(worker),
+        None => Err(AllocError),
+    }
 }

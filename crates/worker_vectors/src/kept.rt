@@ -4,15 +4,12 @@ ghost use Rattle.std.specs.Prelude.{◌≡◌, ⊤, false, None, IfOk};
 use crate::held::{
     AFTER_EDIT, ALL_HEARD, BEFORE_EDIT, EDITORS_REQUESTS, TWO_EDITS, Told, player, tells, told_of,
 };
-use crate::hiring::{
-    LinkPlan, MANY_LOOKS, Written, hire_planned, new_share, of_one, plain, planned,
-};
+use crate::hiring::{LinkPlan, MANY_LOOKS, WorkerPlan, Written, of_one, plain, posts_of, run_kept};
 use edit_keeping::{Keeps, Lost};
 use item_model::Batch;
 use share_asks::Role;
-use share_lock::{Bell, ShareLock};
 use share_server::LinkEnd;
-use share_workers::{WorkerEnd, serve_kept};
+use share_workers::WorkerEnd;
 use std::alloc::{AllocError, Global};
 use std::process::Abort;
 use std::sync::Wait;
@@ -91,42 +88,49 @@ struct Case {
 
 // The edit is kept; it is lost; the first of two is kept and the second is lost. A lost edit is in the history, and the
 // stop after it.
-fn cases() -> [Case; 3] {
-    [
-        Case {
-            input: EDITORS_REQUESTS,
-            room: 1,
-            kept: &[1],
-            statuses: &[200, 204],
-            link: LinkEnd::Stopped,
-            end: WorkerEnd::Stopped,
-            own: &[2, 3],
-            named: &[2, 3],
-            heard: &ALL_HEARD,
-        },
-        Case {
-            input: TWO_EDITS,
-            room: 0,
-            kept: &[],
-            statuses: &[],
-            link: LinkEnd::FileFault,
-            end: WorkerEnd::FileFault,
-            own: &[2, 3],
-            named: &[],
-            heard: &[200, 200, 503],
-        },
-        Case {
-            input: TWO_EDITS,
-            room: 1,
-            kept: &[1],
-            statuses: &[200],
-            link: LinkEnd::FileFault,
-            end: WorkerEnd::FileFault,
-            own: &[2, 3, 4],
-            named: &[2],
-            heard: &ALL_HEARD,
-        },
-    ]
+const CASES: [Case; 3] = [
+    Case {
+        input: EDITORS_REQUESTS,
+        room: 1,
+        kept: &[1],
+        statuses: &[200, 204],
+        link: LinkEnd::Stopped,
+        end: WorkerEnd::Stopped,
+        own: &[2, 3],
+        named: &[2, 3],
+        heard: &ALL_HEARD,
+    },
+    Case {
+        input: TWO_EDITS,
+        room: 0,
+        kept: &[],
+        statuses: &[],
+        link: LinkEnd::FileFault,
+        end: WorkerEnd::FileFault,
+        own: &[2, 3],
+        named: &[],
+        heard: &[200, 200, 503],
+    },
+    Case {
+        input: TWO_EDITS,
+        room: 1,
+        kept: &[1],
+        statuses: &[200],
+        link: LinkEnd::FileFault,
+        end: WorkerEnd::FileFault,
+        own: &[2, 3, 4],
+        named: &[2],
+        heard: &ALL_HEARD,
+    },
+];
+
+/// Returns the plans of a player and of an editor with the requests `input`.
+fn plans(input: &'static str) -> (WorkerPlan, WorkerPlan) {
+    let edits = LinkPlan {
+        reads_wait: &[BEFORE_EDIT, 0, 0, AFTER_EDIT],
+        ..plain(input)
+    };
+    (player(0), of_one(Role::Edit, edits))
 }
 
 /// Runs a player, and at the same time an editor with a keeper. Returns what the player leaves, what the editor leaves,
@@ -136,42 +140,13 @@ fn kept<R: Threads + Wait + Clock + Sync>(
     alloc: Global,
     case: &Case,
 ) -> Result<(Told, Told, Counted), AllocError> {
-    let (lock, mut first) = ShareLock::open(alloc, new_share(alloc)?, 3)?;
     let written = Written::new();
-    let (one, two) = (&written.first, &written.second);
-    let mut workers = Vec::new(alloc);
-    let plan = player(0);
-    hire_planned(
-        rt,
-        alloc,
-        &lock,
-        &mut first,
-        &plan,
-        MANY_LOOKS,
-        one,
-        two,
-        &mut workers,
-    )?;
-    let plan = of_one(
-        Role::Edit,
-        LinkPlan {
-            reads_wait: &[BEFORE_EDIT, 0, 0, AFTER_EDIT],
-            ..plain(case.input)
-        },
-    );
-    let mut editor = planned(rt, alloc, &lock, &mut first, &plan, MANY_LOOKS, two, one)?;
+    let mut posts = posts_of(alloc, &plans(case.input), MANY_LOOKS, &written)?;
+    let Some(editor) = posts.pop() else {
+        return Err(AllocError);
+    };
     let mut keeper = Counted::new(alloc, case.room)?;
-    serve_kept(
-        rt,
-        alloc,
-        &lock,
-        &Bell::new(),
-        &mut workers,
-        &mut editor,
-        &mut keeper,
-    );
-    let turn = lock.take(rt, &mut first);
-    let history = lock.end(turn).into_history();
+    let (mut workers, editor, history) = run_kept(rt, alloc, posts, editor, &mut keeper)?;
     let Some(player) = workers.pop() else {
         return Err(AllocError);
     };
@@ -182,18 +157,24 @@ fn kept<R: Threads + Wait + Clock + Sync>(
     ))
 }
 
-fn is_kept<R: Threads + Wait + Clock + Sync + Abort>(
+/// Returns whether the player, the editor and the keeper leave what is expected.
+fn has_kept(case: &Case, player: &Told, editor: &Told, keeper: &Counted) -> bool {
+    keeper.edits.as_slice() == case.kept
+        && tells(editor.reports.first(), case.statuses, case.link)
+        && editor.end == case.end
+        && editor.own.as_slice() == case.own
+        && editor.named.as_slice() == case.named
+        && tells(player.reports.first(), case.heard, LinkEnd::Stopped)
+        && player.end == WorkerEnd::Stopped
+}
+
+fn is_kept<R: Threads + Wait + Clock + Sync>(
     rt: &R,
     alloc: Global,
     case: &Case,
-) -> Result<(), AllocError> {
+) -> Result<bool, AllocError> {
     let (player, editor, keeper) = kept(rt, alloc, case)?;
-    assert!(rt; keeper.edits.as_slice() == case.kept);
-    assert!(rt; tells(editor.reports.first(), case.statuses, case.link) && editor.end == case.end);
-    assert!(rt; editor.own.as_slice() == case.own && editor.named.as_slice() == case.named);
-    assert!(rt; tells(player.reports.first(), case.heard, LinkEnd::Stopped));
-    assert!(rt; player.end == WorkerEnd::Stopped);
-    Ok(())
+    Ok(has_kept(case, &player, &editor, &keeper))
 }
 
 fn are_kept<R: Threads + Wait + Clock + Sync + Abort>(
@@ -201,14 +182,14 @@ fn are_kept<R: Threads + Wait + Clock + Sync + Abort>(
     alloc: Global,
     cases: &[Case],
 ) -> Result<(), AllocError> {
-    for case in cases {
-        is_kept(rt, alloc, case)?;
+    for (n, case) in cases.iter().enumerate() {
+        assert!(rt; is_kept(rt, alloc, case)?, "at {n}");
     }
     Ok(())
 }
 
 #[test]
 fn edits_are_kept_or_end_the_share(rt: HostRuntime) -> Result<(), Fail> {
-    are_kept(&rt, rt.alloc(), &cases())?;
+    are_kept(&rt, rt.alloc(), &CASES)?;
     Ok(())
 }

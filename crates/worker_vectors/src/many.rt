@@ -1,16 +1,12 @@
 //! A worker that serves the maximum number of connections.
 ghost use Rattle.std.specs.Prelude.{◌≡◌, ◌<◌, ◌≤◌, None, refl};
 
-use crate::hiring::new_share;
+use crate::hiring::run_alone;
 use daap_outside::{Door, Failed, Faulted, Link, Sink, Source};
 use share_asks::Role;
-use share_lock::{Bell, ShareLock};
 use share_server::{LinkEnd, LinkReport};
-use share_workers::{Worker, WorkerEnd, serve_worker};
-use std::alloc::{AllocError, Global};
-use std::sync::Wait;
+use share_workers::WorkerEnd;
 use std::test::Fail;
-use std::time::Clock;
 
 /// A connection that ends before any byte comes. Contracts know nothing of its bytes, and it does not allocate.
 #[derive(Drop)]
@@ -80,31 +76,13 @@ impl Door for SilentDoor {
     fn done(&mut self, _link: SilentLink) {}
 }
 
-/// Returns a worker after it ended, at whose listener `coming` silent connections were to come.
-fn served<R: Wait + Clock>(
-    rt: &R,
-    alloc: Global,
-    coming: u32,
-) -> Result<Worker<SilentDoor>, AllocError> {
-    let (lock, mut first) = ShareLock::open(alloc, new_share(alloc)?, 2)?;
-    let mut worker = Worker {
-        pass: lock.split(rt, &mut first)?,
-        door: SilentDoor { coming },
-        role: Role::Listen,
-        reports: Vec::new(alloc),
-        end: WorkerEnd::Running,
-    };
-    serve_worker(rt, alloc, &lock, &Bell::new(), &mut worker);
-    Ok(worker)
-}
-
 fn is_silent(report: &LinkReport) -> bool {
     report.end == LinkEnd::Closed && report.served.as_slice().is_empty()
 }
 
 #[test]
 fn no_worker_serves_a_65537th_link(rt: HostRuntime) -> Result<(), Fail> {
-    let worker = served(&rt, rt.alloc(), 65_537)?;
+    let worker = run_alone(&rt, rt.alloc(), Role::Listen, SilentDoor { coming: 65_537 })?;
     assert_eq!(rt; worker.end, WorkerEnd::Spent);
     assert_eq!(rt; worker.reports.len(), 65_536);
     assert!(rt; worker.reports.iter().all(|report| is_silent(report)));

@@ -1,15 +1,13 @@
 //! Two workers whose connections wait for each other, in two threads and in one.
-ghost use Rattle.std.specs.Prelude.{◌≡◌, [], All, IfOk};
-ghost use Rattle.share_lock.specs.Passes.{lock_id, IsReady};
 
 use crate::gated::GatedDoor;
 use crate::hiring::{
-    INFO, LinkPlan, TWO_INFOS, WorkerPlan, Written, hire_planned, hired, new_share, of_one, plain,
+    INFO, LinkPlan, MANY_LOOKS, TWO_INFOS, WorkerPlan, Written, of_one, plain, posts_of, run,
+    run_in_turn,
 };
 use share_asks::Role;
-use share_lock::{Bell, ShareLock};
 use share_server::LinkEnd;
-use share_workers::{Worker, WorkerEnd, serve_all};
+use share_workers::{Worker, WorkerEnd};
 use std::alloc::{AllocError, Global};
 use std::sync::Wait;
 use std::test::Fail;
@@ -52,49 +50,26 @@ fn told_of_both(workers: &[Worker<GatedDoor<'_>>]) -> Result<(Told, Told), Alloc
     }
 }
 
-fn told_of_only(workers: &[Worker<GatedDoor<'_>>]) -> Result<Told, AllocError> {
-    match workers {
-        [only] => Ok(told_of(only)),
-        _ => Err(AllocError),
-    }
-}
-
 /// Runs two workers, each in its own thread.
 fn in_threads<R: Threads + Wait + Clock + Sync>(
     rt: &R,
     alloc: Global,
     plans: &(WorkerPlan, WorkerPlan),
 ) -> Result<(Told, Told), AllocError> {
-    let (lock, mut first) = ShareLock::open(alloc, new_share(alloc)?, 3)?;
     let written = Written::new();
-    let mut workers = hired(rt, alloc, &lock, &mut first, plans, &written)?;
-    serve_all(rt, alloc, &lock, &Bell::new(), &mut workers);
+    let (workers, _) = run(rt, alloc, posts_of(alloc, plans, MANY_LOOKS, &written)?)?;
     told_of_both(workers.as_slice())
 }
 
 /// Runs the same two workers one after the other: the second begins when the first has ended.
-fn in_one_thread<R: Threads + Wait + Clock + Sync>(
+fn in_one_thread<R: Wait + Clock>(
     rt: &R,
     alloc: Global,
     plans: &(WorkerPlan, WorkerPlan),
 ) -> Result<(Told, Told), AllocError> {
-    let (lock, mut first) = ShareLock::open(alloc, new_share(alloc)?, 3)?;
     let written = Written::new();
-    let (one, two) = (&written.first, &written.second);
-    let (mut front, mut back) = (Vec::new(alloc), Vec::new(alloc));
-    hire_planned(
-        rt, alloc, &lock, &mut first, &plans.0, FEW_LOOKS, one, two, &mut front,
-    )?;
-    hire_planned(
-        rt, alloc, &lock, &mut first, &plans.1, FEW_LOOKS, two, one, &mut back,
-    )?;
-    let bell = Bell::new();
-    serve_all(rt, alloc, &lock, &bell, &mut front);
-    serve_all(rt, alloc, &lock, &bell, &mut back);
-    Ok((
-        told_of_only(front.as_slice())?,
-        told_of_only(back.as_slice())?,
-    ))
+    let workers = run_in_turn(rt, alloc, posts_of(alloc, plans, FEW_LOOKS, &written)?)?;
+    told_of_both(workers.as_slice())
 }
 
 /// Returns a player whose second read waits until something was written on the other connection.

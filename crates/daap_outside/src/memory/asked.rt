@@ -1,12 +1,12 @@
-//! The addresses requested of a network in memory.
+//! The addresses that a network in memory was asked to listen at or to connect to.
 ghost use Rattle.std.specs.Prelude.{◌≡◌, ◌≤◌, length};
 
 use std::marker::Model;
 
-/// Most bytes of a known address: a host name of 253, a colon, and a port of five digits.
+/// The most bytes of a known address: a host name of 253, a colon, and a port of five digits.
 pub(crate) const PLACE_ROOM: usize = 259;
 
-/// A requested address, with the number of listeners, or 0 for a connection.
+/// The address of a call of `listen`, with the number of listeners, or of a call of `connect`, with 0.
 #[derive(Drop)]
 pub struct Asked {
     text: [u8; PLACE_ROOM],
@@ -38,7 +38,7 @@ impl Asked {
         }
     }
 
-    /// Returns the address, as it was passed.
+    /// Returns the address as it was passed in.
     pub fn place(&self) -> &[u8]
         ensures { result.now ≡ self.now.0 }
     {

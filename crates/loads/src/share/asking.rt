@@ -62,8 +62,8 @@ fn asked<L: Ledger>(
     for number in 0..load.times {
         let wanted = want(alloc, step, songs, session, share.revision(), number)?;
         let reply = reply_to(share, wanted, steps)?;
-        ensure!(reply.said.status == 200, "refused");
-        bytes = bytes.saturating_add(counted(alloc, step, &reply.said.plan)?);
+        ensure!(reply.content.status == 200, "refused");
+        bytes = bytes.saturating_add(counted(alloc, step, &reply.content.plan)?);
     }
     Ok(bytes)
 }
@@ -91,7 +91,7 @@ fn written(alloc: Global, plan: &Plan) -> anyhow::Result<u64>
 /// Returns the reply to a want.
 fn reply_to<L: Ledger>(share: &mut Share, want: Want, steps: &mut Steps<L>) -> anyhow::Result<Reply>
     requires { IsValidWant want }
-    ensures { IfOk result (λ reply. IsWritable reply.said.plan) }
+    ensures { IfOk result (λ reply. IsWritable reply.content.plan) }
 {
     let ask = Ask {
         role: Role::Edit,

@@ -2,7 +2,7 @@
 ghost use Rattle.std.specs.Prelude.{◌≡◌, ◌↔◌, ◌≤◌, ◌<◌, ◌+◌, ◌-◌, ◌++◌, ◌∷◌, ◌^◌, [], ℕ, Some, length, take, drop, IfOk, IsOk, IsErr, OnErr, OnOk, Contains, is_ok, map, nat_lt, true, vec_len, vec_capacity};
 ghost use Rattle.std.specs.Io.{ReadsAtMost};
 ghost use Rattle.outside_disks.specs.Counts.{CountsFaults};
-ghost use Rattle.outside_disks.specs.Disks.{overlaid, ReadsFrom, Torn, CutShort, Follows, NoMore, Elapses};
+ghost use Rattle.outside_disks.specs.Disks.{overlaid, ReadsFrom, Torn, CutShort, Follows, NoMore};
 
 use crate::disk::Disk;
 use crate::faulted::{Failed, Faulted, counted};
@@ -193,7 +193,7 @@ impl Faulted for MemDisk {
 
 impl Disk for MemDisk {
     ghost use Rattle.outside_disks.specs.MemDisk.{IsImage};
-    ghost use Rattle.outside_disks.specs.Calls.{StoodSince, Calls, bytes_of, name_of, images_of};
+    ghost use Rattle.outside_disks.specs.Calls.{StoodSince, Calls, PassesTime, bytes_of, name_of, images_of};
     ghost use Rattle.outside_disks.specs.declared.memory.disk.DiskOp.TheVariants.{Len, ReadAt, WriteAt, Cut, Sync};
     ghost use Rattle.outside_disks.specs.Times.{told_is_image, image_is_short, stood_alone};
     ghost use Rattle.std.proofs.Common.{inl};
@@ -214,9 +214,7 @@ impl Disk for MemDisk {
         ensures bytes_stay { bytes_of self.new ≡ bytes_of self.old }
         ensures images_stay { NoMore (images_of self.old) (images_of self.new) }
         ensures name_stays { name_of self.new ≡ name_of self.old }
-        ensures time { Elapses (length self.old.calls.items) (length self.new.calls.items)
-            (StoodSince self.old.stand self.old.calls.items) (StoodSince self.new.stand self.new.calls.items)
-            (images_of self.new) }
+        ensures time { PassesTime self.old self.new }
         ensures calls { Calls self.old self.new Len 0 0 result }
         ensures count { CountsFaults self.old.faults self.new.faults result }
     {
@@ -234,9 +232,7 @@ impl Disk for MemDisk {
         ensures bytes_stay { bytes_of self.new ≡ bytes_of self.old }
         ensures images_stay { NoMore (images_of self.old) (images_of self.new) }
         ensures name_stays { name_of self.new ≡ name_of self.old }
-        ensures time { Elapses (length self.old.calls.items) (length self.new.calls.items)
-            (StoodSince self.old.stand self.old.calls.items) (StoodSince self.new.stand self.new.calls.items)
-            (images_of self.new) }
+        ensures time { PassesTime self.old self.new }
         ensures calls { Calls self.old self.new ReadAt at (length room.old) result }
         ensures count { CountsFaults self.old.faults self.new.faults result }
     {
@@ -257,9 +253,7 @@ impl Disk for MemDisk {
         ensures undone { 2 ^ 63 ≤ at + length piece.now
             → (bytes_of self.new ≡ bytes_of self.old) × NoMore (images_of self.old) (images_of self.new) }
         ensures name_stays { name_of self.new ≡ name_of self.old }
-        ensures time { Elapses (length self.old.calls.items) (length self.new.calls.items)
-            (StoodSince self.old.stand self.old.calls.items) (StoodSince self.new.stand self.new.calls.items)
-            (images_of self.new) }
+        ensures time { PassesTime self.old self.new }
         ensures calls { Calls self.old self.new WriteAt at (length piece.now) result }
         ensures count { CountsFaults self.old.faults self.new.faults result }
     {
@@ -277,9 +271,7 @@ impl Disk for MemDisk {
         ensures left { OnErr result (bytes_of self.new ≡ bytes_of self.old) }
         ensures torn { Follows (CutShort len) (images_of self.old) (images_of self.new) }
         ensures name_stays { name_of self.new ≡ name_of self.old }
-        ensures time { Elapses (length self.old.calls.items) (length self.new.calls.items)
-            (StoodSince self.old.stand self.old.calls.items) (StoodSince self.new.stand self.new.calls.items)
-            (images_of self.new) }
+        ensures time { PassesTime self.old self.new }
         ensures calls { Calls self.old self.new Cut len 0 result }
         ensures count { CountsFaults self.old.faults self.new.faults result }
     {
@@ -296,9 +288,7 @@ impl Disk for MemDisk {
         ensures bytes_stay { bytes_of self.new ≡ bytes_of self.old }
         ensures images_stay { NoMore (images_of self.old) (images_of self.new) }
         ensures name_stays { name_of self.new ≡ name_of self.old }
-        ensures time { Elapses (length self.old.calls.items) (length self.new.calls.items)
-            (StoodSince self.old.stand self.old.calls.items) (StoodSince self.new.stand self.new.calls.items)
-            (images_of self.new) }
+        ensures time { PassesTime self.old self.new }
         ensures calls { Calls self.old self.new Sync 0 0 result }
         ensures count { CountsFaults self.old.faults self.new.faults result }
     {

@@ -14,7 +14,7 @@ use daap_outside::{Failed, Link};
 use listing_plan::Plan;
 use reply_bytes::{ReplyError, write_failure, write_reply};
 use share_asks::BodyForm;
-use share_core::Said;
+use share_core::ReplyContent;
 use std::alloc::Global;
 
 /// Writes the reply to a request; `added` says whether the request added an entry. The connection ends with `due`
@@ -22,7 +22,7 @@ use std::alloc::Global;
 pub(crate) fn reply<K: Link>(
     alloc: Global,
     link: &mut K,
-    said: Option<Said>,
+    said: Option<ReplyContent>,
     added: bool,
     due: Option<LinkEnd>,
 ) -> Option<LinkEnd>
@@ -36,7 +36,9 @@ pub(crate) fn reply<K: Link>(
 {
     match said {
         None => failure(link, due),
-        Some(Said { status, form, plan }) => whole(alloc, link, status, form, plan, added, due),
+        Some(ReplyContent { status, form, plan }) => whole(
+            alloc, link, status, form, plan, added, due,
+        ),
     }
 }
 

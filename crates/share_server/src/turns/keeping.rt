@@ -64,7 +64,7 @@ fn answer_ask<L: Ledger>(share: &mut Share, by: u32, ask: &Ask, steps: &mut Step
     ensures goes_on { loses_in result ≡ false }
 {
     let answer = share.answer(by, ask, steps);
-    let stopped = share.stopped();
+    let stopped = share.is_stopped();
     let revision = share.revision();
     let end = share.len();
     turn_outcome(answer, stopped, revision, end)
@@ -99,10 +99,10 @@ pub(crate) fn turn_outcome(
                 session: reply.session,
                 seen: reply.seen,
                 point: reply.point,
-                status: reply.said.status,
+                status: reply.content.status,
                 added: reply.added,
             },
-            said: Some(reply.said),
+            said: Some(reply.content),
             stopped,
             revision,
         }),

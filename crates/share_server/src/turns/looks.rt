@@ -101,7 +101,7 @@ fn fail_in_turn<R: Wait>(rt: &R, lock: &ShareLock<Share>, pass: &mut Pass<Share>
     let share = turn.state();
     let outcome = turn_outcome(
         Err(AllocError),
-        share.stopped(),
+        share.is_stopped(),
         share.revision(),
         share.len(),
     );

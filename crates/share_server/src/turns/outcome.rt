@@ -4,7 +4,7 @@ ghost use Rattle.std.specs.Prelude.{◌≡◌};
 ghost use Rattle.share_server.specs.Answering.{has_added};
 
 use crate::report::Served;
-use share_core::Said;
+use share_core::ReplyContent;
 
 /// A request that was served, and what is to be written for it.
 #[derive(Debug, Drop)]
@@ -12,7 +12,7 @@ pub struct Answered {
     pub served: Served,
     /// Status and body, which can be written later without the share. `None` if allocating the answer failed; the
     /// status is then 500.
-    pub said: Option<Said>,
+    pub said: Option<ReplyContent>,
     /// Whether the share was stopped at the history length of the answer.
     pub stopped: bool,
     /// The share's revision at the history length of the answer.

@@ -1,4 +1,4 @@
--- A text behind a text is a text.
+-- A text followed by a text is a text.
 use Rattle.dmap_show.proofs.Utf8.{utf8_appended}
 use Rattle.dmap_show.proofs.adding.push_str.Goals as goal
 

@@ -1,4 +1,4 @@
--- The front of the spaces of 32 levels.
+-- A prefix of the spaces of 32 levels.
 use Rattle.std.proofs.Common.{IsAscii, sym, ◌∙◌, subst}
 use Rattle.dmap_show.proofs.EventLines.{indent_front, indent_ascii}
 use Rattle.dmap_show.proofs.adding.spaces.Goals as goal

@@ -1,4 +1,4 @@
--- The law is its lemma, with no events behind.
+-- The law is its lemma, with no further events.
 use Rattle.std.proofs.Common.{◌∙◌, append-nil}
 use Rattle.dmap_tags.specs.Tree.{trees_of}
 use Rattle.dmap_show.proofs.EventLines.{all_events_show}

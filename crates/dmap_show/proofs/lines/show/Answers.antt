@@ -1,4 +1,4 @@
--- What is shown is readable where it fits.
+-- What is shown is readable if it fits.
 use Rattle.std.proofs.Common.{rules}
 use Rattle.dmap_show.proofs.Stands.{shallow_readable}
 use Rattle.dmap_show.proofs.lines.show.Goals as goal

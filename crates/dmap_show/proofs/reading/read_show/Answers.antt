@@ -1,4 +1,4 @@
--- The draft behind all lines has the one list of tags that the text shows.
+-- The draft after all lines has the only list of tags that the text shows.
 use Rattle.std.proofs.Common.{sym, ◌∙◌, subst}
 use Rattle.std.proofs.lemmas.Result.{err_from_is_err_and}
 use Rattle.dmap_show.specs.Readable.{Shows}

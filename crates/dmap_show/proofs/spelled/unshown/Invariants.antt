@@ -3,7 +3,7 @@ use Rattle.dmap_show.specs.Readable.{AreBytes}
 use Rattle.dmap_show.specs.Parts.{piece}
 use Rattle.dmap_show.proofs.spelled.unshown.Given as goal
 
--- whatever bytes are shown so, those read so far are their front, and what is left shows the others
+-- if the text shows some bytes, those read so far are a prefix of them, and what is left shows the others
 abbrev pub invariant-loop-byte : goal.invariant-loop-byte
 invariant-loop-byte l =
     (all : List ℕ) → AreBytes all → l.fn.shown ≡ flat_map (piece l.form) all

@@ -1,4 +1,4 @@
--- The three parts stand between the points.
+-- The three parts are separated by points.
 use Rattle.std.proofs.Common.{ap, ◌∙◌}
 use Rattle.dmap_show.specs.TextLines.{before, behind}
 use Rattle.dmap_show.proofs.Taken.{version_parts}

@@ -1,4 +1,4 @@
--- A line is its front and its rest.
+-- A line is its first part and its rest.
 use Rattle.std.proofs.Common.{◌≡◌, ◌++◌, subst}
 use Rattle.std.proofs.lemmas.Result.{on_ok_weaker}
 use Rattle.dmap_show.specs.Shown.{indent, shown_code}

@@ -1,4 +1,4 @@
--- What stood there is still in front.
+-- What was in the buffer is still its beginning.
 use Rattle.std.proofs.Common.{sym, subst}
 use Rattle.std.proofs.lemmas.Result.{on_err_weaker}
 use Rattle.dmap_tags.specs.Begins.{Begins}

@@ -46,10 +46,10 @@ frames-preserved g c = record {
       let more : All AreValid (c.frames.batches.items ++ c.in-Frame.batch ∷ []) =
       All-push AreValid c.frames.batches.items c.in-Frame.batch c.frames.invariant.valid (subst IsUsable c.in-Frame.is c.in_ok-batch.ensures.usable).1 in
       search rules;
-  bytes = c.in_ok-batch.ensures.bytes_stay ∙ c.frames.invariant.bytes;
-  quiet = quiet_then g.D.Disk _ _ _ c.frames.invariant.quiet c.read_frame.ensures.quiet;
-  told = c.read_frame.ensures.told_stays ∙ c.frames.invariant.told;
-  name = c.read_frame.ensures.name_stays ∙ c.frames.invariant.name;
+  bytes = c.in_ok-batch.ensures.stays.bytes_stay ∙ c.frames.invariant.bytes;
+  quiet = quiet_then g.D.Disk _ _ _ c.frames.invariant.quiet c.read_frame.ensures.stays.quiet;
+  told = c.read_frame.ensures.stays.named.told_stays ∙ c.frames.invariant.told;
+  name = c.read_frame.ensures.stays.named.name_stays ∙ c.frames.invariant.name;
   faultless = c.in_ok-batch.ensures.count ∙ c.frames.invariant.faultless;
 }
 

@@ -1,7 +1,7 @@
 -- Each way through a finished file changes nothing, or truncates it after the closing byte.
 use Rattle.std.proofs.Common.{rules, ◌≡◌, ◌+◌, ◌≤◌, length, Err, true, false, sym, ◌∙◌, inl, inr}
 use Rattle.edit_file.specs.Standing.{FileStands}
-use Rattle.edit_file.proofs.Opened.{head_is, head_is_wrong, cut_leaves, cut_is_rest}
+use Rattle.edit_file.proofs.Opened.{head_is, head_is_wrong, closes_with, cut_leaves, cut_is_rest}
 use Rattle.edit_file.proofs.Quiet.{if_told, told_of, quiet_then, quiet_run}
 use Rattle.edit_file.proofs.Settled.{closed_stands_for, closes_inside}
 use Rattle.edit_file.specs.declared.refusal.FileError.TheVariants.{NotEditFile}
@@ -17,53 +17,49 @@ returns-in_err-closing-clause-breaks g c b at begun held same =
     let it : c.in_ok-has_head.field-0 ≡ true = search rules in
     let begins = head_is b _ it (c.in_ok-has_head.ensures.exact b held.told) in
     let refused : c.read_frames.result ≡ Err (NotEditFile at) = search rules in
-    inr (c.read_frames.ensures.breaks b begins.0 at (told_of _ _ b held.told c.requires.known) (c.in_ok-has_head.ensures.bytes_stay ∙ held.told) begins.1 refused)
+    inr (c.read_frames.ensures.breaks b begins.0 at (told_of _ _ b held.told c.requires.known) (c.in_ok-has_head.ensures.stays.bytes_stay ∙ held.told) begins.1 refused)
 
 pub returns-in_err-closing-clause-crash : goal.returns-in_err-closing-clause-crash
 returns-in_err-closing-clause-crash g c b batches stands held =
     quiet_run g.D.Disk g.met.D.Disk.now_alone _ _ b (λ image. FileStands image batches) held stands
-    (quiet_then g.D.Disk _ _ _ c.has_head.ensures.quiet c.read_frames.ensures.quiet)
+    (quiet_then g.D.Disk _ _ _ c.has_head.ensures.stays.quiet c.read_frames.ensures.stays.quiet)
 
 pub cut_safely-requires : goal.cut_safely-requires
 cut_safely-requires g c = record {
   inside = if_told (g.D.Disk.bytes c.read_frames.new.disk) (λ b. c.in_ok-closing.closing + 1 ≤ length b) (λ b told.
       let it : c.in_ok-has_head.field-0 ≡ true = search rules in
-      let mid = sym c.in_ok-closing.ensures.bytes_stay ∙ told in
-      let old = sym c.in_ok-has_head.ensures.bytes_stay ∙ mid in
-      let begins = head_is b _ it (c.in_ok-has_head.ensures.exact b old) in
+      let mid = sym c.in_ok-closing.ensures.stays.bytes_stay ∙ told in
+      let old = sym c.in_ok-has_head.ensures.stays.bytes_stay ∙ mid in
       closes_inside b c.in_ok-closing.closing c.in_ok-closing.batches.items
-      (c.in_ok-closing.ensures.found b begins.0 (told_of _ _ b old c.requires.known) mid begins.1));
+      (closes_with b _ c.in_ok-closing.closing c.in_ok-closing.batches.items it (c.in_ok-has_head.ensures.exact b old)
+      (λ rest e. c.in_ok-closing.ensures.found b rest (told_of _ _ b old c.requires.known) mid e)));
 }
 
 pub returns-in_err-cut_safely-clause-crash : goal.returns-in_err-cut_safely-clause-crash
 returns-in_err-cut_safely-clause-crash g c b batches stands held =
-    let it : c.in_ok-has_head.field-0 ≡ true = search rules in
-    let begins = head_is b _ it (c.in_ok-has_head.ensures.exact b held.told) in
-    let closes = c.in_ok-closing.ensures.found b begins.0 (told_of _ _ b held.told c.requires.known) (c.in_ok-has_head.ensures.bytes_stay ∙ held.told) begins.1 in
+    let closes = closes_with b c.in_ok-has_head.field-0 c.in_ok-closing.closing c.in_ok-closing.batches.items (search rules) (c.in_ok-has_head.ensures.exact b held.told)
+    (λ rest e. c.in_ok-closing.ensures.found b rest (told_of _ _ b held.told c.requires.known) (c.in_ok-has_head.ensures.stays.bytes_stay ∙ held.told) e) in
     cut_leaves g.D.Disk g.met.D.Disk.now_alone _ _ _ b c.in_ok-closing.closing c.in_ok-closing.batches.items batches closes stands held
-    (quiet_then g.D.Disk _ _ _ c.has_head.ensures.quiet c.read_frames.ensures.quiet)
-    (c.in_ok-closing.ensures.bytes_stay ∙ c.in_ok-has_head.ensures.bytes_stay) c.cut_safely.ensures.does
+    (quiet_then g.D.Disk _ _ _ c.has_head.ensures.stays.quiet c.read_frames.ensures.stays.quiet)
+    (c.in_ok-closing.ensures.stays.bytes_stay ∙ c.in_ok-has_head.ensures.stays.bytes_stay) c.cut_safely.ensures.does
 
 pub returns-clause-stands : goal.returns-clause-stands
 returns-clause-stands g c b held =
-    let it : c.in_ok-has_head.field-0 ≡ true = search rules in
-    let begins = head_is b _ it (c.in_ok-has_head.ensures.exact b held.told) in
-    closed_stands_for b c.in_ok-closing.closing c.in_ok-closing.batches.items
-    (c.in_ok-closing.ensures.found b begins.0 (told_of _ _ b held.told c.requires.known) (c.in_ok-has_head.ensures.bytes_stay ∙ held.told) begins.1)
+    let closes = closes_with b c.in_ok-has_head.field-0 c.in_ok-closing.closing c.in_ok-closing.batches.items (search rules) (c.in_ok-has_head.ensures.exact b held.told)
+    (λ rest e. c.in_ok-closing.ensures.found b rest (told_of _ _ b held.told c.requires.known) (c.in_ok-has_head.ensures.stays.bytes_stay ∙ held.told) e) in
+    closed_stands_for b c.in_ok-closing.closing c.in_ok-closing.batches.items closes
 
 pub returns-clause-crash : goal.returns-clause-crash
 returns-clause-crash g c b batches stands held =
-    let it : c.in_ok-has_head.field-0 ≡ true = search rules in
-    let begins = head_is b _ it (c.in_ok-has_head.ensures.exact b held.told) in
-    let closes = c.in_ok-closing.ensures.found b begins.0 (told_of _ _ b held.told c.requires.known) (c.in_ok-has_head.ensures.bytes_stay ∙ held.told) begins.1 in
+    let closes = closes_with b c.in_ok-has_head.field-0 c.in_ok-closing.closing c.in_ok-closing.batches.items (search rules) (c.in_ok-has_head.ensures.exact b held.told)
+    (λ rest e. c.in_ok-closing.ensures.found b rest (told_of _ _ b held.told c.requires.known) (c.in_ok-has_head.ensures.stays.bytes_stay ∙ held.told) e) in
     cut_leaves g.D.Disk g.met.D.Disk.now_alone _ _ _ b c.in_ok-closing.closing c.in_ok-closing.batches.items batches closes stands held
-    (quiet_then g.D.Disk _ _ _ c.has_head.ensures.quiet c.read_frames.ensures.quiet)
-    (c.in_ok-closing.ensures.bytes_stay ∙ c.in_ok-has_head.ensures.bytes_stay) c.cut_safely.ensures.does
+    (quiet_then g.D.Disk _ _ _ c.has_head.ensures.stays.quiet c.read_frames.ensures.stays.quiet)
+    (c.in_ok-closing.ensures.stays.bytes_stay ∙ c.in_ok-has_head.ensures.stays.bytes_stay) c.cut_safely.ensures.does
 
 pub returns-clause-rests : goal.returns-clause-rests
 returns-clause-rests g c b held =
-    let it : c.in_ok-has_head.field-0 ≡ true = search rules in
-    let begins = head_is b _ it (c.in_ok-has_head.ensures.exact b held.told) in
-    let closes = c.in_ok-closing.ensures.found b begins.0 (told_of _ _ b held.told c.requires.known) (c.in_ok-has_head.ensures.bytes_stay ∙ held.told) begins.1 in
+    let closes = closes_with b c.in_ok-has_head.field-0 c.in_ok-closing.closing c.in_ok-closing.batches.items (search rules) (c.in_ok-has_head.ensures.exact b held.told)
+    (λ rest e. c.in_ok-closing.ensures.found b rest (told_of _ _ b held.told c.requires.known) (c.in_ok-has_head.ensures.stays.bytes_stay ∙ held.told) e) in
     cut_is_rest g.D.Disk _ _ b c.in_ok-closing.closing c.in_ok-closing.batches.items closes
-    (c.in_ok-closing.ensures.bytes_stay ∙ c.in_ok-has_head.ensures.bytes_stay ∙ held.told) c.in_ok-cut_safely.ensures.shorter c.in_ok-cut_safely.ensures.safe
+    (c.in_ok-closing.ensures.stays.bytes_stay ∙ c.in_ok-has_head.ensures.stays.bytes_stay ∙ held.told) c.in_ok-cut_safely.ensures.shorter c.in_ok-cut_safely.ensures.safe

@@ -15,7 +15,7 @@ returns-in-Some-3-clause-exact g c = if_told (g.D.Disk.bytes c.args.disk.now)
     let first : get_or c.read_fully.new.room 0 0 ≡ opened = grind (arith, common_steps) in
     let inside : c.args.at + 5 + c.count_in-count.result ≤ c.args.len = grind (arith, common_steps) in
     let small : c.count_in-count.result < 2 ^ 32 = grind (arith, common_steps) in
-    let exact = told_of _ _ b (c.in_ok-n.ensures.bytes_stay ∙ told) c.in_ok-payload.ensures.exact in
+    let exact = told_of _ _ b (c.in_ok-n.ensures.stays.bytes_stay ∙ told) c.in_ok-payload.ensures.exact in
     let text = subst (λ o. IsPayload b (c.args.at + 5) c.count_in-count.result (option_map (λ v. v.items) o)) c.in-Some-2.is exact in
     let read = subst (λ o. IsBatchIn c.as_slice.result.now o) c.in-Some-3.is c.in_ok-batch.ensures.read in
     frame_there b c.read_fully.new.room c.as_slice.result.now c.args.at c.in_ok-n.n c.count_in-count.result c.in-Some-3.batch
@@ -26,7 +26,7 @@ pub returns-clause-exact : goal.returns-clause-exact
 returns-clause-exact g c = if_told (g.D.Disk.bytes c.args.disk.now) (λ b. length b ≡ c.args.len → EndsBadly (drop c.args.at b)) (λ b told same.
     let whole : 5 ≤ c.in_ok-n.n = grind (arith, common_steps) in
     let first : get_or c.read_fully.new.room 0 0 ≡ opened = grind (arith, common_steps) in
-    let exact = told_of _ _ b (c.in_ok-n.ensures.bytes_stay ∙ told) c.in_ok-payload.ensures.exact in
+    let exact = told_of _ _ b (c.in_ok-n.ensures.stays.bytes_stay ∙ told) c.in_ok-payload.ensures.exact in
     let text = subst (λ o. IsPayload b (c.args.at + 5) c.count_in-count.result (option_map (λ v. v.items) o)) c.in-Some-2.is exact in
     unread_there b c.read_fully.new.room c.as_slice.result.now c.args.at c.in_ok-n.n c.count_in-count.result
     (heads b c.read_fully.new.room c.args.at c.in_ok-n.n (told_of _ _ b told c.in_ok-n.ensures.reads) c.in_ok-n.ensures.size)

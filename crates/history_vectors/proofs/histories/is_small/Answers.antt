@@ -4,6 +4,6 @@ use Rattle.history_vectors.proofs.histories.is_small.Goals as goal
 
 pub returns : goal.returns
 returns c = record {
-  revision = λ _. few_revisions c.args.history.now c.has_place.result c.has_place.ensures c.if-not-has_place.false;
+  revision = λ _. few_revisions c.args.history.now c.is_below_entry_limit.result c.is_below_entry_limit.ensures c.if-not-is_below_entry_limit.false;
   edits = λ h. few_edits c.args.history.now c.has_room_for.result c.has_room_for.ensures h;
 }

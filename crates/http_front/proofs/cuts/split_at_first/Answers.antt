@@ -1,5 +1,5 @@
 use Rattle.std.proofs.Common.{◌==◌, ◌+◌, ◌∙◌, ap, sym, take, drop}
-use Rattle.http_front.proofs.FirstPlace.{at_position, any_position, nothing_before, nothing_behind, none_position}
+use Rattle.http_front.proofs.FirstOffset.{at_position, any_position, nothing_before, nothing_behind, none_position}
 use Rattle.http_front.proofs.cuts.split_at_first.Goals as goal
 
 pub returns-in-Some-clause-before : goal.returns-in-Some-clause-before

@@ -10,7 +10,7 @@ use Rattle.http_front.specs.Asks.{Asks}
 use Rattle.http_front.proofs.ValidWants.{asks_valid}
 use Rattle.http_front.proofs.reader.gather.Goals as goal
 
--- the message that is whole is the request of the ask
+-- the message that is whole encodes the request
 pub returns-clause-gathers : goal.returns-clause-gathers
 returns-clause-gathers c =
     let old = c.args.requests.now in

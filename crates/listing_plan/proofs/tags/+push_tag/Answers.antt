@@ -19,23 +19,23 @@ push_measured-returns-clause-pushes g t c =
     let head : code_bytes c.tag.inside.code ++ to_be_bytes w32 c.args.len ≡ code_bytes (tree_code c.args.tag.now) ++ to_be_bytes w32 (length (payload c.args.tag.now)) = search rules in
     pushes_then _ _ _ _ _ _ _ _ _ _ _ _ (rw head at c.in_ok-push_head.ensures.pushes) c.push_payload.ensures.pushes
 
-pub push_tags-returns-in_err-push_tag-clause-pushes : goal.push_tags-returns-in_err-push_tag-clause-pushes
-push_tags-returns-in_err-push_tag-clause-pushes g t c =
+pub push_tags-returns-in_err-push_measured-clause-pushes : goal.push_tags-returns-in_err-push_measured-clause-pushes
+push_tags-returns-in_err-push_measured-clause-pushes g t c =
     let at = at_drop_more (λ ts. spellings (trees_of ts)) c.args.tags.now c.loop-tag.tag-index c.tag-item.result c.loop-tag-test.true in
-    cut_left _ _ _ _ _ _ _ _ _ _ _ _ _ _ _ c.from_residual.ensures.0 (rw (at, ← c.tag-item.is) at c.loop-tag.invariant.left) c.in_err-push_tag.ensures.pushes
+    cut_left _ _ _ _ _ _ _ _ _ _ _ _ _ _ _ c.from_residual.ensures.0 (rw (at, ← c.tag-item.is) at c.loop-tag.invariant.left) c.in_err-push_measured.ensures.pushes
 
 pub push_tags-loop-tag-preserved : goal.push_tags-loop-tag-preserved
 push_tags-loop-tag-preserved g t c =
     let at = at_drop_more (λ ts. spellings (trees_of ts)) c.args.tags.now c.loop-tag.tag-index c.tag-item.result c.loop-tag-test.true in
     record {
-      left = less_left _ _ _ _ _ _ _ _ _ _ _ _ (rw (at, ← c.tag-item.is) at c.loop-tag.invariant.left) c.in_ok-push_tag.ensures.pushes;
-      beside = c.in_ok-push_tag.ensures.beside ∙ c.loop-tag.invariant.beside;
+      left = less_left _ _ _ _ _ _ _ _ _ _ _ _ (rw (at, ← c.tag-item.is) at c.loop-tag.invariant.left) c.in_ok-push_measured.ensures.pushes;
+      beside = c.in_ok-push_measured.ensures.beside ∙ c.loop-tag.invariant.beside;
     }
 
-pub push_tags-push_tag-requires : goal.push_tags-push_tag-requires
-push_tags-push_tag-requires g t c κs within =
+pub push_tags-push_measured-requires : goal.push_tags-push_measured-requires
+push_tags-push_measured-requires g t c κs within =
     let tags = c.args.tags.now in
     let i = c.loop-tag.tag-index in
     let smaller = rw (← c.tag-item.is) at (member_falls tags i c.tag-item.result c.loop-tag-test.true) in
     let spellable = rw (← c.tag-item.is) at (spellable_at tags i c.tag-item.result c.requires.spellable c.loop-tag-test.true) in
-    (omega (arith, smaller), (search rules, (search rules, search (rules, spellable))))
+    (omega (arith, smaller), (search rules, (search rules, (search rules, search (rules, spellable)))))

@@ -5,17 +5,14 @@ use Rattle.listing_plan.proofs.Moves.{Left}
 use Rattle.listing_plan.proofs.tags.+push_tag.Given as goal
 
 -- a tag is above its payload, which is above the tags in it
-abbrev pub decreases-push_tag : goal.decreases-push_tag
-decreases-push_tag g l = 3 * size_of l.tag.now + 2
-
 abbrev pub decreases-push_measured : goal.decreases-push_measured
-decreases-push_measured g l = 3 * size_of l.tag.now + 1
+decreases-push_measured g l = 2 * size_of l.tag.now + 1
 
 abbrev pub decreases-push_payload : goal.decreases-push_payload
-decreases-push_payload g l = 3 * size_of l.tag.now
+decreases-push_payload g l = 2 * size_of l.tag.now
 
 abbrev pub decreases-push_tags : goal.decreases-push_tags
-decreases-push_tags g l = 3 * sizes_of (trees_of l.tags.now)
+decreases-push_tags g l = 2 * sizes_of (trees_of l.tags.now)
 
 -- the tags that were not passed are left to push
 abbrev pub invariant-push_tags-loop-tag : goal.invariant-push_tags-loop-tag

@@ -1,4 +1,4 @@
--- A change of a key below the row's is put.
+-- A change whose key is below the row's key comes before the row.
 use Rattle.std.proofs.Common.{◌≡◌, ◌++◌, Less, rules, sym, ap, ◌∙◌, arith}
 use Rattle.mirror_core.specs.Changes.{past_row, next_order}
 use Rattle.mirror_core.proofs.MergeFacts.{less_next}

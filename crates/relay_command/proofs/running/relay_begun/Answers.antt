@@ -86,16 +86,16 @@ returns-clause-serves g c = λ start before first front begun opens new wrote.
     let ending : OutputSeen = output_seen (g.W.Sink.taken c.finish.new.output) (g.W.Faulted.faults c.finish.new.output) in
     let told : TellsEnd (last_lines (revision (batches history)) c.finish.result.links after.report.rounds.items fault) fault at_line ending c.finish.result.status =
     subst (λ f. TellsEnd (last_lines (revision (batches history)) c.finish.result.links after.report.rounds.items f) f at_line ending c.finish.result.status) ruled
-    (subst (λ l. TellsEnd (last_lines (revision (batches history)) l after.report.rounds.items c.ruling.result) c.ruling.result at_line ending c.finish.result.status) (sym c.finish.ensures.links)
+    (subst (λ l. TellsEnd (last_lines (revision (batches history)) l after.report.rounds.items c.ruling.result) c.ruling.result at_line ending c.finish.result.status) (sym c.finish.ensures.left.links_are)
     (subst (λ rs. TellsEnd (last_lines (revision (batches history)) c.run_workers-lock.result.links rs c.ruling.result) c.ruling.result at_line ending c.finish.result.status) c.as_slice.ensures.value
     c.finish.ensures.told)) in
     record {
       history = history;
-      history_is = c.finish.ensures.history;
-      whole_history = c.finish.ensures.whole;
+      history_is = c.finish.ensures.left.history_is;
+      whole_history = c.finish.ensures.left.whole;
       crew = all.crew;
       roles = all.roles_are ∙ (e.roles ∙ sym (splat_is_map crew relaying.workers role.Listen crew_count));
-      links = c.finish.ensures.links ∙ all.links_are;
+      links = c.finish.ensures.left.links_are ∙ all.links_are;
       relay = record { pass = k1; link = link; report = after.report };
       one = history_of;
       begun = opens.begun;

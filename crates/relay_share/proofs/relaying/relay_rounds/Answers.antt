@@ -3,7 +3,7 @@ use Rattle.std.proofs.Common.{◌≡◌, ◌<◌, ◌++◌, ◌∷◌, [], ℕ, 
 use Rattle.mirror_client.specs.Points.{nothing_read, place}
 use Rattle.http_client.specs.Requests.{request_text}
 use Rattle.mirror_client.specs.Exchanges.{Exchanged}
-use Rattle.mirror_client.specs.Steps.{UndueEnd}
+use Rattle.mirror_client.specs.Steps.{UnexpectedEnd}
 use Rattle.mirror_client.specs.Stopping.{Stops}
 use Rattle.share_asks.specs.declared.ask.Want.TheVariants as want
 use Rattle.mirror_client.proofs.StageFacts.{not_last}
@@ -132,7 +132,7 @@ returns-clause-ends g c =
     (sym c.end_of-in-Err-close.ensures)
     (not_logged_out c.args.host.now c.args.rounds start c.loop-round.follower.known inv.listings there (g.K.Sink.taken c.close.new.link) (known c.args.pass.now)
     (known c.loop-round.pass) c.loop-round.done.items c.loop-round.relay c.in-Err-close.error all inv.stands
-    (subst (λ (h : List ℕ). Stops (request_text (want.Logout c.loop-round.follower.known.session) h) UndueEnd there (g.K.Sink.taken c.close.new.link) c.in-Err-close.error) inv.host
+    (subst (λ (h : List ℕ). Stops (request_text (want.Logout c.loop-round.follower.known.session) h) UnexpectedEnd there (g.K.Sink.taken c.close.new.link) c.in-Err-close.error) inv.host
     c.in-Err-close.ensures.stops))
 
 pub returns-clause-count : goal.returns-clause-count

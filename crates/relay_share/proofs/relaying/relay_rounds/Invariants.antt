@@ -17,6 +17,6 @@ invariant-loop-round g l = record {
       (place (g.K.Sink.taken l.link) (g.K.Source.left l.link) l.follower.ahead) (known l.fn.pass) (known l.pass) l.done.items l.relay;
   host : l.follower.host ≡ l.fn.host;
   calls : l.follower.calls ≤ 2 * l.round;
-  ready : IsReady (lock_id l.fn.lock) l.pass;
+  ready : IsReady (lock_id l.fn.own.lock.now) l.pass;
   faultless : g.K.Faulted.faults l.link ≡ g.K.Faulted.faults l.fn.link;
 }

@@ -4,7 +4,7 @@ use Rattle.mirror_client.specs.Points.{place}
 use Rattle.share_lock.specs.Passes.{known}
 use Rattle.relay_share.specs.Ends.{EndsRelay}
 use Rattle.relay_share.proofs.EndFacts.{finishes_as, rounds_as, unwaited, waited}
-use Rattle.relay_share.proofs.ResultFacts.{err_then, ok_then}
+use Rattle.mirror_client.proofs.ResultFacts.{err_then, ok_then}
 use Rattle.relay_share.proofs.rounds.next_round.Goals as goal
 
 pub returns-in-Ok-clause-goes_on : goal.returns-in-Ok-clause-goes_on

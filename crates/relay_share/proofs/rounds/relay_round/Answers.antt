@@ -6,7 +6,7 @@ use Rattle.relayed_rows.specs.Relays.{nothing_held}
 use Rattle.share_lock.specs.Passes.{known}
 use Rattle.relay_share.specs.Ends.{EndsRelay}
 use Rattle.relay_share.proofs.EndFacts.{counts_on, taken_round, unasked_round, untaken_round}
-use Rattle.relay_share.proofs.ResultFacts.{err_and, ok_then}
+use Rattle.mirror_client.proofs.ResultFacts.{err_and, ok_then}
 use Rattle.relay_share.proofs.RoundFacts.{ascends}
 use Rattle.relay_share.proofs.rounds.relay_round.Goals as goal
 

@@ -7,7 +7,7 @@ use Rattle.relayed_rows.specs.Relays.{Relaying}
 use Rattle.share_lock.specs.Passes.{known}
 use Rattle.relay_share.specs.Steps.{IsUntaken, Takes}
 use Rattle.relay_share.proofs.EndFacts.{listed, unlisted_tag, unread_one}
-use Rattle.relay_share.proofs.ResultFacts.{err_then, ok_then}
+use Rattle.mirror_client.proofs.ResultFacts.{err_then, ok_then}
 use Rattle.relay_share.proofs.rounds.take_tag.Goals as goal
 
 pub returns-in-Ok-clause-taken : goal.returns-in-Ok-clause-taken

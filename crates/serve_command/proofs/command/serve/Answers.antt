@@ -1,19 +1,38 @@
-use Rattle.std.proofs.Common.{refl, sym, subst}
-use Rattle.command_core.specs.Seen.{NetSeen, OutputSeen, net_seen, output_seen}
-use Rattle.serve_command.specs.Runs.{TellsStop, unopened}
+use Rattle.std.proofs.Common.{◌≡◌, None, refl, sym, subst, ◌∙◌}
+use Rattle.command_core.specs.Seen.{InputSeen, NetSeen, OutputSeen, input_seen, net_seen, output_seen}
+use Rattle.serve_command.specs.Faults.{StopsServing}
+use Rattle.serve_command.specs.Runs.{TellsStop, stopped, unbegun, unopened}
+use Rattle.serve_command.proofs.Inputs.{unread_alone, unread_cause}
+use Rattle.serve_command.proofs.Returning.{asked_still, faultless_still}
 use Rattle.serve_command.proofs.command.serve.Goals as goal
 
-pub serve_at-requires-clause-listening : goal.serve_at-requires-clause-listening
-serve_at-requires-clause-listening g c = λ κs bounds. c.in-Ok.ensures.opened.listening
+pub serve_records-requires-clause-may : goal.serve_records-requires-clause-may
+serve_records-requires-clause-may g c = λ κs bounds. record { may = c.requires; listening = c.in-Ok.ensures.opened.listening; editing = c.in-Ok.ensures.opened.editing }
 
-pub serve_at-requires-clause-editing : goal.serve_at-requires-clause-editing
-serve_at-requires-clause-editing g c = λ κs bounds. c.in-Ok.ensures.opened.editing
+pub serve_records-requires-clause-readable : goal.serve_records-requires-clause-readable
+serve_records-requires-clause-readable g c = λ κs bounds. let read = c.in-Ok-read_records.ensures.reads in record { text = read.bytes; reads = read.of.read }
 
-pub returns-in-Ok-clause-ends : goal.returns-in-Ok-clause-ends
-returns-in-Ok-clause-ends g c =
+pub returns-in-Ok-read_records-clause-ends : goal.returns-in-Ok-read_records-clause-ends
+returns-in-Ok-read_records-clause-ends g c =
     let net = c.args.net.now in
     let start : NetSeen = net_seen (g.N.Net.asked net) (g.N.Net.written net) (g.N.Net.door_links net) (g.N.Net.next_input net) (g.N.Faulted.faults net) in
-    c.serve_at.ensures.ends start c.in-Ok.ensures.opened c.in-Ok.ensures.listen c.in-Ok.ensures.edit
+    let before : InputSeen = input_seen (g.I.Source.left c.args.input.now) (g.I.Faulted.faults c.args.input.now) in
+    let after : InputSeen = input_seen (g.I.Source.left c.read_records.new.input) (g.I.Faulted.faults c.read_records.new.input) in
+    c.serve_records.ensures.ends before after start c.in-Ok-read_records.ensures.reads
+    (record { opened = c.in-Ok.ensures.opened; new_listen = c.in-Ok.ensures.listen; new_edit = c.in-Ok.ensures.edit })
+
+-- the input is refused
+pub returns-in-Err-read_records-clause-ends : goal.returns-in-Err-read_records-clause-ends
+returns-in-Err-read_records-clause-ends g c =
+    let net = c.args.net.now in
+    let start : NetSeen = net_seen (g.N.Net.asked net) (g.N.Net.written net) (g.N.Net.door_links net) (g.N.Net.next_input net) (g.N.Faulted.faults net) in
+    let before : InputSeen = input_seen (g.I.Source.left c.args.input.now) (g.I.Faulted.faults c.args.input.now) in
+    let after : InputSeen = input_seen (g.I.Source.left c.read_records.new.input) (g.I.Faulted.faults c.read_records.new.input) in
+    let back = c.turned_away.ensures.back start c.in-Ok.ensures.listen c.in-Ok.ensures.edit in
+    unbegun (asked_still c.args.serving.now start _ _ _ _ _ c.in-Ok.ensures.opened back) (faultless_still c.args.serving.now start _ _ _ _ _ c.in-Ok.ensures.opened back)
+    (stopped c.input_fault.result (subst (StopsServing ⊥ before after) (sym c.input_fault.ensures) (unread_cause before after c.in-Err-read_records.fault c.in-Err-read_records.ensures.cause))
+    (λ is. unread_alone (c.args.serving.now.file ≡ None) c.in-Err-read_records.fault (sym c.input_fault.ensures ∙ is)) refl c.turned_away.ensures.told)
+    c.turned_away.ensures.none
 
 -- an address was not opened
 pub returns-in-Err-clause-ends : goal.returns-in-Err-clause-ends

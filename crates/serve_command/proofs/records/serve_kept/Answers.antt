@@ -9,7 +9,7 @@ use Rattle.serve_command.proofs.Returning.{ends_so}
 use Rattle.serve_command.proofs.records.serve_kept.Goals as goal
 
 pub returns-clause-ends : goal.returns-clause-ends
-returns-clause-ends g c = λ start opens listen edit.
+returns-clause-ends g c = λ start at.
     let old : OutputSeen = output_seen (g.W.Sink.taken c.args.output.now) (g.W.Faulted.faults c.args.output.now) in
     let new : OutputSeen = output_seen (g.W.Sink.taken c.serve_share-outcome.new.output) (g.W.Faulted.faults c.serve_share-outcome.new.output) in
     let net = c.serve_share-outcome.new.net in
@@ -27,4 +27,4 @@ returns-clause-ends g c = λ start opens listen edit.
       counts = k.counts;
       keeps = k.kept c.requires.one (c.requires.keeps, c.requires.place);
     })
-    (c.serve_share-outcome.ensures.ends start opens listen edit)
+    (c.serve_share-outcome.ensures.ends start at)

@@ -82,7 +82,8 @@ finish-requires-clause-requests g c =
     c.gather-lock.ensures.requests (r.0.room.crew.items ++ r.1 ∷ []) zip (omega (arith, more, c.assign_workers-begun.ensures.len, c.requires.few))
 
 pub returns-clause-serves : goal.returns-clause-serves
-returns-clause-serves g c = λ serving opened start before front begun first opens new_listen new_edit wrote.
+returns-clause-serves g c = λ serving opened start before front begun first at wrote.
+    let opens = at.opened in
     let coming = g.N.D.Door.coming in
     let written = g.N.D.Door.written in
     let faults = g.N.D.Faulted.faults in
@@ -105,7 +106,7 @@ returns-clause-serves g c = λ serving opened start before front begun first ope
     let count : length crew ≡ workers_of serving = len ∙ (λ i. opens.listening i + opens.editing i) in
     let passes : passes_of r.0.lock ≡ length crew + 1 = ap (λ l. l.1) c.assign_workers-begun.ensures.lock ∙ (begun.passes ∙ ap (λ n. n + 1) (sym count)) in
     let doors : AreNew written faults start.written (map (λ w. w.door) crew) =
-    subst (AreNew written faults start.written) (sym staff.doors_are) (All-append (IsNew written faults start.written) listen edit new_listen new_edit) in
+    subst (AreNew written faults start.written) (sym staff.doors_are) (All-append (IsNew written faults start.written) listen edit at.new_listen at.new_edit) in
     let roles = map (λ w. w.role) crew in
     let come = map (λ w. coming w.door) crew in
     let k = known c.gather-lock.result.first in
@@ -131,7 +132,7 @@ returns-clause-serves g c = λ serving opened start before front begun first ope
     (crew_keeps written faults history all.crew c.keep_beside.new.crew.items c.keep_beside.new.worker (workers_of serving) serving.workers serving.editors (known r.1.pass)
     (g.K.Keeps.keeps c.args.keeper) (g.K.Keeps.keeps c.keep_beside.new.keeper) (g.K.Keeps.is_lost c.keep_beside.new.keeper) (g.K.Keeps.faults c.args.keeper) (g.K.Keeps.faults c.keep_beside.new.keeper)
     (subst (λ l. AllZip (IsOf written faults) all.crew l) c.push_reserved.ensures.items both.1) c.keep_beside.ensures.whole (all.roles_are ∙ (staff.roles_are ∙ roles_are serving listen edit opens.listening opens.editing)) first one seen c.keep_beside.ensures.keeping)
-    staff.roles_are (sym (map-map coming (λ w. w.door) crew) ∙ ap (map coming) staff.doors_are) c.gather-lock.ensures.asked c.finish.ensures.history c.finish.ensures.whole c.finish.ensures.links
+    staff.roles_are (sym (map-map coming (λ w. w.door) crew) ∙ ap (map coming) staff.doors_are) c.gather-lock.ensures.asked c.finish.ensures.left.history_is c.finish.ensures.left.whole c.finish.ensures.left.links_are
     wrote c.finish.ensures.told
 
 pub returns-clause-closes : goal.returns-clause-closes

@@ -4,7 +4,7 @@ use Rattle.dmap_tags.specs.Tree.{Tree}
 use Rattle.share_history.specs.Databases.{whole_body}
 use Rattle.share_history.specs.Histories.{all_edits, batches}
 use Rattle.share_replies.specs.Replies.{Tagged}
-use Rattle.share_core.specs.Said.{IsSaid}
+use Rattle.share_core.specs.Contents.{IsContent}
 use Rattle.share_core.proofs.ValuesAt.{values_short, few_values}
 use Rattle.share_core.proofs.Results.{if_ok}
 use Rattle.share_core.proofs.browse.browse.Goals as goal
@@ -21,11 +21,11 @@ whole-requires-clause-short g c =
     let held = c.requires.held.1 in
     values_short (all_edits h) c.args.by (option_copied c.args.query) c.in_ok-entries.entries (c.in_ok-entries.ensures.tags h held) held.stand.short
 
-pub returns-clause-said : goal.returns-clause-said
-returns-clause-said g c =
+pub returns-clause-content : goal.returns-clause-content
+returns-clause-content g c =
     if_ok c.whole.result
-    (λ said told h held.
+    (λ content told h held.
     let revision = c.revision-revision.ensures ∙ held.stand.items.revision in
     let entries = c.in_ok-entries.ensures.tags h held in
-    subst (λ (t : Tree). IsSaid (200, Tagged t) said) (λ i. whole_body (code "abro") (c.browse_code.ensures i) (revision i) (entries i)) told)
+    subst (λ (t : Tree). IsContent (200, Tagged t) content) (λ i. whole_body (code "abro") (c.browse_code.ensures i) (revision i) (entries i)) told)
     c.whole.ensures

@@ -4,7 +4,7 @@ use Rattle.dmap_tags.specs.Tree.{Tree}
 use Rattle.share_history.specs.Databases.{whole_body}
 use Rattle.share_history.specs.Histories.{all_edits, batches}
 use Rattle.share_replies.specs.Replies.{Tagged}
-use Rattle.share_core.specs.Said.{IsSaid}
+use Rattle.share_core.specs.Contents.{IsContent}
 use Rattle.share_core.proofs.ListNames.{containers_short, few_containers}
 use Rattle.share_core.proofs.Results.{if_ok}
 use Rattle.share_core.proofs.containers.containers.Goals as goal
@@ -24,8 +24,8 @@ whole-requires-clause-short c =
 pub returns : goal.returns
 returns c =
     if_ok c.whole.result
-    (λ said told h held.
+    (λ content told h held.
     let revision = c.revision-revision.ensures ∙ held.stand.items.revision in
     let entries = c.in_ok-entries.ensures h held in
-    subst (λ (t : Tree). IsSaid (200, Tagged t) said) (λ i. whole_body (code "aply") (code "mlcl") (revision i) (entries i)) told)
+    subst (λ (t : Tree). IsContent (200, Tagged t) content) (λ i. whole_body (code "aply") (code "mlcl") (revision i) (entries i)) told)
     c.whole.ensures

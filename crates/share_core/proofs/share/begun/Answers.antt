@@ -1,19 +1,19 @@
 use Rattle.std.proofs.Common.{rules, ◌≡◌, [], ◌∷◌, ◌++◌, length, Err, ap, sym, ◌∙◌, append_assoc}
 use Rattle.item_model.specs.declared.changes.Entry.TheVariants.{Edits}
-use Rattle.share_history.specs.Limits.{has_place, has_room_for, has_few_lists}
+use Rattle.share_history.specs.Limits.{is_below_entry_limit, has_room_for, has_few_lists}
 use Rattle.share_history.specs.Sessions.{is_stopped}
 use Rattle.share_replies.specs.Answers.{Shared}
 use Rattle.share_core.specs.declared.share.OpenError.TheVariants.{Lists}
-use Rattle.share_core.proofs.Opening.{opened-more, opened_goes_on, opens_place, opens_room, few_more, many_until}
+use Rattle.share_core.proofs.Opening.{opened-more, opened_goes_on, opens_below_limit, opens_room, few_more, many_until}
 use Rattle.share_core.proofs.share.begun.Goals as goal
 
 pub begin-requires-clause-going : goal.begin-requires-clause-going
 begin-requires-clause-going g c = ap (λ (s : Shared). is_stopped s.history) c.loop-batch.invariant.is ∙ opened_goes_on c.loop-batch.yielded
 
-pub begin-requires-clause-place : goal.begin-requires-clause-place
-begin-requires-clause-place g c =
-    ap (λ (s : Shared). has_place s.history) c.loop-batch.invariant.is
-    ∙ opens_place c.loop-batch.yielded c.in-Some.batch _ c.args.batches.items
+pub begin-requires-clause-below : goal.begin-requires-clause-below
+begin-requires-clause-below g c =
+    ap (λ (s : Shared). is_below_entry_limit s.history) c.loop-batch.invariant.is
+    ∙ opens_below_limit c.loop-batch.yielded c.in-Some.batch _ c.args.batches.items
     (ap (λ l. c.loop-batch.yielded ++ l) (sym c.in-Some.ensures.steps.0) ∙ c.loop-batch.invariant.items) c.requires.few c.requires.filled
 
 pub begin-requires-clause-room : goal.begin-requires-clause-room

@@ -1,7 +1,7 @@
-use Rattle.std.proofs.Common.{length, refl, ap, ◌∙◌}
+use Rattle.std.proofs.Common.{length, refl, sym, ap, ◌∙◌}
 use Rattle.listing_plan.specs.declared.plan.Plan.TheVariants.{Rows}
 use Rattle.share_history.specs.Histories.{edits}
-use Rattle.share_listings.proofs.LibraryFacts.{few_items, listed_is, all_in_range}
+use Rattle.share_listings.proofs.LibraryFacts.{few_items, listed_is}
 use Rattle.share_listings.proofs.library.whole.Goals as goal
 
 pub sheets-requires-2 : goal.sheets-requires-2
@@ -14,4 +14,4 @@ returns c = λ bs stands.
     c.sheets-2.ensures
     ∙ ap (λ l. Rows (record { target = c.args.target; listing = l }))
     (listed_is bs c.args.target look c.revision.result (length rs) rs rs c.requires.all c.requires.query (c.revision.ensures ∙ stands.revision)
-    (c.in_ok-rows.ensures bs stands) refl (all_in_range look.range rs c.requires.range))
+    (c.in_ok-rows.ensures bs stands) refl (sym (c.requires.range rs)))

@@ -1,4 +1,4 @@
-use Rattle.std.proofs.Common.{◌≡◌, option_copied, ap, ◌∙◌, arith, rules}
+use Rattle.std.proofs.Common.{◌≡◌, option_copied, ap, arith, rules}
 use Rattle.listing_plan.specs.Plans.{keyed}
 use Rattle.row_sheets.specs.Spelled.{Spelled}
 use Rattle.row_sheets.specs.Sheets.{by_id, rows_on, rows_in}
@@ -11,8 +11,8 @@ loop-sheet-preserved g c =
     let sheets = c.sheets-sheets.result.now in
     let i = c.loop-sheet.sheet-index in
     let sheet = c.sheet-item.result in
-    let rows = c.rows-on_sheet.result.now in
-    let on : rows ≡ rows_on sheet = c.rows-on_sheet.ensures.rows ∙ ap (λ (spelled : Spelled). spelled.rows) c.deref.ensures in
+    let rows = c.deref.result.now.rows in
+    let on : rows ≡ rows_on sheet = ap (λ (spelled : Spelled). spelled.rows) c.deref.ensures in
     record {
       rows =
           selected_more sheets i sheet rows query (keyed c.loop-sheet.found.items) (keyed c.push_asked.new.found.items) (selected_by query (by_id (rows_in sheets)))

@@ -10,7 +10,7 @@ use Rattle.share_workers.proofs.Crossing.{worker_send, borrowed_sync}
 use Rattle.share_workers.proofs.Zipped.{zipped}
 use Rattle.share_workers.proofs.all.serve_each.Goals as goal
 
--- a worker may go to a thread, as its door may
+-- a worker may go to a thread, as its listener may
 pub for_each_mut-requires-send-T : goal.for_each_mut-requires-send-T
 for_each_mut-requires-send-T g c κs within =
     param_send 1 _ (arg_send _ no (worker_row (param 0 g.row.D)) (worker_send (param 0 g.row.D) c.type_bounds.send-D))

@@ -4,7 +4,7 @@ use Rattle.tag_commands.specs.TopTags.{tags_limit}
 use Rattle.tag_commands.specs.Counting.{IsCounted}
 use Rattle.tag_commands.proofs.check.counted.Given as goal
 
--- what was read is counted, within the limit, and no fault was counted
+-- what was read is counted, within the limit, and the error counter is as before
 abbrev pub invariant-loop-n : goal.invariant-loop-n
 invariant-loop-n g l = record {
   fed : List ℕ;

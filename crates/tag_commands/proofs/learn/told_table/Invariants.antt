@@ -3,7 +3,7 @@ use Rattle.std.specs.Io.KnownBytes.{Consumes}
 use Rattle.tag_commands.specs.Learning.{IsLearning}
 use Rattle.tag_commands.proofs.learn.told_table.Given as goal
 
--- what was read begins a reply, and no fault was counted
+-- what was read begins a reply, and the error counter is as before
 abbrev pub invariant-loop-n : goal.invariant-loop-n
 invariant-loop-n g l = record {
   fed : List ℕ;

@@ -5,7 +5,7 @@ use Rattle.command_core.specs.Endings.{IsWritten}
 use Rattle.tag_commands.specs.Showing.{IsShowing}
 use Rattle.tag_commands.proofs.show.shown.Given as goal
 
--- what was read is shown and written, within the limit, and no fault was counted
+-- what was read is shown and written, within the limit, and the error counter is as before
 abbrev pub invariant-loop-n : goal.invariant-loop-n
 invariant-loop-n g l = record {
   fed : List ℕ;

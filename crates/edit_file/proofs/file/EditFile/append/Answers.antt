@@ -12,7 +12,7 @@ returns-then-is_err-clause-crash g c batches sound has =
 
 pub returns-then-is_err-clause-kept : goal.returns-then-is_err-clause-kept
 returns-then-is_err-clause-kept g c batches has =
-    broken_images g.D.Disk _ _ batches c.args.frame c.add_behind.ensures.told_stays
+    broken_images g.D.Disk _ _ batches c.args.frame c.add_behind.ensures.named.told_stays
     (append_crash g.D.Disk _ _ _ _ batches c.args.frame c.as_slice-text.ensures c.add_behind.ensures.crash (sound_file g.D.Disk c.args.self.now batches c.if-self.false has))
 
 pub returns-clause-crash : goal.returns-clause-crash
@@ -24,7 +24,7 @@ returns-clause-acknowledged g c batches has =
     let added : (front : List ℕ) (shut : ℕ) → length front ≡ c.args.self.now.closing → Holds g.D.Disk c.args.self.now.disk (front ++ shut ∷ [])
     → Holds g.D.Disk c.add_behind.new.disk (front ++ opened ∷ c.as_slice-text.result.now) =
     λ front shut place held. let one = c.add_behind.ensures.added front shut place held in search rules in
-    let whole = append_rest g.D.Disk _ _ c.args.self.now.closing c.as_slice-text.result.now batches c.args.frame c.as_slice-text.ensures added c.add_behind.ensures.told_stays
+    let whole = append_rest g.D.Disk _ _ c.args.self.now.closing c.as_slice-text.result.now batches c.args.frame c.as_slice-text.ensures added c.add_behind.ensures.named.told_stays
     (sound_file g.D.Disk c.args.self.now batches c.if-self.false has) in
     subst (λ (b : Bool). MatchBool b
     (IfSome (g.D.Disk.bytes c.add_behind.new.disk) (λ _. (image : List ℕ) → g.D.Disk.images c.add_behind.new.disk image → StandsForOrOneMore (batches ++ c.args.frame ∷ []) image))

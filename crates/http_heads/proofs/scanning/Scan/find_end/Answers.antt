@@ -1,4 +1,4 @@
--- A byte more of the piece is scanned.
+-- A byte more of the chunk is scanned.
 use Rattle.std.proofs.Common.{◌≡◌, ◌∙◌, ap, sym, take, get_or, arith, Some}
 use Rattle.std.proofs.lemmas.List.{take_more}
 use Rattle.http_heads.specs.Scanning.{after, after_byte}

@@ -4,7 +4,7 @@ use Rattle.http_client.specs.Replies.{Reply}
 use Rattle.http_client.specs.Requests.{request_text}
 use Rattle.mirror_client.specs.Exchanges.{Exchanged}
 use Rattle.mirror_client.specs.Points.{ReadAhead, nothing_read, place}
-use Rattle.mirror_client.specs.Steps.{TellsTable, UndueTable}
+use Rattle.mirror_client.specs.Steps.{TellsTable, UnexpectedTable}
 use Rattle.mirror_client.specs.Stopping.{Stops}
 use Rattle.mirror_client.proofs.StepFacts.{fails_first, fails_second, opened}
 use Rattle.mirror_client.proofs.follower.Follower.open.Goals as goal
@@ -13,7 +13,7 @@ pub returns-in-Err-clause-stops : goal.returns-in-Err-clause-stops
 returns-in-Err-clause-stops g c =
     fails_first c.args.host.now (place (g.K.Sink.taken c.args.link.now) (g.K.Source.left c.args.link.now) nothing_read) (g.K.Sink.taken c.learn_table.new.link)
     c.in-Err.error
-    (subst (λ (a : ReadAhead). Stops (request_text want.Codes c.args.host.now) UndueTable (place (g.K.Sink.taken c.args.link.now) (g.K.Source.left c.args.link.now) a)
+    (subst (λ (a : ReadAhead). Stops (request_text want.Codes c.args.host.now) UnexpectedTable (place (g.K.Sink.taken c.args.link.now) (g.K.Source.left c.args.link.now) a)
     (g.K.Sink.taken c.learn_table.new.link) c.in-Err.error) c.new-incoming.ensures c.in-Err.ensures.stops)
 
 pub returns-in-Err-log_in-clause-stops : goal.returns-in-Err-log_in-clause-stops

@@ -1,7 +1,5 @@
-use Rattle.std.proofs.Common.{◌≡◌, true, Some, ◌==◌, ◌||◌, string_bytes, nat_cmp, rules, ap, ◌∙◌}
-use Rattle.std.specs.String.{string_cmp}
-use Rattle.std.specs.Cmp.Lexicographic.{slice_cmp}
-use Rattle.std.specs.BTreeMap.{UpdatesBy, get_by_text}
+use Rattle.std.proofs.Common.{◌≡◌, true, Some, ◌==◌, ◌||◌, rules, ap, ◌∙◌}
+use Rattle.std.specs.BTreeMap.{get_by_text}
 use Rattle.std.proofs.lemmas.Result.{on_ok_weaker, on_err_weaker}
 use Rattle.std.proofs.lemmas.Slice.Eq.{bytes_eq-Decides}
 use Rattle.share_history.specs.BrowseListings.{is_filled}
@@ -14,9 +12,7 @@ pub invariant_of-self : goal.invariant_of-self
 invariant_of-self c =
     let m = c.args.self.now.ids in
     let w = c.add.new.ids in
-    let updates : UpdatesBy string_cmp (λ k. slice_cmp nat_cmp c.args.text.now (string_bytes k)) m (c.get_mut.follows.lender w) (Some w) =
-    (c.get_mut.follows.holds w).3 (search rules) in
-    let changed = changes c.args.text.now m (c.get_mut.follows.lender w) (Some w) updates in
+    let changed = changes c.args.text.now m (c.get_mut.follows.lender w) (Some w) ((c.get_mut.follows.holds w).3 (search rules)) in
     let value : Some c.in-Some.ids.now ≡ get_by_text m c.args.text.now = search rules in
     record {
       used = used c.args.text.now m (c.get_mut.follows.lender w) (Some w) changed c.args.self.now.used
@@ -27,9 +23,7 @@ pub returns-in-Some-clause-ok : goal.returns-in-Some-clause-ok
 returns-in-Some-clause-ok c =
     let m = c.args.self.now.ids in
     let w = c.add.new.ids in
-    let updates : UpdatesBy string_cmp (λ k. slice_cmp nat_cmp c.args.text.now (string_bytes k)) m (c.get_mut.follows.lender w) (Some w) =
-    (c.get_mut.follows.holds w).3 (search rules) in
-    let changed = changes c.args.text.now m (c.get_mut.follows.lender w) (Some w) updates in
+    let changed = changes c.args.text.now m (c.get_mut.follows.lender w) (Some w) ((c.get_mut.follows.holds w).3 (search rules)) in
     let value : Some c.in-Some.ids.now ≡ get_by_text m c.args.text.now = search rules in
     let filled : is_filled c.args.text.now ≡ true = search rules in
     on_ok_weaker c.add.result
@@ -41,9 +35,7 @@ pub returns-in-Some-clause-err : goal.returns-in-Some-clause-err
 returns-in-Some-clause-err c =
     let m = c.args.self.now.ids in
     let w = c.add.new.ids in
-    let updates : UpdatesBy string_cmp (λ k. slice_cmp nat_cmp c.args.text.now (string_bytes k)) m (c.get_mut.follows.lender w) (Some w) =
-    (c.get_mut.follows.holds w).3 (search rules) in
-    let changed = changes c.args.text.now m (c.get_mut.follows.lender w) (Some w) updates in
+    let changed = changes c.args.text.now m (c.get_mut.follows.lender w) (Some w) ((c.get_mut.follows.holds w).3 (search rules)) in
     let value : Some c.in-Some.ids.now ≡ get_by_text m c.args.text.now = search rules in
     on_err_weaker c.add.result
     (λ kept. same c.args.text.now m (c.get_mut.follows.lender w) (Some w) changed

@@ -3,7 +3,7 @@ use Rattle.std.specs.List.{AllByRecursion}
 use Rattle.item_model.specs.declared.changes.Edit.{Edit}
 use Rattle.item_model.specs.declared.changes.Entry.TheVariants.{Edits}
 use Rattle.share_history.specs.Histories.{batches, edits, all_edits, revision}
-use Rattle.share_history.specs.Limits.{has_place, takes_batch}
+use Rattle.share_history.specs.Limits.{is_below_entry_limit, takes_batch}
 use Rattle.share_history.specs.Whole.{PutsWhole}
 use Rattle.share_history.proofs.EditFacts.{edits_more}
 use Rattle.share_history.proofs.WholeFacts.{edits_whole}
@@ -24,10 +24,10 @@ returns-clause-grown g c = λ told fits.
     let a = c.self.inside in
     let now = c.enter.new.register in
     subst (λ old. HasGrown told 0 (Edits c.args.by c.args.batch.now) old (shared a.settings now.history now.marks) c.enter.result) c.self.view_is
-    (grown_is a.settings a.register.history now.history a.register.marks now.marks (Edits c.args.by c.args.batch.now) c.args.said 0 _ c.enter.result told
+    (grown_is a.settings a.register.history now.history a.register.marks now.marks (Edits c.args.by c.args.batch.now) c.args.content 0 _ c.enter.result told
     (c.enter.ensures.history ∙ (λ i. c.in_ok-reserve.ensures.history i ++ Edits c.args.by (c.in_ok-own.ensures i) ∷ []))
     (c.enter.ensures.marks ∙ ap (λ marks. Rattle.share_history.specs.Marks.marks_after now.history 0 marks) c.in_ok-reserve.ensures.marks) refl
-    (c.enter.ensures.reply ∙ ap (λ marks. record { said = c.args.said; point = Rattle.std.proofs.Common.length now.history; session = 0; seen = Rattle.share_replies.specs.Answers.mark_of marks 0; added = Rattle.std.proofs.Common.true }) c.in_ok-reserve.ensures.marks) fits)
+    (c.enter.ensures.reply ∙ ap (λ marks. record { content = c.args.content; point = Rattle.std.proofs.Common.length now.history; session = 0; seen = Rattle.share_replies.specs.Answers.mark_of marks 0; added = Rattle.std.proofs.Common.true }) c.in_ok-reserve.ensures.marks) fits)
 
 pub invariant_of-self-2 : goal.invariant_of-self-2
 invariant_of-self-2 g c =

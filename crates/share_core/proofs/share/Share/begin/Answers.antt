@@ -3,7 +3,7 @@ use Rattle.std.specs.List.{AllByRecursion}
 use Rattle.item_model.specs.declared.changes.Edit.{Edit}
 use Rattle.item_model.specs.declared.changes.Entry.TheVariants.{Edits}
 use Rattle.share_history.specs.Histories.{batches}
-use Rattle.share_history.specs.Limits.{has_place, has_room_for}
+use Rattle.share_history.specs.Limits.{is_below_entry_limit, has_room_for}
 use Rattle.share_history.specs.Whole.{PutsWhole}
 use Rattle.share_history.proofs.WholeFacts.{edits_whole}
 use Rattle.share_replies.specs.Answers.{Shared}
@@ -13,7 +13,7 @@ use Rattle.share_core.proofs.share.Share.begin.Goals as goal
 
 pub overflow_add-next : goal.overflow_add-next
 overflow_add-next g c =
-    let few = few_next_at c.self.inside.register.history (ap (λ (s : Shared). has_place s.history) c.self.view_is ∙ c.requires.place) in
+    let few = few_next_at c.self.inside.register.history (ap (λ (s : Shared). is_below_entry_limit s.history) c.self.view_is ∙ c.requires.below) in
     omega (arith, few, c.revision-next.ensures)
 
 pub invariant_of-self : goal.invariant_of-self
@@ -33,7 +33,7 @@ invariant_of-self-2 g c =
     sound_edit a.settings h c.edit.new.self.history 0 c.args.batch a.stores c.apply.new.self
     (c.edit.ensures.history ∙ ap (λ l. l ++ Edits 0 c.args.batch ∷ []) c.reserve.ensures.history)
     (taken h c.args.batch
-    (ap (λ (s : Shared). has_place s.history) c.self.view_is ∙ c.requires.place)
+    (ap (λ (s : Shared). is_below_entry_limit s.history) c.self.view_is ∙ c.requires.below)
     (ap (λ (s : Shared). has_room_for s.history (length c.args.batch)) c.self.view_is ∙ c.requires.room)
     (few_lists_by h c.args.batch c.as_slice-edits.result.now c.in_ok-count_after.field-0 edits (c.in_ok-count_after.ensures bs c.self.invariant.held.stand.lists) c.if-branch-gt-MAX_LISTS.false))
     (edits_whole c.args.batch c.requires.valid (subst (AllByRecursion PutsWhole) edits c.rows_are_whole.ensures))

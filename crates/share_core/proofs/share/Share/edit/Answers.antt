@@ -5,7 +5,7 @@ use Rattle.share_history.proofs.EditFacts.{revision_more}
 use Rattle.share_replies.specs.Answers.{Shared}
 use Rattle.share_replies.specs.Replies.{Nothing, Tagged}
 use Rattle.share_replies.specs.SmallBodies.{revision_body}
-use Rattle.share_core.specs.Said.{IsSaid}
+use Rattle.share_core.specs.Contents.{IsContent}
 use Rattle.share_core.proofs.Answered.{no_edits, edits_refused, edits_answer, nothing_in}
 use Rattle.share_core.proofs.Sound.{few_next}
 use Rattle.share_core.proofs.share.Share.edit.Goals as goal
@@ -29,4 +29,4 @@ returns-clause-answered g c =
     let now = c.revision-revision.ensures ∙ ap (λ (s : Shared). revision (batches s.history)) c.self.view_is in
     edits_answer _ _ c.args.by c.args.batch.now c.in_ok-reply.reply c.requires.going (omega (arith, c.count_of-count.ensures, c.if-count-eq0.false)) takes
     (c.in_ok-reply.ensures.grown (200, Tagged (revision_body (revision (batches c.args.self.now.history ++ c.args.batch.now ∷ []))))
-    (subst (λ n. IsSaid (200, Tagged (revision_body n)) c.in_ok-said.said) (ap (λ n. n + 1) now ∙ sym (revision_more (batches c.args.self.now.history) c.args.batch.now)) c.in_ok-said.ensures))
+    (subst (λ n. IsContent (200, Tagged (revision_body n)) c.in_ok-content.content) (ap (λ n. n + 1) now ∙ sym (revision_more (batches c.args.self.now.history) c.args.batch.now)) c.in_ok-content.ensures))

@@ -8,4 +8,4 @@ returns-clause-answered g c =
     let old = c.args.self.now in
     look_answer _ _ c.args.by c.args.want.now c.unwrap_or-session.result c.read.result c.requires.read c.requires.going c.requires.live
     (c.unwrap_or-session.ensures ∙ ap (λ o. unwrap_or o 0) c.session_in.ensures)
-    (c.read.ensures.read (unwrap_or (refusal old.history c.args.want.now) (success old.settings old.history c.args.want.now)) c.in_ok-said.ensures.said)
+    (c.read.ensures.read (unwrap_or (refusal old.history c.args.want.now) (success old.settings old.history c.args.want.now)) c.in_ok-content.ensures.content)

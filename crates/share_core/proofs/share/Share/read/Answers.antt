@@ -14,4 +14,4 @@ returns-clause-read c = λ told fits.
     let a = c.self.inside in
     let now = c.read.new.register in
     subst (λ old. IsRead told c.args.session old (shared a.settings now.history now.marks) c.read.result) c.self.view_is
-    (read_is a.settings a.register.history now.history a.register.marks now.marks c.args.said c.args.session c.read.result told c.read.ensures.history c.read.ensures.marks c.read.ensures.reply fits)
+    (read_is a.settings a.register.history now.history a.register.marks now.marks c.args.content c.args.session c.read.result told c.read.ensures.history c.read.ensures.marks c.read.ensures.reply fits)

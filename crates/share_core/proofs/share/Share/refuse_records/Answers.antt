@@ -5,4 +5,4 @@ use Rattle.share_core.proofs.share.Share.refuse_records.Goals as goal
 
 pub returns-clause-answered : goal.returns-clause-answered
 returns-clause-answered c =
-    records_answer _ _ c.args.by c.args.error.now c.read.result c.requires.going (c.read.ensures.read (400, Line (records_line c.args.error.now)) c.in_ok-said.ensures)
+    records_answer _ _ c.args.by c.args.error.now c.read.result c.requires.going (c.read.ensures.read (400, Line (records_line c.args.error.now)) c.in_ok-content.ensures)

@@ -13,4 +13,4 @@ returns-clause-answered c =
     update_answer c.args.self.now c.read.new.self c.args.by c.args.session c.args.number c.read.result c.requires.going c.requires.live
     (ne_eqb c.args.number (revision (batches c.args.self.now.history)) (λ e. c.if-number-revision.false (e ∙ sym now)))
     (subst (λ (n : ℕ). IsRead (200, Tagged (revision_body n)) c.args.session c.args.self.now c.read.new.self c.read.result) now
-    (c.read.ensures.read (200, Tagged (revision_body c.revision-revision.result)) c.in_ok-said.ensures))
+    (c.read.ensures.read (200, Tagged (revision_body c.revision-revision.result)) c.in_ok-content.ensures))

@@ -4,7 +4,7 @@ use Rattle.item_model.specs.declared.changes.Entry.{Entry}
 use Rattle.item_model.specs.declared.changes.Entry.TheVariants.{Login}
 use Rattle.share_history.specs.Histories.{batches, revision}
 use Rattle.share_history.specs.Keyed.{put_in, taken_out}
-use Rattle.share_history.specs.Limits.{has_place}
+use Rattle.share_history.specs.Limits.{is_below_entry_limit}
 use Rattle.share_history.specs.Marks.{Marks, marks_after}
 use Rattle.share_history.specs.Sessions.{next_session}
 use Rattle.share_register.specs.Counts.{IsSound}
@@ -42,9 +42,9 @@ invariant_of-self-2 c =
     let kept = c.append.ensures.room in
     let room : length c.remove.new.self.entries + 1 ≤ c.append.new.self.spare = omega arith in
     let list = c.append.ensures.list ∙ ap (λ (h : List Entry). h ++ Login c.args.by (a.logins + 1) ∷ []) c.in_ok-reserve.ensures.list in
-    subst (λ (h : List Entry). IsSound h (a.places + 1) a.edits (a.logins + 1) a.is_stopped c.remove.new.self.entries c.append.new.self.spare) (sym list)
-    (sound_login a.log.entries c.args.by a.places a.edits a.logins (a.logins + 1) a.log.spare c.append.new.self.spare a.is_stopped a.marks.entries c.remove.new.self.entries c.self.invariant
-    (ap (λ r. has_place r.history) c.self.view_is ∙ c.requires.place) refl is room)
+    subst (λ (h : List Entry). IsSound h (a.limited_entries + 1) a.edits (a.logins + 1) a.is_stopped c.remove.new.self.entries c.append.new.self.spare) (sym list)
+    (sound_login a.log.entries c.args.by a.limited_entries a.edits a.logins (a.logins + 1) a.log.spare c.append.new.self.spare a.is_stopped a.marks.entries c.remove.new.self.entries c.self.invariant
+    (ap (λ r. is_below_entry_limit r.history) c.self.view_is ∙ c.requires.below) refl is room)
 
 pub returns-clause-marks : goal.returns-clause-marks
 returns-clause-marks c =

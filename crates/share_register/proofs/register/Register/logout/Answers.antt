@@ -21,8 +21,8 @@ invariant_of-self c =
     let before = c.self.invariant.room (ap (λ r. is_stopped r.history) c.self.view_is ∙ c.requires.going) in
     let left = c.append.ensures.room in
     let room : length c.remove.new.self.entries + 1 ≤ c.append.new.self.spare = omega arith in
-    subst (λ (h : List Entry). IsSound h a.places a.edits a.logins a.is_stopped c.remove.new.self.entries c.append.new.self.spare) (sym c.append.ensures.list)
-    (sound_logout a.log.entries c.args.by a.places a.edits a.logins c.args.id a.log.spare c.append.new.self.spare a.is_stopped a.marks.entries c.remove.new.self.entries c.self.invariant live c.remove.ensures.entries room)
+    subst (λ (h : List Entry). IsSound h a.limited_entries a.edits a.logins a.is_stopped c.remove.new.self.entries c.append.new.self.spare) (sym c.append.ensures.list)
+    (sound_logout a.log.entries c.args.by a.limited_entries a.edits a.logins c.args.id a.log.spare c.append.new.self.spare a.is_stopped a.marks.entries c.remove.new.self.entries c.self.invariant live c.remove.ensures.entries room)
 
 pub returns-clause-marks : goal.returns-clause-marks
 returns-clause-marks c =

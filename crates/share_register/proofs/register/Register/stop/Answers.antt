@@ -9,5 +9,5 @@ append-requires-clause-few c = few_after _ _ _ _ _ _ c.self.invariant.counts
 pub invariant_of-self : goal.invariant_of-self
 invariant_of-self c =
     let a = c.self.inside in
-    subst (λ h. IsSound h a.places a.edits a.logins Rattle.std.proofs.Common.true a.marks.entries c.append.new.self.spare) (sym c.append.ensures.list)
-    (sound_stop a.log.entries c.args.by a.places a.edits a.logins a.log.spare c.append.new.self.spare a.is_stopped a.marks.entries c.self.invariant)
+    subst (λ h. IsSound h a.limited_entries a.edits a.logins Rattle.std.proofs.Common.true a.marks.entries c.append.new.self.spare) (sym c.append.ensures.list)
+    (sound_stop a.log.entries c.args.by a.limited_entries a.edits a.logins a.log.spare c.append.new.self.spare a.is_stopped a.marks.entries c.self.invariant)

@@ -4,7 +4,7 @@ use Rattle.dmap_stream.specs.Walk.{is_empty}
 use Rattle.tag_commands.specs.Counting.{HasCounted, IsCounted}
 use Rattle.tag_commands.proofs.counting.Counter.feed.Given as goal
 
--- the front of the piece was fed behind any bytes before
+-- the bytes before and then a prefix of the chunk were fed
 abbrev pub invariant-loop-rest : goal.invariant-loop-rest
 invariant-loop-rest l = record {
   front : List ℕ;

@@ -3,7 +3,7 @@ use Rattle.dmap_stream.specs.Reader.{ready}
 use Rattle.tag_commands.specs.Showing.{HasShown, IsShowing}
 use Rattle.tag_commands.proofs.show.Shower.feed.Given as goal
 
--- the front of the piece was fed behind any bytes before, and no event is left
+-- the bytes before and then a prefix of the chunk were fed, and no event is left
 abbrev pub invariant-loop-rest : goal.invariant-loop-rest
 invariant-loop-rest l = record {
   front : List ℕ;
