@@ -11,8 +11,9 @@ use Rattle.item_model.specs.declared.property.Property.{Property}
 use Rattle.item_model.specs.Projection.{shown, first_mentions}
 use Rattle.item_model.proofs.Few.{first_few}
 use Rattle.row_sheets.specs.Cells.{cell, row_cells, joined, HasNoOther}
+use Rattle.row_sheets.specs.Held.{IsIndex}
 use Rattle.listing_plan.specs.declared.runs.Run.{Run}
-use Rattle.listing_plan.specs.Runs.{IsIndex, IsWithin, Joins, run_bytes, runs_bytes}
+use Rattle.listing_plan.specs.Runs.{IsWithin, Joins, run_bytes, runs_bytes}
 
 -- a prefix of some length, and a prefix of the rest
 take_parts : {X : Type 0} (a b : ℕ) (xs : List X) → a ≤ length xs → take (a + b) xs ≡ take a xs ++ take b (drop a xs)

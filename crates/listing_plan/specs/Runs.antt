@@ -27,11 +27,6 @@ run_bytes ps row run = joined (row_cells (take (run.to - run.from) (drop run.fro
 abbrev pub runs_bytes : List Property → Row → List Run → List ℕ
 runs_bytes ps row runs = flat_map (run_bytes ps row) runs
 
--- the property is at this index of the sheet's
-pub record IsIndex (ps : List Property) (index : ℕ) (p : Property) : Type 0 where
-  pub below : index < length ps
-  pub there : slice_index_or ps index p ≡ p
-
 -- the runs have what the old ones have, and then what one more has
 pub record Joins (run : Run) (old new : List Run) : Type 0 where
   pub within : (ps : List Property) → All (IsWithin ps) old → IsWithin ps run → All (IsWithin ps) new
@@ -52,7 +47,7 @@ abbrev pub front_bytes : Target → (len id : ℕ) → List ℕ
 front_bytes target len id =
     (code_bytes (code "mlit") ++ to_be_bytes w32 len) ++ spellings (trees_of (keys (member_of target id) id))
 
--- how many bytes that are
+-- how many bytes these are
 abbrev pub front_length : Target → ℕ
 front_length Items = 20
 front_length (Container id) = 32

@@ -73,8 +73,8 @@ impl<const N: usize> Page<N> {
         self.len = end;
     }
 
-    // Puts the first `len` of the bytes. If they are few, it copies more, as many as the constant says, and the bytes
-    // behind are overwritten by what is put next.
+    // Puts the first `len` of the bytes. If they are few, it copies a constant number of bytes, and what is put next
+    // overwrites those that are too many.
     pub(crate) fn put_first(&mut self, bytes: &[u8], len: usize)
         requires within { len ≤ length bytes.now }
         requires room { length self.old + len ≤ N }

@@ -1,10 +1,11 @@
 //! Where a sheet has the tags that a listing shows.
 
-ghost use Rattle.std.specs.Prelude.{◌≡◌, ◌≤◌, ◌<◌, ◌+◌, [], length, false, All, IfSome, IfNone};
-ghost use Rattle.item_model.specs.Projection.{first_mentions, mentions};
-ghost use Rattle.listing_plan.specs.Runs.{AreRuns, IsIndex, IsWithin, Joins, Mentions};
+ghost use Rattle.std.specs.Prelude.{◌≡◌, ◌≤◌, ◌<◌, ◌+◌, [], length, All};
+ghost use Rattle.item_model.specs.Projection.{first_mentions};
+ghost use Rattle.listing_plan.specs.Runs.{AreRuns, IsWithin, Joins, Mentions};
 
 use item_model::Property;
+use row_sheets::index_of;
 use std::marker::Model;
 
 /// Properties that are neighbours on a sheet and are all shown: from the index `from` up to the index `to`.
@@ -90,17 +91,4 @@ impl Runs {
         self.room[self.len] = run;
         self.len += 1;
     }
-}
-
-/// The index of a property.
-pub(crate) fn index_of(properties: &[Property], property: Property) -> Option<usize>
-    ensures some { IfSome result (λ index. IsIndex properties.now index property) }
-    ensures none { IfNone result (mentions properties.now property ≡ false) }
-{
-    for index in 0..properties.len() {
-        if properties[index].rank() == property.rank() {
-            return Some(index);
-        }
-    }
-    None
 }

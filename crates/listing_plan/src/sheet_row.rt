@@ -6,7 +6,7 @@ ghost use Rattle.listing_plan.specs.Limits.{row_limit, rows_limit, shown_limit};
 ghost use Rattle.listing_plan.specs.Pages.{Pushes};
 ghost use Rattle.listing_plan.specs.Runs.{IsSheetRow, IsWithin, front_bytes, front_length, row_bytes, run_bytes, sheet_row_tag};
 
-use crate::lengths::HEAD_LEN;
+use crate::lengths::{HEAD_LEN, NUMBER_LEN};
 use crate::page::Page;
 use crate::runs::Run;
 use daap_outside::{Failed, Sink};
@@ -14,10 +14,10 @@ use item_model::{SharedRow, Target};
 use row_sheets::{RowTags, Sheet};
 
 /// The length of the head and the key of an item.
-const ITEM_FRONT_LEN: u64 = 20;
+const ITEM_FRONT_LEN: u64 = HEAD_LEN + NUMBER_LEN;
 
 /// The length of the head and the keys of a member of a container.
-const MEMBER_FRONT_LEN: u64 = 32;
+const MEMBER_FRONT_LEN: u64 = HEAD_LEN + 2 * NUMBER_LEN;
 
 /// A row, its index on its sheet, its id, and the runs of those of its tags that a listing shows. The id is a value and
 /// nothing reads the row itself, which lies elsewhere in memory than its tags.

@@ -13,11 +13,11 @@ ghost use Rattle.listing_plan.specs.Pages.{Pushes};
 ghost use Rattle.listing_plan.specs.Runs.{AreRuns, IsSheetRow, front_length, sheet_row_tag};
 
 use crate::page::Page;
-use crate::runs::{Run, Runs, index_of};
+use crate::runs::{Run, Runs};
 use crate::sheet_row::{SheetRow, fronts_len};
 use daap_outside::{Failed, Sink};
 use item_model::{Property, Target};
-use row_sheets::{RowSheets, Sheet};
+use row_sheets::{RowSheets, Sheet, index_of};
 
 /// Returns the length of the tags of all rows.
 pub(crate) fn sheets_len(rows: &RowSheets, target: Target, asked: &[Property]) -> u64

@@ -80,11 +80,11 @@ pub fn is_touched(history: &[Entry], target: Target, later: &[Entry], key: u32) 
     }
 }
 
-// Pushes the key if `is_selected`.
-pub(crate) fn push_if(keys: &mut Vec<u32>, key: u32, is_selected: bool) -> Result<(), AllocError>
-    ensures { OnOk result (keys.new.items ≡ keys.old.items ++ (if is_selected then key ∷ [] else [])) }
+// Pushes the key if it is wanted.
+pub(crate) fn push_if(keys: &mut Vec<u32>, key: u32, is_wanted: bool) -> Result<(), AllocError>
+    ensures { OnOk result (keys.new.items ≡ keys.old.items ++ (if is_wanted then key ∷ [] else [])) }
 {
-    if is_selected {
+    if is_wanted {
         keys.push(key)?;
     }
     Ok(())

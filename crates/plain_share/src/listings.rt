@@ -107,12 +107,12 @@ pub fn full_listing(
 fn push_row_if<'a>(
     rows: &mut Vec<(u32, &'a Row)>,
     row: (u32, &'a Row),
-    is_selected: bool,
+    is_wanted: bool,
 ) -> Result<(), AllocError>
-    ensures rows { OnOk result (map row_of rows.new.items ≡ map row_of rows.old.items ++ (if is_selected then row_of row.entry ∷ [] else [])) }
+    ensures rows { OnOk result (map row_of rows.new.items ≡ map row_of rows.old.items ++ (if is_wanted then row_of row.entry ∷ [] else [])) }
     ensures few { OnOk result (length rows.new.items ≤ length rows.old.items + 1) }
 {
-    if is_selected {
+    if is_wanted {
         rows.push(row)?;
     }
     Ok(())

@@ -24,10 +24,10 @@ fn has_item(members: &Versions<u32>, key: u32, item: u32) -> bool
     }
 }
 
-fn put_if(keys: &mut BTreeSet<u32>, key: u32, is_selected: bool) -> Result<(), AllocError>
-    ensures { OnOk result ((q : ℕ) → is_key q keys.new.keys ≡ (is_key q keys.old.keys || (is_selected && (key == q)))) }
+fn put_if(keys: &mut BTreeSet<u32>, key: u32, is_wanted: bool) -> Result<(), AllocError>
+    ensures { OnOk result ((q : ℕ) → is_key q keys.new.keys ≡ (is_key q keys.old.keys || (is_wanted && (key == q)))) }
 {
-    if is_selected {
+    if is_wanted {
         keys.insert(key)?;
     }
     Ok(())

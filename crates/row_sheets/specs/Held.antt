@@ -1,6 +1,6 @@
 -- The properties of a sheet: those that some row has. What a listing shows by default comes first, so that it lies side by
 -- side.
-use Rattle.std.specs.Prelude.{List, ◌++◌, Bool, is_some, filter}
+use Rattle.std.specs.Prelude.{◌≡◌, ◌<◌, ℕ, List, ◌++◌, length, slice_index_or, Bool, is_some, filter}
 use Rattle.std.specs.List.{list_any}
 use Rattle.item_model.specs.declared.item.Row.{Row}
 use Rattle.item_model.specs.declared.property.Property.{Property}
@@ -18,3 +18,8 @@ is_held rows p = list_any (λ row. is_some (value_of p row.item)) rows
 
 abbrev pub held_properties : List Row → List Property
 held_properties rows = filter (is_held rows) sheet_order
+
+-- the property is at this index
+pub record IsIndex (ps : List Property) (index : ℕ) (p : Property) : Type 0 where
+  pub below : index < length ps
+  pub there : slice_index_or ps index p ≡ p

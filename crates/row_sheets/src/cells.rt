@@ -75,7 +75,8 @@ impl Cells {
         Ok(())
     }
 
-    // The tags of a row, of the properties from the index `from` up to the index `to`.
+    // The tags of a row, of the properties from the index `from` up to the index `to`. The contract alone needs the
+    // rows.
     pub(crate) fn tags(
         &self,
         rows: &[SharedRow],

@@ -1,9 +1,10 @@
-//! The properties that some row of a sheet has.
+//! The properties that some row of a sheet has, and the index of one among them.
 
-ghost use Rattle.std.specs.Prelude.{◌≡◌, filter, is_some, IfOk};
+ghost use Rattle.std.specs.Prelude.{◌≡◌, false, filter, is_some, IfOk, IfSome, IfNone};
 ghost use Rattle.std.specs.List.{list_any};
 ghost use Rattle.item_model.specs.Items.{value_of};
-ghost use Rattle.row_sheets.specs.Held.{is_held, held_properties};
+ghost use Rattle.item_model.specs.Projection.{mentions};
+ghost use Rattle.row_sheets.specs.Held.{is_held, held_properties, IsIndex};
 
 use item_model::{Item, Property, SharedRow};
 use std::alloc::{AllocError, Global};
@@ -83,4 +84,18 @@ fn has(item: &Item, property: Property) -> bool
         Some(_) => true,
         None => false,
     }
+}
+
+/// Returns the index of a property among those of a sheet, if the sheet has it.
+#[inline(always)]
+pub fn index_of(properties: &[Property], property: Property) -> Option<usize>
+    ensures some { IfSome result (λ index. IsIndex properties.now index property) }
+    ensures none { IfNone result (mentions properties.now property ≡ false) }
+{
+    for index in 0..properties.len() {
+        if properties[index].rank() == property.rank() {
+            return Some(index);
+        }
+    }
+    None
 }

@@ -12,5 +12,6 @@ mod tags;
 mod turning;
 
 pub use cells::RowTags;
+pub use held::index_of;
 pub use sheet::Sheet;
 pub use sheets::RowSheets;

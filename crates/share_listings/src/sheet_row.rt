@@ -1,18 +1,16 @@
 //! A row of a sheet, as queries see it.
 
-ghost use Rattle.std.specs.Prelude.{◌≡◌, ◌<◌, ◌+◌, ◌-◌, List, length, take, drop, false, slice_index_or, IfSome, MatchOption, IsAscii};
+ghost use Rattle.std.specs.Prelude.{◌≡◌, ◌<◌, ◌+◌, ◌-◌, List, length, take, drop, slice_index_or, IfSome, IsAscii};
 ghost use Rattle.dmap_tags.specs.declared.kinds.Kind.TheVariants.{Text as TextKind};
 ghost use Rattle.item_model.specs.declared.item.Row.{Row};
-ghost use Rattle.item_model.specs.declared.property.Property.{Property as HeldProperty};
 ghost use Rattle.item_model.specs.Folds.{IsSoughtIfAny};
 ghost use Rattle.item_model.specs.Items.{value_of};
-ghost use Rattle.item_model.specs.Projection.{mentions};
 ghost use Rattle.row_sheets.specs.Cells.{row_cells, joined};
 ghost use Rattle.share_listings.specs.SheetRows.{sheet_row};
 
 use dmap_tags::Kind;
 use item_model::{Property, SharedRow, Sought};
-use row_sheets::Sheet;
+use row_sheets::{Sheet, index_of};
 use song_query::Searched;
 
 // The length of a tag's code and of the length of its payload.
@@ -82,8 +80,8 @@ fn sought_on(sheet: &Sheet, index: usize, property: Property) -> Option<Sought<'
     ensures { IsSoughtIfAny (value_of property (sheet_row sheet.now index).item) result }
 {
     let rows = sheet.rows();
-    let place = place_of(sheet.properties(), property)?;
-    let tag = tag_on(sheet, index, place);
+    let column = index_of(sheet.properties(), property)?;
+    let tag = tag_on(sheet, index, column);
     if tag.is_empty() {
         return None;
     }
@@ -95,30 +93,16 @@ fn sought_on(sheet: &Sheet, index: usize, property: Property) -> Option<Sought<'
 
 // Returns the tag of the property at an index of a sheet's properties. A property that the row lacks has no bytes.
 #[inline(always)]
-fn tag_on(sheet: &Sheet, index: usize, place: usize) -> &[u8]
+fn tag_on(sheet: &Sheet, index: usize, column: usize) -> &[u8]
     requires row { index < length sheet.now.rows }
-    requires within { place < length sheet.now.properties }
-    ensures { (d : Row) → result.now ≡ joined (row_cells (take (place + 1 - place) (drop place sheet.now.properties)) (slice_index_or sheet.now.rows index d)) }
+    requires within { column < length sheet.now.properties }
+    ensures { (d : Row) → result.now ≡ joined (row_cells (take (column + 1 - column) (drop column sheet.now.properties)) (slice_index_or sheet.now.rows index d)) }
 {
     // There are as many properties as fit in memory, so the next index is a number.
     let _count = sheet.properties().len();
-    let tags = sheet.row_tags(index, place, place + 1);
+    let tags = sheet.row_tags(index, column, column + 1);
     let (tag, _) = tags.bytes.split_at(tags.len);
     tag
-}
-
-// Returns the index of a property among those of a sheet.
-#[inline(always)]
-fn place_of(properties: &[Property], property: Property) -> Option<usize>
-    ensures { MatchOption result (mentions properties.now property ≡ false)
-        (λ place. (place < length properties.now) × ((d : HeldProperty) → slice_index_or properties.now place d ≡ property)) }
-{
-    for (place, held) in properties.iter().enumerate() {
-        if held.rank() == property.rank() {
-            return Some(place);
-        }
-    }
-    None
 }
 
 // Returns the text in the tag of a property of this kind, if it is a text and ASCII.

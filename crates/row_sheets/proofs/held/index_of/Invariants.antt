@@ -1,6 +1,6 @@
 use Rattle.std.proofs.Common.{◌≡◌, drop}
 use Rattle.item_model.specs.Projection.{mentions}
-use Rattle.listing_plan.proofs.runs.index_of.Given as goal
+use Rattle.row_sheets.proofs.held.index_of.Given as goal
 
 -- what was passed is not the property
 abbrev pub invariant-loop-index : goal.invariant-loop-index
