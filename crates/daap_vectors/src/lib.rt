@@ -1,4 +1,4 @@
-//! Tests that cross crates: whole requests with a share's answers, and long runs. Nothing here is for other crates.
+//! Tests that cross crates: whole requests with a share's answers, and whole connections. Nothing here is for other crates.
 #![tactic(auto)]
 
 #[cfg(test)]
@@ -9,9 +9,5 @@ mod hostile;
 mod limits;
 #[cfg(test)]
 mod refusals;
-#[cfg(test)]
-mod rehearsals;
-#[cfg(test)]
-mod replays;
 #[cfg(test)]
 mod shares;

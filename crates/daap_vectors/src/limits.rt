@@ -1,4 +1,4 @@
-//! The limits of a share's history, at each limit and one past it.
+//! The limits of a share's history and sessions, at each limit and one past it.
 
 use crate::shares::{Request, begun, log_in, opened, post, respond};
 use share_core::{OpenError, Share};
@@ -77,30 +77,22 @@ const LAST_EDIT: [(Request, u16); 8] = [
     (STOP, 204),
 ];
 
-/// Returns a share that may take one more edit, or `None` if it refused one of those before.
-fn nearly_full(alloc: Global) -> Result<Option<Share>, AllocError> {
-    let most = records(alloc, "put,item", 1, 65_536)?;
+/// Sends as many edits as a history may have, less one.
+fn fill(alloc: Global, share: &mut Share) -> Result<(), AllocError> {
+    let most = records(alloc, "drop,item", 1, 65_536)?;
     let rest = records(alloc, "drop,item", 1, 65_535)?;
-    let mut share = opened(alloc, 16, most.as_str())?;
-    for batch in [&most, &most, &rest] {
-        if post(alloc, &mut share, "/edit", batch.as_str())?.status != 200 {
-            return Ok(None);
-        }
+    for _ in 0..3u32 {
+        post(alloc, share, "/edit", most.as_str())?;
     }
-    Ok(Some(share))
-}
-
-/// Returns whether such a share answers the requests of `rows` with their statuses.
-fn takes_the_rest(alloc: Global, rows: &[(Request, u16)]) -> Result<bool, AllocError> {
-    match nearly_full(alloc)? {
-        Some(mut share) => has_statuses(alloc, &mut share, rows),
-        None => Ok(false),
-    }
+    post(alloc, share, "/edit", rest.as_str())?;
+    Ok(())
 }
 
 #[test]
 fn the_last_edit_is_taken_once(rt: HostRuntime) -> Result<(), Fail> {
-    assert!(rt; takes_the_rest(rt.alloc(), &LAST_EDIT)?);
+    let mut share = opened(rt.alloc(), 16, "")?;
+    fill(rt.alloc(), &mut share)?;
+    assert!(rt; has_statuses(rt.alloc(), &mut share, &LAST_EDIT)?);
     Ok(())
 }
 
@@ -150,5 +142,21 @@ fn the_last_list_is_taken_once(rt: HostRuntime) -> Result<(), Fail> {
 fn a_share_is_opened_with_1024_lists_at_most(rt: HostRuntime) -> Result<(), Fail> {
     assert!(rt; opens(rt.alloc(), 1_025)?);
     assert!(rt; !opens(rt.alloc(), 1_026)?);
+    Ok(())
+}
+
+/// Requests after 64 logins: the next one ends the first session.
+const THE_65TH: [(Request, u16); 4] = [
+    (Request::Get("/databases?session-id=1"), 200),
+    (LOGIN, 200),
+    (Request::Get("/databases?session-id=1"), 403),
+    (Request::Get("/databases?session-id=2"), 200),
+];
+
+#[test]
+fn the_65th_login_ends_the_first_session(rt: HostRuntime) -> Result<(), Fail> {
+    let mut share = opened(rt.alloc(), 16, "")?;
+    log_in(rt.alloc(), &mut share, 64)?;
+    assert!(rt; has_statuses(rt.alloc(), &mut share, &THE_65TH)?);
     Ok(())
 }

@@ -23,6 +23,9 @@ pub(crate) enum Request {
     Post(&'static str, &'static str),
 }
 
+/// A request, its status and its body.
+pub(crate) type Told = (Request, u16, &'static [u8]);
+
 /// The response to a request. A pending update has the status 0.
 #[derive(Drop)]
 pub(crate) struct Response {
@@ -53,7 +56,7 @@ pub(crate) fn begun(alloc: Global, keep: u32, records: &str) -> Result<Share, Op
 }
 
 /// Returns the response to a player's request.
-pub(crate) fn get(alloc: Global, share: &mut Share, target: &str) -> Result<Response, AllocError> {
+fn get(alloc: Global, share: &mut Share, target: &str) -> Result<Response, AllocError> {
     let text = format!(in alloc; "GET {target} HTTP/1.1\r\n\r\n")?;
     let ask = read(alloc, Role::Listen, text.as_bytes())?;
     answer(alloc, share, &ask)
@@ -86,7 +89,7 @@ pub(crate) fn respond(
 }
 
 /// Returns whether the response to a request has `status` and `body`.
-pub(crate) fn replies(
+fn replies(
     alloc: Global,
     share: &mut Share,
     request: Request,
@@ -98,11 +101,7 @@ pub(crate) fn replies(
 }
 
 /// Returns whether the requests of `rows`, one after another, get their responses.
-pub(crate) fn tells(
-    alloc: Global,
-    share: &mut Share,
-    rows: &[(Request, u16, &'static [u8])],
-) -> Result<bool, AllocError> {
+fn tells(alloc: Global, share: &mut Share, rows: &[Told]) -> Result<bool, AllocError> {
     for (request, status, body) in rows {
         if !replies(alloc, share, *request, *status, body)? {
             return Ok(false);
@@ -111,29 +110,19 @@ pub(crate) fn tells(
     Ok(true)
 }
 
-/// Returns whether a player gets `body` for `target`.
-pub(crate) fn shows(
+/// Returns whether a share whose history begins with `records` answers as in `rows`, after a login.
+pub(crate) fn told(
     alloc: Global,
-    share: &mut Share,
-    target: &str,
-    body: &[u8],
-) -> Result<bool, AllocError> {
-    let response = get(alloc, share, target)?;
-    Ok(response.status == 200 && response.body.as_slice() == body)
-}
-
-/// Returns whether the share takes each of the batches.
-pub(crate) fn takes(
-    alloc: Global,
-    share: &mut Share,
-    batches: &[&'static str],
-) -> Result<bool, AllocError> {
-    for records in batches {
-        if post(alloc, share, "/edit", records)?.status != 200 {
-            return Ok(false);
-        }
-    }
-    Ok(true)
+    keep: u32,
+    records: &str,
+    rows: &[Told],
+) -> Result<bool, AllocError>
+    requires some { 1 ≤ keep }
+    requires window { keep ≤ 65536 }
+{
+    let mut share = opened(alloc, keep, records)?;
+    log_in(alloc, &mut share, 1)?;
+    tells(alloc, &mut share, rows)
 }
 
 /// Logs in `count` times.

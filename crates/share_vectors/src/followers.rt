@@ -1,6 +1,6 @@
 //! `mirror_client`: followers over connections in memory, whose peers send known bytes.
 
-ghost use Rattle.std.specs.Prelude.{◌≤◌, ◌<◌};
+ghost use Rattle.std.specs.Prelude.{◌<◌};
 ghost use Rattle.share_asks.specs.Valid.{MayAsk};
 
 use daap_outside::{MemLink, MemSink, MemSource};
@@ -64,9 +64,9 @@ fn replies(alloc: Global, bodies: &[&'static [u8]]) -> Result<Vec<u8>, AllocErro
     Ok(bytes)
 }
 
-/// Returns these replies, and then the reply to a logout.
-fn session(alloc: Global, bodies: &[&'static [u8]]) -> Result<Vec<u8>, AllocError> {
-    let mut bytes = replies(alloc, bodies)?;
+/// Returns the replies to two rounds, and then the reply to a logout.
+fn two_rounds(alloc: Global) -> Result<Vec<u8>, AllocError> {
+    let mut bytes = replies(alloc, TWO_ROUNDS)?;
     bytes.extend_from_slice(NO_CONTENT.as_bytes())?;
     Ok(bytes)
 }
@@ -98,43 +98,26 @@ fn lines(alloc: Global, applied: &[Applied]) -> Result<String, AllocError> {
     Ok(text)
 }
 
-/// Follows for `rounds` rounds. Returns how it ended, and the revision and the number of rows of the mirror.
-fn told_by(
-    alloc: Global,
-    link: &mut MemLink,
-    mirror: &mut Mirror,
-    rounds: u32,
-) -> Result<String, AllocError>
-    requires some { 1 ≤ rounds }
-    requires few { rounds ≤ 16384 }
-    requires asks { MayAsk mirror.old.query }
+/// Follows for two rounds. Returns how it ended, and the revision and the number of rows of the mirror.
+fn told_by(alloc: Global, link: &mut MemLink, mirror: &mut Mirror) -> Result<String, AllocError>
+    requires { MayAsk mirror.old.query }
 {
-    let end = ended(alloc, link, mirror, rounds)?;
+    let end = ended(alloc, link, mirror)?;
     format!(in alloc; "{end}{}/{}", mirror.base(), mirror.len())
 }
 
-fn ended(
-    alloc: Global,
-    link: &mut MemLink,
-    mirror: &mut Mirror,
-    rounds: u32,
-) -> Result<String, AllocError>
-    requires some { 1 ≤ rounds }
-    requires few { rounds ≤ 16384 }
-    requires asks { MayAsk mirror.old.query }
+fn ended(alloc: Global, link: &mut MemLink, mirror: &mut Mirror) -> Result<String, AllocError>
+    requires { MayAsk mirror.old.query }
 {
-    match follow_link(alloc, link, "here", mirror, rounds) {
+    match follow_link(alloc, link, "here", mirror, 2) {
         Ok(applied) => lines(alloc, applied.as_slice()),
         Err(error) => format!(in alloc; "{error:?} "),
     }
 }
 
-fn told(alloc: Global, link: &mut MemLink, rounds: u32) -> Result<String, AllocError>
-    requires some { 1 ≤ rounds }
-    requires few { rounds ≤ 16384 }
-{
+fn told(alloc: Global, link: &mut MemLink) -> Result<String, AllocError> {
     let mut mirror = Mirror::new(alloc, Target::Items, None, Meta::Default);
-    told_by(alloc, link, &mut mirror, rounds)
+    told_by(alloc, link, &mut mirror)
 }
 
 fn follow(
@@ -146,118 +129,59 @@ fn follow(
     requires { 0 < per_call }
 {
     let mut link = link(alloc, input, per_call, failing)?;
-    told(alloc, &mut link, 2)
+    told(alloc, &mut link)
 }
 
 const WRITTEN: &str =
     "GET /content-codes HTTP/1.1\r\nHost: here\r\nClient-DAAP-Version: 3.0\r\n\r\nGET /login HTTP/1.1\r\nHost: here\r\nClient-DAAP-Version: 3.0\r\n\r\nGET /databases/1/items?session-id=1 HTTP/1.1\r\nHost: here\r\nClient-DAAP-Version: 3.0\r\n\r\nGET /update?session-id=1&revision-number=3 HTTP/1.1\r\nHost: here\r\nClient-DAAP-Version: 3.0\r\n\r\nGET /databases/1/items?session-id=1&delta=3 HTTP/1.1\r\nHost: here\r\nClient-DAAP-Version: 3.0\r\n\r\nGET /logout?session-id=1 HTTP/1.1\r\nHost: here\r\nClient-DAAP-Version: 3.0\r\n\r\n";
 
-/// Follows for `rounds` rounds. Returns how it ended, and whether the bytes that it wrote are `written`.
-fn told_and_wrote(
-    alloc: Global,
-    link: &mut MemLink,
-    rounds: u32,
-    written: &str,
-) -> Result<(String, bool), AllocError>
-    requires some { 1 ≤ rounds }
-    requires few { rounds ≤ 16384 }
-{
-    let text = told(alloc, link, rounds)?;
-    Ok((text, link.taken() == written.as_bytes()))
-}
-
-fn followed(
-    alloc: Global,
-    bodies: &[&'static [u8]],
-    per_call: usize,
-    rounds: u32,
-    written: &str,
-) -> Result<(String, bool), AllocError>
-    requires some { 1 ≤ rounds }
-    requires few { rounds ≤ 16384 }
-    requires call { 0 < per_call }
-{
-    let input = session(alloc, bodies)?;
-    let mut link = link(alloc, input.as_slice(), per_call, &[])?;
-    told_and_wrote(alloc, &mut link, rounds, written)
-}
-
 #[test]
 fn two_rounds_are_followed(rt: HostRuntime) -> Result<(), Fail> {
-    let (text, is_written) = followed(rt.alloc(), TWO_ROUNDS, 100, 2, WRITTEN)?;
+    let alloc = rt.alloc();
+    let input = two_rounds(alloc)?;
+    let mut link = link(alloc, input.as_slice(), 100, &[])?;
+    let text = told(alloc, &mut link)?;
     assert_eq!(rt;
         text.as_str(),
         "revision 3 full put 1 drop 0 rows 1;revision 4 delta put 0 drop 1 rows 0;4/0"
     );
-    assert!(rt; is_written);
+    assert!(rt; link.taken() == WRITTEN.as_bytes());
     Ok(())
 }
 
-#[test]
-fn one_round_waits_for_nothing(rt: HostRuntime) -> Result<(), Fail> {
-    let (text, _) = followed(rt.alloc(), ONE_ROUND, 1, 1, "")?;
-    assert_eq!(rt; text.as_str(), "revision 3 full put 1 drop 0 rows 1;3/1");
-    Ok(())
-}
+/// How many bytes of the replies a peer sends, which of its reads, of 50 bytes, fail, and how the follower ends.
+type Cut = (usize, &'static [u64], &'static str);
 
-/// The lengths of the replies up to the first listing and up to the second.
-#[derive(Clone, Copy)]
-struct Listings {
-    first: usize,
-    second: usize,
-}
+const CUTS: [Cut; 8] = [
+    (0, &[], "Ended { at: 0 } 0/0"),
+    (814, &[], "Ended { at: 814 } 0/0"),
+    (1027, &[], "Ended { at: 1027 } 3/1"),
+    (1230, &[], "Ended { at: 1230 } 4/0"),
+    (1256, &[], "Ended { at: 1256 } 4/0"),
+    (1257, &[1], "LinkFault 0/0"),
+    (1257, &[22], "LinkFault 3/1"),
+    (1257, &[26], "LinkFault 4/0"),
+];
 
-fn listing_lengths(alloc: Global) -> Result<Listings, AllocError> {
-    Ok(Listings {
-        first: replies(alloc, ONE_ROUND)?.len(),
-        second: replies(alloc, TWO_ROUNDS)?.len(),
-    })
-}
-
-/// Returns the revision and the number of rows of a mirror after `at` bytes of the replies to two rounds.
-fn held(at: usize, listings: Listings) -> &'static str {
-    if at < listings.first {
-        "0/0"
-    } else if at < listings.second {
-        "3/1"
-    } else {
-        "4/0"
-    }
-}
-
-fn ends_at(alloc: Global, input: &[u8], at: usize) -> Result<String, AllocError> {
-    match input.get(..at) {
-        Some(front) => follow(alloc, front, 4096, &[]),
+/// Follows a peer that sends `len` bytes of its replies, and of which the reads `failing` fail.
+fn cut(alloc: Global, len: usize, failing: &[u64]) -> Result<String, AllocError> {
+    let input = two_rounds(alloc)?;
+    match input.as_slice().get(..len) {
+        Some(front) => follow(alloc, front, 50, failing),
         None => Err(AllocError),
     }
 }
 
-#[test]
-fn a_peer_may_end_at_every_byte(rt: HostRuntime) -> Result<(), Fail> {
-    let alloc = rt.alloc();
-    let input = session(alloc, TWO_ROUNDS)?;
-    let listings = listing_lengths(alloc)?;
-    for at in 0..input.len() {
-        let held = held(at, listings);
-        let expected = format!(in alloc; "Ended {{ at: {at} }} {held}")?;
-        let text = ends_at(alloc, input.as_slice(), at)?;
-        assert_eq!(rt; text.as_str(), expected.as_str());
+fn all_are_cut(rt: &impl Abort, alloc: Global, rows: &[Cut]) -> Result<(), Fail> {
+    for (len, failing, end) in rows {
+        assert_eq!(rt; cut(alloc, *len, failing)?.as_str(), *end);
     }
     Ok(())
 }
 
 #[test]
-fn each_read_may_fail(rt: HostRuntime) -> Result<(), Fail> {
-    let alloc = rt.alloc();
-    let input = session(alloc, TWO_ROUNDS)?;
-    let listings = listing_lengths(alloc)?;
-    for call in 0..input.len() / 50 {
-        let held = held(call * 50, listings);
-        let expected = format!(in alloc; "LinkFault {held}")?;
-        let text = follow(alloc, input.as_slice(), 50, &[call as u64 + 1])?;
-        assert_eq!(rt; text.as_str(), expected.as_str());
-    }
-    Ok(())
+fn a_link_may_end_or_fail(rt: HostRuntime) -> Result<(), Fail> {
+    all_are_cut(&rt, rt.alloc(), &CUTS)
 }
 
 /// Follows a peer that sends `bodies` with 200, then `body` with `status`, and then nothing.
@@ -282,18 +206,12 @@ fn all_end(rt: &impl Abort, alloc: Global, rows: &[End]) -> Result<(), Fail> {
     Ok(())
 }
 
-const STATUSES: [End; 5] = [
+const ENDS: [End; 10] = [
     (
         &[],
         "503 Service Unavailable",
         b"",
         "Refused { status: 503 } 0/0",
-    ),
-    (
-        &[CODES],
-        "500 Internal Server Error",
-        b"",
-        "Refused { status: 500 } 0/0",
     ),
     (
         &[CODES, LOGIN],
@@ -308,14 +226,6 @@ const STATUSES: [End; 5] = [
         "Refused { status: 403 } 3/1",
     ),
     (TWO_ROUNDS, "200 OK", b"", "Refused { status: 200 } 4/0"),
-];
-
-#[test]
-fn other_answers_end_it(rt: HostRuntime) -> Result<(), Fail> {
-    all_end(&rt, rt.alloc(), &STATUSES)
-}
-
-const OTHER_BODIES: [End; 5] = [
     (&[], "200 OK", LOGIN, "Codes(NotReply) 0/0"),
     (
         &[],
@@ -336,22 +246,10 @@ const OTHER_BODIES: [End; 5] = [
         OLDER,
         "Listing(Backwards { held: 3, told: 2 }) 3/1",
     ),
+    (&[CODES], "200 OK", UPDATE, "BadReply { at: 885 } 0/0"),
 ];
 
 #[test]
-fn other_bodies_end_it(rt: HostRuntime) -> Result<(), Fail> {
-    let alloc = rt.alloc();
-    all_end(&rt, alloc, &OTHER_BODIES)?;
-    let at = replies(alloc, &[CODES, UPDATE])?.len();
-    let expected = format!(in alloc; "BadReply {{ at: {at} }} 0/0")?;
-    let text = ends(alloc, &[CODES], "200 OK", UPDATE)?;
-    assert_eq!(rt; text.as_str(), expected.as_str());
-    Ok(())
-}
-
-#[test]
-fn what_is_no_reply_ends_it(rt: HostRuntime) -> Result<(), Fail> {
-    let text = follow(rt.alloc(), b"HTTP/1.1 200 OK\r\n\r\nrest", 4096, &[])?;
-    assert_eq!(rt; text.as_str(), "BadReply { at: 19 } 0/0");
-    Ok(())
+fn other_answers_end_it(rt: HostRuntime) -> Result<(), Fail> {
+    all_end(&rt, rt.alloc(), &ENDS)
 }

@@ -1,13 +1,12 @@
-//! `kept_library`: a file that keeps the edits of a share is opened again and again; each of its calls fails in turn;
-//! files that are not edit files, or whose batches pass a limit, are refused.
+//! `kept_library`: a file that keeps the edits of a share is opened again and again; files that are not edit files, or
+//! whose batches pass a limit, are refused.
 
-use crate::openings::records;
 use command_core::Fault;
 use edit_file::Frame;
 use kept_library::{FileFault, KeptLibrary, close_file, open_library};
 use outside_disks::{Disk, Failed, Files, MemDisk, MemFiles};
 use records_import::read_batch;
-use std::alloc::Global;
+use std::alloc::{AllocError, Global};
 use std::process::Abort;
 use std::string::String;
 use std::test::Fail;
@@ -32,17 +31,6 @@ fn opened(alloc: Global, files: &mut MemFiles, input: &str) -> Result<Opened, Fa
     Ok(open_library(alloc, files, "edits", "Demo", 16, first))
 }
 
-/// Opens a share and its file. Returns the revision, or the status of the error.
-fn opens(alloc: Global, files: &mut MemFiles, input: &str) -> Result<Result<u32, u8>, Fail> {
-    match opened(alloc, files, input)? {
-        Ok(kept) => {
-            close_file(files, kept.file)?;
-            Ok(Ok(kept.share.revision()))
-        }
-        Err(fault) => Ok(Err(fault.status())),
-    }
-}
-
 /// The records of the input, those of an edit after it, and the revision at which the share is opened.
 type Turn = (&'static str, &'static str, u32);
 
@@ -62,6 +50,17 @@ fn keep(alloc: Global, kept: &mut KeptLibrary<MemDisk>, accepted: &str) -> Resul
     Ok(())
 }
 
+/// Opens a share and its file, keeps an edit, and closes the file. Returns the revision at which the share was opened.
+fn turn(alloc: Global, files: &mut MemFiles, input: &str, accepted: &str) -> Result<u32, Fail> {
+    let Ok(mut kept) = opened(alloc, files, input)? else {
+        return Err(Fail::from(Failed));
+    };
+    let revision = kept.share.revision();
+    keep(alloc, &mut kept, accepted)?;
+    close_file(files, kept.file)?;
+    Ok(revision)
+}
+
 fn has_turns(
     rt: &impl Abort,
     alloc: Global,
@@ -69,12 +68,7 @@ fn has_turns(
     turns: &[Turn],
 ) -> Result<(), Fail> {
     for (input, accepted, revision) in turns {
-        let Ok(mut kept) = opened(alloc, files, input)? else {
-            return Err(Fail::from(Failed));
-        };
-        assert_eq!(rt; kept.share.revision(), *revision);
-        keep(alloc, &mut kept, accepted)?;
-        close_file(files, kept.file)?;
+        assert_eq!(rt; turn(alloc, files, input, accepted)?, *revision);
     }
     Ok(())
 }
@@ -83,36 +77,6 @@ fn has_turns(
 fn a_share_is_opened_with_what_its_file_kept(rt: HostRuntime) -> Result<(), Fail> {
     let mut files = files_with(rt.alloc(), &[&[], &[], &[], &[], &[]])?;
     has_turns(&rt, rt.alloc(), &mut files, &TURNS)
-}
-
-/// Opens a new file with an input, the call with the number `failing` fails, and then opens the file again.
-fn opens_twice(alloc: Global, failing: u64) -> Result<(Result<u32, u8>, Result<u32, u8>), Fail> {
-    let mut files = files_with(alloc, &[&[failing], &[]])?;
-    let first = opens(alloc, &mut files, SONG)?;
-    let second = opens(alloc, &mut files, NONE)?;
-    Ok((first, second))
-}
-
-/// This many calls make a file and append to it.
-const CALLS: u64 = 12;
-
-/// Returns whether an error is returned exactly if one of these calls fails, and the file then opens with the batch or
-/// without it.
-fn each_fails(alloc: Global) -> Result<bool, Fail> {
-    for number in 1..=CALLS {
-        let (first, second) = opens_twice(alloc, number)?;
-        if first != Err(10) || (second != Ok(2) && second != Ok(3)) {
-            return Ok(false);
-        }
-    }
-    Ok(opens_twice(alloc, CALLS + 1)? == (Ok(3), Ok(3)))
-}
-
-#[test]
-fn each_call_that_fails_is_told(rt: HostRuntime) -> Result<(), Fail> {
-    assert!(rt; each_fails(rt.alloc())?);
-    assert_eq!(rt; opens(rt.alloc(), &mut MemFiles::new(), NONE)?, Err(10));
-    Ok(())
 }
 
 /// The bytes of a file, the id of the last list that the input puts, from 2 on, and the line and the status of the
@@ -130,6 +94,16 @@ const REFUSED: [Refused; 3] = [
     (b"\x01DAAPEDIT\0", 1_026, "limit: library\n", 8),
 ];
 
+/// Returns records that put lists with the ids from 2 to `last`.
+fn lists(alloc: Global, last: u32) -> Result<String, AllocError> {
+    let mut text = String::new(alloc);
+    text.push_str("op,kind,id\n")?;
+    for id in 2..=last {
+        text.push_str(format!(in alloc; "put,list,{id}\n")?.as_str())?;
+    }
+    Ok(text)
+}
+
 /// Returns whether the file is refused as `row` says, and is unchanged.
 fn is_refused(alloc: Global, row: &Refused) -> Result<bool, Fail> {
     let (bytes, last, line, status) = *row;
@@ -140,7 +114,7 @@ fn is_refused(alloc: Global, row: &Refused) -> Result<bool, Fail> {
     let mut disk = files.open("edits")?;
     disk.write_at(0, bytes)?;
     files.close(disk);
-    let input: String = records(alloc, "put,list", 2, last)?;
+    let input: String = lists(alloc, last)?;
     let Err(fault) = opened(alloc, &mut files, input.as_str())? else {
         return Ok(false);
     };

@@ -1,4 +1,4 @@
-//! Tests of a share, of replayed scripts and of clients that follow a share. Nothing here is for other crates.
+//! Tests of a file that keeps a share's edits, of replayed scripts and of clients that follow a share. Nothing here is for other crates.
 #![tactic(auto)]
 
 #[cfg(test)]
@@ -6,12 +6,8 @@ mod followers;
 #[cfg(test)]
 mod kept_libraries;
 #[cfg(test)]
-mod openings;
-#[cfg(test)]
 mod plays;
 #[cfg(test)]
 mod pushes;
 #[cfg(test)]
 mod scripts;
-#[cfg(test)]
-mod shares;

@@ -49,13 +49,28 @@ const REFUSED: &str =
 const REFUSED_OUTPUT: &[u8] =
     b"> 1 72\nHTTP/1.1 413 Content Too Large\r\nContent-Length: 0\r\nConnection: close\r\n\r\n\n# 1 refused 413\n> 2 66\nHTTP/1.1 400 Bad Request\r\nContent-Length: 0\r\nConnection: close\r\n\r\n\n# 2 refused 400\n> 3 86\nHTTP/1.1 431 Request Header Fields Too Large\r\nContent-Length: 0\r\nConnection: close\r\n\r\n\n# 3 refused 431\n";
 
+/// The updates of three connections, one of them closed, are pending when the share is stopped.
+const STOP_OF_MANY: &str =
+    "open 1 listen\nopen 2 edit\nopen 3 listen\nopen 4 listen\ntext 1 GET /login HTTP/1.1\\r\\n\\r\\nGET /update?session-id=1&revision-number=2 HTTP/1.1\\r\\n\\r\\n\ntext 3 GET /login HTTP/1.1\\r\\n\\r\\nGET /update?session-id=2&revision-number=2 HTTP/1.1\\r\\n\\r\\nGET /server-info HTTP/1.1\\r\\n\\r\\n\nclose 3\ntext 4 GET /login HTTP/1.1\\r\\n\\r\\nGET /update?session-id=3&revision-number=2 HTTP/1.1\\r\\n\\r\\n\ntext 2 POST /stop HTTP/1.1\\r\\n\\r\\n\n";
+
+const STOP_OF_MANY_OUTPUT: &[u8] =
+    b"> 1 112\nHTTP/1.1 200 OK\r\nContent-Type: application/x-dmap-tagged\r\nContent-Length: 32\r\n\r\nmlog\0\0\0\x18mstt\0\0\0\x04\0\0\0\xc8mlid\0\0\0\x04\0\0\0\x01\n> 3 112\nHTTP/1.1 200 OK\r\nContent-Type: application/x-dmap-tagged\r\nContent-Length: 32\r\n\r\nmlog\0\0\0\x18mstt\0\0\0\x04\0\0\0\xc8mlid\0\0\0\x04\0\0\0\x02\n> 4 112\nHTTP/1.1 200 OK\r\nContent-Type: application/x-dmap-tagged\r\nContent-Length: 32\r\n\r\nmlog\0\0\0\x18mstt\0\0\0\x04\0\0\0\xc8mlid\0\0\0\x04\0\0\0\x03\n> 2 46\nHTTP/1.1 204 No Content\r\nConnection: close\r\n\r\n\n# 2 stopped\n> 1 74\nHTTP/1.1 503 Service Unavailable\r\nContent-Length: 0\r\nConnection: close\r\n\r\n\n# 1 stopped\n> 3 74\nHTTP/1.1 503 Service Unavailable\r\nContent-Length: 0\r\nConnection: close\r\n\r\n\n# 3 stopped\n> 4 74\nHTTP/1.1 503 Service Unavailable\r\nContent-Length: 0\r\nConnection: close\r\n\r\n\n# 4 stopped\n";
+
+/// Bytes that are not a request wait after a pending update, and those of another connection come after a stop.
+const REFUSALS_WAIT: &str =
+    "open 1 listen\nopen 2 edit\nopen 3 listen\nopen 4 listen\ntext 1 GET /login HTTP/1.1\\r\\n\\r\\nGET /update?session-id=1&revision-number=2 HTTP/1.1\\r\\n\\r\\nGET\\r\\n\\r\\n\ntext 3 GET /\ntext 2 POST /edit HTTP/1.1\\r\\nContent-Length: 38\\r\\n\\r\\nop,kind,id,dmap.itemname\\nput,item,7,A\\n\ntext 2 POST /stop HTTP/1.1\\r\\n\\r\\n\ntext 3 login\\r\\n\\r\\n\ntext 4 GET /login HTTP/1.1\\r\\n\\r\\n\n";
+
+const REFUSALS_WAIT_OUTPUT: &[u8] =
+    b"> 1 112\nHTTP/1.1 200 OK\r\nContent-Type: application/x-dmap-tagged\r\nContent-Length: 32\r\n\r\nmlog\0\0\0\x18mstt\0\0\0\x04\0\0\0\xc8mlid\0\0\0\x04\0\0\0\x01\n> 2 112\nHTTP/1.1 200 OK\r\nContent-Type: application/x-dmap-tagged\r\nContent-Length: 32\r\n\r\nmupd\0\0\0\x18mstt\0\0\0\x04\0\0\0\xc8musr\0\0\0\x04\0\0\0\x03\n> 1 112\nHTTP/1.1 200 OK\r\nContent-Type: application/x-dmap-tagged\r\nContent-Length: 32\r\n\r\nmupd\0\0\0\x18mstt\0\0\0\x04\0\0\0\xc8musr\0\0\0\x04\0\0\0\x03\n> 1 66\nHTTP/1.1 400 Bad Request\r\nContent-Length: 0\r\nConnection: close\r\n\r\n\n# 1 refused 400\n> 2 46\nHTTP/1.1 204 No Content\r\nConnection: close\r\n\r\n\n# 2 stopped\n> 3 66\nHTTP/1.1 400 Bad Request\r\nContent-Length: 0\r\nConnection: close\r\n\r\n\n# 3 refused 400\n> 4 74\nHTTP/1.1 503 Service Unavailable\r\nContent-Length: 0\r\nConnection: close\r\n\r\n\n# 4 stopped\n";
+
 /// A script, what the share answers, and how many entries the share then has.
 type Play = (&'static str, &'static [u8], u64);
 
 /// An update is pending until the next edit; the same bytes one by one; an edit waits after an update of its
 /// connection; a closed connection ends after its last reply; pending updates are reported at the end; an update ends
-/// with its session; bytes that are not a request are refused.
-const PLAYS: [Play; 7] = [
+/// with its session; bytes that are not a request are refused; a stop ends the pending updates of many connections, and
+/// comes before bytes that are not a request.
+const PLAYS: [Play; 9] = [
     (HELD, HELD_OUTPUT, 3),
     (ONE_BY_ONE, HELD_OUTPUT, 3),
     (WAITING_EDIT, WAITING_EDIT_OUTPUT, 2),
@@ -63,6 +78,8 @@ const PLAYS: [Play; 7] = [
     (STILL_HELD, STILL_HELD_OUTPUT, 3),
     (LOGGED_OUT, LOGGED_OUT_OUTPUT, 2),
     (REFUSED, REFUSED_OUTPUT, 0),
+    (STOP_OF_MANY, STOP_OF_MANY_OUTPUT, 4),
+    (REFUSALS_WAIT, REFUSALS_WAIT_OUTPUT, 3),
 ];
 
 fn read(alloc: Global, text: &[u8]) -> Result<Script, AllocError> {
@@ -126,12 +143,14 @@ fn played(alloc: Global, text: &[u8], failing: &[u64]) -> Result<Outcome, AllocE
     play_to_share(alloc, &script, failing)
 }
 
+fn has_played(played: &Outcome, output: &[u8], entries: u64) -> bool {
+    played.end.is_ok() && played.output.as_slice() == output && played.entries == entries
+}
+
 fn are_played(rt: &impl Abort, alloc: Global, rows: &[Play]) -> Result<(), Fail> {
     for (n, (text, output, entries)) in rows.iter().enumerate() {
         let played = played(alloc, text.as_bytes(), &[])?;
-        assert!(rt; played.end.is_ok(), "at {n}");
-        assert!(rt; played.output.as_slice() == *output, "at {n}");
-        assert_eq!(rt; played.entries, *entries, "at {n}");
+        assert!(rt; has_played(&played, output, *entries), "at {n}");
     }
     Ok(())
 }
@@ -139,34 +158,6 @@ fn are_played(rt: &impl Abort, alloc: Global, rows: &[Play]) -> Result<(), Fail>
 #[test]
 fn scripts_are_played(rt: HostRuntime) -> Result<(), Fail> {
     are_played(&rt, rt.alloc(), &PLAYS)
-}
-
-const LOGOUTS: &str =
-    "text 2 GET /logout?session-id=1 HTTP/1.1\\r\\n\\r\\n\ntext 2 GET /logout?session-id=2 HTTP/1.1\\r\\n\\r\\n\ntext 2 GET /logout?session-id=2 HTTP/1.1\\r\\n\\r\\n\n";
-
-/// Returns the end of the output after 65 logins.
-fn after_logins() -> &'static [u8] {
-    b"> 2 45\nHTTP/1.1 403 Forbidden\r\nContent-Length: 0\r\n\r\n\n> 2 27\nHTTP/1.1 204 No Content\r\n\r\n\n> 2 45\nHTTP/1.1 403 Forbidden\r\nContent-Length: 0\r\n\r\n\n# 1 closed\n# 2 closed\n"
-}
-
-/// Returns a script of 65 logins, and then logouts of the first two sessions.
-fn logins(alloc: Global) -> Result<String, AllocError> {
-    let mut text = String::from_str(alloc, "open 1 listen\nopen 2 listen\n")?;
-    for _ in 0..65u32 {
-        text.push_str("text 1 GET /login HTTP/1.1\\r\\n\\r\\n\n")?;
-    }
-    text.push_str(LOGOUTS)?;
-    Ok(text)
-}
-
-#[test]
-fn the_65th_login_ends_the_first_session(rt: HostRuntime) -> Result<(), Fail> {
-    let text = logins(rt.alloc())?;
-    let played = played(rt.alloc(), text.as_bytes(), &[])?;
-    assert!(rt; played.end.is_ok());
-    assert!(rt; played.output.ends_with(after_logins()));
-    assert!(rt; played.entries == 66);
-    Ok(())
 }
 
 const STOPPED: &str =

@@ -31,16 +31,6 @@ fn input(alloc: Global, push: &Push) -> Result<Vec<u8>, AllocError> {
     Ok(bytes)
 }
 
-fn told_and_wrote(
-    alloc: Global,
-    link: &mut MemLink,
-    body: Option<&[u8]>,
-    written: &str,
-) -> Result<(String, bool), AllocError> {
-    let text = told(alloc, link, body)?;
-    Ok((text, link.taken() == written.as_bytes()))
-}
-
 /// Pushes `body`, or a stop if it is `None`. Returns how that ends, and whether the bytes that it wrote are `written`.
 fn pushed(
     alloc: Global,
@@ -50,7 +40,8 @@ fn pushed(
 ) -> Result<(String, bool), AllocError> {
     let input = input(alloc, push)?;
     let mut link = link(alloc, input.as_slice(), 4096, &[])?;
-    told_and_wrote(alloc, &mut link, body, written)
+    let text = told(alloc, &mut link, body)?;
+    Ok((text, link.taken() == written.as_bytes()))
 }
 
 fn are_pushed(
@@ -86,12 +77,6 @@ const RECORDS: &str = "op,kind,id\n";
 const EDIT: &str =
     "POST /edit HTTP/1.1\r\nHost: here\r\nClient-DAAP-Version: 3.0\r\nContent-Length: 11\r\n\r\nop,kind,id\n";
 
-#[test]
-fn edits_are_pushed(rt: HostRuntime) -> Result<(), Fail> {
-    let body = Some(RECORDS.as_bytes());
-    are_pushed(&rt, rt.alloc(), &EDITS, body, EDIT)
-}
-
 const STOPS: [Push; 3] = [
     (NO_CONTENT, "", b"", "stopped"),
     ("", "503 Service Unavailable", b"", "refused 503 []"),
@@ -107,6 +92,8 @@ const STOP: &str =
     "POST /stop HTTP/1.1\r\nHost: here\r\nClient-DAAP-Version: 3.0\r\nContent-Length: 0\r\n\r\n";
 
 #[test]
-fn stops_are_pushed(rt: HostRuntime) -> Result<(), Fail> {
+fn edits_and_stops_are_pushed(rt: HostRuntime) -> Result<(), Fail> {
+    let body = Some(RECORDS.as_bytes());
+    are_pushed(&rt, rt.alloc(), &EDITS, body, EDIT)?;
     are_pushed(&rt, rt.alloc(), &STOPS, None, STOP)
 }

@@ -24,7 +24,7 @@ fn are_refused(rt: &impl Abort, alloc: Global, cases: &[(&'static str, u64)]) ->
     Ok(())
 }
 
-const LINES: [(&str, u64); 21] = [
+const LINES: [(&str, u64); 30] = [
     ("", 0),
     ("open 1 listen\n", 0),
     ("open 64 edit\n", 0),
@@ -46,14 +46,6 @@ const LINES: [(&str, u64); 21] = [
     ("open 1 edit\nclose 2\n", 2),
     ("open 1 edit\nclose 1 \n", 2),
     ("open 1 edit\r\n", 1),
-];
-
-#[test]
-fn lines_open_and_close_connections(rt: HostRuntime) -> Result<(), Fail> {
-    are_refused(&rt, rt.alloc(), &LINES)
-}
-
-const TEXTS: [(&str, u64); 9] = [
     ("open 1 edit\ntext 1 \n", 0),
     ("open 1 edit\ntext 1\n", 2),
     ("open 1 edit\ntext 1 a\\q\n", 2),
@@ -66,8 +58,8 @@ const TEXTS: [(&str, u64); 9] = [
 ];
 
 #[test]
-fn texts_write_bytes(rt: HostRuntime) -> Result<(), Fail> {
-    are_refused(&rt, rt.alloc(), &TEXTS)
+fn texts_are_refused_at_their_line(rt: HostRuntime) -> Result<(), Fail> {
+    are_refused(&rt, rt.alloc(), &LINES)
 }
 
 #[test]

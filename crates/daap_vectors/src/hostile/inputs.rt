@@ -55,7 +55,7 @@ pub(super) const NO_REQUESTS: [(&'static [u8], u16); 24] = [
 ];
 
 /// What comes over a connection of an editor, how many requests are served, and how it ends.
-pub(super) const CONNECTIONS: [(Coming, usize, LinkEnd); 20] = [
+pub(super) const CONNECTIONS: [(Coming, usize, LinkEnd); 15] = [
     (
         (b"GET /login HTTP/1.1\r\nA: ", b"a", 16359, b""),
         0,
@@ -72,27 +72,7 @@ pub(super) const CONNECTIONS: [(Coming, usize, LinkEnd); 20] = [
         LinkEnd::Refused { status: 431 },
     ),
     (
-        (b"", b"GET / HTTP/1.1\r\n", 1024, b""),
-        0,
-        LinkEnd::Refused { status: 431 },
-    ),
-    (
         (b"", b"\0", 16384, b""),
-        0,
-        LinkEnd::Refused { status: 431 },
-    ),
-    (
-        (b"GET /login HTTP/1.1\r\n", b"A: b\r\n", 1000, b"\r\n"),
-        0,
-        LinkEnd::Refused { status: 431 },
-    ),
-    (
-        (
-            b"GET /login HTTP/1.1\r\n",
-            b"A:\r\n",
-            65,
-            b"Content-Length: x\r\n\r\n",
-        ),
         0,
         LinkEnd::Refused { status: 431 },
     ),
@@ -141,26 +121,11 @@ pub(super) const CONNECTIONS: [(Coming, usize, LinkEnd); 20] = [
         0,
         LinkEnd::Cut { at: 77 },
     ),
-    (
-        (
-            b"GET /login HTTP/1.1\r\nContent-Length: 23\r\n\r\n",
-            b"",
-            0,
-            b"GET /login HTTP/1.1\r\n\r\n",
-        ),
-        1,
-        LinkEnd::Closed,
-    ),
     ((b"\r\n\n", b"", 0, b""), 0, LinkEnd::Cut { at: 3 }),
     (
         (b"\x16\x03\x01\x02\0\x01\0\x01\xfc\x03\x03", b"", 0, b""),
         0,
         LinkEnd::Cut { at: 11 },
-    ),
-    (
-        (b"GET /login HTTP/1.1\r\n\r\n", b"", 0, b"GET /lo"),
-        1,
-        LinkEnd::Cut { at: 30 },
     ),
     (
         (b"GET / HTTP/1.0\r\n\r\n", b"", 0, b"GET"),
@@ -195,7 +160,7 @@ pub(super) const CONNECTIONS: [(Coming, usize, LinkEnd); 20] = [
 ];
 
 /// Requests of a player, one after another, and the status of each.
-pub(super) const ODD_REQUESTS: [(&'static [u8], u16); 40] = [
+pub(super) const ODD_REQUESTS: [(&'static [u8], u16); 37] = [
     (b"GET /login HTTP/1.1\r\n\r\n", 200),
     (b"GET /databases?session-id=1 HTTP/1.1\r\n\r\n", 200),
     (b"GET /databases HTTP/1.1\r\n\r\n", 403),
@@ -229,14 +194,6 @@ pub(super) const ODD_REQUESTS: [(&'static [u8], u16); 40] = [
         400,
     ),
     (
-        b"GET /databases/1/containers/9/items?session-id=1 HTTP/1.1\r\n\r\n",
-        404,
-    ),
-    (
-        b"GET /databases/1/containers/9/items?session-id=9 HTTP/1.1\r\n\r\n",
-        403,
-    ),
-    (
         b"GET /databases/1/containers/4294967296/items?session-id=1 HTTP/1.1\r\n\r\n",
         404,
     ),
@@ -244,7 +201,6 @@ pub(super) const ODD_REQUESTS: [(&'static [u8], u16); 40] = [
         b"GET /databases/1/containers/../items?session-id=1 HTTP/1.1\r\n\r\n",
         404,
     ),
-    (b"GET /databases/2/items?session-id=1 HTTP/1.1\r\n\r\n", 404),
     (b"GET //login HTTP/1.1\r\n\r\n", 404),
     (b"GET /login/ HTTP/1.1\r\n\r\n", 404),
     (b"GET /%6Cogin HTTP/1.1\r\n\r\n", 404),
@@ -275,70 +231,4 @@ pub(super) const ODD_REQUESTS: [(&'static [u8], u16); 40] = [
     (b"GET /databases?session-id=2 HTTP/1.1\r\n\r\n", 403),
     (b"GET /server-info?%&%zz=%FF HTTP/1.1\r\n\r\n", 200),
     (b"GET /databases?session-id=1&%00=%FF HTTP/1.1\r\n\r\n", 200),
-];
-
-/// Records of an item with a name of 255 letters.
-pub(super) const ITEM_7: Coming = (b"op,kind,id,dmap.itemname\nput,item,7,", b"a", 255, b"\n");
-
-/// Parameters of a listing of the items after that edit, and the end of the reply.
-pub(super) const QUERIES: [(Coming, &'static [u8]); 9] = [
-    ((b"query='a:", b"b", 4092, b"'"), b"mlcl\0\0\0\0"),
-    ((b"query='a:", b"b", 4093, b"'"), b"query: too long\n"),
-    (
-        (
-            b"meta=dmap.itemid&query=",
-            b"(",
-            64,
-            b"'a:'))))))))))))))))))))))))))))))))))))))))))))))))))))))))))))))))",
-        ),
-        b"mlit\0\0\0\x0cmiid\0\0\0\x04\0\0\0\x07",
-    ),
-    ((b"query=", b"(", 65, b""), b"query: too deep at 64\n"),
-    (
-        (b"meta=", b"a,", 255, b"a"),
-        b"mlit\0\0\0\x0cmiid\0\0\0\x04\0\0\0\x07",
-    ),
-    ((b"meta=", b"a,", 256, b"a"), b"parameter: meta\n"),
-    ((b"meta=", b",", 256, b""), b"parameter: meta\n"),
-    (
-        (b"meta=a&query='dmap.itemname:*", b"a*", 255, b"'"),
-        b"mlit\0\0\0\x0cmiid\0\0\0\x04\0\0\0\x07",
-    ),
-    (
-        (b"query='dmap.itemname:*", b"a*", 2000, b"b'"),
-        b"mlcl\0\0\0\0",
-    ),
-];
-
-/// Records that an editor sends after that edit, and the end of the reply.
-pub(super) const RECORDS: [(Coming, &'static [u8]); 6] = [
-    (
-        (b"op,kind,id\n", b"drop,item,1\n", 65536, b""),
-        b"musr\0\0\0\x04\0\0\0\x04",
-    ),
-    (
-        (b"op,kind,id\n", b"drop,item,1\n", 65537, b""),
-        b"records: record 65537 too many\n",
-    ),
-    (
-        (b"op,kind,id,query\nput,rule,2,", b"(", 65, b"\n"),
-        b"records: record 1 column 4 query: too deep at 64\n",
-    ),
-    (
-        (
-            b"op,kind,id,dmap.itemname\nput,item,8,\"",
-            b"a",
-            100000,
-            b"",
-        ),
-        b"records: record 1 column 4 text\n",
-    ),
-    (
-        (b"op,kind,id", b",x", 10000, b"\n"),
-        b"records: header column 4\n",
-    ),
-    (
-        (b"op,kind,id\n", b",", 1000000, b"\n"),
-        b"records: record 1 length\n",
-    ),
 ];
