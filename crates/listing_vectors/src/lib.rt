@@ -4,11 +4,11 @@
 #[cfg(test)]
 mod batches;
 #[cfg(test)]
+mod bodies;
+#[cfg(test)]
 mod listings;
 #[cfg(test)]
 mod mirrors;
-#[cfg(test)]
-mod plans;
 #[cfg(test)]
 mod rehearsals;
 #[cfg(test)]

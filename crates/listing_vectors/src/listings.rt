@@ -4,12 +4,11 @@ ghost use Rattle.std.specs.Prelude.{◌≡◌, ◌<◌, ◌≤◌, IfOk};
 ghost use Rattle.listing_plan.specs.Plans.{IsWritable};
 ghost use Rattle.share_listings.specs.Answers.{HaveFew};
 
-use crate::batches::batch_of;
-use crate::stores::{Stores, after, no_edits};
+use crate::stores::{Stores, after};
 use daap_outside::{MemSink, Sink};
 use item_model::{Look, Meta, Query, Range, Target};
 use listing_plan::Plan;
-use share_listings::{full_items, full_target, is_there, items_listing, listing};
+use share_listings::{full_items, full_target, items_listing, listing};
 use song_query::{Steps, read};
 use std::alloc::{AllocError, Global};
 use std::marker::Brand;
@@ -128,42 +127,57 @@ fn planned(alloc: Global, stores: &Stores, case: &Case) -> Result<Plan, AllocErr
 }
 
 // Without clauses on the bytes, so that other proofs do not unfold a body.
-pub(crate) fn is_written<W: Sink>(plan: &Plan, sink: &mut W) -> bool
+fn is_written<W: Sink>(plan: &Plan, sink: &mut W) -> bool
     requires { IsWritable plan.now }
 {
     plan.write(sink).is_ok()
 }
 
-fn written(alloc: Global, plan: &Plan) -> Result<Vec<u8>, AllocError>
+fn shows(sink: &MemSink, bytes: &[u8]) -> bool {
+    sink.taken() == bytes
+}
+
+/// Returns whether a plan writes these bytes, as many as it tells.
+fn writes(alloc: Global, plan: &Plan, bytes: &[u8]) -> Result<bool, AllocError>
     requires { IsWritable plan.now }
 {
-    let mut sink = MemSink::new(alloc, 1024, 1024, &[])?;
-    if !is_written(plan, &mut sink) {
-        return Err(AllocError);
-    }
-    Vec::from_slice(alloc, sink.taken())
+    let mut sink = MemSink::new(alloc, 1024, 7, &[])?;
+    let len = plan.body_len();
+    let is_whole = is_written(plan, &mut sink);
+    Ok(is_whole && shows(&sink, bytes) && len == bytes.len() as u64)
 }
 
-fn answered(alloc: Global, stores: &Stores, case: &Case) -> Result<Vec<u8>, AllocError>
-    requires { HaveFew stores.now.items stores.now.lists }
+/// Returns whether a sink that fails at its second call has the first 40 bytes.
+fn is_cut(alloc: Global, plan: &Plan, bytes: &[u8]) -> Result<bool, AllocError>
+    requires { IsWritable plan.now }
 {
-    let plan = planned(alloc, stores, case)?;
-    written(alloc, &plan)
+    let mut sink = MemSink::new(alloc, 200, 40, &[2])?;
+    let is_broken = !is_written(plan, &mut sink);
+    Ok(is_broken && bytes.len() >= 40 && shows(&sink, bytes.split_at(40).0))
 }
 
+/// Returns whether a listing has its bytes, and whether a write that fails keeps the first ones.
 fn is_answered(alloc: Global, stores: &Stores, case: &Case) -> Result<bool, AllocError>
     requires { HaveFew stores.now.items stores.now.lists }
 {
-    let bytes = answered(alloc, stores, case)?;
-    Ok(bytes.as_slice() == case.6)
+    let plan = planned(alloc, stores, case)?;
+    let is_whole = writes(alloc, &plan, case.6)?;
+    let has_first = is_cut(alloc, &plan, case.6)?;
+    Ok(is_whole && has_first)
 }
 
 /// Compares the listings of stores.
-fn answer(rt: &impl Abort, alloc: Global, stores: &Stores, cases: &[Case]) -> Result<(), Fail>
+fn answer(
+    rt: &impl Abort,
+    alloc: Global,
+    stores: &Stores,
+    last: &str,
+    cases: &[Case],
+) -> Result<(), Fail>
     requires { HaveFew stores.now.items stores.now.lists }
 {
     for (n, case) in cases.iter().enumerate() {
-        assert!(rt; is_answered(alloc, stores, case)?, "at {n}");
+        assert!(rt; is_answered(alloc, stores, case)?, "{n} after {last}");
     }
     Ok(())
 }
@@ -177,23 +191,18 @@ fn answer_after(
     cases: &[Case],
 ) -> Result<(), Fail> {
     let stores = after(alloc, first, last)?;
-    answer(rt, alloc, &stores, cases)
+    answer(rt, alloc, &stores, last, cases)
 }
+
+const PUT_7: &str = "op,kind,id,dmap.itemname\nput,item,7,A\n";
 
 /// Six songs: names, artists, albums and media kinds.
 const SIX: &str =
     "op,kind,id,dmap.itemname,daap.songartist,daap.songalbum,com.apple.itunes.mediakind\nput,item,1,Hey,Ann,One,1\nput,item,2,it's late,Bob,,1\nput,item,3,Talk,Cy,Pod,4\nput,item,4,Move,Di,Film,32\nput,item,5,Quiet,Ed,Two,\nput,item,6,Late,ann,two,1\n";
 
-const DROP_SIX: &str =
-    "op,kind,id\ndrop,item,1\ndrop,item,2\ndrop,item,3\ndrop,item,4\ndrop,item,5\ndrop,item,6\n";
-
 /// The first song is of the kind 4.
 const HEY_IS_4: &str =
     "op,kind,id,dmap.itemname,daap.songartist,daap.songalbum,com.apple.itunes.mediakind\nput,item,1,Hey,Ann,One,4\n";
-
-const PUT_9: &str = "op,kind,id,dmap.itemname,daap.songartist\nput,item,9,Nine,Jo\n";
-
-const DROP_9: &str = "op,kind,id\ndrop,item,9\n";
 
 const MIX_OF_4: &str =
     "op,kind,id,dmap.itemname,list,item\nput,list,2,Mix,,\nput,member,10,,2,1\nput,member,11,,2,6\nput,member,12,,2,1\nput,member,13,,2,99\n";
@@ -216,13 +225,9 @@ const MEDIA_KINDS: &str =
 
 const NAMES: &str = "dmap.itemname";
 
-/// The empty delta of items at revision 2.
-const NO_CHANGE_AT_2: &[u8] =
-    b"adbs\0\0\0\x49mstt\0\0\0\x04\0\0\0\xc8muty\0\0\0\x01\x01musr\0\0\0\x04\0\0\0\x02mtco\0\0\0\x04\0\0\0\0mrco\0\0\0\x04\0\0\0\0mlcl\0\0\0\0mudl\0\0\0\0";
-
-/// The listing of no items at revision 2.
-const NONE_LISTED: &[u8] =
-    b"adbs\0\0\0\x41mstt\0\0\0\x04\0\0\0\xc8muty\0\0\0\x01\0musr\0\0\0\x04\0\0\0\x02mtco\0\0\0\x04\0\0\0\0mrco\0\0\0\x04\0\0\0\0mlcl\0\0\0\0";
+/// The listing of item 7 at revision 3.
+const ONE_ITEM: &[u8] =
+    b"adbs\0\0\0\x5emstt\0\0\0\x04\0\0\0\xc8muty\0\0\0\x01\0musr\0\0\0\x04\0\0\0\x03mtco\0\0\0\x04\0\0\0\x01mrco\0\0\0\x04\0\0\0\x01mlcl\0\0\0\x1dmlit\0\0\0\x15miid\0\0\0\x04\0\0\0\x07minm\0\0\0\x01A";
 
 /// The delta at revision 4 that deletes item 1.
 const ONE_GONE: &[u8] =
@@ -231,10 +236,6 @@ const ONE_GONE: &[u8] =
 /// The empty delta at revision 4.
 const NONE_GONE: &[u8] =
     b"adbs\0\0\0\x49mstt\0\0\0\x04\0\0\0\xc8muty\0\0\0\x01\x01musr\0\0\0\x04\0\0\0\x04mtco\0\0\0\x04\0\0\0\0mrco\0\0\0\x04\0\0\0\0mlcl\0\0\0\0mudl\0\0\0\0";
-
-/// The empty delta at revision 5.
-const NO_CHANGE: &[u8] =
-    b"adbs\0\0\0Imstt\0\0\0\x04\0\0\0\xc8muty\0\0\0\x01\x01musr\0\0\0\x04\0\0\0\x05mtco\0\0\0\x04\0\0\0\0mrco\0\0\0\x04\0\0\0\0mlcl\0\0\0\0mudl\0\0\0\0";
 
 /// The fifth of the six songs at revision 3.
 const FIFTH_SONG: &[u8] =
@@ -248,10 +249,6 @@ const TWO_SONGS: &[u8] =
 const MIX: &[u8] =
     b"apso\0\0\0\xc3mstt\0\0\0\x04\0\0\0\xc8muty\0\0\0\x01\0musr\0\0\0\x04\0\0\0\x04mtco\0\0\0\x04\0\0\0\x03mrco\0\0\0\x04\0\0\0\x03mlcl\0\0\0\x82mlit\0\0\0#mcti\0\0\0\x04\0\0\0\x0amiid\0\0\0\x04\0\0\0\x01minm\0\0\0\x03Heymlit\0\0\0$mcti\0\0\0\x04\0\0\0\x0bmiid\0\0\0\x04\0\0\0\x06minm\0\0\0\x04Latemlit\0\0\0#mcti\0\0\0\x04\0\0\0\x0cmiid\0\0\0\x04\0\0\0\x01minm\0\0\0\x03Hey";
 
-/// The second member of the list.
-const SECOND_OF_MIX: &[u8] =
-    b"apso\0\0\0mmstt\0\0\0\x04\0\0\0\xc8muty\0\0\0\x01\0musr\0\0\0\x04\0\0\0\x04mtco\0\0\0\x04\0\0\0\x03mrco\0\0\0\x04\0\0\0\x01mlcl\0\0\0,mlit\0\0\0$mcti\0\0\0\x04\0\0\0\x0bmiid\0\0\0\x04\0\0\0\x06minm\0\0\0\x04Late";
-
 /// The delta at revision 5 that deletes the two members of a song that was dropped.
 const HEY_GONE: &[u8] =
     b"apso\0\0\0amstt\0\0\0\x04\0\0\0\xc8muty\0\0\0\x01\x01musr\0\0\0\x04\0\0\0\x05mtco\0\0\0\x04\0\0\0\0mrco\0\0\0\x04\0\0\0\0mlcl\0\0\0\0mudl\0\0\0\x18mcti\0\0\0\x04\0\0\0\x0amcti\0\0\0\x04\0\0\0\x0c";
@@ -260,17 +257,9 @@ const HEY_GONE: &[u8] =
 const TALK: &[u8] =
     b"apso\0\0\0mmstt\0\0\0\x04\0\0\0\xc8muty\0\0\0\x01\0musr\0\0\0\x04\0\0\0\x05mtco\0\0\0\x04\0\0\0\x01mrco\0\0\0\x04\0\0\0\x01mlcl\0\0\0,mlit\0\0\0$mcti\0\0\0\x04\0\0\0\x03miid\0\0\0\x04\0\0\0\x03minm\0\0\0\x04Talk";
 
-/// The songs that match the first rule, at revision 4.
-const SONGS: &[u8] =
-    b"apso\0\0\0\xc9mstt\0\0\0\x04\0\0\0\xc8muty\0\0\0\x01\0musr\0\0\0\x04\0\0\0\x04mtco\0\0\0\x04\0\0\0\x03mrco\0\0\0\x04\0\0\0\x03mlcl\0\0\0\x88mlit\0\0\0#mcti\0\0\0\x04\0\0\0\x01miid\0\0\0\x04\0\0\0\x01minm\0\0\0\x03Heymlit\0\0\0)mcti\0\0\0\x04\0\0\0\x02miid\0\0\0\x04\0\0\0\x02minm\0\0\0\x09it's latemlit\0\0\0$mcti\0\0\0\x04\0\0\0\x06miid\0\0\0\x04\0\0\0\x06minm\0\0\0\x04Late";
-
 /// The delta at revision 5 of the smart playlist that has a song more and one less.
 const ONE_FOR_ONE: &[u8] =
     b"apso\0\0\0\x81mstt\0\0\0\x04\0\0\0\xc8muty\0\0\0\x01\x01musr\0\0\0\x04\0\0\0\x05mtco\0\0\0\x04\0\0\0\x01mrco\0\0\0\x04\0\0\0\x01mlcl\0\0\0,mlit\0\0\0$mcti\0\0\0\x04\0\0\0\x03miid\0\0\0\x04\0\0\0\x03minm\0\0\0\x04Talkmudl\0\0\0\x0cmcti\0\0\0\x04\0\0\0\x01";
-
-/// A container that does not exist, at revision 4.
-const NOTHING: &[u8] =
-    b"apso\0\0\0Amstt\0\0\0\x04\0\0\0\xc8muty\0\0\0\x01\0musr\0\0\0\x04\0\0\0\x04mtco\0\0\0\x04\0\0\0\0mrco\0\0\0\x04\0\0\0\0mlcl\0\0\0\0";
 
 const ITEMS: Target = Target::Items;
 
@@ -278,177 +267,75 @@ const LIST: Target = Target::Container(2);
 
 const RULE: Target = Target::Container(3);
 
-const NO_LIST: Target = Target::Container(9);
+/// All rows: with the range `0-` too, with a base that is still to come, and by a function that reads no base.
+const WHOLE: &[Case] = &[
+    (By::Items, ITEMS, "", "", 0, Range::All, ONE_ITEM),
+    (By::Items, ITEMS, "", "", 0, Range::From { at: 0 }, ONE_ITEM),
+    (By::Items, ITEMS, "", "", 4, Range::All, ONE_ITEM),
+    (By::AllItems, ITEMS, "", "", 3, Range::All, ONE_ITEM),
+];
 
-const FROM_NO_SONGS: [Case; 6] = [
-    (By::Items, ITEMS, "", "", 0, Range::All, NONE_LISTED),
+const IN_PART: &[Case] = &[
     (
         By::Items,
         ITEMS,
         "",
         "",
         0,
-        Range::From { at: 0 },
-        NONE_LISTED,
+        Range::One { at: 4 },
+        FIFTH_SONG,
     ),
-    (By::Items, ITEMS, "", "", 1, Range::All, NONE_LISTED),
-    (By::Items, ITEMS, "", "", 2, Range::All, NO_CHANGE_AT_2),
-    (By::Items, ITEMS, "", "", 3, Range::All, NONE_LISTED),
-    (By::AllItems, ITEMS, "", "", 2, Range::All, NONE_LISTED),
+    (
+        By::Stores,
+        ITEMS,
+        MEDIA_KINDS,
+        "",
+        0,
+        Range::Span { from: 1, to: 2 },
+        TWO_SONGS,
+    ),
 ];
 
-#[test]
-fn a_kept_base_is_answered_by_the_change(rt: HostRuntime) -> Result<(), Fail> {
-    answer(&rt, rt.alloc(), &no_edits(rt.alloc()), &FROM_NO_SONGS)
-}
-
-const FROM_MEDIA_KINDS: [Case; 2] = [
+const SINCE: &[Case] = &[
     (By::Items, ITEMS, MEDIA_KINDS, "", 3, Range::All, ONE_GONE),
     (By::Items, ITEMS, MEDIA_KINDS, "", 4, Range::All, NONE_GONE),
 ];
 
-#[test]
-fn a_song_that_left_the_query_is_deleted(rt: HostRuntime) -> Result<(), Fail> {
-    answer_after(&rt, rt.alloc(), &[SIX], HEY_IS_4, &FROM_MEDIA_KINDS)
-}
+/// The last has a base before the list was put.
+const OF_MIX: &[Case] = &[
+    (By::Stores, LIST, "", NAMES, 0, Range::All, MIX),
+    (By::AllStores, LIST, "", NAMES, 4, Range::All, MIX),
+    (By::Stores, LIST, "", NAMES, 3, Range::All, MIX),
+];
 
-const AFTER_NINE: [Case; 1] = [(By::Items, ITEMS, "", "", 3, Range::All, NO_CHANGE)];
+const OF_MIX_WITHOUT_HEY: &[Case] = &[(By::Stores, LIST, "", NAMES, 4, Range::All, HEY_GONE)];
 
-#[test]
-fn an_item_that_was_put_and_dropped_since_the_base_is_not_told(
-    rt: HostRuntime,
-) -> Result<(), Fail> {
-    answer_after(&rt, rt.alloc(), &[SIX, PUT_9], DROP_9, &AFTER_NINE)
-}
+/// The smart playlist was put again, so that its base is not kept.
+const OF_TALKS: &[Case] = &[(By::Stores, RULE, "", NAMES, 4, Range::All, TALK)];
 
-/// Applies records to the store of items only.
-fn change_items(alloc: Global, stores: &mut Stores, records: &str) -> Result<(), AllocError> {
-    let batch = batch_of(alloc, records)?;
-    match stores.items.revision().checked_add(1) {
-        Some(revision) => stores.items.apply(batch.edits.as_slice(), revision),
-        None => Err(AllocError),
+const OF_TURNED: &[Case] = &[(By::Stores, RULE, "", NAMES, 4, Range::All, ONE_FOR_ONE)];
+
+/// Batches, the last one, and listings after it.
+type Listed = (&'static [&'static str], &'static str, &'static [Case]);
+
+const LISTED: [Listed; 7] = [
+    (&[], PUT_7, WHOLE),
+    (&[], SIX, IN_PART),
+    (&[SIX], HEY_IS_4, SINCE),
+    (&[SIX], MIX_OF_4, OF_MIX),
+    (&[SIX, MIX_OF_4], DROP_1, OF_MIX_WITHOUT_HEY),
+    (&[SIX, RULE_OF_1], RULE_OF_4, OF_TALKS),
+    (&[SIX, RULE_OF_1], TURNED, OF_TURNED),
+];
+
+fn all_answer(rt: &impl Abort, alloc: Global, listed: &[Listed]) -> Result<(), Fail> {
+    for (first, last, cases) in listed {
+        answer_after(rt, alloc, first, last, cases)?;
     }
-}
-
-const ALL: Case = (By::Items, ITEMS, "", "", 0, Range::All, b"");
-
-/// Returns whether a plan writes these bytes before and after all items are dropped.
-fn writes_the_same(
-    alloc: Global,
-    stores: &mut Stores,
-    plan: &Plan,
-    bytes: &[u8],
-) -> Result<bool, AllocError>
-    requires { IsWritable plan.now }
-{
-    let before = written(alloc, plan)?;
-    change_items(alloc, stores, DROP_SIX)?;
-    let after = written(alloc, plan)?;
-    let are_same = before.as_slice() == bytes && after.as_slice() == bytes;
-    Ok(are_same && stores.items.count() == 0)
-}
-
-fn plan_stays(alloc: Global, stores: &mut Stores) -> Result<bool, AllocError>
-    requires { HaveFew stores.old.items stores.old.lists }
-{
-    let bytes = answered(alloc, stores, &ALL)?;
-    let plan = planned(alloc, stores, &ALL)?;
-    writes_the_same(alloc, stores, &plan, bytes.as_slice())
-}
-
-#[test]
-fn a_plan_writes_what_was_there_when_it_was_made(rt: HostRuntime) -> Result<(), Fail> {
-    let mut stores = after(rt.alloc(), &[], SIX)?;
-    assert!(rt; plan_stays(rt.alloc(), &mut stores)?);
     Ok(())
 }
 
-const FIFTH: [Case; 1] = [(
-    By::Items,
-    ITEMS,
-    "",
-    "",
-    0,
-    Range::One { at: 4 },
-    FIFTH_SONG,
-)];
-
 #[test]
-fn a_range_is_cut_out(rt: HostRuntime) -> Result<(), Fail> {
-    answer_after(&rt, rt.alloc(), &[], SIX, &FIFTH)
-}
-
-const SECOND_AND_THIRD: [Case; 1] = [(
-    By::Stores,
-    ITEMS,
-    MEDIA_KINDS,
-    "",
-    0,
-    Range::Span { from: 1, to: 2 },
-    TWO_SONGS,
-)];
-
-#[test]
-fn a_listing_may_start_from_ids(rt: HostRuntime) -> Result<(), Fail> {
-    answer_after(&rt, rt.alloc(), &[], SIX, &SECOND_AND_THIRD)
-}
-
-/// The fourth has a base before the list was put.
-const OF_MIX: [Case; 5] = [
-    (By::Stores, LIST, "", NAMES, 0, Range::All, MIX),
-    (By::AllStores, LIST, "", NAMES, 4, Range::All, MIX),
-    (
-        By::Stores,
-        LIST,
-        "",
-        NAMES,
-        0,
-        Range::One { at: 1 },
-        SECOND_OF_MIX,
-    ),
-    (By::Stores, LIST, "", NAMES, 3, Range::All, MIX),
-    (By::Stores, NO_LIST, "", NAMES, 0, Range::All, NOTHING),
-];
-
-const OF_MIX_WITHOUT_HEY: [Case; 1] = [(By::Stores, LIST, "", NAMES, 4, Range::All, HEY_GONE)];
-
-fn are_there(alloc: Global) -> Result<(bool, bool), AllocError> {
-    let stores = after(alloc, &[SIX], MIX_OF_4)?;
-    Ok((
-        is_there(&stores.lists, LIST),
-        is_there(&stores.lists, NO_LIST),
-    ))
-}
-
-#[test]
-fn a_plain_list_has_its_members(rt: HostRuntime) -> Result<(), Fail> {
-    answer_after(&rt, rt.alloc(), &[SIX], MIX_OF_4, &OF_MIX)?;
-    assert_eq!(rt; are_there(rt.alloc())?, (true, false));
-    answer_after(
-        &rt,
-        rt.alloc(),
-        &[SIX, MIX_OF_4],
-        DROP_1,
-        &OF_MIX_WITHOUT_HEY,
-    )
-}
-
-const OF_SONGS: [Case; 1] = [(By::Stores, RULE, "", NAMES, 3, Range::All, SONGS)];
-
-const OF_TALKS: [Case; 2] = [
-    (By::Stores, RULE, "", NAMES, 4, Range::All, TALK),
-    (By::Stores, ITEMS, "", NAMES, 4, Range::All, NO_CHANGE),
-];
-
-#[test]
-fn a_rule_that_is_put_again_has_no_kept_base(rt: HostRuntime) -> Result<(), Fail> {
-    answer_after(&rt, rt.alloc(), &[SIX], RULE_OF_1, &OF_SONGS)?;
-    answer_after(&rt, rt.alloc(), &[SIX, RULE_OF_1], RULE_OF_4, &OF_TALKS)
-}
-
-const OF_TURNED: [Case; 1] = [(By::Stores, RULE, "", NAMES, 4, Range::All, ONE_FOR_ONE)];
-
-#[test]
-fn a_rule_list_gains_and_loses_songs(rt: HostRuntime) -> Result<(), Fail> {
-    answer_after(&rt, rt.alloc(), &[SIX, RULE_OF_1], TURNED, &OF_TURNED)
+fn listings_have_their_bytes(rt: HostRuntime) -> Result<(), Fail> {
+    all_answer(&rt, rt.alloc(), &LISTED)
 }

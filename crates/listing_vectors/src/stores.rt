@@ -31,14 +31,6 @@ fn opened(alloc: Global, keep: u32) -> Stores
     }
 }
 
-/// Returns stores without edits.
-#[tactic(auto, using(share_listings::proofs::Samples::still_few_in_both))]
-pub(crate) fn no_edits(alloc: Global) -> Stores
-    ensures { HaveFew result.items result.lists }
-{
-    opened(alloc, 1)
-}
-
 /// Applies a batch of at most six edits to both stores, as the next revision.
 fn next_by<L: Ledger>(
     blank: Blank,

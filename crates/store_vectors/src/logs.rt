@@ -41,17 +41,11 @@ fn grown_shown(alloc: Global) -> Result<String, AllocError> {
     shown(alloc, &log)
 }
 
-fn grown_len(alloc: Global) -> Result<usize, AllocError> {
-    let log = grown(alloc)?;
-    Ok(log.into_entries().len())
-}
-
 #[test]
 fn a_log_keeps_what_is_appended(rt: HostRuntime) -> Result<(), Fail> {
     assert_eq!(rt;
         grown_shown(rt.alloc())?.as_str(),
         "(2, 3, true) Some(Login { by: 4, id: 1 }) Some(Edits { by: 4, batch: Batch { edits: Edits { items: [DropItem { id: 9 }] } } }) None"
     );
-    assert_eq!(rt; grown_len(rt.alloc())?, 2);
     Ok(())
 }

@@ -84,3 +84,12 @@ pub(crate) fn after(alloc: Global, first: &[&'static str], last: &str) -> Result
     take_in(alloc, &mut stores, last)?;
     Ok(stores)
 }
+
+/// Takes the last batch back.
+pub(crate) fn undo(stores: &mut Stores)
+    requires items { stores.old.items.can_undo ≡ true }
+    requires lists { stores.old.lists.can_undo ≡ true }
+{
+    stores.items.undo();
+    stores.lists.undo();
+}

@@ -1,8 +1,7 @@
 //! `key_versions`: versions of texts and of numbers, and one call of each function that allocates.
 
-use key_versions::{Versions, next_key};
+use key_versions::Versions;
 use std::alloc::{AllocError, Global};
-use std::collections::BTreeMap;
 use std::process::Abort;
 use std::test::Fail;
 
@@ -82,26 +81,6 @@ fn a_look_up_reads_what_stood_then(rt: HostRuntime) -> Result<(), Fail> {
     look_up(&rt, rt.alloc(), &mut held)
 }
 
-const OLD_PUTS: [PutRow; 3] = [(1, 3, "a", false), (1, 5, "b", true), (1, 8, "", true)];
-
-fn prune(rt: &impl Abort, alloc: Global, held: &mut Versions<String>) -> Result<(), Fail> {
-    put(rt, alloc, held, &OLD_PUTS)?;
-    held.prune_all(&[1], 6);
-    assert_eq!(rt; values(alloc, held, 1, 4, 5)?.as_str(), "-bbb-");
-    assert!(rt; held.pop_past(1, 7).is_none());
-    assert!(rt; held.pop_past(1, 8).is_some());
-    assert_eq!(rt; values(alloc, held, 1, 6, 3)?.as_str(), "---");
-    held.prune(1, 8);
-    assert_eq!(rt; held.keys()?.len(), 0);
-    Ok(())
-}
-
-#[test]
-fn what_is_past_goes(rt: HostRuntime) -> Result<(), Fail> {
-    let mut held = Versions::new(rt.alloc());
-    prune(&rt, rt.alloc(), &mut held)
-}
-
 const NUMBERS: [(u32, u32, Option<u32>); 4] = [
     (4, 3, Some(6)),
     (4, 5, Some(6)),
@@ -132,20 +111,5 @@ fn are_numbered(rt: &impl Abort, held: &mut Versions<u32>) {
 fn a_number_is_put_where_it_is_another(rt: HostRuntime) -> Result<(), Fail> {
     let mut held = with_numbers(rt.alloc(), &NUMBERS)?;
     are_numbered(&rt, &mut held);
-    Ok(())
-}
-
-fn follow(rt: &impl Abort, map: &BTreeMap<u32, ()>) {
-    assert_eq!(rt; next_key(map, None), Some(2));
-    assert_eq!(rt; next_key(map, Some(2)), Some(7));
-    assert_eq!(rt; next_key(map, Some(7)), None);
-}
-
-#[test]
-fn keys_follow_each_other(rt: HostRuntime) -> Result<(), Fail> {
-    let mut map = BTreeMap::new(rt.alloc());
-    map.insert(7, ())?;
-    map.insert(2, ())?;
-    follow(&rt, &map);
     Ok(())
 }
