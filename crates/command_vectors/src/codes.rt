@@ -1,10 +1,7 @@
 //! `codes` and `codes --learn` of `tag_commands`: the table of content codes, and tables that replies state.
 
 use crate::runs::WHOLE;
-use crate::tag_runs::{Asked, Case, Early, all_tell, all_tell_early, is_cut, tells, tells_by};
-use code_table::CodeTable;
-use dmap_tags::encode_into;
-use std::alloc::{AllocError, Global};
+use crate::tag_runs::{Asked, Case, all_tell, tells_by};
 use std::test::Fail;
 
 /// The published codes, with the numbers of their kinds.
@@ -86,143 +83,44 @@ asdm 10 daap.songdatemodified
 
 #[test]
 fn the_table_has_a_line_for_each_code(rt: HostRuntime) -> Result<(), Fail> {
-    let alloc = rt.alloc();
     tells_by(
         &rt,
-        alloc,
+        rt.alloc(),
         Asked::Codes,
         b"not read",
         WHOLE,
         0,
         ROWS.as_bytes(),
-    )?;
-    is_cut(&rt, alloc, Asked::Codes, b"", ROWS.as_bytes())
-}
-
-fn table_reply(alloc: Global) -> Result<Vec<u8>, AllocError> {
-    let mut reply = Vec::new(alloc);
-    match encode_into(&CodeTable::standard(alloc)?.reply()?, &mut reply) {
-        Ok(()) => Ok(reply),
-        Err(_) => Err(AllocError),
-    }
-}
-
-#[test]
-fn the_tables_own_reply_gives_its_lines(rt: HostRuntime) -> Result<(), Fail> {
-    let alloc = rt.alloc();
-    let reply = table_reply(alloc)?;
-    tells(
-        &rt,
-        alloc,
-        Asked::Learn,
-        reply.as_slice(),
-        0,
-        ROWS.as_bytes(),
     )
 }
 
-/// A reply that states one code.
-const ONE_CODE: &[u8] =
-    b"mccr\0\0\0\x3cmstt\0\0\0\x04\0\0\0\xc8mdcl\0\0\0\x28mcnm\0\0\0\x04zzzzmcna\0\0\0\x0atest.valuemcty\0\0\0\x02\0\x03";
-
-/// A reply without codes, and a byte after it.
-const BYTE_MORE: &[u8] = b"mccr\0\0\0\0m";
-
-/// A reply whose member is longer than what is left of it.
-const OVERRUN: &[u8] = b"mccr\0\0\0\x14mstt\0\0\0\x0d\0\0";
-
-const REPLIES: [Case; 12] = [
-    (ONE_CODE, 0, b"zzzz 3 test.value\n"),
+const REPLIES: [Case; 7] = [
+    (
+        b"mccr\0\0\0\x3cmstt\0\0\0\x04\0\0\0\xc8mdcl\0\0\0\x28mcnm\0\0\0\x04zzzzmcna\0\0\0\x0atest.valuemcty\0\0\0\x02\0\x03",
+        0,
+        b"zzzz 3 test.value\n",
+    ),
     (
         b"mccr\0\0\0\x27mdcl\0\0\0\x1fmcty\0\0\0\x02\0\x63mcna\0\0\0\x01 mcnm\0\0\0\x04a\x00\xff!",
         0,
         b"x6100ff21 0  \n",
     ),
-    (b"mccr\0\0\0\0", 0, b""),
-    (BYTE_MORE, 3, b"codes: not a reply\n"),
-    (
-        b"mlog\0\0\0\x0cmstt\0\0\0\x04\0\0\0\xc8",
-        3,
-        b"codes: not a reply\n",
-    ),
-    (b"mstt\0\0\0\x04\0\0\0\xc8", 3, b"codes: not a reply\n"),
+    (b"mccr\0\0\0\0m", 3, b"codes: not a reply\n"),
     (
         b"mccr\0\0\0\x14mstt\0\0\0\x04\0\0\0\xc8mdcl\0\0\0\0more",
         3,
         b"codes: entry 1\n",
     ),
+    (
+        b"mccr\0\0\0\x4emdcl\0\0\0\x1fmcnm\0\0\0\x04zzzzmcna\0\0\0\x01nmcty\0\0\0\x02\0\x03mdcl\0\0\0\x1fmcnm\0\0\0\x04zzzzmcna\0\0\0\x01nmcty\0\0\0\x02\0\x03",
+        3,
+        b"codes: repeated 1\n",
+    ),
     (b"", 3, b"tags: truncated at 0\n"),
-    (
-        b"mccr\0\0\0\x14mstt\0\0\0\x04\0\0\0",
-        3,
-        b"tags: truncated at 19\n",
-    ),
-    (OVERRUN, 3, b"tags: overrun at 8\n"),
     (b"mccr\x40\0\0\x01", 3, b"tags: too large at 0\n"),
-    (
-        b"mccr\0\0\0\0mstt\xff\xff\xff\xff",
-        3,
-        b"codes: not a reply\n",
-    ),
 ];
 
 #[test]
 fn a_reply_tells_its_table_or_is_refused(rt: HostRuntime) -> Result<(), Fail> {
     all_tell(&rt, rt.alloc(), Asked::Learn, &REPLIES)
-}
-
-/// Returns a reply with an entry for each letter; its code is the letter four times.
-fn lettered(alloc: Global, letters: &[u8]) -> Result<Vec<u8>, AllocError> {
-    let len = 12 + 39 * letters.len().min(1000) as u32;
-    let mut bytes = Vec::from_slice(alloc, b"mccr")?;
-    bytes.extend_from_slice(&len.to_be_bytes())?;
-    bytes.extend_from_slice(b"mstt\0\0\0\x04\0\0\0\xc8")?;
-    for letter in letters {
-        bytes.extend_from_slice(b"mdcl\0\0\0\x1fmcnm\0\0\0\x04")?;
-        bytes.extend_from_slice(&[*letter, *letter, *letter, *letter])?;
-        bytes.extend_from_slice(b"mcna\0\0\0\x01nmcty\0\0\0\x02\0\x03")?;
-    }
-    Ok(bytes)
-}
-
-#[test]
-fn a_code_that_stands_twice_is_refused_at_its_second_place(rt: HostRuntime) -> Result<(), Fail> {
-    let alloc = rt.alloc();
-    let twice = lettered(alloc, b"abcdc")?;
-    tells(
-        &rt,
-        alloc,
-        Asked::Learn,
-        twice.as_slice(),
-        3,
-        b"codes: repeated 5\n",
-    )?;
-    let once = lettered(alloc, b"ab")?;
-    tells(
-        &rt,
-        alloc,
-        Asked::Learn,
-        once.as_slice(),
-        0,
-        b"aaaa 3 n\nbbbb 3 n\n",
-    )
-}
-
-const EARLY: [Early; 4] = [
-    (Asked::Learn, OVERRUN, 16, 3, b"tags: overrun at 8\n"),
-    (Asked::Learn, OVERRUN, 4, 4, b"read failed\n"),
-    (Asked::Learn, BYTE_MORE, 9, 3, b"codes: not a reply\n"),
-    (Asked::Learn, BYTE_MORE, 8, 4, b"read failed\n"),
-];
-
-#[test]
-fn a_reply_is_refused_before_more_is_read(rt: HostRuntime) -> Result<(), Fail> {
-    all_tell_early(&rt, rt.alloc(), &EARLY)?;
-    is_cut(
-        &rt,
-        rt.alloc(),
-        Asked::Learn,
-        ONE_CODE,
-        b"zzzz 3 test.value\n",
-    )
 }

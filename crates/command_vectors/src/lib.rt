@@ -18,8 +18,6 @@ mod replays;
 #[cfg(test)]
 mod runs;
 #[cfg(test)]
-mod shown;
-#[cfg(test)]
 mod tag_runs;
 #[cfg(test)]
 mod top_tags;

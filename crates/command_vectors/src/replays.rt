@@ -50,34 +50,15 @@ const SHORT: Pieces = Pieces {
     ..WHOLE
 };
 
-const ANSWERED: [Replay; 2] = [
+const REPLAYS: [Replay; 4] = [
     (SCRIPT, SHORT, 0, ANSWERS, Some(2)),
-    (b"", SHORT, 0, b"", Some(0)),
-];
-
-#[test]
-fn a_script_is_answered(rt: HostRuntime) -> Result<(), Fail> {
-    all_end(&rt, rt.alloc(), &ANSWERED)
-}
-
-const BAD_LINE: [Replay; 1] = [(
-    b"open 1 edit\nclose 2\nclose 3\n",
-    Pieces {
-        read: 99,
-        write: 50,
-        ..WHOLE
-    },
-    3,
-    b"script: line 2\n",
-    None,
-)];
-
-#[test]
-fn a_bad_line_is_told(rt: HostRuntime) -> Result<(), Fail> {
-    all_end(&rt, rt.alloc(), &BAD_LINE)
-}
-
-const FAILED: [Replay; 2] = [
+    (
+        b"open 1 edit\nclose 2\nclose 3\n",
+        SHORT,
+        3,
+        b"script: line 2\n",
+        None,
+    ),
     (
         SCRIPT,
         Pieces {
@@ -102,6 +83,6 @@ const FAILED: [Replay; 2] = [
 ];
 
 #[test]
-fn faults_of_the_outside_are_told(rt: HostRuntime) -> Result<(), Fail> {
-    all_end(&rt, rt.alloc(), &FAILED)
+fn a_script_is_answered_or_refused(rt: HostRuntime) -> Result<(), Fail> {
+    all_end(&rt, rt.alloc(), &REPLAYS)
 }

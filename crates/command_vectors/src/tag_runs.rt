@@ -3,6 +3,7 @@
 use crate::runs::{Pieces, Ran, WHOLE, has_left, left, sink, source};
 use command_core::Outcome;
 use daap_outside::{Sink, Source};
+use json_commands::{read_json, write_json};
 use std::alloc::{AllocError, Global};
 use std::process::Abort;
 use std::test::Fail;
@@ -16,9 +17,39 @@ pub(crate) enum Asked {
     ShowBack,
     Codes,
     Learn,
+    Json,
+    JsonBack,
 }
 
-// Without clauses, so that other proofs do not unfold the specification of a command.
+// The functions for one command each have no clauses, so that no other proof unfolds the specification of a command.
+fn checked<I: Source, W: Sink>(alloc: Global, input: &mut I, output: &mut W) -> Outcome {
+    check_tags(alloc, input, output)
+}
+
+fn shown<I: Source, W: Sink>(alloc: Global, input: &mut I, output: &mut W) -> Outcome {
+    show_tags(alloc, input, output)
+}
+
+fn unshown<I: Source, W: Sink>(alloc: Global, input: &mut I, output: &mut W) -> Outcome {
+    read_shown(alloc, input, output)
+}
+
+fn listed_codes<W: Sink>(alloc: Global, output: &mut W) -> Outcome {
+    list_codes(alloc, output)
+}
+
+fn learned_codes<I: Source, W: Sink>(alloc: Global, input: &mut I, output: &mut W) -> Outcome {
+    learn_codes(alloc, input, output)
+}
+
+fn as_json<I: Source, W: Sink>(alloc: Global, input: &mut I, output: &mut W) -> Outcome {
+    write_json(alloc, input, output)
+}
+
+fn from_json<I: Source, W: Sink>(alloc: Global, input: &mut I, output: &mut W) -> Outcome {
+    read_json(alloc, input, output)
+}
+
 fn run_command<I: Source, W: Sink>(
     alloc: Global,
     asked: Asked,
@@ -26,11 +57,13 @@ fn run_command<I: Source, W: Sink>(
     output: &mut W,
 ) -> Outcome {
     match asked {
-        Asked::Check => check_tags(alloc, input, output),
-        Asked::Show => show_tags(alloc, input, output),
-        Asked::ShowBack => read_shown(alloc, input, output),
-        Asked::Codes => list_codes(alloc, output),
-        Asked::Learn => learn_codes(alloc, input, output),
+        Asked::Check => checked(alloc, input, output),
+        Asked::Show => shown(alloc, input, output),
+        Asked::ShowBack => unshown(alloc, input, output),
+        Asked::Codes => listed_codes(alloc, output),
+        Asked::Learn => learned_codes(alloc, input, output),
+        Asked::Json => as_json(alloc, input, output),
+        Asked::JsonBack => from_json(alloc, input, output),
     }
 }
 
@@ -55,27 +88,13 @@ pub(crate) fn tells_by(
     has_left(rt, &ran, status, output)
 }
 
-fn in_reads(read: usize) -> Pieces {
-    Pieces { read, ..WHOLE }
-}
-
-/// Checks them, with the bytes read at once and one by one.
-pub(crate) fn tells(
-    rt: &impl Abort,
-    alloc: Global,
-    asked: Asked,
-    bytes: &[u8],
-    status: u8,
-    output: &[u8],
-) -> Result<(), Fail> {
-    tells_by(rt, alloc, asked, bytes, in_reads(32_768), status, output)?;
-    tells_by(rt, alloc, asked, bytes, in_reads(1), status, output)
-}
+/// Each read has one byte.
+pub(crate) const BYTES: Pieces = Pieces { read: 1, ..WHOLE };
 
 /// Bytes, and the status and the output of a command over them.
 pub(crate) type Case = (&'static [u8], u8, &'static [u8]);
 
-/// Checks each case.
+/// Checks each case, with the bytes read one by one.
 pub(crate) fn all_tell(
     rt: &impl Abort,
     alloc: Global,
@@ -83,43 +102,7 @@ pub(crate) fn all_tell(
     cases: &[Case],
 ) -> Result<(), Fail> {
     for (bytes, status, output) in cases {
-        tells(rt, alloc, asked, bytes, *status, output)?;
+        tells_by(rt, alloc, asked, bytes, BYTES, *status, output)?;
     }
-    Ok(())
-}
-
-/// Bytes that a command reads in chunks of a length, of which the second read fails, and the status and the output.
-pub(crate) type Early = (Asked, &'static [u8], usize, u8, &'static [u8]);
-
-pub(crate) fn all_tell_early(rt: &impl Abort, alloc: Global, cases: &[Early]) -> Result<(), Fail> {
-    for (asked, bytes, read, status, output) in cases {
-        let pieces = Pieces {
-            read: *read,
-            failed_read: 2,
-            ..WHOLE
-        };
-        tells_by(rt, alloc, *asked, bytes, pieces, *status, output)?;
-    }
-    Ok(())
-}
-
-const CUT: Pieces = Pieces {
-    write: 10,
-    failed_write: 2,
-    ..WHOLE
-};
-
-/// Checks that the command over `bytes` ends within `output`, of which the first ten bytes are taken.
-pub(crate) fn is_cut(
-    rt: &impl Abort,
-    alloc: Global,
-    asked: Asked,
-    bytes: &[u8],
-    output: &[u8],
-) -> Result<(), Fail> {
-    let ran = run_over(alloc, asked, bytes, CUT)?;
-    assert_eq!(rt; ran.status, 5);
-    assert_eq!(rt; ran.output.len(), 10);
-    assert!(rt; output.starts_with(ran.output.as_slice()));
     Ok(())
 }

@@ -1,4 +1,4 @@
-//! `reply_bytes`: the bytes of replies, and sinks that fail.
+//! `reply_bytes`: the bytes of replies.
 
 ghost use Rattle.std.specs.Prelude.{IfOk};
 ghost use Rattle.listing_plan.specs.Plans.{IsWritable};
@@ -7,7 +7,7 @@ use daap_outside::MemSink;
 use dmap_tags::{Bytes, Code, Tag, Value};
 use http_heads::HeadError;
 use listing_plan::Plan;
-use reply_bytes::{ReplyError, laws, status_of, write_failure, write_refusal, write_reply};
+use reply_bytes::{laws, status_of, write_failure, write_refusal, write_reply};
 use share_asks::{BodyForm, Verb};
 use std::alloc::{AllocError, Global};
 use std::process::Abort;
@@ -108,25 +108,14 @@ fn a_refusal_closes_the_connection(rt: HostRuntime) -> Result<(), Fail> {
     let alloc = rt.alloc();
     let mut sink = MemSink::new(alloc, 500, 500, &[])?;
     assert!(rt; is_refused(alloc, &mut sink, &HeadError::BodyTooLarge));
-    assert!(rt; is_refused(alloc, &mut sink, &HeadError::Head));
     assert!(rt; write_failure(false, &mut sink).is_ok());
     assert!(rt;
         shows(
             &sink,
-            "HTTP/1.1 413 Content Too Large\r\nContent-Length: 0\r\nConnection: close\r\n\r\nHTTP/1.1 400 Bad Request\r\nContent-Length: 0\r\nConnection: close\r\n\r\nHTTP/1.1 500 Internal Server Error\r\nContent-Length: 0\r\n\r\n"
+            "HTTP/1.1 413 Content Too Large\r\nContent-Length: 0\r\nConnection: close\r\n\r\nHTTP/1.1 500 Internal Server Error\r\nContent-Length: 0\r\n\r\n"
         )
     );
     assert!(rt; status_of(&HeadError::HeadTooLarge) == 431 && status_of(&HeadError::Length) == 400);
-    Ok(())
-}
-
-#[test]
-fn a_sink_that_fails_has_a_front_of_the_reply(rt: HostRuntime) -> Result<(), Fail> {
-    let alloc = rt.alloc();
-    let mut sink = MemSink::new(alloc, 500, 20, &[2])?;
-    let failed = write_reply(alloc, 503, BodyForm::NoBody, &Plan::Empty, false, &mut sink);
-    assert!(rt; matches!(failed, Err(ReplyError::Failed)));
-    assert!(rt; shows(&sink, "HTTP/1.1 503 Service"));
     Ok(())
 }
 

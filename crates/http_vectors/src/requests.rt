@@ -2,7 +2,7 @@
 
 ghost use Rattle.std.specs.Prelude.{◌<◌};
 
-use http_front::{BodyForm, HeadReader, Role, Verb, failure_head, laws, reply_head};
+use http_front::{BodyForm, HeadReader, Role, Verb, laws, reply_head};
 use std::alloc::{AllocError, Global};
 use std::process::Abort;
 use std::test::Fail;
@@ -108,12 +108,23 @@ fn get(rt: &impl Abort, alloc: Global, rows: &[(&'static str, &'static str)]) ->
     Ok(())
 }
 
-const PATHS: [(&str, &str); 17] = [
+/// Two conditions.
+const BOTH: &str =
+    "Values { session: 0, browse: Albums, query: Some(And(Queries { items: [Cond(Cond { name: Text { text: \"a\" }, op: Is, pattern: Pattern { pieces: [Text { text: \"1\" }], folds: [Text { text: \"1\" }] } }), Cond(Cond { name: Text { text: \"b\" }, op: IsNot, pattern: Pattern { pieces: [Text { text: \"\" }], folds: [Text { text: \"\" }] } })] })) };";
+
+/// Targets of a player, and the requests: paths, parameters that are left out or given twice, the rows of a listing,
+/// refusals in their order, and forms.
+const TARGETS: [(&str, &str); 28] = [
     ("/server-info", "ServerInfo;"),
     ("/content-codes?session-id=x", "Codes;"),
     ("/login", "Login;"),
-    ("/logout?session-id=7", "Logout { session: 7 };"),
     ("/logout", "Logout { session: 0 };"),
+    (
+        "/logout?session-id=1&session-id=2",
+        "Logout { session: 1 };",
+    ),
+    ("/logout?session-id=&session-id=2", "Logout { session: 0 };"),
+    ("/logout?%73ession-id=%31", "Logout { session: 1 };"),
     (
         "/update?revision-number=3&session-id=1",
         "Update { session: 1, revision: 3 };",
@@ -127,26 +138,14 @@ const PATHS: [(&str, &str); 17] = [
         "/databases/1/browse/genres?session-id=1",
         "Values { session: 1, browse: Genres, query: None };",
     ),
+    ("/databases/1/browse/albums?query='a:1'+%27b!%3A%27", BOTH),
+    ("/databases/1/browse/albums?query='a:1'%2B%27b!%3A%27", BOTH),
     ("/databases/01/items", "Bad(Path);"),
     ("/databases/1/containers//items", "Bad(Path);"),
     ("/databases/1/containers/4294967296/items", "Bad(Path);"),
     ("/edit", "Bad(Path);"),
-    ("http://share.local", "Bad(Path);"),
     ("daap://share.local/login", "Login;"),
-    ("http://share.local?a=/login", "Login;"),
     ("HTTP://share.local/login", "Bad(Path);"),
-];
-
-#[test]
-fn paths_name_requests(rt: HostRuntime) -> Result<(), Fail> {
-    get(&rt, rt.alloc(), &PATHS)
-}
-
-const ROWS: [(&str, &str); 6] = [
-    (
-        "/databases/1/items",
-        "Rows { session: 0, target: Items, look: Look { query: None, meta: Default, base: 0, range: All } };",
-    ),
     (
         "/databases/1/items?delta=&meta=&query=&index=&sort=name",
         "Rows { session: 0, target: Items, look: Look { query: None, meta: Default, base: 0, range: All } };",
@@ -167,14 +166,6 @@ const ROWS: [(&str, &str); 6] = [
         "/databases/1/containers/3/items?session-id=2&delta=9&meta=all&index=-4",
         "Rows { session: 2, target: Container(3), look: Look { query: None, meta: All, base: 9, range: Last { count: 4 } } };",
     ),
-];
-
-#[test]
-fn rows_are_asked_for(rt: HostRuntime) -> Result<(), Fail> {
-    get(&rt, rt.alloc(), &ROWS)
-}
-
-const REFUSED_PARAMETERS: [(&str, &str); 8] = [
     (
         "/databases/1/items?index=1-2-3&query=x&meta=,&delta=-1&session-id=0x1",
         "Bad(Parameter { name: Text { text: \"session-id\" } });",
@@ -184,50 +175,18 @@ const REFUSED_PARAMETERS: [(&str, &str); 8] = [
         "Bad(Parameter { name: Text { text: \"delta\" } });",
     ),
     (
-        "/databases/1/items?delta=4294967296",
-        "Bad(Parameter { name: Text { text: \"delta\" } });",
-    ),
-    (
         "/databases/1/items?delta=1&delta=x&index=-",
-        "Bad(Parameter { name: Text { text: \"index\" } });",
-    ),
-    (
-        "/databases/1/items?index=%2B1",
         "Bad(Parameter { name: Text { text: \"index\" } });",
     ),
     (
         "/databases/1/items?query='a;1'&index=x",
         "Bad(Query { error: At { place: 2, why: Byte } });",
     ),
-    (
-        "/databases/1/browse/artists?filter='a:1&query=x",
-        "Bad(Query { error: At { place: 4, why: End } });",
-    ),
-    (
-        "/update?revision-number=x&session-id=y",
-        "Bad(Parameter { name: Text { text: \"session-id\" } });",
-    ),
 ];
 
 #[test]
-fn parameters_are_refused_in_their_order(rt: HostRuntime) -> Result<(), Fail> {
-    get(&rt, rt.alloc(), &REFUSED_PARAMETERS)
-}
-
-/// Two conditions.
-const BOTH: &str =
-    "Values { session: 0, browse: Albums, query: Some(And(Queries { items: [Cond(Cond { name: Text { text: \"a\" }, op: Is, pattern: Pattern { pieces: [Text { text: \"1\" }], folds: [Text { text: \"1\" }] } }), Cond(Cond { name: Text { text: \"b\" }, op: IsNot, pattern: Pattern { pieces: [Text { text: \"\" }], folds: [Text { text: \"\" }] } })] })) };";
-
-const FORMS: [(&str, &str); 4] = [
-    ("/databases/1/browse/albums?query='a:1'+%27b!%3A%27", BOTH),
-    ("/databases/1/browse/albums?query='a:1'%20%27b!%3A%27", BOTH),
-    ("/databases/1/browse/albums?query='a:1'%2B%27b!%3A%27", BOTH),
-    ("/logout?%73ession-id=%31", "Logout { session: 1 };"),
-];
-
-#[test]
-fn forms_are_decoded(rt: HostRuntime) -> Result<(), Fail> {
-    get(&rt, rt.alloc(), &FORMS)
+fn targets_name_requests(rt: HostRuntime) -> Result<(), Fail> {
+    get(&rt, rt.alloc(), &TARGETS)
 }
 
 const EDITOR: [(&str, &str); 5] = [
@@ -247,7 +206,7 @@ const EDITOR: [(&str, &str); 5] = [
     ("GET /stop HTTP/1.1\r\n\r\n", "Bad(Method { allow: Post });"),
 ];
 
-const PLAYER: [(&str, &str); 5] = [
+const PLAYER: [(&str, &str); 9] = [
     (
         "POST /edit HTTP/1.1\r\nContent-Length: 11\r\n\r\nop,kind,id\n",
         "Bad(Path);",
@@ -262,30 +221,7 @@ const PLAYER: [(&str, &str); 5] = [
         "Login!;",
     ),
     ("GET /login HTTP/1.1\r\nConnection: keep\r\n\r\n", "Login;"),
-];
-
-#[test]
-fn roles_and_methods(rt: HostRuntime) -> Result<(), Fail> {
-    ask(&rt, rt.alloc(), Role::Edit, &EDITOR)?;
-    ask(&rt, rt.alloc(), Role::Listen, &PLAYER)
-}
-
-const REFUSED_HEADS: [(&str, &str); 9] = [
     ("GET /login\r\n\r\n", "Head"),
-    ("GET /login HTTP/1.1\r\nA: b\r\n c\r\n\r\n", "Head"),
-    ("GET /login HTTP/1.1\r\nA: b\rc\r\n\r\n", "Head"),
-    (
-        "GET /\u{a0} HTTP/1.1\r\nContent-Length: 18446744073709551615\r\n\r\n",
-        "BodyTooLarge",
-    ),
-    (
-        "GET / HTTP/1.1\r\nContent-Length: 184467440737095516150\r\n\r\n",
-        "Length",
-    ),
-    (
-        "GET / HTTP/1.1\r\nContent-Length: 1\r\nContent-Length: 1\r\n\r\n",
-        "Length",
-    ),
     (
         "GET / HTTP/1.1\r\nTransfer-Encoding: chunked\r\nContent-Length: 4194305\r\n\r\n",
         "Length",
@@ -298,56 +234,9 @@ const REFUSED_HEADS: [(&str, &str); 9] = [
 ];
 
 #[test]
-fn heads_are_refused(rt: HostRuntime) -> Result<(), Fail> {
-    ask(&rt, rt.alloc(), Role::Listen, &REFUSED_HEADS)
-}
-
-/// Returns a text with `part` repeated `count` times between two others.
-fn filled(
-    alloc: Global,
-    front: &str,
-    part: &str,
-    count: usize,
-    end: &str,
-) -> Result<String, AllocError> {
-    let mut request = String::from_str(alloc, front)?;
-    for _ in 0..count {
-        request.push_str(part)?;
-    }
-    request.push_str(end)?;
-    Ok(request)
-}
-
-/// Parses a request with `count` fields, and returns the result as text.
-fn with_fields(alloc: Global, count: usize) -> Result<String, AllocError> {
-    let request = filled(alloc, "GET /login HTTP/1.1\r\n", "A:\r\n", count, "\r\n")?;
-    read(alloc, Role::Listen, request.as_bytes(), 1_000)
-}
-
-/// Returns the length of a request whose field has a value of `len` bytes, and the parsed request.
-fn with_value(alloc: Global, len: usize) -> Result<String, AllocError> {
-    let request = filled(alloc, "GET /login HTTP/1.1\r\nA: ", "a", len, "\r\n\r\n")?;
-    let told = read(alloc, Role::Listen, request.as_bytes(), 1_000)?;
-    format!(in alloc; "{} {told}", request.len())
-}
-
-#[test]
-fn heads_have_limits(rt: HostRuntime) -> Result<(), Fail> {
-    let alloc = rt.alloc();
-    assert_eq!(rt; with_fields(alloc, 64)?.as_str(), "Login;");
-    assert_eq!(rt; with_fields(alloc, 65)?.as_str(), "HeadTooLarge");
-    assert_eq!(rt; with_value(alloc, 16_356)?.as_str(), "16384 Login;");
-    assert_eq!(rt; with_value(alloc, 16_357)?.as_str(), "16385 HeadTooLarge");
-    Ok(())
-}
-
-#[test]
-fn bodies_have_a_limit(rt: HostRuntime) -> Result<(), Fail> {
-    let head = "POST /stop HTTP/1.1\r\nContent-Length: 4194304\r\n\r\n";
-    let request = filled(rt.alloc(), head, "0123456789abcdef", 262_144, "GET")?;
-    let told = read(rt.alloc(), Role::Edit, request.as_bytes(), 65_536)?;
-    assert_eq!(rt; told.as_str(), "Stop;..");
-    Ok(())
+fn roles_and_methods(rt: HostRuntime) -> Result<(), Fail> {
+    ask(&rt, rt.alloc(), Role::Edit, &EDITOR)?;
+    ask(&rt, rt.alloc(), Role::Listen, &PLAYER)
 }
 
 const THREE: &str =
@@ -365,69 +254,16 @@ fn pieces_make_no_difference(rt: HostRuntime) -> Result<(), Fail> {
     Ok(())
 }
 
-/// Returns the result of `feed`, the number of buffered bytes, and whether the reader is between requests. Without
-/// clauses.
-fn fed(alloc: Global, reader: &mut HeadReader, bytes: &[u8]) -> Result<String, AllocError> {
-    let answer = reader.feed(bytes);
-    format!(in alloc; "{answer:?} {} {};", reader.held(), reader.between())
-}
-
-fn fed_parts(
-    alloc: Global,
-    reader: &mut HeadReader,
-    parts: &[&'static str],
-) -> Result<String, AllocError> {
-    let mut told = String::new(alloc);
-    for part in parts {
-        told.push_str(fed(alloc, reader, part.as_bytes())?.as_str())?;
-    }
-    if reader.next().is_none() {
-        told.push_str("none")?;
-    }
-    Ok(told)
-}
-
-/// Feeds a reader with parts, one after another. It is dropped at one place, because each drop costs proof time.
-fn answers(alloc: Global, parts: &[&'static str]) -> Result<String, AllocError> {
-    let mut reader = HeadReader::new(alloc, Role::Listen)?;
-    fed_parts(alloc, &mut reader, parts)
-}
-
-const REFUSED_PARTS: [&str; 3] = ["GET\n", "\n", "GET / HTTP/1.1\n\n"];
-
-#[test]
-fn a_refusal_comes_at_its_byte(rt: HostRuntime) -> Result<(), Fail> {
-    assert_eq!(rt;
-        answers(rt.alloc(), &REFUSED_PARTS)?.as_str(),
-        "Ok(4) 4 false;Err(Head) 0 false;Err(Head) 0 false;none"
-    );
-    Ok(())
-}
-
 /// A status, a form, the length of a body and whether the connection closes, with the head of that reply.
 type Reply = (u16, BodyForm, u64, bool, &'static str);
 
-const REPLIES: [Reply; 10] = [
+const REPLIES: [Reply; 6] = [
     (
         200,
         BodyForm::Dmap,
         32,
         false,
         "HTTP/1.1 200 OK\r\nContent-Type: application/x-dmap-tagged\r\nContent-Length: 32\r\n\r\n",
-    ),
-    (
-        204,
-        BodyForm::NoBody,
-        0,
-        true,
-        "HTTP/1.1 204 No Content\r\nConnection: close\r\n\r\n",
-    ),
-    (
-        400,
-        BodyForm::Plain,
-        34,
-        true,
-        "HTTP/1.1 400 Bad Request\r\nContent-Type: text/plain\r\nContent-Length: 34\r\nConnection: close\r\n\r\n",
     ),
     (
         403,
@@ -451,25 +287,11 @@ const REPLIES: [Reply; 10] = [
         "HTTP/1.1 405 Method Not Allowed\r\nContent-Length: 0\r\nAllow: POST\r\n\r\n",
     ),
     (
-        413,
-        BodyForm::NoBody,
-        0,
-        true,
-        "HTTP/1.1 413 Content Too Large\r\nContent-Length: 0\r\nConnection: close\r\n\r\n",
-    ),
-    (
         431,
         BodyForm::NoBody,
         0,
         true,
         "HTTP/1.1 431 Request Header Fields Too Large\r\nContent-Length: 0\r\nConnection: close\r\n\r\n",
-    ),
-    (
-        503,
-        BodyForm::NoBody,
-        0,
-        false,
-        "HTTP/1.1 503 Service Unavailable\r\nContent-Length: 0\r\n\r\n",
     ),
     (
         507,
@@ -501,25 +323,6 @@ fn are_heads(rt: &impl Abort, alloc: Global, rows: &[Reply]) -> Result<(), Fail>
 #[test]
 fn heads_of_replies(rt: HostRuntime) -> Result<(), Fail> {
     are_heads(&rt, rt.alloc(), &REPLIES)
-}
-
-const FAILURE: &str = "HTTP/1.1 500 Internal Server Error\r\nContent-Length: 0\r\n\r\n";
-
-fn is_failure(last: bool, text: &str) -> bool {
-    failure_head(last) == text
-}
-
-/// Returns whether both functions write the same head of a failure that closes the connection.
-fn is_one_failure(alloc: Global) -> Result<bool, AllocError> {
-    let head = reply_head(alloc, 500, BodyForm::NoBody, 0, true)?;
-    Ok(head.as_slice() == failure_head(true).as_bytes())
-}
-
-#[test]
-fn heads_of_failures(rt: HostRuntime) -> Result<(), Fail> {
-    assert!(rt; is_failure(false, FAILURE));
-    assert!(rt; is_one_failure(rt.alloc())?);
-    Ok(())
 }
 
 #[test]

@@ -1,4 +1,4 @@
-//! `serve_command`: shares whose edits a file keeps. The file is opened again, and each call on it fails in turn.
+//! `serve_command`: a share whose edits a file keeps, and the file is opened again.
 
 ghost use Rattle.std.specs.Prelude.{IfOk};
 ghost use Rattle.serve_command.specs.Terms.{MayServe};
@@ -10,17 +10,16 @@ use daap_outside::{
 use dmap_tags::Text;
 use serve_command::{Outcome, Serving, serve};
 use std::alloc::{AllocError, Global};
-use std::process::Abort;
 use std::sync::Wait;
 use std::test::Fail;
 use std::thread::Threads;
 use std::time::Clock;
 
-/// Returns files with a disk for each element of `failing`, the numbers of its calls that fail.
-fn files_with(alloc: Global, failing: &[&[u64]]) -> Result<MemFiles, AllocError> {
+/// Returns files with two disks.
+fn new_files(alloc: Global) -> Result<MemFiles, AllocError> {
     let mut disks = Vec::new(alloc);
-    for numbers in failing {
-        disks.push(MemDisk::new(alloc, b"", 4_000, 90, 4_000, numbers)?)?;
+    for _ in 0..2 {
+        disks.push(MemDisk::new(alloc, b"", 4_000, 90, 4_000, &[])?)?;
     }
     MemFiles::with_disks(alloc, disks, 9)
 }
@@ -106,16 +105,13 @@ const REPLIES: &[u8] =
 mupd\0\0\0\x18mstt\0\0\0\x04\0\0\0\xc8musr\0\0\0\x04\0\0\0\x03\
 HTTP/1.1 204 No Content\r\nConnection: close\r\n\r\n";
 
-/// The outputs of a share without connections, whose file has no edit, or the one of these tests.
-const WITHOUT: &[u8] =
-    b"serving daapshare at revision 2\nended at revision 2, links 0, requests 0\n";
-
+/// The output of a share without connections, whose file has the edit of these tests.
 const WITH: &[u8] = b"serving daapshare at revision 3\nended at revision 3, links 0, requests 0\n";
 
 #[test]
 fn a_share_is_served_again_with_its_edits(rt: HostRuntime) -> Result<(), Fail> {
     let alloc = rt.alloc();
-    let mut files = files_with(alloc, &[&[], &[]])?;
+    let mut files = new_files(alloc)?;
     let first = run(&rt, alloc, &mut files, true)?;
     assert_eq!(rt; first.status, 0);
     assert_eq!(rt;
@@ -129,50 +125,10 @@ fn a_share_is_served_again_with_its_edits(rt: HostRuntime) -> Result<(), Fail> {
     Ok(())
 }
 
-const UNOPENED: &[u8] = b"file failed\n";
-
-const LOST: &[u8] =
-    b"serving daapshare at revision 2\nended at revision 3, links 1, requests 0\nfile failed\n";
-
-/// The range of numbers of disk calls that fail, the output, and the possible outputs of a share that then opens the
-/// file. The first calls make the file, which then has no edit; the others keep the edit, which it then has or not.
-type Fault = (u64, u64, &'static [u8], &'static [&'static [u8]]);
-
-const FAULTS: [Fault; 2] = [
-    (1, 8, UNOPENED, &[WITHOUT]),
-    (9, 12, LOST, &[WITHOUT, WITH]),
-];
-
-/// Returns whether the output and the status are as expected if the call `number` fails, without a reply, and whether
-/// the file then opens, with one of the outputs `opened`.
-fn is_told<R: Threads + Wait + Clock + Sync>(
-    rt: &R,
-    alloc: Global,
-    number: u64,
-    output: &[u8],
-    opened: &[&[u8]],
-) -> Result<bool, AllocError> {
-    let mut files = files_with(alloc, &[&[number], &[]])?;
-    let ran = run(rt, alloc, &mut files, true)?;
-    let again = run(rt, alloc, &mut files, false)?;
-    let told = ran.status == 10 && ran.output.as_slice() == output && ran.replied.is_empty();
-    Ok(told && again.status == 0 && opened.contains(&again.output.as_slice()))
-}
-
-fn are_told<R: Threads + Wait + Clock + Sync + Abort>(
-    rt: &R,
-    alloc: Global,
-    faults: &[Fault],
-) -> Result<(), Fail> {
-    for (first, last, output, opened) in faults {
-        for number in *first..=*last {
-            assert!(rt; is_told(rt, alloc, number, output, opened)?, "at {number}");
-        }
-    }
-    Ok(())
-}
-
 #[test]
-fn each_call_that_fails_is_told(rt: HostRuntime) -> Result<(), Fail> {
-    are_told(&rt, rt.alloc(), &FAULTS)
+fn a_file_that_is_not_opened_serves_nobody(rt: HostRuntime) -> Result<(), Fail> {
+    let ran = run(&rt, rt.alloc(), &mut MemFiles::new(), false)?;
+    assert_eq!(rt; ran.status, 10);
+    assert_eq!(rt; ran.output.as_slice(), b"file failed\n".as_slice());
+    Ok(())
 }

@@ -5,16 +5,11 @@ use std::alloc::{AllocError, Global};
 use std::process::Abort;
 use std::test::Fail;
 
-/// Returns a network with one connection, whose input is `input`. Reads and writes have at most 50 bytes; those with
-/// these numbers fail (0: none).
-pub(crate) fn net_of(
-    alloc: Global,
-    input: &[u8],
-    failed_read: u64,
-    failed_write: u64,
-) -> Result<MemNet, AllocError> {
+/// Returns a network with one connection, whose input is `input`. Reads and writes have at most 50 bytes; the write with
+/// the number `failed_write` fails (0: none).
+pub(crate) fn net_of(alloc: Global, input: &[u8], failed_write: u64) -> Result<MemNet, AllocError> {
     let mut net = MemNet::with_room(alloc, &[], 2, 2)?;
-    let input = MemSource::new(alloc, input, 50, &[failed_read])?;
+    let input = MemSource::new(alloc, input, 50, &[])?;
     let output = MemSink::new(alloc, 4096, 50, &[failed_write])?;
     net.add_link(MemLink::new(input, output))?;
     Ok(net)
@@ -25,9 +20,8 @@ pub(crate) fn no_net(alloc: Global) -> Result<MemNet, AllocError> {
     MemNet::with_room(alloc, &[], 1, 1)
 }
 
-/// Returns an output with the capacity `room`, which takes at most `piece` bytes by one write.
-pub(crate) fn output_of(alloc: Global, room: usize, piece: usize) -> Result<MemSink, AllocError> {
-    MemSink::new(alloc, room, piece.max(1), &[])
+pub(crate) fn output(alloc: Global) -> Result<MemSink, AllocError> {
+    MemSink::new(alloc, 4096, 4096, &[])
 }
 
 /// What a command left: its status, its output, and the net.
