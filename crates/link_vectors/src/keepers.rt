@@ -1,14 +1,12 @@
 //! `share_server`: a connection with a keeper of its edits, and another of the same share.
 
-ghost use Rattle.std.specs.Prelude.{◌≡◌, IfOk, false};
-ghost use Rattle.share_lock.specs.Passes.{lock_id, IsReady};
+ghost use Rattle.std.specs.Prelude.{◌≡◌, false};
 
-use daap_outside::{MemLink, MemSink, MemSource};
+use crate::connections::{LOGIN, coming, edits, has_statuses, opened};
 use edit_keeping::{Keeps, Lost};
-use item_model::{Batch, Edits};
+use item_model::Batch;
 use share_asks::Role;
-use share_core::Share;
-use share_lock::{Bell, Pass, ShareLock};
+use share_lock::Bell;
 use share_server::{LinkEnd, LinkReport, keep_link, serve_link};
 use std::alloc::{AllocError, Global};
 use std::process::Abort;
@@ -16,14 +14,13 @@ use std::sync::Wait;
 use std::test::Fail;
 use std::time::Clock;
 
-/// A keeper in memory, which counts the batches and their edits. It keeps `most` batches and loses the next one. Its
-/// allocation fails for a batch of more than `room` edits.
+/// A keeper in memory, which counts the batches. It keeps `most` batches and loses the next one. Its allocation fails
+/// for a batch of more than `room` edits.
 #[derive(Drop)]
 struct Counting {
     most: usize,
     room: usize,
     batches: usize,
-    edits: usize,
     lost: bool,
     faults: u64,
 }
@@ -31,7 +28,7 @@ struct Counting {
 impl Keeps for Counting {
     ghost use Rattle.std.specs.Prelude.{⊤, None};
 
-    type Ready = usize;
+    type Ready = ();
 
     ghost keeps = { λ _ _. ⊤ };
 
@@ -43,22 +40,20 @@ impl Keeps for Counting {
 
     ghost is_for = { λ _ _. ⊤ };
 
-    fn ready(&self, _alloc: Global, batch: &Batch) -> Result<usize, AllocError> {
-        let edits = batch.edits.as_slice().len();
-        if edits > self.room {
+    fn ready(&self, _alloc: Global, batch: &Batch) -> Result<(), AllocError> {
+        if batch.edits.as_slice().len() > self.room {
             return Err(AllocError);
         }
-        Ok(edits)
+        Ok(())
     }
 
-    fn keep(&mut self, ready: usize) -> Result<(), Lost> {
+    fn keep(&mut self, _ready: ()) -> Result<(), Lost> {
         if self.batches == self.most {
             self.lost = true;
             self.faults = self.faults.saturating_add(1);
             return Err(Lost);
         }
         self.batches = self.batches.saturating_add(1);
-        self.edits = self.edits.saturating_add(ready);
         Ok(())
     }
 }
@@ -70,32 +65,10 @@ fn keeper_for(most: usize) -> Counting
         most,
         room: 2,
         batches: 0,
-        edits: 0,
         lost: false,
         faults: 0,
     }
 }
-
-/// Opens a share without items, for two lock handles.
-fn opened(alloc: Global) -> Result<(ShareLock<Share>, Pass<Share>), AllocError>
-    ensures { IfOk result (λ r. IsReady (lock_id r.0) r.1) }
-{
-    let first = Batch {
-        edits: Edits::new(alloc),
-    };
-    let Ok(share) = Share::open(alloc, "Demo", 16, first) else {
-        return Err(AllocError);
-    };
-    ShareLock::open(alloc, share, 2)
-}
-
-fn coming(alloc: Global, input: &[u8]) -> Result<MemLink, AllocError> {
-    let input = MemSource::new(alloc, input, 1_000, &[])?;
-    let output = MemSink::new(alloc, 10_000, 1_000, &[])?;
-    Ok(MemLink::new(input, output))
-}
-
-const LOGIN: &str = "GET /login HTTP/1.1\r\n\r\n";
 
 /// Edits of one record, of two, of three, and of none.
 const EDITS: &str =
@@ -104,37 +77,21 @@ const EDITS: &str =
 /// The reply to an edit that was kept has this many bytes.
 const REPLY: usize = 112;
 
-/// How many batches the keeper keeps; of the editor's connection its end, the status of each request, and how many
-/// batches and edits were kept; of the player's connection, which comes after it, its end and the status of its login.
-type Row = (
-    usize,
-    LinkEnd,
-    &'static [u16],
-    (usize, usize),
-    LinkEnd,
-    &'static [u16],
-);
+/// How many batches the keeper keeps; of the editor's connection its end and the status of each request; of the player's
+/// connection, which comes after it, its end and the status of its login.
+type Row = (usize, LinkEnd, &'static [u16], LinkEnd, &'static [u16]);
 
-const ROWS: [Row; 3] = [
+const ROWS: [Row; 2] = [
     // A batch for which the keeper's allocation fails gets 500, and adds no entry.
     (
         2,
         LinkEnd::Closed,
         &[200, 200, 500, 204],
-        (2, 3),
         LinkEnd::Closed,
         &[200],
     ),
     // A batch that is lost gets no reply, and the share is stopped after it.
-    (
-        1,
-        LinkEnd::FileFault,
-        &[200],
-        (1, 1),
-        LinkEnd::Stopped,
-        &[503],
-    ),
-    (0, LinkEnd::FileFault, &[], (0, 0), LinkEnd::Stopped, &[503]),
+    (1, LinkEnd::FileFault, &[200], LinkEnd::Stopped, &[503]),
 ];
 
 /// Serves both connections. Returns the reports of the editor's and of the player's, and how many bytes the editor's
@@ -149,7 +106,7 @@ fn reported<R: Wait + Clock>(
     let (lock, mut first) = opened(alloc)?;
     let mut second = lock.split(rt, &mut first)?;
     let bell = Bell::new();
-    let mut link = coming(alloc, EDITS.as_bytes())?;
+    let mut link = coming(alloc, &edits(EDITS))?;
     let editors = keep_link(
         rt,
         alloc,
@@ -162,7 +119,7 @@ fn reported<R: Wait + Clock>(
         100,
     );
     let taken = link.taken().len();
-    let mut link = coming(alloc, LOGIN.as_bytes())?;
+    let mut link = coming(alloc, &edits(LOGIN))?;
     let players = serve_link(
         rt,
         alloc,
@@ -176,21 +133,12 @@ fn reported<R: Wait + Clock>(
     Ok((editors, players, taken))
 }
 
-fn has_statuses(report: &LinkReport, statuses: &[u16]) -> bool {
-    report
-        .served
-        .as_slice()
-        .iter()
-        .map(|s| s.status)
-        .eq(statuses.iter().copied())
-}
-
 fn keeps<R: Wait + Clock + Abort>(rt: &R, alloc: Global, row: &Row) -> Result<(), AllocError> {
-    let (most, end, statuses, kept, players_end, players_statuses) = *row;
+    let (most, end, statuses, players_end, players_statuses) = *row;
     let mut keeper = keeper_for(most);
     let (editors, players, taken) = reported(rt, alloc, &mut keeper)?;
     assert!(rt; editors.end == end && has_statuses(&editors, statuses));
-    assert!(rt; (keeper.batches, keeper.edits) == kept);
+    assert!(rt; keeper.batches == most);
     assert!(rt; players.end == players_end && has_statuses(&players, players_statuses));
     if keeper.lost {
         assert!(rt; keeper.faults == 1 && taken == REPLY.saturating_mul(statuses.len()));

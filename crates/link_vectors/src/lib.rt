@@ -5,5 +5,3 @@
 mod connections;
 #[cfg(test)]
 mod keepers;
-#[cfg(test)]
-mod reports;

@@ -10,7 +10,7 @@ use Rattle.share_asks.specs.declared.ask.Want.{Want}
 use Rattle.share_history.specs.Histories.{batches, revision}
 use Rattle.share_history.specs.Sessions.{is_live, is_stopped}
 use Rattle.share_history.specs.Marks.{until_login}
-use Rattle.share_lock.specs.Histories.{entries_of, Continues, Adds}
+use Rattle.share_lock.specs.Histories.{entries_of, Continues}
 use Rattle.share_lock.specs.Known.{numbers_of, after_turn}
 use Rattle.share_lock.proofs.Fronts.{adds_own}
 use Rattle.share_replies.specs.Settings.{Settings}
@@ -318,7 +318,3 @@ pub grows_at : (old new : Shared) (by : ℕ) (want : Want) (result : Result Answ
 grows_at old new by want (Ok told_it) is same = answers_grow old new by want told_it is
 grows_at old new by want (Err error) is same =
     subst (Grows old by) (sym same) (refl, [], sym (append-nil old.history), λ i d less. absurd (omega (arith, less)))
-
--- a turn may change nothing
-pub adds_nothing : (n : ℕ) (found now : List Entry) → now ≡ found → Adds maker n found now
-adds_nothing n found now same = ([], same ∙ sym (append-nil found), λ i d less. absurd (omega (arith, less)))

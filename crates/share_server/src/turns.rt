@@ -5,8 +5,6 @@ mod answers;
 mod keeping;
 mod looks;
 mod outcome;
-#[cfg(test)]
-mod tests;
 
 pub use answers::answer_request;
 pub use outcome::{Answered, Unanswered};

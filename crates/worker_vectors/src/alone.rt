@@ -2,7 +2,7 @@
 ghost use Rattle.std.specs.Prelude.{◌≡◌, ◌<◌, [], IfOk};
 ghost use Rattle.daap_outside.specs.MemLink.{IsNew};
 
-use crate::hiring::{INFO, STOP, TWO_INFOS, run_alone};
+use crate::hiring::{INFO, TWO_INFOS, run_alone};
 use daap_outside::{MemDoor, MemLink, MemSink, MemSource, Returned};
 use share_asks::Role;
 use share_server::{LinkEnd, LinkReport};
@@ -78,22 +78,6 @@ fn a_worker_serves_link_after_link(rt: HostRuntime) -> Result<(), Fail> {
     assert!(rt; worker.end == WorkerEnd::NoMoreLinks);
     assert!(rt; has_served_three(worker.reports.as_slice()));
     assert!(rt; has_returned_three(worker.door.written().unwrap_or(&[])));
-    Ok(())
-}
-
-/// Returns whether two connections were served, of which the second stopped the share.
-fn has_stopped_second(reports: &[LinkReport]) -> bool {
-    match reports {
-        [_, second] => is_ended(second, LinkEnd::Stopped),
-        _ => false,
-    }
-}
-
-#[test]
-fn a_stop_ends_a_worker(rt: HostRuntime) -> Result<(), Fail> {
-    let worker = served_in_turn(&rt, rt.alloc(), &[INFO, STOP, INFO], &[])?;
-    assert!(rt; worker.end == WorkerEnd::Stopped);
-    assert!(rt; has_stopped_second(worker.reports.as_slice()));
     Ok(())
 }
 

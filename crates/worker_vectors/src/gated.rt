@@ -1,32 +1,32 @@
-//! Connections in memory whose calls wait for bytes on the connections of another worker, and listeners at which they
+//! Connections in memory whose calls wait for bytes on the connection of another worker, and listeners at which they
 //! come. Contracts know nothing of their bytes.
 ghost use Rattle.std.specs.Prelude.{◌≡◌, ◌+◌, ◌<◌, ◌≤◌, ◌^◌, min, None, refl};
 ghost use Rattle.daap_outside.specs.Counts.{Rose};
 
 use daap_outside::{Door, Failed, Faulted, Link, MemLink, Sink, Source};
-use std::collections::VecDeque;
 use std::sync::atomic::{AtomicU64, Ordering};
 use std::thread;
 
-/// A connection that is to come, and how its calls wait for the connections of another worker.
+// How often a call checks whether it may go on, before it fails and counts an error. These checks take longer than any
+// turn, and less than a test may take.
+const MANY_LOOKS: u64 = 10_000_000;
+
+/// A connection that is to come, and how its calls wait for the connection of another worker.
 #[derive(Drop)]
 pub struct Gated<'a> {
     pub link: MemLink,
-    /// How many bytes must be on the other worker's connections before each read, in order. Further reads do not wait.
+    /// How many bytes must be on the other worker's connection before each read, in order. Further reads do not wait.
     pub reads_wait: &'static [u64],
     pub writes_wait: &'static [u64],
-    /// The number of bytes on the other worker's connections, and on this worker's. A failed write on one of these sets
-    /// the latter to its maximum.
+    /// The number of bytes on the other worker's connection, and on this one.
     pub other: &'a AtomicU64,
     pub own: &'a AtomicU64,
-    /// How often a call checks whether it may go on, before it fails and counts an error.
-    pub looks: u64,
 }
 
 impl Gated<'_> {
-    /// Waits until `wanted` bytes are on the other worker's connections. Returns false after `looks` checks.
+    /// Waits until `wanted` bytes are on the other worker's connection. Returns false after `MANY_LOOKS` checks.
     fn may_go_on(&self, wanted: u64) -> bool {
-        for _ in 0..self.looks {
+        for _ in 0..MANY_LOOKS {
             if self.other.load(Ordering::SeqCst) >= wanted {
                 return true;
             }
@@ -47,6 +47,13 @@ fn wanted(waits: &[u64], calls: usize) -> u64 {
     match waits.get(calls) {
         Some(bytes) => *bytes,
         None => 0,
+    }
+}
+
+/// Lets others fall asleep.
+fn stay() {
+    for _ in 0..100 {
+        thread::yield_now();
     }
 }
 
@@ -80,6 +87,9 @@ impl Source for GatedLink<'_> {
         if !self.gated.may_go_on(bytes) {
             return Err(failed(&mut self.faults));
         }
+        if bytes > 0 {
+            stay();
+        }
         match self.gated.link.read(room) {
             Ok(n) => Ok(n),
             Err(Failed) => Err(failed(&mut self.faults)),
@@ -103,10 +113,7 @@ impl Sink for GatedLink<'_> {
                 self.gated.wrote(n);
                 Ok(n)
             }
-            Err(Failed) => {
-                self.gated.wrote(usize::MAX);
-                Err(failed(&mut self.faults))
-            }
+            Err(Failed) => Err(failed(&mut self.faults)),
         }
     }
 }
@@ -124,12 +131,10 @@ impl Link for GatedLink<'_> {
     ghost write_leaves_left = { λ _. refl };
 }
 
-/// A listener at which the connections `coming` come, one after another, and then no more.
+/// A listener at which one connection comes, and then no more.
 #[derive(Drop)]
 pub struct GatedDoor<'a> {
-    pub coming: VecDeque<Gated<'a>>,
-    /// The connections that were returned. One is missing if its allocation failed.
-    pub given_back: Vec<MemLink>,
+    pub coming: Option<Gated<'a>>,
 }
 
 impl Faulted for GatedDoor<'_> {
@@ -144,7 +149,7 @@ impl<'a> Door for GatedDoor<'a> {
     ghost written = { λ _. None };
 
     fn accept(&mut self) -> Result<Option<GatedLink<'a>>, Failed> {
-        match self.coming.pop_front() {
+        match self.coming.take() {
             Some(gated) => Ok(Some(GatedLink {
                 gated,
                 reads: 0,
@@ -157,9 +162,5 @@ impl<'a> Door for GatedDoor<'a> {
 
     fn nudge(&mut self) {}
 
-    fn done(&mut self, link: GatedLink<'a>) {
-        let GatedLink { gated, .. } = link;
-        let Gated { link, .. } = gated;
-        let _ = self.given_back.push(link);
-    }
+    fn done(&mut self, _link: GatedLink<'a>) {}
 }

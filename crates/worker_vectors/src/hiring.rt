@@ -1,4 +1,4 @@
-//! Makes shares and connections that may wait for another worker's connections, and runs workers of a new share.
+//! Makes shares and connections that may wait for another worker's connection, and runs workers of a new share.
 ghost use Rattle.std.specs.Prelude.{◌≡◌, ◌<◌, [], false, All, IfOk};
 ghost use Rattle.share_lock.specs.Passes.{lock_id, IsReady};
 ghost use Rattle.share_replies.specs.Laws.{maker};
@@ -6,58 +6,43 @@ ghost use Rattle.share_replies.specs.Laws.{maker};
 use crate::gated::{Gated, GatedDoor};
 use daap_outside::{Door, MemLink, MemSink, MemSource};
 use edit_keeping::Keeps;
-use item_model::{Batch, Edits, Entry};
+use item_model::{Batch, Edits};
 use share_asks::Role;
 use share_core::Share;
 use share_lock::{Bell, Pass, ShareLock};
 use share_workers::{Worker, WorkerEnd, serve_all, serve_kept, serve_worker};
 use std::alloc::{AllocError, Global};
-use std::collections::VecDeque;
 use std::sync::Wait;
 use std::sync::atomic::AtomicU64;
 use std::thread::Threads;
 use std::time::Clock;
 
-/// The maximum number of bytes that one read returns: the length of a request for the server's info.
-pub const PIECE: usize = 29;
+// The maximum number of bytes that one read returns: the length of a request for the server's info.
+const PIECE: usize = 29;
 
 pub const INFO: &str = "GET /server-info HTTP/1.1\r\n\r\n";
 
 pub const TWO_INFOS: &str = "GET /server-info HTTP/1.1\r\n\r\nGET /server-info HTTP/1.1\r\n\r\n";
 
-pub const STOP: &str = "POST /stop HTTP/1.1\r\n\r\n";
+// The number of lock handles: three for workers, and the one from which theirs are drawn.
+const HANDLES: u32 = 4;
 
-/// How often a call checks whether it may go on, if it should never give up. These checks take longer than any turn,
-/// and less than a test may take.
-pub const MANY_LOOKS: u64 = 10_000_000;
-
-// The number of lock handles: nine for workers, and the one from which theirs are drawn.
-const HANDLES: u32 = 10;
-
-/// A connection that comes to a worker: its input; how many bytes on the other worker's connections each read and each
-/// write waits for; and which read and which write fail, counted from 1 (0: no call fails).
+/// A worker to which one connection comes: which requests are allowed on it, its input, and how many bytes on the other
+/// worker's connection each read and each write waits for.
 #[derive(Clone, Copy)]
-pub struct LinkPlan {
+pub struct Plan {
+    pub role: Role,
     pub input: &'static str,
     pub reads_wait: &'static [u64],
     pub writes_wait: &'static [u64],
-    pub failing_read: u64,
-    pub failing_write: u64,
 }
 
-/// A worker: which requests its connections may make, and the one or two connections that come.
-#[derive(Clone, Copy)]
-pub struct WorkerPlan {
-    pub role: Role,
-    pub first: LinkPlan,
-    pub second: Option<LinkPlan>,
-}
-
-/// How many bytes were written on the connections of one worker, and of the other.
+/// How many bytes were written on the connections of three workers.
 #[derive(Drop)]
 pub struct Written {
     pub first: AtomicU64,
     pub second: AtomicU64,
+    pub third: AtomicU64,
 }
 
 impl Written {
@@ -65,46 +50,35 @@ impl Written {
         Written {
             first: AtomicU64::new(0),
             second: AtomicU64::new(0),
+            third: AtomicU64::new(0),
         }
     }
 }
 
-/// Returns a connection with `input` that never waits, and on which no call fails.
-pub fn plain(input: &'static str) -> LinkPlan {
-    LinkPlan {
+/// Returns a worker whose connection has the input `input` and never waits.
+pub fn plain(role: Role, input: &'static str) -> Plan {
+    Plan {
+        role,
         input,
         reads_wait: &[],
         writes_wait: &[],
-        failing_read: 0,
-        failing_write: 0,
-    }
-}
-
-/// Returns a worker to which only the connection `first` comes.
-pub fn of_one(role: Role, first: LinkPlan) -> WorkerPlan {
-    WorkerPlan {
-        role,
-        first,
-        second: None,
     }
 }
 
 fn coming_link<'a>(
     alloc: Global,
-    plan: &LinkPlan,
-    looks: u64,
+    plan: &Plan,
     own: &'a AtomicU64,
     other: &'a AtomicU64,
 ) -> Result<Gated<'a>, AllocError> {
-    let source = MemSource::new(alloc, plan.input.as_bytes(), PIECE, &[plan.failing_read])?;
-    let sink = MemSink::new(alloc, 4096, 50, &[plan.failing_write])?;
+    let source = MemSource::new(alloc, plan.input.as_bytes(), PIECE, &[])?;
+    let sink = MemSink::new(alloc, 4096, 50, &[])?;
     Ok(Gated {
         link: MemLink::new(source, sink),
         reads_wait: plan.reads_wait,
         writes_wait: plan.writes_wait,
         other,
         own,
-        looks,
     })
 }
 
@@ -115,34 +89,15 @@ pub struct Post<D> {
     pub door: D,
 }
 
-fn add_link<'a>(
+/// Returns a worker at whose listener the connection of `plan` comes.
+pub fn post_of<'a>(
     alloc: Global,
-    plan: &LinkPlan,
-    looks: u64,
-    own: &'a AtomicU64,
-    other: &'a AtomicU64,
-    coming: &mut VecDeque<Gated<'a>>,
-) -> Result<(), AllocError> {
-    coming.push_back(coming_link(alloc, plan, looks, own, other)?)?;
-    Ok(())
-}
-
-/// Returns a worker at whose listener the connections of `plan` come.
-fn post_of<'a>(
-    alloc: Global,
-    plan: &WorkerPlan,
-    looks: u64,
+    plan: &Plan,
     own: &'a AtomicU64,
     other: &'a AtomicU64,
 ) -> Result<Post<GatedDoor<'a>>, AllocError> {
-    let mut coming = VecDeque::new(alloc);
-    add_link(alloc, &plan.first, looks, own, other, &mut coming)?;
-    if let Some(second) = &plan.second {
-        add_link(alloc, second, looks, own, other, &mut coming)?;
-    }
     let door = GatedDoor {
-        coming,
-        given_back: Vec::new(alloc),
+        coming: Some(coming_link(alloc, plan, own, other)?),
     };
     Ok(Post {
         role: plan.role,
@@ -150,17 +105,16 @@ fn post_of<'a>(
     })
 }
 
-/// Returns two workers whose connections may wait for each other's.
+/// Returns two workers whose connections may wait for each other.
 pub fn posts_of<'a>(
     alloc: Global,
-    plans: &(WorkerPlan, WorkerPlan),
-    looks: u64,
+    plans: &(Plan, Plan),
     written: &'a Written,
 ) -> Result<Vec<Post<GatedDoor<'a>>>, AllocError> {
     let (one, two) = (&written.first, &written.second);
     let mut posts = Vec::new(alloc);
-    posts.push(post_of(alloc, &plans.0, looks, one, two)?)?;
-    posts.push(post_of(alloc, &plans.1, looks, two, one)?)?;
+    posts.push(post_of(alloc, &plans.0, one, two)?)?;
+    posts.push(post_of(alloc, &plans.1, two, one)?)?;
     Ok(posts)
 }
 
@@ -237,14 +191,6 @@ fn workers_at<D: Drop, R: Wait>(
     Ok(workers)
 }
 
-/// Takes the share out of its lock. Returns its history.
-fn history_of<R: Wait>(rt: &R, lock: &ShareLock<Share>, first: &mut Pass<Share>) -> Vec<Entry>
-    requires { IsReady (lock_id lock.now) first.old }
-{
-    let turn = lock.take(rt, first);
-    lock.end(turn).into_history()
-}
-
 // Without clauses on what is served, so that other proofs do not unfold it.
 fn serve<D: Door + Drop + Send, R: Threads + Wait + Clock + Sync>(
     rt: &R,
@@ -274,28 +220,27 @@ fn serve_only<D: Door, R: Wait + Clock>(
 }
 
 /// Puts a new share under a lock, and lets a worker serve at each of `posts`, each in its own thread. Returns the
-/// workers after all have ended, and the share's history.
+/// workers after all have ended.
 pub fn run<D: Door + Drop + Send, R: Threads + Wait + Clock + Sync>(
     rt: &R,
     alloc: Global,
     posts: Vec<Post<D>>,
-) -> Result<(Vec<Worker<D>>, Vec<Entry>), AllocError> {
+) -> Result<Vec<Worker<D>>, AllocError> {
     let (lock, mut first) = locked_share(alloc)?;
     let mut workers = workers_at(rt, alloc, &lock, &mut first, posts)?;
     serve(rt, alloc, &lock, &mut workers);
-    let history = history_of(rt, &lock, &mut first);
-    Ok((workers, history))
+    Ok(workers)
 }
 
 /// Does what `run` does, and at the same time lets another worker serve at `kept`, whose edits `keeper` keeps. Returns
-/// the workers, that other worker, and the history.
+/// the workers, and that other worker.
 pub fn run_kept<D: Door + Drop + Send, F: Keeps + Send, R: Threads + Wait + Clock + Sync>(
     rt: &R,
     alloc: Global,
     posts: Vec<Post<D>>,
     kept: Post<D>,
     keeper: &mut F,
-) -> Result<(Vec<Worker<D>>, Worker<D>, Vec<Entry>), AllocError>
+) -> Result<(Vec<Worker<D>>, Worker<D>), AllocError>
     requires { F.is_lost keeper.old ≡ false }
 {
     let (lock, mut first) = locked_share(alloc)?;
@@ -310,26 +255,7 @@ pub fn run_kept<D: Door + Drop + Send, F: Keeps + Send, R: Threads + Wait + Cloc
         &mut worker,
         keeper,
     );
-    let history = history_of(rt, &lock, &mut first);
-    Ok((workers, worker, history))
-}
-
-/// Puts a new share under a lock, and lets a worker serve at each of `posts`, one after the other: each begins when the
-/// one before it has ended. Returns the workers.
-pub fn run_in_turn<D: Door + Drop, R: Wait + Clock>(
-    rt: &R,
-    alloc: Global,
-    posts: Vec<Post<D>>,
-) -> Result<Vec<Worker<D>>, AllocError> {
-    let (lock, mut first) = locked_share(alloc)?;
-    let bell = Bell::new();
-    let mut done = Vec::new(alloc);
-    for post in posts {
-        let mut worker = worker_at(rt, alloc, &lock, &mut first, post);
-        serve_only(rt, alloc, &mut worker, &lock, &bell);
-        done.push(worker)?;
-    }
-    Ok(done)
+    Ok((workers, worker))
 }
 
 /// Returns a worker of a new share after it has served at `door`.
@@ -339,10 +265,9 @@ pub fn run_alone<D: Door + Drop, R: Wait + Clock>(
     role: Role,
     door: D,
 ) -> Result<Worker<D>, AllocError> {
-    let mut posts = Vec::new(alloc);
-    posts.push(Post { role, door })?;
-    match run_in_turn(rt, alloc, posts)?.pop() {
-        Some(worker) => Ok(worker),
-        None => Err(AllocError),
-    }
+    let (lock, mut first) = locked_share(alloc)?;
+    let bell = Bell::new();
+    let mut worker = worker_at(rt, alloc, &lock, &mut first, Post { role, door });
+    serve_only(rt, alloc, &mut worker, &lock, &bell);
+    Ok(worker)
 }

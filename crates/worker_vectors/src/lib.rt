@@ -4,8 +4,6 @@
 #[cfg(test)]
 mod alone;
 #[cfg(test)]
-mod crowd;
-#[cfg(test)]
 mod gated;
 #[cfg(test)]
 mod held;
@@ -13,9 +11,3 @@ mod held;
 mod hiring;
 #[cfg(test)]
 mod kept;
-#[cfg(test)]
-mod many;
-#[cfg(test)]
-mod pairs;
-#[cfg(test)]
-mod together;
