@@ -1,11 +1,7 @@
-//! `item_model`: projections byte for byte, texts of the `meta` parameter, errors, and one call of each function that
-//! allocates.
+//! `item_model`: projections byte for byte, folded names, and texts of the `meta` parameter.
 
 use dmap_tags::{Code, Text, encode_into};
-use item_model::{
-    Batch, Cond, Edit, Edits, Entries, Entry, Item, ItemError, Look, Meta, MetaError, Op, Pattern,
-    PropValue, Properties, Property, Queries, Query, Range, Row, SharedRow, folded, project,
-};
+use item_model::{Item, ItemError, Meta, MetaError, PropValue, Property, Row, folded, project};
 use std::alloc::{AllocError, Global};
 use std::process::Abort;
 use std::test::Fail;
@@ -106,6 +102,14 @@ fn properties_come_as_asked_and_once(rt: HostRuntime) -> Result<(), Fail> {
     Ok(())
 }
 
+#[test]
+fn all_properties_come_in_their_order(rt: HostRuntime) -> Result<(), Fail> {
+    let row = song(rt.alloc())?;
+    let all = encoded(rt.alloc(), &row, None, &Meta::All)?;
+    assert_eq!(rt; all.as_slice(), WHOLE_SONG);
+    Ok(())
+}
+
 /// Names with their folded texts, as bench/casefold prints them.
 const FOLDINGS: [(&str, &str); 12] = [
     ("Hey Jude", "hey jude"),
@@ -190,82 +194,5 @@ fn more_names_than_256_are_too_many(rt: HostRuntime) -> Result<(), Fail> {
         meta_shown(rt.alloc(), text.as_str())?.as_str(),
         "Err(TooMany)"
     );
-    Ok(())
-}
-
-fn pattern(alloc: Global, piece: &str) -> Result<Pattern, AllocError> {
-    let piece = Text::of(alloc, piece)?;
-    Pattern::new(alloc, vec![in alloc; piece]?)
-}
-
-fn condition(alloc: Global, name: &str, piece: &str) -> Result<Query, AllocError> {
-    Ok(Query::Cond(Cond {
-        name: Text::of(alloc, name)?,
-        op: Op::IsNot,
-        pattern: pattern(alloc, piece)?,
-    }))
-}
-
-fn query(alloc: Global) -> Result<Query, AllocError> {
-    let mut queries = Queries::new(alloc);
-    queries.push(condition(alloc, "daap.songartist", "Ann")?)?;
-    Ok(Query::Or(queries))
-}
-
-fn copied_look(alloc: Global) -> Result<Look, AllocError> {
-    let mut properties = Properties::new(alloc);
-    properties.push(Property::Minm)?;
-    let look = Look {
-        query: Some(query(alloc)?),
-        meta: Meta::Names(properties),
-        base: 3,
-        range: Range::Last { count: 2 },
-    };
-    look.copy()
-}
-
-#[test]
-fn a_copied_look_asks_for_the_same(rt: HostRuntime) -> Result<(), Fail> {
-    let look = copied_look(rt.alloc())?;
-    assert_eq!(rt; look.base, 3);
-    assert!(rt; matches!(look.query, Some(Query::Or(_))));
-    Ok(())
-}
-
-fn copied_batch(alloc: Global) -> Result<Batch, ItemError> {
-    let mut edits = Edits::new(alloc);
-    edits.push(Edit::PutItem {
-        row: SharedRow::new(alloc, song(alloc)?.copy()?)?,
-    })?;
-    edits.push(Edit::PutRule {
-        list: 2,
-        name: Text::of(alloc, "Mix")?,
-        rule: condition(alloc, "daap.songgenre", "x")?,
-    })?;
-    Ok(Batch { edits }.copy()?)
-}
-
-/// Returns the row that is put by the first of two edits, of which the second puts the rule of list 2.
-fn row_before_rule(batch: &Batch) -> Result<Option<SharedRow>, AllocError> {
-    match batch.edits.as_slice() {
-        [Edit::PutItem { row }, Edit::PutRule { list: 2, .. }] => Ok(Some(row.share()?)),
-        _ => Ok(None),
-    }
-}
-
-#[test]
-fn a_copied_batch_has_the_same_edits(rt: HostRuntime) -> Result<(), Fail> {
-    let alloc = rt.alloc();
-    let batch = copied_batch(alloc)?;
-    match row_before_rule(&batch)? {
-        Some(row) => {
-            let listed = encoded(alloc, row.row(), None, &Meta::All)?;
-            assert_eq!(rt; listed.as_slice(), WHOLE_SONG);
-        }
-        None => assert!(rt; false, "an item and a rule"),
-    }
-    let mut entries = Entries::new(alloc);
-    entries.push(Entry::Edits { by: 1, batch })?;
-    assert_eq!(rt; entries.as_slice().len(), 1);
     Ok(())
 }

@@ -5,7 +5,7 @@ ghost use Rattle.std.specs.Prelude.{◌≡◌, ◌<◌};
 use dmap_tags::Text;
 use item_model::{Item, PropValue, Property, Query, QueryError, QueryWhy, Row};
 use song_query::{OPEN_PARENTHESES, QUERY_BYTES, Steps, is_glob, matches, print, read};
-use std::alloc::{AllocError, Global};
+use std::alloc::Global;
 use std::marker::Brand;
 use std::process::Abort;
 use std::sync::ledger::{Blank, Ledger};

@@ -34,9 +34,7 @@ pub enum Step {
     Candidates,
     /// All artists are listed.
     Values,
-    /// The songs are made, with names in these letters.
-    Named(Letters),
-    /// A query with wildcards is evaluated for each, `times` times.
+    /// The songs are made, with names in these letters, and a query with wildcards is evaluated for each, `times` times.
     Matches(Letters),
     /// A share of lists of the songs is edited.
     Edit(Kind),
@@ -45,7 +43,7 @@ pub enum Step {
 }
 
 /// The steps, by name.
-pub const STEPS: [(&str, Step); 15] = [
+pub const STEPS: [(&str, Step); 13] = [
     ("rows", Step::Rows),
     ("plan", Step::Plan),
     ("write", Step::Write),
@@ -53,9 +51,7 @@ pub const STEPS: [(&str, Step); 15] = [
     ("ids", Step::Ids),
     ("candidates", Step::Candidates),
     ("values", Step::Values),
-    ("named", Step::Named(Letters::Latin)),
     ("matches", Step::Matches(Letters::Latin)),
-    ("cyrillic", Step::Named(Letters::Cyrillic)),
     ("folded", Step::Matches(Letters::Cyrillic)),
     ("songs", Step::Edit(Kind::Songs)),
     ("members", Step::Edit(Kind::Members)),
@@ -73,18 +69,11 @@ pub struct Load {
     pub size: u32,
 }
 
-/// The load of each step if no argument gives one.
-pub const FEW: Load = Load {
-    songs: 100,
-    times: 2,
-    size: 3,
-};
-
 /// Returns the step with this name.
 pub fn step_named(word: &str) -> Option<Step> {
-    for (name, step) in STEPS {
-        if name == word {
-            return Some(step);
+    for (name, step) in &STEPS {
+        if *name == word {
+            return Some(*step);
         }
     }
     None
@@ -101,7 +90,6 @@ pub fn taken(alloc: Global, step: Step, load: Load) -> anyhow::Result<u64> {
         Step::Ids => ids_found(&look_ups(alloc, songs)?),
         Step::Candidates => candidates_found(&look_ups(alloc, songs)?),
         Step::Values => values_found(&look_ups(alloc, songs)?),
-        Step::Named(letters) => Ok(named_songs(alloc, songs, letters)?.len()),
         Step::Matches(letters) => {
             let searched = named_songs(alloc, songs, letters)?;
             matched::<Brand>(Blank::new(1), alloc, &searched, times)

@@ -17,12 +17,17 @@ pub struct LookUps {
     queries: Vec<Query>,
 }
 
-/// Returns an index of the first songs, and what is to be looked up in it.
-pub fn look_ups(alloc: Global, songs: u32) -> anyhow::Result<LookUps> {
+/// Returns an index of the first songs.
+fn index_of(alloc: Global, songs: u32) -> anyhow::Result<PropIndex> {
     let mut index = PropIndex::new(alloc);
     for id in 0..songs {
         index.apply(None, Some(&song(alloc, id)?))?;
     }
+    Ok(index)
+}
+
+/// Returns an index of the first songs, and what is to be looked up in it.
+pub fn look_ups(alloc: Global, songs: u32) -> anyhow::Result<LookUps> {
     let artists = (songs / SONGS_EACH).max(1);
     let mut names = Vec::new(alloc);
     let mut queries = Vec::new(alloc);
@@ -34,7 +39,7 @@ pub fn look_ups(alloc: Global, songs: u32) -> anyhow::Result<LookUps> {
         names.push(name)?;
     }
     Ok(LookUps {
-        index,
+        index: index_of(alloc, songs)?,
         names,
         queries,
     })
