@@ -7,7 +7,7 @@ use std::alloc::{AllocError, Global};
 use std::process::Abort;
 
 /// Errors of records with their lines.
-const OF_RECORDS: [(RecordError, &str); 5] = [
+const OF_RECORDS: [(RecordError, &str); 4] = [
     (
         RecordError::Header { column: 2 },
         "records: header column 2\n",
@@ -16,14 +16,6 @@ const OF_RECORDS: [(RecordError, &str); 5] = [
     (
         RecordError::TooMany { row: 65_537 },
         "records: record 65537 too many\n",
-    ),
-    (
-        RecordError::Field {
-            row: 3,
-            column: 4,
-            why: RecordWhy::Range,
-        },
-        "records: record 3 column 4 range\n",
     ),
     (
         RecordError::Field {
@@ -58,12 +50,8 @@ fn each_error_of_a_query_has_its_line(rt: HostRuntime) -> Result<(), AllocError>
         place: 16,
         why: QueryWhy::End,
     };
-    assert_eq!(rt;
-        query_line(alloc, &end)?.as_slice(),
-        b"query: at 16 end\n".as_slice()
-    );
-    let long = query_line(alloc, &QueryError::TooLong)?;
-    assert_eq!(rt; long.as_slice(), b"query: too long\n".as_slice());
+    let line = query_line(alloc, &end)?;
+    assert_eq!(rt; line.as_slice(), b"query: at 16 end\n".as_slice());
     Ok(())
 }
 

@@ -39,24 +39,24 @@ fn count_of(rt: &HostRuntime, step: Step, words: &[String]) -> anyhow::Result<u6
     match step {
         Step::Requests => {
             let size = number_at(words, 1, 200)? as usize;
-            let piece = number_at(words, 2, 200)? as usize;
-            let times = number_at(words, 3, 1)?;
+            let piece = number_at(words, 2, 1)? as usize;
+            let times = number_at(words, 3, 3)?;
             Ok(u64::from(requests::asks_fed(rt.alloc(), size, piece, times)?))
         }
         Step::Store(step) => {
             let load = store::Load {
-                songs: number_at(words, 1, 1)?,
-                times: number_at(words, 2, 1)?,
-                size: number_at(words, 3, 1)?,
+                songs: number_at(words, 1, 100)?,
+                times: number_at(words, 2, 2)?,
+                size: number_at(words, 3, 3)?,
             };
             store::taken(rt.alloc(), step, load)
         }
         Step::Share(step) => {
             let load = share::Load {
                 step,
-                entries: number_at(words, 1, 1)?,
-                times: number_at(words, 2, 1)?,
-                songs: number_at(words, 3, share::SONGS)?,
+                entries: number_at(words, 1, 20)?,
+                times: number_at(words, 2, 3)?,
+                songs: number_at(words, 3, 1000)?,
             };
             share::body_bytes(rt.alloc(), load)
         }
@@ -71,24 +71,29 @@ fn main(rt: HostRuntime) -> anyhow::Result<()> {
             println!(rt; "{}", count_of(&rt, step, words.as_slice())?)?;
             Ok(())
         }
-        None => print_all(&rt),
+        None => print_all(&rt, words.as_slice()),
     }
 }
 
 /// Takes each step with few songs, and prints what it led to.
-fn print_all(rt: &HostRuntime) -> anyhow::Result<()> {
-    for (size, piece) in requests::LOADS {
-        let asks = requests::asks_fed(rt.alloc(), size, piece, 3)?;
-        println!(rt; "{size} bytes in pieces of {piece}: {asks} asks")?;
+fn print_all(rt: &HostRuntime, no_numbers: &[String]) -> anyhow::Result<()> {
+    print_step(rt, "requests", Step::Requests, no_numbers)?;
+    for (name, step) in &store::STEPS {
+        print_step(rt, *name, Step::Store(*step), no_numbers)?;
     }
-    for (name, step) in store::STEPS {
-        println!(rt; "{name} {}", store::taken(rt.alloc(), step, store::FEW)?)?;
+    for (name, step) in &share::STEPS {
+        print_step(rt, *name, Step::Share(*step), no_numbers)?;
     }
-    for (name, step) in share::STEPS {
-        println!(rt;
-            "{name} {}",
-            share::body_bytes(rt.alloc(), share::few(step))?
-        )?;
-    }
+    Ok(())
+}
+
+fn print_step(
+    rt: &HostRuntime,
+    name: &str,
+    step: Step,
+    no_numbers: &[String],
+) -> anyhow::Result<()> {
+    let count = count_of(rt, step, no_numbers)?;
+    println!(rt; "{name} {count}")?;
     Ok(())
 }

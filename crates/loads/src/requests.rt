@@ -4,9 +4,6 @@ use anyhow::bail;
 use http_front::{HeadReader, Role};
 use std::alloc::{AllocError, Global};
 
-/// The sizes of requests and of the pieces in which they are fed, in bytes, if no argument says them.
-pub const LOADS: [(usize, usize); 4] = [(200, 200), (200, 1), (16_000, 16_000), (16_000, 1)];
-
 /// Returns how many asks come when a request of `size` bytes is fed `times` times, in pieces of `piece` bytes.
 pub fn asks_fed(alloc: Global, size: usize, piece: usize, times: u32) -> anyhow::Result<u32> {
     if piece == 0 {

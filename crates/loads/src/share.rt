@@ -6,9 +6,6 @@ mod wants;
 pub use crate::share::asking::{Load, body_bytes};
 pub use crate::share::wants::Step;
 
-/// How many songs there are if no argument says it.
-pub const SONGS: u32 = 1000;
-
 /// The steps by their names.
 pub const STEPS: [(&str, Step); 8] = [
     ("edit", Step::Edit),
@@ -23,20 +20,10 @@ pub const STEPS: [(&str, Step); 8] = [
 
 /// Returns the step with this name.
 pub fn step_named(word: &str) -> Option<Step> {
-    for (name, step) in STEPS {
-        if name == word {
-            return Some(step);
+    for (name, step) in &STEPS {
+        if *name == word {
+            return Some(*step);
         }
     }
     None
-}
-
-/// A step that is taken three times, after a few entries.
-pub fn few(step: Step) -> Load {
-    Load {
-        step,
-        songs: SONGS,
-        entries: 20,
-        times: 3,
-    }
 }

@@ -10,7 +10,7 @@ mod stores;
 
 use crate::store::changing::{deltas_len, revision_after};
 use crate::store::edits::Kind;
-use crate::store::finding::{candidates_found, ids_found, look_ups, values_found};
+use crate::store::finding::{Find, found_in};
 use crate::store::matching::{Letters, matched, named_songs};
 use crate::store::planning::{planned, rows, written};
 use std::alloc::Global;
@@ -26,17 +26,9 @@ pub enum Step {
     Plan,
     /// The plan is written to the sink.
     Write,
-    /// An index of all songs is made.
-    Index,
-    /// The ids of a thousand artists are looked up.
-    Ids,
-    /// The candidates of a thousand queries are looked up.
-    Candidates,
-    /// All artists are listed.
-    Values,
-    /// The songs are made, with names in these letters.
-    Named(Letters),
-    /// A query with wildcards is evaluated for each, `times` times.
+    /// An index of all songs is made, and this is looked up in it.
+    Find(Find),
+    /// The songs are made, with names in these letters, and a query with wildcards is evaluated for each, `times` times.
     Matches(Letters),
     /// A share of lists of the songs is edited.
     Edit(Kind),
@@ -45,17 +37,15 @@ pub enum Step {
 }
 
 /// The steps, by name.
-pub const STEPS: [(&str, Step); 15] = [
+pub const STEPS: [(&str, Step); 13] = [
     ("rows", Step::Rows),
     ("plan", Step::Plan),
     ("write", Step::Write),
-    ("index", Step::Index),
-    ("ids", Step::Ids),
-    ("candidates", Step::Candidates),
-    ("values", Step::Values),
-    ("named", Step::Named(Letters::Latin)),
+    ("index", Step::Find(Find::Nothing)),
+    ("ids", Step::Find(Find::Ids)),
+    ("candidates", Step::Find(Find::Candidates)),
+    ("values", Step::Find(Find::Values)),
     ("matches", Step::Matches(Letters::Latin)),
-    ("cyrillic", Step::Named(Letters::Cyrillic)),
     ("folded", Step::Matches(Letters::Cyrillic)),
     ("songs", Step::Edit(Kind::Songs)),
     ("members", Step::Edit(Kind::Members)),
@@ -73,18 +63,11 @@ pub struct Load {
     pub size: u32,
 }
 
-/// The load of each step if no argument gives one.
-pub const FEW: Load = Load {
-    songs: 100,
-    times: 2,
-    size: 3,
-};
-
 /// Returns the step with this name.
 pub fn step_named(word: &str) -> Option<Step> {
-    for (name, step) in STEPS {
-        if name == word {
-            return Some(step);
+    for (name, step) in &STEPS {
+        if *name == word {
+            return Some(*step);
         }
     }
     None
@@ -97,11 +80,7 @@ pub fn taken(alloc: Global, step: Step, load: Load) -> anyhow::Result<u64> {
         Step::Rows => Ok(rows(alloc, songs)?.len() as u64),
         Step::Plan => Ok(planned(alloc, songs)?.plan_len()),
         Step::Write => written(planned(alloc, songs)?),
-        Step::Index => Ok(look_ups(alloc, songs)?.names.len() as u64),
-        Step::Ids => ids_found(&look_ups(alloc, songs)?),
-        Step::Candidates => candidates_found(&look_ups(alloc, songs)?),
-        Step::Values => values_found(&look_ups(alloc, songs)?),
-        Step::Named(letters) => Ok(named_songs(alloc, songs, letters)?.len()),
+        Step::Find(find) => found_in(alloc, songs, find),
         Step::Matches(letters) => {
             let searched = named_songs(alloc, songs, letters)?;
             matched::<Brand>(Blank::new(1), alloc, &searched, times)

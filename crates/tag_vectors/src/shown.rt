@@ -1,11 +1,11 @@
 //! `dmap_show`: tags with the lines that show them, and texts with the line at which they are refused.
 
-use crate::tables::{code_of, learned, standard};
+use crate::tables::{learned, standard};
 use code_table::CodeTable;
 use dmap_show::{ShowError, read_show, show, show_code, show_event};
 use dmap_stream::{Event, Limits, read_tag};
 use dmap_tags::{Code, Text, Value, encode_into};
-use std::alloc::{AllocError, Global};
+use std::alloc::Global;
 use std::process::Abort;
 use std::test::Fail;
 
@@ -26,11 +26,9 @@ fn bytes_of(alloc: Global, text: &str, table: &CodeTable) -> Result<Vec<u8>, Fai
 }
 
 /// Texts of tags of a learned table, with the bytes of the tags.
-const OF_EACH_KIND: [(&str, &[u8]); 18] = [
-    ("zzzz u16 258\n", b"zzzz\0\0\0\x02\x01\x02"),
+const OF_EACH_KIND: [(&str, &[u8]); 12] = [
     ("zzz1 u8 255\n", b"zzz1\0\0\0\x01\xff"),
     ("zzz2 i8 -128\n", b"zzz2\0\0\0\x01\x80"),
-    ("zzz2 i8 127\n", b"zzz2\0\0\0\x01\x7f"),
     ("zzz3 u16 65535\n", b"zzz3\0\0\0\x02\xff\xff"),
     ("zzz4 i16 -1\n", b"zzz4\0\0\0\x02\xff\xff"),
     ("zzz5 u32 4294967295\n", b"zzz5\0\0\0\x04\xff\xff\xff\xff"),
@@ -47,15 +45,11 @@ const OF_EACH_KIND: [(&str, &[u8]); 18] = [
         "zzz9 text \"a\\\"b\\\\c\\x0a\\x00\\x1f\\x7f \u{e9}\"\n",
         b"zzz9\0\0\0\x0ca\"b\\c\n\0\x1f\x7f \xc3\xa9",
     ),
-    ("zzz9 text \"\"\n", b"zzz9\0\0\0\0"),
-    ("zzza date 0\n", b"zzza\0\0\0\x04\0\0\0\0"),
     ("zzza date 1700000000\n", b"zzza\0\0\0\x04\x65\x53\xf1\0"),
-    ("zzzb version 2.0.3\n", b"zzzb\0\0\0\x04\0\x02\0\x03"),
     (
         "zzzb version 65535.255.0\n",
         b"zzzb\0\0\0\x04\xff\xff\xff\0",
     ),
-    ("zzzc list\n", b"zzzc\0\0\0\0"),
     (
         "zzzc list\n  zzzc list\n    zzz2 i8 0\n  zzz1 u8 7\n",
         b"zzzc\0\0\0\x1azzzc\0\0\0\x09zzz2\0\0\0\x01\0zzz1\0\0\0\x01\x07",
@@ -64,12 +58,10 @@ const OF_EACH_KIND: [(&str, &[u8]); 18] = [
 
 /// Texts of tags of the standard table, with the bytes of the tags: opaque payloads, and the listing of one item with
 /// id 7 and name `A`, at revision 3.
-const STANDARD: [(&str, &[u8]); 7] = [
+const STANDARD: [(&str, &[u8]); 5] = [
     ("miid opaque #000001\n", b"miid\0\0\0\x03\0\0\x01"),
     ("minm opaque #ff\n", b"minm\0\0\0\x01\xff"),
     ("zzzz opaque #0102\n", b"zzzz\0\0\0\x02\x01\x02"),
-    ("!~09 opaque #\n", b"!~09\0\0\0\0"),
-    ("x61206221 opaque #00ff\n", b"a b!\0\0\0\x02\0\xff"),
     ("xff0001ab opaque #\n", b"\xff\0\x01\xab\0\0\0\0"),
     (
         "adbs list\n  mstt u32 200\n  muty u8 0\n  musr u32 3\n  mtco u32 1\n  mrco u32 1\n  mlcl list\n    mlit list\n      miid u32 7\n      minm text \"A\"\n",
@@ -100,84 +92,25 @@ fn tags_are_shown_and_read_back(rt: HostRuntime) -> Result<(), Fail> {
     go_there_and_back(&rt, alloc, &standard(alloc)?, &STANDARD)
 }
 
-/// Codes as lines have them, after some text.
-const SHOWN_CODES: [(&[u8; 4], &str); 5] = [
-    (b"mlcl", "code mlcl"),
-    (b"!~09", "code !~09"),
-    (b"a b!", "code x61206221"),
-    (b"abc\x7f", "code x6162637f"),
-    (&[255, 0, 1, 171], "code xff0001ab"),
-];
-
-fn are_shown(rt: &impl Abort, alloc: Global, cases: &[(&[u8; 4], &str)]) -> Result<(), Fail> {
-    for (code, want) in cases {
-        let mut out = Vec::from_slice(alloc, b"code ")?;
-        show_code(code_of(*code), &mut out)?;
-        assert_eq!(rt; out.as_slice(), want.as_bytes());
-    }
-    Ok(())
-}
-
 #[test]
 fn a_code_with_other_bytes_is_shown_in_hex(rt: HostRuntime) -> Result<(), Fail> {
-    are_shown(&rt, rt.alloc(), &SHOWN_CODES)
-}
-
-fn add_line(out: &mut Vec<u8>, event: &Event, level: u32) -> Result<(), AllocError> {
-    show_event(event, level, out)
+    let mut out = Vec::from_slice(rt.alloc(), b"code ")?;
+    show_code(Code(*b"abc\x7f"), &mut out)?;
+    assert_eq!(rt; out.as_slice(), b"code x6162637f".as_slice());
+    Ok(())
 }
 
 #[test]
 fn an_event_s_line_is_added_at_its_level(rt: HostRuntime) -> Result<(), Fail> {
-    let mut out = Vec::from_slice(rt.alloc(), b"adbs list\n")?;
-    let code = Code(*b"mlcl");
-    let open = Event::Open {
-        code,
-        len: 12,
-        at: 8,
-    };
-    add_line(&mut out, &open, 1)?;
+    let mut out = Vec::from_slice(rt.alloc(), b"mlit list\n")?;
     let value = Event::Leaf {
         code: Code(*b"miid"),
         value: Value::U32(7),
-        at: 16,
+        at: 8,
     };
-    add_line(&mut out, &value, 2)?;
-    add_line(&mut out, &Event::Close { code, at: 8 }, 1)?;
-    assert_eq!(rt;
-        out.as_slice(),
-        b"adbs list\n  mlcl list\n    miid u32 7\n".as_slice()
-    );
+    show_event(&value, 1, &mut out)?;
+    assert_eq!(rt; out.as_slice(), b"mlit list\n  miid u32 7\n".as_slice());
     Ok(())
-}
-
-/// Texts that show tags.
-const READABLE: [&str; 6] = [
-    "",
-    "zzzz opaque #\nx61206221 opaque #00ff\nmlcl list\n",
-    "abar list\n  mlit text \"A\"\n",
-    "minm text \"a\\\"b\\\\c\\x0a\\x7f \u{e9}\"\nminm opaque #ff\n",
-    "mpro version 65535.255.0\nmper u64 18446744073709551615\nasda date 0\n",
-    "mcon list\n  mcon list\n    muty u8 255\n  muty u8 0\nasyr u16 65535\n",
-];
-
-/// Returns the text of the tags that a text shows.
-fn shown_again(alloc: Global, table: &CodeTable, text: &str) -> Result<Text, Fail> {
-    let tags = read_show(alloc, text, table)?;
-    Ok(show(alloc, tags.as_slice())?)
-}
-
-fn are_shown_again(rt: &impl Abort, alloc: Global, texts: &[&str]) -> Result<(), Fail> {
-    let table = standard(alloc)?;
-    for text in texts {
-        assert_eq!(rt; shown_again(alloc, &table, *text)?.as_str(), *text);
-    }
-    Ok(())
-}
-
-#[test]
-fn a_shown_text_is_read_and_shown_again(rt: HostRuntime) -> Result<(), Fail> {
-    are_shown_again(&rt, rt.alloc(), &READABLE)
 }
 
 /// Returns the error of a text.
@@ -186,46 +119,29 @@ fn refusal(alloc: Global, text: &str, table: &CodeTable) -> Option<ShowError> {
 }
 
 /// Texts that are refused, with the line.
-const UNREADABLE: [(&str, u64); 24] = [
+const UNREADABLE: [(&str, u64); 14] = [
     ("mstt u32 200", 1),
-    ("mstt u32 200 \n", 1),
     ("zzzz opaque #0A\n", 1),
     ("mlcl list\n    miid u32 7\n", 2),
     ("muty u8 0\nmuty u8 256\n", 2),
     ("mstt u32 0200\n", 1),
-    ("mstt u32 +200\n", 1),
     ("mstt u16 200\n", 1),
     ("miid opaque #00000007\n", 1),
     ("mlcl list\n  mlit text \"A\"\n", 2),
     ("minm text \"a\"b\"\n", 1),
     ("minm text \"\\x41\"\n", 1),
-    ("mpro version 2.0\n", 1),
     ("mstt u32 200\n\n", 2),
-    ("adbs list\n  mstt u32 200\n muty u8 0\n", 3),
     ("adbs list\n  mstt u32 200\n  muty u8 0", 3),
     ("x6d6c636c list\n", 1),
-    ("zzzz opaque #00\nzzzz bytes #0102\n", 2),
-    ("mlcl list\n  mstt u32 -0\n", 2),
-    ("minm text \"\\x1F\"\n", 1),
-    ("x6162637F opaque #\n", 1),
-    ("mlog list\nmlcl list \n", 2),
     ("mpro version 2.256.0\n", 1),
-    ("mstt u32 4294967296\n", 1),
 ];
 
 /// Texts that are refused under the learned table, with the line.
-const UNREADABLE_AS_LEARNED: [(&str, u64); 11] = [
+const UNREADABLE_AS_LEARNED: [(&str, u64); 4] = [
     ("zzzz opaque #0102\n", 1),
     ("zzz2 i8 127\nzzz2 i8 128\n", 2),
-    ("zzz2 i8 -129\n", 1),
-    ("zzz2 i8 1\nzzz2 i8 +1\n", 2),
     ("zzzc list\n  zzz2 i8 0\n  zzz2 i8 -0\n", 3),
-    ("zzz3 u16 65536\n", 1),
-    ("zzz4 i16 32768\n", 1),
-    ("zzz6 i32 -2147483649\n", 1),
     ("zzz7 u64 18446744073709551616\n", 1),
-    ("zzz8 i64 9223372036854775808\n", 1),
-    ("zzza date 4294967296\n", 1),
 ];
 
 fn are_refused(
@@ -246,27 +162,4 @@ fn a_text_is_refused_at_its_first_bad_line(rt: HostRuntime) -> Result<(), Fail> 
     let alloc = rt.alloc();
     are_refused(&rt, alloc, &standard(alloc)?, &UNREADABLE)?;
     are_refused(&rt, alloc, &learned(alloc)?, &UNREADABLE_AS_LEARNED)
-}
-
-/// Returns the lines of `count` lists, each in the one before.
-fn nested(alloc: Global, count: u32) -> Result<String, AllocError> {
-    let mut text = String::new(alloc);
-    for level in 0..count {
-        for _ in 0..level {
-            text.push_str("  ")?;
-        }
-        text.push_str("mcon list\n")?;
-    }
-    Ok(text)
-}
-
-#[test]
-fn no_tag_has_33_levels(rt: HostRuntime) -> Result<(), Fail> {
-    let table = standard(rt.alloc())?;
-    let accepted = nested(rt.alloc(), 32)?;
-    assert_eq!(rt; refusal(rt.alloc(), accepted.as_str(), &table), None);
-    let deep = nested(rt.alloc(), 33)?;
-    let want = Some(ShowError::Line { line: 33 });
-    assert_eq!(rt; refusal(rt.alloc(), deep.as_str(), &table), want);
-    Ok(())
 }

@@ -3,7 +3,7 @@
 ghost use Rattle.std.specs.Prelude.{◌≡◌, ◌≤◌, IfOk};
 ghost use Rattle.item_model.specs.Valid.{AreValid, IsValid};
 
-use crate::store::song::{song_like, year};
+use crate::store::song::{LATIN, song_in, year};
 use anyhow::ensure;
 use dmap_tags::Text;
 use item_model::{Edit, SharedRow};
@@ -96,7 +96,7 @@ fn put_song(alloc: Global, songs: u32, number: u32) -> anyhow::Result<Edit>
 {
     let id = id_at(songs, number)?;
     // The second time that a song is put, its year is one later.
-    let row = song_like(alloc, id, number.saturating_add(number / songs))?;
+    let row = song_in(alloc, id, number.saturating_add(number / songs), LATIN)?;
     Ok(Edit::PutItem {
         row: SharedRow::new(alloc, row)?,
     })

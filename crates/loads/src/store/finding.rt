@@ -9,20 +9,37 @@ use std::alloc::Global;
 /// The number of artists that are looked up.
 const LOOK_UPS: u32 = 1000;
 
+/// What is looked up in an index.
+#[derive(Clone, Copy)]
+pub enum Find {
+    Nothing,
+    /// The ids of a thousand artists.
+    Ids,
+    /// The candidates of a thousand queries.
+    Candidates,
+    /// All artists.
+    Values,
+}
+
 /// An index, and artists to look up in it, by name and by query.
 #[derive(Drop)]
 pub struct LookUps {
     index: PropIndex,
-    pub names: Vec<String>,
+    names: Vec<String>,
     queries: Vec<Query>,
 }
 
-/// Returns an index of the first songs, and what is to be looked up in it.
-pub fn look_ups(alloc: Global, songs: u32) -> anyhow::Result<LookUps> {
+/// Returns an index of the first songs.
+fn index_of(alloc: Global, songs: u32) -> anyhow::Result<PropIndex> {
     let mut index = PropIndex::new(alloc);
     for id in 0..songs {
         index.apply(None, Some(&song(alloc, id)?))?;
     }
+    Ok(index)
+}
+
+/// Returns an index of the first songs, and what is to be looked up in it.
+fn look_ups(alloc: Global, songs: u32) -> anyhow::Result<LookUps> {
     let artists = (songs / SONGS_EACH).max(1);
     let mut names = Vec::new(alloc);
     let mut queries = Vec::new(alloc);
@@ -34,14 +51,25 @@ pub fn look_ups(alloc: Global, songs: u32) -> anyhow::Result<LookUps> {
         names.push(name)?;
     }
     Ok(LookUps {
-        index,
+        index: index_of(alloc, songs)?,
         names,
         queries,
     })
 }
 
+/// Makes an index of the first songs, and returns how many ids or texts are found in it.
+pub fn found_in(alloc: Global, songs: u32, find: Find) -> anyhow::Result<u64> {
+    let made = look_ups(alloc, songs)?;
+    match find {
+        Find::Nothing => Ok(made.names.len() as u64),
+        Find::Ids => ids_found(&made),
+        Find::Candidates => candidates_found(&made),
+        Find::Values => values_found(&made),
+    }
+}
+
 /// Returns how many ids the index has under the names.
-pub fn ids_found(look_ups: &LookUps) -> anyhow::Result<u64> {
+fn ids_found(look_ups: &LookUps) -> anyhow::Result<u64> {
     let mut found = 0u64;
     for name in &look_ups.names {
         let ids = look_ups.index.ids_of(Browse::Artists, name.as_str())?;
@@ -51,7 +79,7 @@ pub fn ids_found(look_ups: &LookUps) -> anyhow::Result<u64> {
 }
 
 /// Returns how many candidates the queries have.
-pub fn candidates_found(look_ups: &LookUps) -> anyhow::Result<u64> {
+fn candidates_found(look_ups: &LookUps) -> anyhow::Result<u64> {
     let mut found = 0u64;
     for query in &look_ups.queries {
         if let Some(ids) = look_ups.index.candidates(query)? {
@@ -62,7 +90,7 @@ pub fn candidates_found(look_ups: &LookUps) -> anyhow::Result<u64> {
 }
 
 /// Returns how many artists there are.
-pub fn values_found(look_ups: &LookUps) -> anyhow::Result<u64> {
+fn values_found(look_ups: &LookUps) -> anyhow::Result<u64> {
     let texts = look_ups.index.values(Browse::Artists)?;
     Ok(texts.as_slice().len() as u64)
 }

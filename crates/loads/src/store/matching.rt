@@ -22,12 +22,6 @@ pub struct Searched {
     query: &'static str,
 }
 
-impl Searched {
-    pub fn len(&self) -> u64 {
-        self.rows.as_slice().len() as u64
-    }
-}
-
 /// Returns the first songs, with names in `letters`, and their query.
 pub fn named_songs(alloc: Global, songs: u32, letters: Letters) -> anyhow::Result<Searched> {
     let (words, query) = match letters {

@@ -46,39 +46,44 @@ pub fn song(alloc: Global, id: u32) -> anyhow::Result<Row>
     song_in(alloc, id, id, LATIN)
 }
 
-/// Returns a song with the id `id` and the properties of the song `number`.
-pub fn song_like(alloc: Global, id: u32, number: u32) -> anyhow::Result<Row>
-    ensures { IfOk result (λ row. row.id ≡ id) }
-{
-    song_in(alloc, id, number, LATIN)
-}
-
-/// Returns the song of `song_like`, with texts that begin with `words`.
+/// Returns a song with the id `id` and the properties of the song `number`, whose texts begin with `words`.
 pub fn song_in(alloc: Global, id: u32, number: u32, words: Words) -> anyhow::Result<Row>
     ensures { IfOk result (λ row. row.id ≡ id) }
 {
     let mut item = Item::new(alloc);
-    let name = format!(in alloc; "{} {number}", words.song)?;
-    let artist = format!(in alloc; "{} {}", words.artist, number / SONGS_EACH)?;
-    let album = format!(in alloc; "{} {}", words.album, number / 12)?;
-    let genre = format!(in alloc; "{} {}", words.genre, number % 20)?;
-    for (property, text) in [
-        (Property::Minm, name.as_str()),
-        (Property::Asar, artist.as_str()),
-        (Property::Asal, album.as_str()),
-        (Property::Asgn, genre.as_str()),
-    ] {
-        item.put(property, PropValue::Text(Text::of(alloc, text)?))?;
-    }
-    for (property, value) in [
-        (Property::Mikd, 2),
-        (Property::Asyr, year(number)),
-        (Property::Astn, 1 + number % 12),
-        (Property::Astm, 60_000 + number % 300_000),
-    ] {
-        item.put(property, PropValue::Number(u64::from(value)))?;
-    }
+    put_text(alloc, &mut item, Property::Minm, words.song, number)?;
+    put_text(
+        alloc,
+        &mut item,
+        Property::Asar,
+        words.artist,
+        number / SONGS_EACH,
+    )?;
+    put_text(alloc, &mut item, Property::Asal, words.album, number / 12)?;
+    put_text(alloc, &mut item, Property::Asgn, words.genre, number % 20)?;
+    put_number(&mut item, Property::Mikd, 2)?;
+    put_number(&mut item, Property::Asyr, year(number))?;
+    put_number(&mut item, Property::Astn, 1 + number % 12)?;
+    put_number(&mut item, Property::Astm, 60_000 + number % 300_000)?;
     Ok(Row { id, item })
+}
+
+// Without clauses, so that the proof of a song unfolds no call of `put`.
+fn put_text(
+    alloc: Global,
+    item: &mut Item,
+    property: Property,
+    word: &str,
+    number: u32,
+) -> anyhow::Result<()> {
+    let text = format!(in alloc; "{word} {number}")?;
+    item.put(property, PropValue::Text(Text::of(alloc, text.as_str())?))?;
+    Ok(())
+}
+
+fn put_number(item: &mut Item, property: Property, value: u32) -> anyhow::Result<()> {
+    item.put(property, PropValue::Number(u64::from(value)))?;
+    Ok(())
 }
 
 /// Returns the year of the song `number`: eighty years, one after another.
