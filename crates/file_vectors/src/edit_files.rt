@@ -1,10 +1,10 @@
-//! `edit_file`: files as a table, and each disk call failing in turn.
+//! `edit_file`: files as a table, each disk call failing in turn, and every image that a crash may leave.
 
 ghost use Rattle.std.specs.Prelude.{◌≡◌, false};
 
 use edit_file::{EditFile, FileError, Frame};
 use edit_keeping::Keeps;
-use outside_disks::{DiskOp, Failed, MemDisk};
+use outside_disks::{DiskCall, DiskOp, Failed, MemDisk};
 use records_import::{read_batch, write_batch};
 use std::alloc::Global;
 use std::string::String;
@@ -92,6 +92,15 @@ fn open_with(
     }
 }
 
+// The number of disk calls of opening.
+fn opening_calls(alloc: Global, start: &[u8], failing: &[u64]) -> Result<usize, Fail> {
+    let disk = match open_with(alloc, start, failing)? {
+        Ok(file) => file.into_disk(),
+        Err(disk) => disk,
+    };
+    Ok(disk.calls().len())
+}
+
 // Opens a file and appends a batch. Returns the disk, and whether both succeeded.
 fn grown(alloc: Global, start: &[u8], failing: &[u64]) -> Result<(MemDisk, bool), Fail> {
     match open_with(alloc, start, failing)? {
@@ -149,14 +158,163 @@ fn overlaid(alloc: Global, bytes: &[u8], at: usize, piece: &[u8]) -> Result<Vec<
     Ok(all)
 }
 
-// Makes a run of which one call is set to fail. Checks that the file then opens to the batches before, or to these and
-// the new one, and to the latter if it was acknowledged. Returns the number of calls, and whether all succeeded.
-fn run(alloc: Global, start: &[u8], failing: &[u64]) -> Result<(usize, bool), Fail> {
-    let (disk, done) = grown(alloc, start, failing)?;
+// A disk in memory, by the record of its calls: its bytes, which of its pieces are still to be written, and whether a
+// change may not be safe.
+#[derive(Drop)]
+struct Replay<'a> {
+    bytes: Vec<u8>,
+    pieces: &'a [u8],
+    is_pending: bool,
+    // this many calls are the same as in a run whose images were opened
+    known: usize,
+}
+
+// Whether all images of an interrupted write open to `fewest` batches, or to `most`. The piece is cut at each byte,
+// and the rest of it is as before, or is 01.
+fn torn_writes_open(
+    alloc: Global,
+    bytes: &[u8],
+    at: usize,
+    piece: &[u8],
+    fewest: usize,
+    most: usize,
+) -> Result<bool, Fail> {
+    for end in 0..=piece.len() {
+        let mut torn = Vec::from_slice(alloc, piece.get(..end).unwrap_or(piece))?;
+        let short = overlaid(alloc, bytes, at, torn.as_slice())?;
+        for _missing in end..piece.len() {
+            torn.push(1)?;
+        }
+        let filled = overlaid(alloc, bytes, at, torn.as_slice())?;
+        let (short, filled) = (
+            batches_in(alloc, short.as_slice())?,
+            batches_in(alloc, filled.as_slice())?,
+        );
+        if (short != fewest && short != most) || (filled != fewest && filled != most) {
+            return Ok(false);
+        }
+    }
+    Ok(true)
+}
+
+// The same for a truncation: some length from the wanted one to the old one.
+fn torn_cuts_open(
+    alloc: Global,
+    bytes: &[u8],
+    at: usize,
+    fewest: usize,
+    most: usize,
+) -> Result<bool, Fail> {
+    for end in at..=bytes.len() {
+        let found = batches_in(alloc, bytes.get(..end).unwrap_or(bytes))?;
+        if found != fewest && found != most {
+            return Ok(false);
+        }
+    }
+    Ok(true)
+}
+
+// Makes one more call, and returns whether all images of it open to `fewest` batches, or to `most`. A second change
+// while one is pending is refused, so that all images are those of one change.
+fn make_call(
+    alloc: Global,
+    disk: &mut Replay,
+    call: &DiskCall,
+    fewest: usize,
+    most: usize,
+) -> Result<bool, Fail> {
+    let at = call.at as usize;
+    let is_change = matches!(call.op, DiskOp::WriteAt | DiskOp::Cut);
+    if is_change && disk.is_pending {
+        return Ok(false);
+    }
+    disk.is_pending |= is_change;
+    let is_known = disk.known > 0;
+    disk.known = disk.known.saturating_sub(1);
+    match call.op {
+        DiskOp::WriteAt => {
+            let piece = disk.pieces.get(..call.len).unwrap_or(disk.pieces);
+            disk.pieces = disk.pieces.get(call.len..).unwrap_or(b"".as_slice());
+            let opens = is_known
+                || torn_writes_open(alloc, disk.bytes.as_slice(), at, piece, fewest, most)?;
+            if call.done {
+                disk.bytes = overlaid(alloc, disk.bytes.as_slice(), at, piece)?;
+            }
+            Ok(opens)
+        }
+        DiskOp::Cut => {
+            let opens = is_known || torn_cuts_open(alloc, disk.bytes.as_slice(), at, fewest, most)?;
+            if call.done {
+                disk.bytes.truncate(at);
+            }
+            Ok(opens)
+        }
+        DiskOp::Sync => {
+            disk.is_pending &= !call.done;
+            Ok(true)
+        }
+        DiskOp::Len | DiskOp::ReadAt => Ok(true),
+    }
+}
+
+// Whether every image of the calls opens to `fewest` batches, or to `most`.
+fn all_open(
+    alloc: Global,
+    disk: &mut Replay,
+    calls: &[DiskCall],
+    fewest: usize,
+    most: usize,
+) -> Result<bool, Fail> {
+    for call in calls {
+        if !make_call(alloc, disk, call, fewest, most)? {
+            return Ok(false);
+        }
+    }
+    Ok(true)
+}
+
+// Whether every image of opening the bytes has their batches, and every image of an append these, or these and one
+// more. Another run has shown it for the first `known` calls.
+fn images_open(
+    alloc: Global,
+    start: &[u8],
+    disk: &MemDisk,
+    opening: usize,
+    known: usize,
+) -> Result<bool, Fail> {
     let before = batches_in(alloc, start)?;
-    let after = batches_in(alloc, disk.bytes())?;
-    let is_kept = after == before.saturating_add(1);
-    if !is_kept && (done || after != before) {
+    let calls = disk.calls();
+    let mut replayed = Replay {
+        bytes: Vec::from_slice(alloc, start)?,
+        pieces: disk.pieces(),
+        is_pending: false,
+        known,
+    };
+    let opens = all_open(
+        alloc,
+        &mut replayed,
+        calls.get(..opening).unwrap_or(calls),
+        before,
+        before,
+    )?;
+    let appends = all_open(
+        alloc,
+        &mut replayed,
+        calls.get(opening..).unwrap_or(calls),
+        before,
+        before.saturating_add(1),
+    )?;
+    Ok(opens && appends)
+}
+
+// Makes a run of which one call is set to fail. Checks that all its images open, and that an acknowledged batch is in
+// them. Returns the number of calls, and whether all succeeded.
+fn run(alloc: Global, start: &[u8], failing: &[u64], known: usize) -> Result<(usize, bool), Fail> {
+    let (disk, done) = grown(alloc, start, failing)?;
+    let opening = opening_calls(alloc, start, failing)?;
+    let acknowledged = !done
+        || batches_in(alloc, disk.bytes())? == batches_in(alloc, start)?.saturating_add(1);
+    if !acknowledged || !images_open(alloc, start, &disk, opening, known)? {
         return Err(Fail::from(Failed));
     }
     Ok((disk.calls().len(), done))
@@ -164,12 +322,12 @@ fn run(alloc: Global, start: &[u8], failing: &[u64]) -> Result<(usize, bool), Fa
 
 // Each call fails in turn. Returns the number of calls; 0 if one of them was not the last.
 fn each_fails(alloc: Global, start: &[u8]) -> Result<usize, Fail> {
-    let (count, done) = run(alloc, start, &[])?;
+    let (count, done) = run(alloc, start, &[], 0)?;
     if !done {
         return Ok(0);
     }
     for number in 1..=count {
-        if run(alloc, start, &[number as u64])? != (number, false) {
+        if run(alloc, start, &[number as u64], number - 1)? != (number, false) {
             return Ok(0);
         }
     }
@@ -177,13 +335,13 @@ fn each_fails(alloc: Global, start: &[u8]) -> Result<usize, Fail> {
 }
 
 #[test]
-fn each_call_on_a_new_file_fails_in_turn(rt: HostRuntime) -> Result<(), Fail> {
+fn every_image_of_a_new_file_opens(rt: HostRuntime) -> Result<(), Fail> {
     assert_eq!(rt; each_fails(rt.alloc(), b"")?, 12);
     Ok(())
 }
 
 #[test]
-fn each_call_on_an_old_file_fails_in_turn(rt: HostRuntime) -> Result<(), Fail> {
+fn every_image_of_an_old_file_opens(rt: HostRuntime) -> Result<(), Fail> {
     let alloc = rt.alloc();
     let mut old = one_batch(alloc)?;
     old.extend_from_slice(b"\x01 of a torn append")?;
