@@ -149,39 +149,64 @@ fn two_rounds_are_followed(rt: HostRuntime) -> Result<(), Fail> {
     Ok(())
 }
 
-/// How many bytes of the replies a peer sends, which of its reads, of 50 bytes, fail, and how the follower ends.
-type Cut = (usize, &'static [u64], &'static str);
+/// The lengths of the replies up to the first listing and up to the second.
+#[derive(Clone, Copy)]
+struct Listings {
+    first: usize,
+    second: usize,
+}
 
-const CUTS: [Cut; 8] = [
-    (0, &[], "Ended { at: 0 } 0/0"),
-    (814, &[], "Ended { at: 814 } 0/0"),
-    (1027, &[], "Ended { at: 1027 } 3/1"),
-    (1230, &[], "Ended { at: 1230 } 4/0"),
-    (1256, &[], "Ended { at: 1256 } 4/0"),
-    (1257, &[1], "LinkFault 0/0"),
-    (1257, &[22], "LinkFault 3/1"),
-    (1257, &[26], "LinkFault 4/0"),
-];
+fn listing_lengths(alloc: Global) -> Result<Listings, AllocError> {
+    Ok(Listings {
+        first: replies(alloc, ONE_ROUND)?.len(),
+        second: replies(alloc, TWO_ROUNDS)?.len(),
+    })
+}
 
-/// Follows a peer that sends `len` bytes of its replies, and of which the reads `failing` fail.
-fn cut(alloc: Global, len: usize, failing: &[u64]) -> Result<String, AllocError> {
-    let input = two_rounds(alloc)?;
-    match input.as_slice().get(..len) {
-        Some(front) => follow(alloc, front, 50, failing),
+/// Returns the revision and the number of rows of a mirror after `at` bytes of the replies to two rounds.
+fn held(at: usize, listings: Listings) -> &'static str {
+    if at < listings.first {
+        "0/0"
+    } else if at < listings.second {
+        "3/1"
+    } else {
+        "4/0"
+    }
+}
+
+fn ends_at(alloc: Global, input: &[u8], at: usize) -> Result<String, AllocError> {
+    match input.get(..at) {
+        Some(front) => follow(alloc, front, 4096, &[]),
         None => Err(AllocError),
     }
 }
 
-fn all_are_cut(rt: &impl Abort, alloc: Global, rows: &[Cut]) -> Result<(), Fail> {
-    for (len, failing, end) in rows {
-        assert_eq!(rt; cut(alloc, *len, failing)?.as_str(), *end);
+#[test]
+fn a_peer_may_end_at_every_byte(rt: HostRuntime) -> Result<(), Fail> {
+    let alloc = rt.alloc();
+    let input = two_rounds(alloc)?;
+    let listings = listing_lengths(alloc)?;
+    for at in 0..input.len() {
+        let held = held(at, listings);
+        let expected = format!(in alloc; "Ended {{ at: {at} }} {held}")?;
+        let text = ends_at(alloc, input.as_slice(), at)?;
+        assert_eq!(rt; text.as_str(), expected.as_str());
     }
     Ok(())
 }
 
 #[test]
-fn a_link_may_end_or_fail(rt: HostRuntime) -> Result<(), Fail> {
-    all_are_cut(&rt, rt.alloc(), &CUTS)
+fn each_read_may_fail(rt: HostRuntime) -> Result<(), Fail> {
+    let alloc = rt.alloc();
+    let input = two_rounds(alloc)?;
+    let listings = listing_lengths(alloc)?;
+    for call in 0..input.len() / 50 {
+        let held = held(call * 50, listings);
+        let expected = format!(in alloc; "LinkFault {held}")?;
+        let text = follow(alloc, input.as_slice(), 50, &[call as u64 + 1])?;
+        assert_eq!(rt; text.as_str(), expected.as_str());
+    }
+    Ok(())
 }
 
 /// Follows a peer that sends `bodies` with 200, then `body` with `status`, and then nothing.

@@ -1,5 +1,5 @@
-//! `kept_library`: a file that keeps the edits of a share is opened again and again; files that are not edit files, or
-//! whose batches pass a limit, are refused.
+//! `kept_library`: a file that keeps the edits of a share is opened again and again; each of its calls fails in turn;
+//! files that are not edit files, or whose batches pass a limit, are refused.
 
 use command_core::Fault;
 use edit_file::Frame;
@@ -29,6 +29,17 @@ type Opened = Result<KeptLibrary<MemDisk>, Fault<FileFault>>;
 fn opened(alloc: Global, files: &mut MemFiles, input: &str) -> Result<Opened, Fail> {
     let first = read_batch(alloc, input.as_bytes())?;
     Ok(open_library(alloc, files, "edits", "Demo", 16, first))
+}
+
+/// Opens a share and its file. Returns the revision, or the status of the error.
+fn opens(alloc: Global, files: &mut MemFiles, input: &str) -> Result<Result<u32, u8>, Fail> {
+    match opened(alloc, files, input)? {
+        Ok(kept) => {
+            close_file(files, kept.file)?;
+            Ok(Ok(kept.share.revision()))
+        }
+        Err(fault) => Ok(Err(fault.status())),
+    }
 }
 
 /// The records of the input, those of an edit after it, and the revision at which the share is opened.
@@ -77,6 +88,36 @@ fn has_turns(
 fn a_share_is_opened_with_what_its_file_kept(rt: HostRuntime) -> Result<(), Fail> {
     let mut files = files_with(rt.alloc(), &[&[], &[], &[], &[], &[]])?;
     has_turns(&rt, rt.alloc(), &mut files, &TURNS)
+}
+
+/// Opens a new file with an input, the call with the number `failing` fails, and then opens the file again.
+fn opens_twice(alloc: Global, failing: u64) -> Result<(Result<u32, u8>, Result<u32, u8>), Fail> {
+    let mut files = files_with(alloc, &[&[failing], &[]])?;
+    let first = opens(alloc, &mut files, SONG)?;
+    let second = opens(alloc, &mut files, NONE)?;
+    Ok((first, second))
+}
+
+/// This many calls make a file and append to it.
+const CALLS: u64 = 12;
+
+/// Returns whether an error is returned exactly if one of these calls fails, and the file then opens with the batch or
+/// without it.
+fn each_fails(alloc: Global) -> Result<bool, Fail> {
+    for number in 1..=CALLS {
+        let (first, second) = opens_twice(alloc, number)?;
+        if first != Err(10) || (second != Ok(2) && second != Ok(3)) {
+            return Ok(false);
+        }
+    }
+    Ok(opens_twice(alloc, CALLS + 1)? == (Ok(3), Ok(3)))
+}
+
+#[test]
+fn each_call_that_fails_is_told(rt: HostRuntime) -> Result<(), Fail> {
+    assert!(rt; each_fails(rt.alloc())?);
+    assert_eq!(rt; opens(rt.alloc(), &mut MemFiles::new(), NONE)?, Err(10));
+    Ok(())
 }
 
 /// The bytes of a file, the id of the last list that the input puts, from 2 on, and the line and the status of the
