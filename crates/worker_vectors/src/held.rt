@@ -34,28 +34,61 @@ const BEFORE_EDIT: u64 = 224;
 const AFTER_EDIT: u64 = 336;
 
 /// The statuses on the connection of a worker, how the connection ended, and how the worker ended.
-pub type Outcome = (&'static [u16], LinkEnd, WorkerEnd);
+#[derive(Clone, Copy)]
+pub struct Outcome {
+    pub statuses: &'static [u16],
+    pub link: LinkEnd,
+    pub worker: WorkerEnd,
+}
 
 /// The player's long polls are answered at an edit, and refused at a stop after it.
-pub const HEARS_BOTH: Outcome = (&[200, 200, 200, 503], LinkEnd::Stopped, WorkerEnd::Stopped);
+pub const HEARS_BOTH: Outcome = Outcome {
+    statuses: &[200, 200, 200, 503],
+    link: LinkEnd::Stopped,
+    worker: WorkerEnd::Stopped,
+};
 
-const MAKES_BOTH: Outcome = (&[200, 204], LinkEnd::Stopped, WorkerEnd::Stopped);
+const MAKES_BOTH: Outcome = Outcome {
+    statuses: &[200, 204],
+    link: LinkEnd::Stopped,
+    worker: WorkerEnd::Stopped,
+};
 
-const HEARS_STOP: Outcome = (&[200, 200, 503], LinkEnd::Stopped, WorkerEnd::Stopped);
+const HEARS_STOP: Outcome = Outcome {
+    statuses: &[200, 200, 503],
+    link: LinkEnd::Stopped,
+    worker: WorkerEnd::Stopped,
+};
 
-const MAKES_STOP: Outcome = (&[204], LinkEnd::Stopped, WorkerEnd::Stopped);
+const MAKES_STOP: Outcome = Outcome {
+    statuses: &[204],
+    link: LinkEnd::Stopped,
+    worker: WorkerEnd::Stopped,
+};
 
-const HEARS_LOGOUT: Outcome = (
-    &[200, 200, 403, 403],
-    LinkEnd::Closed,
-    WorkerEnd::NoMoreLinks,
-);
+const HEARS_LOGOUT: Outcome = Outcome {
+    statuses: &[200, 200, 403, 403],
+    link: LinkEnd::Closed,
+    worker: WorkerEnd::NoMoreLinks,
+};
 
-const MAKES_LOGOUT: Outcome = (&[204], LinkEnd::Closed, WorkerEnd::NoMoreLinks);
+const MAKES_LOGOUT: Outcome = Outcome {
+    statuses: &[204],
+    link: LinkEnd::Closed,
+    worker: WorkerEnd::NoMoreLinks,
+};
 
-const ONE_REPLY: Outcome = (&[200], LinkEnd::Closed, WorkerEnd::NoMoreLinks);
+const ONE_REPLY: Outcome = Outcome {
+    statuses: &[200],
+    link: LinkEnd::Closed,
+    worker: WorkerEnd::NoMoreLinks,
+};
 
-const TWO_REPLIES: Outcome = (&[200, 200], LinkEnd::Closed, WorkerEnd::NoMoreLinks);
+const TWO_REPLIES: Outcome = Outcome {
+    statuses: &[200, 200],
+    link: LinkEnd::Closed,
+    worker: WorkerEnd::NoMoreLinks,
+};
 
 /// A runtime whose clock can't be read: a long poll that is pending there waits only for the bell, however long.
 #[derive(Drop)]
@@ -111,8 +144,7 @@ fn tells(report: Option<&LinkReport>, statuses: &[u16], end: LinkEnd) -> bool {
 
 /// Returns whether a worker and its connection ended as expected.
 pub fn has_ended<D>(worker: &Worker<D>, outcome: &Outcome) -> bool {
-    let (statuses, link, end) = *outcome;
-    worker.end == end && tells(worker.reports.first(), statuses, link)
+    worker.end == outcome.worker && tells(worker.reports.first(), outcome.statuses, outcome.link)
 }
 
 fn have_ended<D>(workers: &[Worker<D>], first: &Outcome, second: &Outcome) -> bool {

@@ -50,7 +50,11 @@ impl Keeps for OneKept {
 }
 
 /// The first edit is answered. The second is lost, and gets no reply.
-const LOSES_SECOND: Outcome = (&[200], LinkEnd::FileFault, WorkerEnd::FileFault);
+const LOSES_SECOND: Outcome = Outcome {
+    statuses: &[200],
+    link: LinkEnd::FileFault,
+    worker: WorkerEnd::FileFault,
+};
 
 fn have_ended<D>(players: &[Worker<D>], editor: &Worker<D>) -> bool {
     match players {
