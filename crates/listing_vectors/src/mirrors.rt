@@ -70,7 +70,8 @@ fn look(alloc: Global, mirror: &Mirror) -> Result<String, AllocError> {
     format!(in alloc; "{look:?}")
 }
 
-fn follow(
+/// Applies the bodies one after another, and compares the results.
+fn take_in_all(
     rt: &impl Abort,
     alloc: Global,
     mirror: &mut Mirror,
@@ -79,6 +80,11 @@ fn follow(
     for told in listings {
         takes_in(rt, alloc, mirror, told)?;
     }
+    Ok(())
+}
+
+/// Checks the next request of the mirror.
+fn looks(rt: &impl Abort, alloc: Global, mirror: &Mirror) -> Result<(), Fail> {
     let look = look(alloc, mirror)?;
     assert_eq!(rt;
         look.as_str(),
@@ -90,5 +96,6 @@ fn follow(
 #[test]
 fn bodies_are_taken_in_or_refused(rt: HostRuntime) -> Result<(), Fail> {
     let mut mirror = Mirror::new(rt.alloc(), Target::Items, None, Meta::All);
-    follow(&rt, rt.alloc(), &mut mirror, &TOLD)
+    take_in_all(&rt, rt.alloc(), &mut mirror, &TOLD)?;
+    looks(&rt, rt.alloc(), &mirror)
 }

@@ -163,7 +163,8 @@ fn served<R: Threads + Wait + Clock + Sync>(
     second: &Outcome,
 ) -> Result<bool, AllocError> {
     let written = Written::new();
-    let workers = run(rt, alloc, posts_of(alloc, plans, &written)?)?;
+    let posts = posts_of(alloc, plans, &written)?;
+    let workers = run(rt, alloc, posts)?;
     Ok(have_ended(workers.as_slice(), first, second))
 }
 
