@@ -147,9 +147,29 @@ pub fn has_ended<D>(worker: &Worker<D>, outcome: &Outcome) -> bool {
     worker.end == outcome.worker && tells(worker.reports.first(), outcome.statuses, outcome.link)
 }
 
-fn have_ended<D>(workers: &[Worker<D>], first: &Outcome, second: &Outcome) -> bool {
+/// What two workers live through.
+#[derive(Clone, Copy)]
+enum Story {
+    /// A player's long polls, and an edit and a stop.
+    EditAndStop,
+    /// A player's long polls, and the logout of its session.
+    Logout,
+    /// A player that is slow to read, and two edits.
+    SlowReader,
+}
+
+fn outcomes_of(story: Story) -> (Outcome, Outcome) {
+    match story {
+        Story::EditAndStop => (HEARS_BOTH, MAKES_BOTH),
+        Story::Logout => (HEARS_LOGOUT, MAKES_LOGOUT),
+        Story::SlowReader => (ONE_REPLY, TWO_REPLIES),
+    }
+}
+
+fn have_ended<D>(workers: &[Worker<D>], story: Story) -> bool {
+    let (first, second) = outcomes_of(story);
     match workers {
-        [one, other] => has_ended(one, first) && has_ended(other, second),
+        [one, other] => has_ended(one, &first) && has_ended(other, &second),
         _ => false,
     }
 }
@@ -159,13 +179,12 @@ fn served<R: Threads + Wait + Clock + Sync>(
     rt: &R,
     alloc: Global,
     plans: &(Plan, Plan),
-    first: &Outcome,
-    second: &Outcome,
+    story: Story,
 ) -> Result<bool, AllocError> {
     let written = Written::new();
     let posts = posts_of(alloc, plans, &written)?;
     let workers = run(rt, alloc, posts)?;
-    Ok(have_ended(workers.as_slice(), first, second))
+    Ok(have_ended(workers.as_slice(), story))
 }
 
 fn read_clock<C: Clock>(clock: &C) -> Result<Duration, AllocError> {
@@ -181,11 +200,10 @@ fn woken<R: Threads + Wait + Clock + Sync>(
     rt: &R,
     alloc: Global,
     plans: &(Plan, Plan),
-    first: &Outcome,
-    second: &Outcome,
+    story: Story,
 ) -> Result<(bool, bool), AllocError> {
     let begun = read_clock(rt)?;
-    let is_well = served(rt, alloc, plans, first, second)?;
+    let is_well = served(rt, alloc, plans, story)?;
     let spent = read_clock(rt)?.saturating_sub(begun);
     Ok((is_well, spent < Duration::from_secs(5)))
 }
@@ -193,7 +211,7 @@ fn woken<R: Threads + Wait + Clock + Sync>(
 #[test]
 fn an_edit_and_a_stop_wake_what_is_held(rt: HostRuntime) -> Result<(), Fail> {
     let plans = (player(&[]), editor(EDITORS_REQUESTS));
-    let (is_well, prompt) = woken(&rt, rt.alloc(), &plans, &HEARS_BOTH, &MAKES_BOTH)?;
+    let (is_well, prompt) = woken(&rt, rt.alloc(), &plans, Story::EditAndStop)?;
     assert!(rt; is_well && prompt);
     Ok(())
 }
@@ -205,7 +223,7 @@ fn a_logout_wakes_what_is_held(rt: HostRuntime) -> Result<(), Fail> {
         ..plain(Role::Listen, LOGOUT)
     };
     let plans = (player(&[]), other);
-    let (is_well, prompt) = woken(&rt, rt.alloc(), &plans, &HEARS_LOGOUT, &MAKES_LOGOUT)?;
+    let (is_well, prompt) = woken(&rt, rt.alloc(), &plans, Story::Logout)?;
     assert!(rt; is_well && prompt);
     Ok(())
 }
@@ -218,7 +236,7 @@ fn an_edit_waits_for_no_slow_reader(rt: HostRuntime) -> Result<(), Fail> {
         ..plain(Role::Listen, INFO)
     };
     let plans = (slow, plain(Role::Edit, TWO_EDITS));
-    assert!(rt; served(&rt, rt.alloc(), &plans, &ONE_REPLY, &TWO_REPLIES)?);
+    assert!(rt; served(&rt, rt.alloc(), &plans, Story::SlowReader)?);
     Ok(())
 }
 
