@@ -213,12 +213,23 @@ fn marks(
     Ok(response.status == status && share.seen(1) == Some(mark))
 }
 
+fn has_marks(
+    alloc: Global,
+    share: &mut Share,
+    rows: &[(Request, u16, u64)],
+) -> Result<bool, AllocError> {
+    for (request, status, mark) in rows {
+        if !marks(alloc, share, *request, *status, *mark)? {
+            return Ok(false);
+        }
+    }
+    Ok(true)
+}
+
 #[test]
 fn an_answer_to_a_session_moves_its_mark(rt: HostRuntime) -> Result<(), Fail> {
     let mut share = opened(rt.alloc(), 16, "")?;
-    for (request, status, mark) in &MARKS {
-        assert!(rt; marks(rt.alloc(), &mut share, *request, *status, *mark)?);
-    }
+    assert!(rt; has_marks(rt.alloc(), &mut share, &MARKS)?);
     assert!(rt; share.seen(2).is_none());
     Ok(())
 }
