@@ -271,7 +271,7 @@ const ENDS: [End; 10] = [
         OLDER,
         "Listing(Backwards { held: 3, told: 2 }) 3/1",
     ),
-    (&[CODES], "200 OK", UPDATE, "BadReply { at: 885 } 0/0"),
+    (&[CODES], "200 OK", UPDATE, "BadReply { at: 892 } 0/0"),
 ];
 
 #[test]
