@@ -142,28 +142,19 @@ fn push_cond(out: &mut String, cond: &Cond) -> Result<(), AllocError>
 {
     out.push('\'')?;
     out.push_str(cond.name.as_str())?;
-    push_op(out, cond.op)?;
+    out.push_str(op_text(cond.op))?;
     push_pieces(out, cond.pattern.pieces())?;
     out.push('\'')
 }
 
-fn push_op(out: &mut String, op: Op) -> Result<(), AllocError>
-    ensures { OnOk result (string_bytes out.new ≡ string_bytes out.old ++ print_op op) }
+fn op_text(op: Op) -> &'static str
+    ensures { result.now ≡ print_op op }
 {
     match op {
-        Op::Is => out.push(':'),
-        Op::IsNot => {
-            out.push('!')?;
-            out.push(':')
-        }
-        Op::Less => {
-            out.push('<')?;
-            out.push(':')
-        }
-        Op::More => {
-            out.push('>')?;
-            out.push(':')
-        }
+        Op::Is => ":",
+        Op::IsNot => "!:",
+        Op::Less => "<:",
+        Op::More => ">:",
     }
 }
 
