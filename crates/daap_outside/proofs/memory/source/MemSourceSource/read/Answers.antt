@@ -1,7 +1,11 @@
-use Rattle.std.proofs.Common.{◌≡◌, ◌≤◌, ◌+◌, drop, length, length-drop, arith, ap, ◌∙◌}
+use Rattle.std.proofs.Common.{◌≡◌, ◌≤◌, ◌+◌, drop, length, length-drop, arith, ap, rules, ◌∙◌}
 use Rattle.std.proofs.lemmas.List.{nil_from_length}
 use Rattle.daap_outside.proofs.Moving.{moved_front}
 use Rattle.daap_outside.proofs.memory.source.MemSourceSource.read.Goals as goal
+
+-- One search proves all clauses of a return. A search for each clause, as without an answer, takes far longer.
+pub returns-then-contains : goal.returns-then-contains
+returns-then-contains c = search rules
 
 -- the bytes that were copied are the first that were left, and there are none only if none were left
 pub returns-clause-moved : goal.returns-clause-moved
