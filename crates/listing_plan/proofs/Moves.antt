@@ -83,6 +83,24 @@ pub pushes_cut : (a b : List ℕ) (e : Failed) (r : Result Unit Failed) (t0 t1 :
 pushes_cut a b e (Ok u) t0 t1 p0 p1 p2 f0 f1 h first = absurd (cc)
 pushes_cut a b e (Err d) t0 t1 p0 p1 p2 f0 f1 h first = record { ok = tt; err = cut_less p0 a b t0 t1 first.err; count = tt; failed = first.failed }
 
+-- room was made on the page, and bytes were put on it
+pub pushes_put : (bytes : List ℕ) (t0 t1 : Option (List ℕ)) (p0 p1 p2 : List ℕ) (f0 f1 : ℕ) → Pushes [] (Ok tt) t0 t1 p0 p1 f0 f1 → p2 ≡ p1 ++ bytes → Pushes bytes (Ok tt) t0 t1 p0 p2 f0 f1
+pushes_put bytes t0 t1 p0 p1 p2 f0 f1 first put =
+    pushes_then [] bytes (Ok tt) t0 t1 t1 p0 p1 p2 f0 f1 f1 first (record { ok = moved_put bytes t1 p1 p2 put; err = tt; count = refl; failed = tt })
+
+-- no room could be made
+pub pushes_none : (bytes : List ℕ) (e : Failed) (r : Result Unit Failed) (t0 t1 : Option (List ℕ)) (p0 p1 p2 : List ℕ) (f0 f1 : ℕ) → IsErr r → Pushes [] (Err e) t0 t1 p0 p1 f0 f1 → Pushes bytes r t0 t1 p0 p2 f0 f1
+pushes_none = pushes_cut []
+
+-- the page was written
+pub pushes_flushed : (bytes page : List ℕ) (t0 t1 : Option (List ℕ)) (f0 f1 : ℕ) → bytes ≡ page → Appends t0 t1 bytes → f1 ≡ f0 → Pushes [] (Ok tt) t0 t1 page [] f0 f1
+pushes_flushed bytes page t0 t1 f0 f1 e all count = record { ok = record { front = page; taken = subst (Appends t0 t1) e all; parts = refl }; err = tt; count = count; failed = tt }
+
+-- the page could not be written
+pub pushes_kept : (bytes page page' : List ℕ) (r : Result Unit Failed) (t0 t1 : Option (List ℕ)) (f0 f1 : ℕ) → IsErr r → bytes ≡ page → AppendsPrefix t0 t1 bytes → Rose f0 f1 → Pushes [] r t0 t1 page page' f0 f1
+pushes_kept bytes page page' (Ok u) t0 t1 f0 f1 h e part rose = absurd (cc)
+pushes_kept bytes page page' (Err d) t0 t1 f0 f1 h e part rose = record { ok = tt; err = subst (AppendsPrefix t0 t1) (e ∙ sym (append-nil page)) part; count = tt; failed = rose }
+
 -- of some pieces that are pushed in turn, those are left
 pub record Left (rest all : List ℕ) (told now : Option (List ℕ)) (page page' : List ℕ) (faults faults' : ℕ) : Type 0 where
   pub done : List ℕ
