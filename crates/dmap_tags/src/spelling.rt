@@ -129,26 +129,20 @@ fn push_payload(tag: &Tag, out: &mut Vec<u8>) -> Result<(), AllocError>
     ensures front { OnErr result (Begins out.old.items out.new.items) }
 {
     match &tag.value {
-        Value::U8(n) => push_number(n.to_be_bytes(), out),
-        Value::I8(n) => push_number(n.to_be_bytes(), out),
-        Value::U16(n) => push_number(n.to_be_bytes(), out),
-        Value::I16(n) => push_number(n.to_be_bytes(), out),
-        Value::U32(n) | Value::Date(n) | Value::Version(n) => push_number(n.to_be_bytes(), out),
-        Value::I32(n) => push_number(n.to_be_bytes(), out),
-        Value::U64(n) => push_number(n.to_be_bytes(), out),
-        Value::I64(n) => push_number(n.to_be_bytes(), out),
+        Value::U8(n) => out.extend_from_slice(&n.to_be_bytes()),
+        Value::I8(n) => out.extend_from_slice(&n.to_be_bytes()),
+        Value::U16(n) => out.extend_from_slice(&n.to_be_bytes()),
+        Value::I16(n) => out.extend_from_slice(&n.to_be_bytes()),
+        Value::U32(n) => out.extend_from_slice(&n.to_be_bytes()),
+        Value::I32(n) => out.extend_from_slice(&n.to_be_bytes()),
+        Value::U64(n) => out.extend_from_slice(&n.to_be_bytes()),
+        Value::I64(n) => out.extend_from_slice(&n.to_be_bytes()),
         Value::Text(text) => out.extend_from_slice(text.as_str().as_bytes()),
+        Value::Date(n) => out.extend_from_slice(&n.to_be_bytes()),
+        Value::Version(n) => out.extend_from_slice(&n.to_be_bytes()),
         Value::List(tags) => push_tags(tags.as_slice(), out),
         Value::Opaque(bytes) => out.extend_from_slice(bytes.as_slice()),
     }
-}
-
-/// Appends the bytes of a number.
-fn push_number<const N: usize>(bytes: [u8; N], out: &mut Vec<u8>) -> Result<(), AllocError>
-    ensures spelled { OnOk result (out.new.items ≡ out.old.items ++ bytes.entry) }
-    ensures front { OnErr result (Begins out.old.items out.new.items) }
-{
-    out.extend_from_slice(&bytes)
 }
 
 /// Appends the encodings of a list's members.
