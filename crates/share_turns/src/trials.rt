@@ -1,6 +1,6 @@
-//! Two handles, threads, and the bell.
+//! Trials of the lock and of the bell: two handles, threads that take turns, and threads that wait.
 
-ghost use Rattle.std.specs.Prelude.{All};
+ghost use Rattle.std.specs.Prelude.{◌+◌, ◌<◌, ◌^◌, All};
 ghost use Rattle.share_lock.specs.Passes.{lock_id, IsReady};
 
 use crate::crew::{crew, new_workers};
@@ -9,9 +9,9 @@ use crate::threads::work_all;
 use crate::work::{Worker, add};
 use share_lock::{Bell, Pass, ShareLock};
 use std::alloc::{AllocError, Global};
+use std::io;
 use std::sync::Wait;
 use std::sync::atomic::{AtomicU64, Ordering};
-use std::test::Fail;
 use std::thread::{Threads, join, sleep};
 use std::time::{Clock, CpuClock, Duration};
 
@@ -29,15 +29,20 @@ fn two_passes<R: Wait>(rt: &R, alloc: Global) -> Result<(Numbers, u32, u64), All
     Ok((lock.end(turn), number, seen))
 }
 
-#[test]
-fn two_passes_share_one_list(rt: HostRuntime) -> Result<(), Fail> {
-    let (list, number, seen) = two_passes(&rt, rt.alloc())?;
-    assert!(rt; number == 1);
-    assert!(rt; seen == 1);
-    assert!(rt; list.items.len() == 1);
-    assert!(rt; list.items[0].by == 1);
-    assert!(rt; list.items[0].value == 5);
-    Ok(())
+// Whether the list that two handles leave has the one number that was added, and what the handles knew is right.
+fn two_passes_share_one_list<R: Wait>(rt: &R, alloc: Global) -> bool {
+    match two_passes(rt, alloc) {
+        Ok((list, number, seen)) => number == 1 && seen == 1 && is_five_of_one(&list),
+        Err(_) => false,
+    }
+}
+
+// Whether handle 1 added 5, and nothing else was added.
+fn is_five_of_one(list: &Numbers) -> bool {
+    match list.items.first() {
+        Some(number) => list.items.len() == 1 && number.by == 1 && number.value == 5,
+        None => false,
+    }
 }
 
 // Whether the numbers of each worker are those from 0, in order, and there are no others.
@@ -52,39 +57,40 @@ fn is_whole(list: &Numbers, workers: u32, turns: u64) -> bool {
     each && u64::from(workers).checked_mul(turns) == Some(list.items.len() as u64)
 }
 
-#[test]
-fn two_threads_take_turns(rt: HostRuntime) -> Result<(), Fail> {
-    let list = crew(&rt, rt.alloc(), 2, 4000)?;
-    assert!(rt; is_whole(&list, 2, 4000));
-    Ok(())
+// Whether threads that take turns leave a list with all their numbers.
+fn threads_take_turns<R: Threads + Wait + Sync>(
+    rt: &R,
+    alloc: Global,
+    workers: u32,
+    turns: u64,
+) -> bool
+    requires { workers + 1 < 2 ^ 32 }
+{
+    match crew(rt, alloc, workers, turns) {
+        Ok(list) => is_whole(&list, workers, turns),
+        Err(_) => false,
+    }
 }
 
-#[test]
-fn eight_threads_take_turns(rt: HostRuntime) -> Result<(), Fail> {
-    let list = crew(&rt, rt.alloc(), 8, 2000)?;
-    assert!(rt; is_whole(&list, 8, 2000));
-    Ok(())
-}
-
-#[test]
-fn the_bell_wakes_who_waits(rt: HostRuntime) {
+// A thread that waits at the bell continues when another rings it.
+fn wake_who_waits<R: Threads + Wait + Sync>(rt: &R) {
     let bell = Bell::new();
     join(
-        &rt,
-        || bell.wait(&rt, 2),
+        rt,
+        || bell.wait(rt, 2),
         || {
-            bell.ring(&rt, 1);
-            bell.ring(&rt, 3);
+            bell.ring(rt, 1);
+            bell.ring(rt, 3);
         },
     );
 }
 
-#[test]
-fn the_bell_forgets_no_ring(rt: HostRuntime) {
+// The bell forgets no ring.
+fn wait_for_an_earlier_ring<R: Wait>(rt: &R) {
     let bell = Bell::new();
-    bell.ring(&rt, 3);
-    bell.ring(&rt, 1);
-    bell.wait(&rt, 2);
+    bell.ring(rt, 3);
+    bell.ring(rt, 1);
+    bell.wait(rt, 2);
 }
 
 // Keeps a turn for a second, and sets `taken` once it has it.
@@ -124,7 +130,7 @@ fn work_behind<R: Threads + Wait + Clock + Sync>(
 fn time_of_waiting<R: Threads + Wait + Clock + CpuClock + Sync>(
     rt: &R,
     alloc: Global,
-) -> Result<Duration, Fail> {
+) -> io::Result<Duration> {
     let (lock, mut first) = ShareLock::open(alloc, Numbers::new(alloc), 9)?;
     let mut workers = new_workers(rt, alloc, &lock, &mut first, 8, 1)?;
     let workers = workers.as_mut_slice();
@@ -140,10 +146,41 @@ fn time_of_waiting<R: Threads + Wait + Clock + CpuClock + Sync>(
     Ok(rt.process_cpu_time()?.saturating_sub(before))
 }
 
-// Eight threads that polled would use the processor for a second and more.
-#[test]
-fn eight_threads_wait_for_their_turns_asleep(rt: HostRuntime) -> Result<(), Fail> {
-    let time = time_of_waiting(&rt, rt.alloc())?;
-    assert!(rt; time < Duration::from_millis(300));
-    Ok(())
+// Whether eight threads sleep while they wait for their turns. Threads that polled would use the processor for a
+// second and more.
+fn eight_threads_wait_asleep<R: Threads + Wait + Clock + CpuClock + Sync>(
+    rt: &R,
+    alloc: Global,
+) -> bool {
+    match time_of_waiting(rt, alloc) {
+        Ok(time) => time < Duration::from_millis(300),
+        Err(_) => false,
+    }
+}
+
+/// Prints the result of each trial.
+pub fn print_trials<R: Threads + Wait + Clock + CpuClock + Sync + Print>(
+    rt: &R,
+    alloc: Global,
+) -> io::Result<()> {
+    println!(rt;
+        "two handles share one list: {}",
+        two_passes_share_one_list(rt, alloc)
+    )?;
+    println!(rt;
+        "two threads take turns: {}",
+        threads_take_turns(rt, alloc, 2, 4000)
+    )?;
+    println!(rt;
+        "eight threads take turns: {}",
+        threads_take_turns(rt, alloc, 8, 2000)
+    )?;
+    wake_who_waits(rt);
+    println!(rt; "a bell wakes who waits")?;
+    wait_for_an_earlier_ring(rt);
+    println!(rt; "a bell forgets no ring")?;
+    println!(rt;
+        "eight threads wait asleep: {}",
+        eight_threads_wait_asleep(rt, alloc)
+    )
 }
