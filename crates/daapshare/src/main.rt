@@ -1,22 +1,9 @@
 //! `daapshare`: a server and a mirror client for a shared music catalogue over DAAP.
-//! `run` ends as the specification of its arguments' command says (`specs/Table.antt`), over any input and output.
+//! `main` makes the real input, output, files and network, and ends with the status of `run` (`command_runs`).
 #![tactic(auto)]
 
-pub mod laws;
-mod local;
-#[cfg(test)]
-mod loopback;
-mod outcome;
-mod over_net;
-mod run;
-#[cfg(test)]
-mod tests;
-mod usage;
-
-use crate::outcome::{Outcome, unlinked};
-use crate::run::run;
-use crate::usage::UsageFault;
 use command_core::{Fault, out_of_memory, write_error};
+use command_runs::{UsageFault, run};
 use daap_outside::{Files, Net, Reading, SystemFiles, TcpNet, Writing};
 use std::alloc::Global;
 use std::io::{ErrorKind, Read, Write};
@@ -44,7 +31,7 @@ fn texts_of(alloc: Global, words: &[String]) -> io::Result<Vec<&str>> {
     Ok(texts)
 }
 
-/// Runs the program over its standard input and output.
+/// Runs the program over its standard input and output. Returns the status.
 fn run_on<R: Threads + Wait + Clock + Sync, I: Read, W: Write, F: Files, N: Net>(
     rt: &R,
     alloc: Global,
@@ -53,10 +40,10 @@ fn run_on<R: Threads + Wait + Clock + Sync, I: Read, W: Write, F: Files, N: Net>
     output: &mut Writing<W>,
     files: &mut F,
     net: &mut N,
-) -> Outcome {
+) -> u8 {
     match texts_of(alloc, words) {
-        Ok(texts) => run(rt, alloc, texts.as_slice(), input, output, files, net),
-        Err(_) => unlinked(alloc, out_of_memory(output, None)),
+        Ok(texts) => run(rt, alloc, texts.as_slice(), input, output, files, net).status,
+        Err(_) => out_of_memory(output, None).status,
     }
 }
 
@@ -67,18 +54,15 @@ fn main(rt: HostRuntime) -> ExitCode {
     let mut files = SystemFiles::new(&rt);
     let mut net = TcpNet::new(&rt, alloc);
     let status = match words_of(&rt) {
-        Ok(words) => {
-            run_on(
-                &rt,
-                alloc,
-                words.as_slice(),
-                &mut input,
-                &mut output,
-                &mut files,
-                &mut net,
-            )
-            .status
-        }
+        Ok(words) => run_on(
+            &rt,
+            alloc,
+            words.as_slice(),
+            &mut input,
+            &mut output,
+            &mut files,
+            &mut net,
+        ),
         Err(error) if error.kind() == ErrorKind::OutOfMemory => {
             out_of_memory(&mut output, None).status
         }

@@ -1,0 +1,115 @@
+-- The specification of each command, a line for each, and how a run of it ends.
+use Rattle.std.specs.Prelude.{◌≡◌, ℕ, Bool, true, false, not, is_some, Option, Some, None}
+use Rattle.item_model.specs.declared.request.Target.{Target}
+use Rattle.item_model.specs.declared.request.Target.TheVariants.{Items, Container}
+use Rattle.command_core.specs.Endings.{IsAnswered}
+use Rattle.command_core.specs.Meanings.{Meaning}
+use Rattle.command_core.specs.Seen.{IsUnread, Told}
+use Rattle.json_commands.specs.Json.{json_meaning}
+use Rattle.json_commands.specs.JsonBack.{json_back_meaning}
+use Rattle.link_commands.specs.EditShare.{edit_meaning}
+use Rattle.link_commands.specs.FollowShare.{follow_meaning}
+use Rattle.link_commands.specs.Meanings.{IsLinkAnswered}
+use Rattle.relay_command.specs.declared.terms.Relaying.{Relaying}
+use Rattle.relay_command.specs.Runs.{RelayEnds}
+use Rattle.serve_command.specs.declared.terms.Serving.{Serving}
+use Rattle.serve_command.specs.Runs.{ServeEnds}
+use Rattle.tag_commands.specs.Check.{check_meaning}
+use Rattle.tag_commands.specs.Codes.{codes_meaning}
+use Rattle.tag_commands.specs.LearnCodes.{learn_meaning}
+use Rattle.tag_commands.specs.Show.{show_meaning}
+use Rattle.tag_commands.specs.ShowBack.{show_back_meaning}
+use Rattle.share_commands.specs.ReplayShare.{replay_meaning}
+use Rattle.share_commands.specs.ListShare.{list_meaning}
+use Rattle.share_commands.specs.RehearseShare.{rehearse_meaning}
+use Rattle.daapshare_words.specs.declared.command.Command.{Command}
+use Rattle.daapshare_words.specs.declared.command.Command.TheVariants.{Local, Net}
+use Rattle.daapshare_words.specs.declared.command.LocalCommand.{LocalCommand}
+use Rattle.daapshare_words.specs.declared.command.LocalCommand.TheVariants as local
+use Rattle.daapshare_words.specs.declared.command.NetCommand.{NetCommand}
+use Rattle.daapshare_words.specs.declared.command.NetCommand.TheVariants as net
+use Rattle.daapshare_words.specs.declared.relay.RelayWords.{RelayWords}
+use Rattle.daapshare_words.specs.declared.serve.ServeWords.{ServeWords}
+use Rattle.command_runs.specs.declared.outcome.Outcome.{Outcome}
+use Rattle.command_runs.specs.Left.{Unlinked, crew_of, left_by}
+use Rattle.command_runs.specs.Usage.{usage_meaning}
+
+abbrev pub shows : (back : Bool) → Meaning
+shows true = show_back_meaning
+shows false = show_meaning
+
+abbrev pub jsons : (back : Bool) → Meaning
+jsons true = json_back_meaning
+jsons false = json_meaning
+
+abbrev pub tells_codes : (learn : Bool) → Meaning
+tells_codes true = learn_meaning
+tells_codes false = codes_meaning
+
+-- what is listed: all items, or the rows of a container
+abbrev pub target_of : Option ℕ → Target
+target_of None = Items
+target_of (Some id) = Container id
+
+-- the specifications of the commands over standard input and output
+abbrev pub meaning_of : LocalCommand → Meaning
+meaning_of (local.List words) = list_meaning words.query words.meta (target_of words.list)
+meaning_of (local.Show words) = shows words.back
+meaning_of local.Check = check_meaning
+meaning_of (local.Codes words) = tells_codes words.learn
+meaning_of (local.Replay words) = replay_meaning words.keep words.name
+meaning_of (local.Rehearse words) = rehearse_meaning words.number words.batches words.size words.keep
+meaning_of (local.Json words) = jsons words.back
+
+-- the settings of `serve` for its arguments
+abbrev pub serving_of : ServeWords → Serving
+serving_of words = record {
+  listen = words.listen;
+  edit = words.edit;
+  name = words.name;
+  keep = words.keep;
+  workers = words.workers;
+  editors = words.editors;
+  file = words.file;
+}
+
+-- the settings of `relay` for its arguments
+abbrev pub relaying_of : RelayWords → Relaying
+relaying_of words = record {
+  upstream = words.upstream;
+  listen = words.listen;
+  rounds = words.rounds;
+  name = words.name;
+  keep = words.keep;
+  workers = words.workers;
+}
+
+-- `relay` ended, and the input and the files are unchanged
+pub record IsRelayed (relaying : Relaying) (told : Told) (outcome : Outcome) : Type 0 where
+  pub unread : IsUnread told.before.input told.after.input
+  pub files : told.after.around.files ≡ told.before.around.files
+  pub ends : RelayEnds relaying told.before.around.net told.after.around.net told.output_before told.output_after (crew_of outcome)
+
+-- a run of a command over the network ends as its specification says
+abbrev pub IsRunOverNet : NetCommand → Told → Outcome → Type 0
+IsRunOverNet (net.Serve words) told outcome = ServeEnds (serving_of words) told (left_by outcome)
+IsRunOverNet (net.Edit words) told outcome = Unlinked (IsLinkAnswered (edit_meaning words.place words.stop) told) outcome
+IsRunOverNet (net.Follow words) told outcome =
+    Unlinked (IsLinkAnswered (follow_meaning words.place words.rounds words.query words.meta (target_of words.list)) told) outcome
+IsRunOverNet (net.Relay words) told outcome = IsRelayed (relaying_of words) told outcome
+
+-- a run ends as the specification of its arguments' command says
+abbrev pub IsRun : Option Command → Told → Outcome → Type 0
+IsRun None told outcome = Unlinked (IsAnswered usage_meaning told) outcome
+IsRun (Some (Local command)) told outcome = Unlinked (IsAnswered (meaning_of command) told) outcome
+IsRun (Some (Net command)) told outcome = IsRunOverNet command told outcome
+
+-- whether a run leaves files unchanged
+abbrev pub leaves_files : Option Command → Bool
+leaves_files (Some (Net (net.Serve words))) = not (is_some words.file)
+leaves_files _ = true
+
+-- whether a run leaves the network unchanged
+abbrev pub leaves_net : Option Command → Bool
+leaves_net (Some (Net command)) = false
+leaves_net _ = true

@@ -1,0 +1,106 @@
+//! Runs the commands over the network.
+
+ghost use Rattle.std.specs.Prelude.{◌≡◌, Some, true};
+ghost use Rattle.daapshare_words.specs.declared.command.Command.TheVariants.{Net as OverNet};
+ghost use Rattle.command_core.specs.Seen.{files_seen, input_seen, net_seen, output_seen, seen, told_in};
+ghost use Rattle.daapshare_words.specs.Relay.{AreRelayWords};
+ghost use Rattle.daapshare_words.specs.Serve.{AreServeWords};
+ghost use Rattle.daapshare_words.specs.Words.{IsNetRanged};
+ghost use Rattle.relay_command.specs.Terms.{MayRelay};
+ghost use Rattle.serve_command.specs.Terms.{MayServe};
+ghost use Rattle.command_runs.specs.Table.{leaves_files, relaying_of, serving_of, IsRunOverNet};
+
+use crate::local::target_of;
+use crate::outcome::{Outcome, linked, unlinked};
+use daap_outside::{Files, Net, Sink, Source};
+use daapshare_words::{NetCommand, RelayWords, ServeWords};
+use link_commands::{edit_share, follow_share};
+use relay_command::{Relaying, relay};
+use serve_command::{Serving, serve};
+use std::alloc::Global;
+use std::sync::Wait;
+use std::thread::Threads;
+use std::time::Clock;
+
+/// Runs a command over the network.
+pub fn run_net<R: Threads + Wait + Clock + Sync, I: Source, W: Sink, F: Files, N: Net>(
+    rt: &R,
+    alloc: Global,
+    command: NetCommand,
+    input: &mut I,
+    output: &mut W,
+    files: &mut F,
+    net: &mut N,
+) -> Outcome
+    requires { IsNetRanged command }
+    ensures answered { IsRunOverNet command
+        (told_in
+        (seen (input_seen (I.left input.old) (I.faults input.old))
+        (files_seen (F.asked files.old) (F.contents files.old) (F.faults files.old))
+        (net_seen (N.asked net.old) (N.written net.old) (N.door_links net.old) (N.next_input net.old) (N.faults net.old)))
+        (seen (input_seen (I.left input.new) (I.faults input.new))
+        (files_seen (F.asked files.new) (F.contents files.new) (F.faults files.new))
+        (net_seen (N.asked net.new) (N.written net.new) (N.door_links net.new) (N.next_input net.new) (N.faults net.new)))
+        (output_seen (W.taken output.old) (W.faults output.old))
+        (output_seen (W.taken output.new) (W.faults output.new)))
+        result }
+    ensures files { leaves_files (Some (OverNet command)) ≡ true → files.new ≡ files.old }
+    ensures open_stays { N.open_count net.new ≡ N.open_count net.old }
+{
+    match command {
+        NetCommand::Serve(words) => {
+            linked(serve(rt, alloc, &serving_of(words), input, output, files, net))
+        }
+        NetCommand::Edit(words) => {
+            let ended = edit_share(alloc, words.place.as_str(), words.stop, input, output, net);
+            unlinked(alloc, ended)
+        }
+        NetCommand::Follow(words) => {
+            let ended = follow_share(
+                alloc,
+                words.place.as_str(),
+                words.rounds,
+                words.query.as_ref(),
+                words.meta.as_ref(),
+                target_of(words.list),
+                output,
+                net,
+            );
+            unlinked(alloc, ended)
+        }
+        NetCommand::Relay(words) => linked(relay(rt, alloc, &relaying_of(words), output, net)),
+    }
+}
+
+/// Returns the settings of `serve` for its arguments.
+fn serving_of(words: ServeWords) -> Serving
+    requires { AreServeWords words }
+    ensures asked { result ≡ serving_of words }
+    ensures may { MayServe result }
+{
+    Serving {
+        listen: words.listen,
+        edit: words.edit,
+        name: words.name,
+        keep: words.keep,
+        workers: words.workers,
+        editors: words.editors,
+        file: words.file,
+    }
+}
+
+/// Returns the settings of `relay` for its arguments.
+fn relaying_of(words: RelayWords) -> Relaying
+    requires { AreRelayWords words }
+    ensures asked { result ≡ relaying_of words }
+    ensures may { MayRelay result }
+{
+    Relaying {
+        upstream: words.upstream,
+        listen: words.listen,
+        rounds: words.rounds,
+        name: words.name,
+        keep: words.keep,
+        workers: words.workers,
+    }
+}

@@ -1,5 +1,0 @@
-use Rattle.daapshare.proofs.Ranges.{may_serve}
-use Rattle.daapshare.proofs.over_net.serving_of.Goals as goal
-
-pub returns-clause-may : goal.returns-clause-may
-returns-clause-may c = may_serve c.args.words c.requires
