@@ -7,6 +7,12 @@ mod callers;
 #[cfg(test)]
 mod places;
 #[cfg(test)]
+mod probes;
+#[cfg(test)]
+mod runtimes;
+#[cfg(test)]
 mod sockets;
 #[cfg(test)]
 mod streams;
+#[cfg(test)]
+mod waits;

@@ -1,6 +1,6 @@
 //! Runs connections and listeners over sockets, on this machine's loopback.
 
-use daap_outside::{Door, Failed, Link, Net, Sink, Source, TcpNet, put_all};
+use daap_outside::{Door, Failed, Link, Net, NetError, Sink, Source, TcpNet, put_all};
 use std::alloc::Global;
 use std::net::{TcpListener, TcpStream};
 use std::string::String;
@@ -10,7 +10,7 @@ use std::thread::Threads;
 use std::{io, net, thread};
 
 /// An address of this machine without a listener.
-fn free_place<R: net::Net<Listener = TcpListener, Stream = TcpStream>>(
+pub fn free_place<R: net::Net<Listener = TcpListener, Stream = TcpStream>>(
     rt: &R,
     alloc: Global,
 ) -> io::Result<String> {
@@ -20,10 +20,98 @@ fn free_place<R: net::Net<Listener = TcpListener, Stream = TcpStream>>(
 }
 
 /// The next connection that comes to the listener.
-fn next_link<D: Door>(door: &mut D) -> Result<D::L, Failed> {
+pub fn next_link<D: Door>(door: &mut D) -> Result<D::L, Failed> {
     match door.accept()? {
         Some(link) => Ok(link),
         None => Err(Failed),
+    }
+}
+
+/// A listener, and both ends of a connection that came to it.
+#[derive(Drop)]
+pub struct Meeting<D, L> {
+    pub door: D,
+    pub far: L,
+    pub near: L,
+}
+
+/// Listens at an address, and connects to it.
+pub fn met<N: Net>(net: &mut N, place: &str) -> Result<Meeting<N::D, N::L>, Failed> {
+    let Ok(mut doors) = net.listen(place, 1) else {
+        return Err(Failed);
+    };
+    let Some(mut door) = doors.pop() else {
+        return Err(Failed);
+    };
+    let far = net.connect(place)?;
+    let near = next_link(&mut door)?;
+    Ok(Meeting { door, far, near })
+}
+
+/// Whether an address in use, and texts that are not addresses, are refused.
+fn refuses<N: Net>(net: &mut N, in_use: &str) -> bool {
+    matches!(net.listen(in_use, 1), Err(NetError::Failed))
+        && matches!(net.listen("no place", 1), Err(NetError::Failed))
+        && net.connect("no place").is_err()
+}
+
+/// Whether an address that two listeners have is refused to others.
+fn listens_once<N: Net>(net: &mut N, place: &str) -> bool {
+    match net.listen(place, 2) {
+        Ok(doors) => doors.len() == 2 && refuses(net, place),
+        Err(_) => false,
+    }
+}
+
+/// Whether the next read of at most three bytes returns `bytes`.
+fn brings<I: Source>(input: &mut I, bytes: &[u8]) -> bool {
+    let mut room = [0; 3];
+    input.read(&mut room).ok() == Some(bytes.len()) && room.starts_with(bytes)
+}
+
+/// Whether a connection returns what was written at its other end.
+fn hears<L: Link>(far: &mut L, near: &mut L) -> bool {
+    put_all(far, b"hello").is_ok() && brings(near, b"hel") && brings(near, b"lo")
+}
+
+/// Whether bytes go both ways.
+fn talks<N: Net>(net: &mut N, place: &str) -> bool {
+    match met(net, place) {
+        Ok(
+            Meeting {
+                mut far,
+                mut near,
+                ..
+            },
+        ) => hears(&mut far, &mut near) && hears(&mut near, &mut far),
+        Err(Failed) => false,
+    }
+}
+
+/// Writes until a write fails, as it does once the peer's response to an earlier one has come.
+fn fails_to_write<W: Sink>(sink: &mut W) -> bool {
+    for _ in 0..100 {
+        if sink.write(b"x").is_err() {
+            return true;
+        }
+    }
+    false
+}
+
+/// Whether a write at one end fails once the other is closed.
+fn closes<N: Net>(net: &mut N, place: &str) -> bool {
+    match met(net, place) {
+        Ok(
+            Meeting {
+                mut door,
+                mut far,
+                near,
+            },
+        ) => {
+            door.done(near);
+            fails_to_write(&mut far)
+        }
+        Err(Failed) => false,
     }
 }
 
@@ -66,18 +154,50 @@ fn a_client_that_is_still_sending_reads_its_refusal(rt: HostRuntime) -> Result<(
     Ok(())
 }
 
+/// Whether the next connection brings no bytes.
+fn brings_none<D: Door>(door: &mut D) -> bool {
+    match next_link(door) {
+        Ok(mut link) => link.read(&mut [0; 4096]).ok() == Some(0),
+        Err(Failed) => false,
+    }
+}
+
 /// Whether a nudge of the second of two listeners brings the first one a connection without bytes.
-fn wakes<N: Net>(net: &mut N, place: &str) -> Result<bool, Fail> {
-    let mut doors = net.listen(place, 2)?;
-    doors[1].nudge();
-    let mut woken = next_link(&mut doors[0])?;
-    Ok(woken.read(&mut [0; 4096])? == 0)
+fn wakes<N: Net>(net: &mut N, place: &str) -> bool {
+    let Ok(mut doors) = net.listen(place, 2) else {
+        return false;
+    };
+    let Some(mut other) = doors.pop() else {
+        return false;
+    };
+    other.nudge();
+    match doors.first_mut() {
+        Some(door) => brings_none(door),
+        None => false,
+    }
+}
+
+/// What does not hold at an address, first of all.
+fn first_wrong<N: Net>(net: &mut N, place: &str) -> Option<&'static str> {
+    if !listens_once(net, place) {
+        return Some("an address in use is refused");
+    }
+    if !talks(net, place) {
+        return Some("bytes go both ways");
+    }
+    if !closes(net, place) {
+        return Some("a write fails once the peer closed");
+    }
+    if !wakes(net, place) {
+        return Some("a nudge wakes a listener");
+    }
+    None
 }
 
 #[test]
-fn a_nudge_wakes_a_door_of_the_place(rt: HostRuntime) -> Result<(), Fail> {
+fn sockets_do_what_nets_do(rt: HostRuntime) -> Result<(), Fail> {
     let place = free_place(&rt, rt.alloc())?;
     let mut net = TcpNet::new(&rt, rt.alloc());
-    assert!(rt; wakes(&mut net, place.as_str())?);
+    assert_eq!(rt; first_wrong(&mut net, place.as_str()), None);
     Ok(())
 }

@@ -1,0 +1,149 @@
+//! Reads and writes over sockets that wait too long, on this machine's loopback.
+
+use crate::runtimes::Chosen;
+use daap_outside::{Net, Reading, Sink, Source, TcpNet, put_all};
+use std::alloc::{AllocError, Global};
+use std::net::{Shutdown, TcpListener, TcpStream};
+use std::sync::Wait;
+use std::sync::atomic::AtomicU64;
+use std::test::Fail;
+use std::thread::Threads;
+use std::time::{Clock, Duration};
+use std::{io, net, thread};
+
+/// Both ends of a connection.
+fn pair<R: net::Net<Listener = TcpListener, Stream = TcpStream>>(
+    rt: &R,
+) -> io::Result<(TcpStream, TcpStream)> {
+    let listener = TcpListener::bind(rt, "127.0.0.1:0")?;
+    let far = TcpStream::connect(rt, listener.local_addr()?)?;
+    let (near, _) = listener.accept()?;
+    Ok((far, near))
+}
+
+/// Whether a connection sends at once, and how long it waits to read and to write.
+fn options_of(stream: &TcpStream) -> io::Result<(bool, Option<Duration>, Option<Duration>)> {
+    Ok((
+        stream.nodelay()?,
+        stream.read_timeout()?,
+        stream.write_timeout()?,
+    ))
+}
+
+/// Whether a read of a connection over `stream` that waits too long is an error.
+fn waits_no_longer<I: Source>(stream: &TcpStream, link: &mut I) -> io::Result<bool> {
+    stream.set_read_timeout(Some(Duration::from_millis(10)))?;
+    Ok(link.read(&mut [0; 3]).is_err())
+}
+
+/// Whether a connection that this program made has its options, and a read of it that waits too long is an error.
+fn is_made<N: Net>(stream: &TcpStream, net: &mut N) -> io::Result<bool> {
+    let Ok(mut link) = net.connect("127.0.0.1:1") else {
+        return Ok(false);
+    };
+    let minute = Some(Duration::from_secs(60));
+    Ok(options_of(stream)? == (true, None, minute) && waits_no_longer(stream, &mut link)?)
+}
+
+#[test]
+fn a_link_waits_no_longer_than_it_may(rt: HostRuntime) -> Result<(), Fail> {
+    let (far, _near) = pair(&rt)?;
+    let chosen = Chosen {
+        rt: &rt,
+        ahead: AtomicU64::new(0),
+        stream: Some(&far),
+    };
+    let mut net = TcpNet::new(&chosen, rt.alloc());
+    assert!(rt; is_made(&far, &mut net)?);
+    Ok(())
+}
+
+/// More bytes than a socket buffers for a reader that pauses.
+const LONG: usize = 16_777_216;
+
+/// Reads the input to its end after a pause, and returns the number of bytes, if they change as they should.
+fn read_changing<C: Clock, I: Source>(clock: &C, input: &mut I) -> Option<usize> {
+    thread::sleep(clock, Duration::from_millis(300));
+    let mut room = [0; 32_768];
+    let mut count = 0usize;
+    for _ in 0..u64::MAX {
+        let n = input.read(&mut room).ok()?;
+        if n == 0 {
+            return Some(count);
+        }
+        for byte in &room[..n] {
+            if *byte != (count % 251) as u8 {
+                return None;
+            }
+            count = count.saturating_add(1);
+        }
+    }
+    None
+}
+
+/// Writes all to a connection over `stream`, in two calls or more, and returns how many bytes the first one wrote
+/// while nobody read.
+fn write_cut<N: Net>(stream: &TcpStream, net: &mut N, bytes: &[u8]) -> Option<usize> {
+    if bytes.is_empty() {
+        return None;
+    }
+    let mut link = net.connect("127.0.0.1:1").ok()?;
+    let short = Some(Duration::from_millis(100));
+    stream.set_write_timeout(short).ok()?;
+    let n = link.write(bytes).ok()?;
+    stream.set_write_timeout(None).ok()?;
+    put_all(&mut link, &bytes[n..]).ok()?;
+    stream.shutdown(Shutdown::Write).ok()?;
+    Some(n)
+}
+
+/// `LONG` bytes that change.
+fn changing(alloc: Global) -> Result<Vec<u8>, AllocError> {
+    let mut bytes = Vec::with_capacity(alloc, LONG)?;
+    for i in 0..LONG {
+        bytes.push((i % 251) as u8)?;
+    }
+    Ok(bytes)
+}
+
+/// The number of bytes that a short write wrote at first, and the number read at the other end.
+fn cut<R, N, I>(
+    rt: &R,
+    bytes: &[u8],
+    stream: &TcpStream,
+    net: &mut N,
+    input: &mut I,
+) -> (Option<usize>, Option<usize>)
+where
+    R: Threads + Wait + Clock + Sync,
+    N: Net + Send,
+    I: Source + Send,
+{
+    thread::join(
+        rt,
+        || write_cut(stream, net, bytes),
+        || read_changing(rt, input),
+    )
+}
+
+#[test]
+fn a_write_that_is_cut_short_goes_on(rt: HostRuntime) -> Result<(), Fail> {
+    let (far, near) = pair(&rt)?;
+    let chosen = Chosen {
+        rt: &rt,
+        ahead: AtomicU64::new(0),
+        stream: Some(&far),
+    };
+    let mut net = TcpNet::new(&chosen, rt.alloc());
+    let bytes = changing(rt.alloc())?;
+    let (first, read) = cut(
+        &rt,
+        bytes.as_slice(),
+        &far,
+        &mut net,
+        &mut Reading::new(near),
+    );
+    assert!(rt; matches!(first, Some(n) if n < LONG));
+    assert_eq!(rt; read, Some(LONG));
+    Ok(())
+}
