@@ -1,8 +1,8 @@
 // Edits, read from records.
 
-ghost use Rattle.std.specs.Prelude.{◌≡◌, ◌≢◌, ◌+◌, drop, length, get_or, [], true, false, Some, None, Ok, Err, IfOk, MatchResult};
+ghost use Rattle.std.specs.Prelude.{◌≡◌, ◌≢◌, ◌+◌, drop, length, get_or, [], true, false, Some, None, Ok, Err, IfOk, MatchResult, option_copied};
 ghost use Rattle.csv.specs.Records.{fields_of};
-ghost use Rattle.records_import.specs.Records.{action_of, name_in, IsLeftmost, RecordAnswers};
+ghost use Rattle.records_import.specs.Records.{action_of, name_in, name_text, IsLeftmost, RecordAnswers};
 ghost use Rattle.records_import.specs.Walk.{Walked, edit_from, member_edit, no_values};
 
 use crate::action::Action;
@@ -147,8 +147,14 @@ fn member_edit(member: u32, list: Option<u32>, entry: Option<u32>) -> Option<Edi
 fn name_in(alloc: Global, item: &Item) -> Result<Text, AllocError>
     ensures { IfOk result (λ name. name ≡ name_in item.now) }
 {
-    match item.get(Property::Minm) {
-        Some(PropValue::Text(name)) => name.copy(),
-        _ => Text::of(alloc, ""),
+    Text::of(alloc, text_in(item.get(Property::Minm)))
+}
+
+fn text_in(value: Option<&PropValue>) -> &str
+    ensures { result.now ≡ name_text (option_copied value.entry) }
+{
+    match value {
+        Some(PropValue::Text(text)) => text.as_str(),
+        _ => "",
     }
 }
