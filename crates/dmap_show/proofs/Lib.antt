@@ -1,6 +1,8 @@
 pub mod Utf8
 pub mod Once
 pub mod EventLines
+pub mod Pushed
+pub mod Alone
 pub mod TextLengths
 pub mod Taken
 pub mod Remaining

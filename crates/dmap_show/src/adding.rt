@@ -172,7 +172,10 @@ fn are_plain(bytes: &[u8]) -> bool
 fn is_plain(byte: u8) -> bool
     ensures { result ≡ true → escaped byte ≡ byte ∷ [] }
 {
-    byte >= 32 && byte != b'"' && byte != b'\\' && byte != 127
+    match byte {
+        b'"' | b'\\' | 0..=31 | 127 => false,
+        _ => true,
+    }
 }
 
 /// Appends the bytes of a text as they are within quotes, at once if no byte is escaped.

@@ -85,9 +85,7 @@ fn push_tag(level: u64, code: Code, value: &Value, out: &mut Vec<u8>) -> Result<
             let below = level.checked_add(1).ok_or(AllocError)?;
             push_tags(below, tags.as_slice(), out)
         }
-        Value::U8(_) | Value::I8(_) | Value::U16(_) | Value::I16(_) => Ok(()),
-        Value::U32(_) | Value::I32(_) | Value::U64(_) | Value::I64(_) => Ok(()),
-        Value::Text(_) | Value::Date(_) | Value::Version(_) | Value::Opaque(_) => Ok(()),
+        _ => Ok(()),
     }
 }
 

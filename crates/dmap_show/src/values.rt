@@ -1,6 +1,6 @@
 //! The line of one tag.
 
-ghost use Rattle.std.specs.Prelude.{◌≡◌, ◌∷◌, ◌++◌, flat_map, OnOk, OnErr, [], true};
+ghost use Rattle.std.specs.Prelude.{◌≡◌, ◌∷◌, ◌++◌, decimal, flat_map, OnOk, OnErr, [], true};
 ghost use Rattle.std.specs.Str.{is_utf8};
 ghost use Rattle.dmap_tags.specs.Codes.{Four};
 ghost use Rattle.dmap_tags.specs.Begins.{Begins};
@@ -54,11 +54,19 @@ fn push_version(n: u32, out: &mut Vec<u8>) -> Result<(), AllocError>
     ensures front { OnErr result (Begins out.old.items out.new.items) }
 {
     let version = u64::from(n);
-    push_number(version / 65_536, out)?;
-    push_str(".", out)?;
-    push_number(version / 256 % 256, out)?;
-    push_str(".", out)?;
+    push_part(version / 65_536, out)?;
+    push_part(version / 256 % 256, out)?;
     push_number(version % 256, out)
+}
+
+/// Appends a part of a version and the point behind it.
+fn push_part(n: u64, out: &mut Vec<u8>) -> Result<(), AllocError>
+    ensures shown { OnOk result (out.new.items ≡ out.old.items ++ decimal n ++ 46 ∷ []) }
+    ensures text { is_utf8 out.old.items ≡ true → OnOk result (is_utf8 out.new.items ≡ true) }
+    ensures front { OnErr result (Begins out.old.items out.new.items) }
+{
+    push_number(n, out)?;
+    push_str(".", out)
 }
 
 /// Appends a tag's value as its line has it: nothing for a list.
