@@ -1,4 +1,4 @@
-//! `replay`: scripts, and what the share answers.
+//! `replay`: a read and a write that fail, and the entries that are left.
 
 use crate::runs::{Pieces, Ran, WHOLE, has_left, left, sink, source};
 use command_core::Outcome;
@@ -12,10 +12,6 @@ use std::test::Fail;
 const SCRIPT: &[u8] =
     b"open 1 edit\ntext 1 GET /login HTTP/1.1\\r\\n\\r\\n\ntext 1 POST /stop HTTP/1.1\\r\\n\\r\\n\n";
 
-/// What the share answers.
-const ANSWERS: &[u8] =
-    b"> 1 112\nHTTP/1.1 200 OK\r\nContent-Type: application/x-dmap-tagged\r\nContent-Length: 32\r\n\r\nmlog\0\0\0\x18mstt\0\0\0\x04\0\0\0\xc8mlid\0\0\0\x04\0\0\0\x01\n> 1 46\nHTTP/1.1 204 No Content\r\nConnection: close\r\n\r\n\n# 1 stopped\n";
-
 /// The first reply, without the line feed after it.
 const FIRST_REPLY: &[u8] =
     b"> 1 112\nHTTP/1.1 200 OK\r\nContent-Type: application/x-dmap-tagged\r\nContent-Length: 32\r\n\r\nmlog\0\0\0\x18mstt\0\0\0\x04\0\0\0\xc8mlid\0\0\0\x04\0\0\0\x01";
@@ -25,52 +21,37 @@ fn replayed<I: Source, W: Sink>(alloc: Global, input: &mut I, output: &mut W) ->
     replay_script(alloc, 256, "daapshare", input, output)
 }
 
-fn run_over(alloc: Global, script: &[u8], pieces: Pieces) -> Result<Ran, AllocError> {
-    let mut input = source(alloc, script, pieces)?;
+fn run_over(alloc: Global, pieces: Pieces) -> Result<Ran, AllocError> {
+    let mut input = source(alloc, SCRIPT, pieces)?;
     let mut output = sink(alloc, pieces)?;
     let outcome = replayed(alloc, &mut input, &mut output);
     Ok(left(outcome, output))
 }
 
-/// A script, how it is read, the status, the output, and the number of entries of the share.
-type Replay = (&'static [u8], Pieces, u8, &'static [u8], Option<usize>);
+/// How the script is read and the output written, the status, the output, and the number of entries of the share.
+type Replay = (Pieces, u8, &'static [u8], Option<usize>);
 
 fn all_end(rt: &impl Abort, alloc: Global, replays: &[Replay]) -> Result<(), Fail> {
-    for (script, pieces, status, output, entries) in replays {
-        let ran = run_over(alloc, script, *pieces)?;
+    for (pieces, status, output, entries) in replays {
+        let ran = run_over(alloc, *pieces)?;
         has_left(rt, &ran, *status, output)?;
         assert_eq!(rt; ran.entries, *entries);
     }
     Ok(())
 }
 
-const SHORT: Pieces = Pieces {
-    read: 7,
-    write: 50,
-    ..WHOLE
-};
-
-const REPLAYS: [Replay; 4] = [
-    (SCRIPT, SHORT, 0, ANSWERS, Some(2)),
+const REPLAYS: [Replay; 2] = [
     (
-        b"open 1 edit\nclose 2\nclose 3\n",
-        SHORT,
-        3,
-        b"script: line 2\n",
-        None,
-    ),
-    (
-        SCRIPT,
         Pieces {
+            read: 7,
             failed_read: 2,
-            ..SHORT
+            ..WHOLE
         },
         4,
         b"read failed\n",
         None,
     ),
     (
-        SCRIPT,
         Pieces {
             read: 7,
             failed_write: 3,
@@ -83,6 +64,6 @@ const REPLAYS: [Replay; 4] = [
 ];
 
 #[test]
-fn a_script_is_answered_or_refused(rt: HostRuntime) -> Result<(), Fail> {
+fn a_call_that_fails_ends_the_script(rt: HostRuntime) -> Result<(), Fail> {
     all_end(&rt, rt.alloc(), &REPLAYS)
 }

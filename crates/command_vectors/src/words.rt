@@ -2,7 +2,7 @@
 //!
 //! The cases are lines of texts, each a constant, so that the proof of a test need not read them.
 
-use daapshare_words::{number_word, read_words, usage_text};
+use daapshare_words::{number_word, read_words};
 use std::alloc::{AllocError, Global};
 use std::process::Abort;
 use std::test::Fail;
@@ -83,21 +83,6 @@ const NUMBERS: &str = "\
 +7 => None\n\
 7a => None";
 
-/// The usage text, as users know it.
-const USAGE: &str = "\
-usage: daapshare list [--query Q] [--meta M] [--list ID]
-       daapshare show [--back]
-       daapshare check
-       daapshare codes [--learn]
-       daapshare replay [--keep K] [--name N]
-       daapshare rehearse NUMBER BATCHES SIZE [--keep K]
-       daapshare serve LISTEN EDIT [--name N] [--keep K] [--workers W] [--editors E] [--file F]
-       daapshare edit PLACE [--stop]
-       daapshare follow PLACE ROUNDS [--query Q] [--meta M] [--list ID]
-       daapshare relay UPSTREAM LISTEN ROUNDS [--name N] [--keep K] [--workers W]
-       daapshare json [--back]
-";
-
 /// Returns the two halves of a case: what is read, and what it is read as.
 fn halves(case: &str) -> (&str, &str) {
     case.split_once(" => ").unwrap_or((case, ""))
@@ -145,12 +130,5 @@ fn number_words(rt: HostRuntime) -> Result<(), Fail> {
         let shown = format!(in rt.alloc(); "{:?}", number_word(word))?;
         assert_eq!(rt; shown.as_str(), wanted, "{word}");
     }
-    Ok(())
-}
-
-#[test]
-fn the_usage_text_has_a_line_for_each_command(rt: HostRuntime) -> Result<(), Fail> {
-    let text = usage_text(rt.alloc())?;
-    assert_eq!(rt; text.as_slice(), USAGE.as_bytes());
     Ok(())
 }
