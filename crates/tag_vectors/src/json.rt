@@ -1,4 +1,5 @@
-//! `dmap_json`: tags, by the lines that show them, with their JSON texts, and texts with the errors that they get.
+//! `dmap_json`: tags of a learned table, by the lines that show them, with their JSON texts, and texts with the errors
+//! that they get.
 
 use crate::tables::{learned, standard, tag};
 use code_table::CodeTable;
@@ -11,38 +12,6 @@ use std::test::Fail;
 
 /// Lines of a tag, and its JSON text.
 type Pair = (&'static str, &'static str);
-
-/// Tags of the standard table.
-const STANDARD: [Pair; 7] = [
-    (
-        "mlog list\n  mstt u32 200\n  mlid u32 1\n",
-        "{\"code\":\"mlog\",\"kind\":\"list\",\"value\":[{\"code\":\"mstt\",\"kind\":\"u32\",\"value\":200},{\"code\":\"mlid\",\"kind\":\"u32\",\"value\":1}]}",
-    ),
-    (
-        "miid opaque #000001\n",
-        "{\"code\":\"miid\",\"kind\":\"opaque\",\"value\":\"000001\"}",
-    ),
-    (
-        "zzzz opaque #0a9f\n",
-        "{\"code\":\"zzzz\",\"kind\":\"opaque\",\"value\":\"0a9f\"}",
-    ),
-    (
-        "minm text \"a\\\"b\\\\c\\x0a\\x00\\x1f /\u{e9}\"\n",
-        "{\"code\":\"minm\",\"kind\":\"text\",\"value\":\"a\\\"b\\\\c\\n\\u0000\\u001f /\u{e9}\"}",
-    ),
-    (
-        "abro list\n  abar list\n    mlit text \"X\"\n    mlit text \"\"\n",
-        "{\"code\":\"abro\",\"kind\":\"list\",\"value\":[{\"code\":\"abar\",\"kind\":\"list\",\"value\":[{\"code\":\"mlit\",\"kind\":\"text\",\"value\":\"X\"},{\"code\":\"mlit\",\"kind\":\"text\",\"value\":\"\"}]}]}",
-    ),
-    (
-        "asda date 1700000000\n",
-        "{\"code\":\"asda\",\"kind\":\"date\",\"value\":1700000000}",
-    ),
-    (
-        "mpro version 2.0.3\n",
-        "{\"code\":\"mpro\",\"kind\":\"version\",\"value\":131075}",
-    ),
-];
 
 /// Tags of the learned table.
 const LEARNED: [Pair; 5] = [
@@ -65,22 +34,6 @@ const LEARNED: [Pair; 5] = [
     (
         "zzzc list\n",
         "{\"code\":\"zzzc\",\"kind\":\"list\",\"value\":[]}",
-    ),
-];
-
-/// Other texts of a tag's JSON value, with its lines.
-const OTHER_TEXTS: [Pair; 3] = [
-    (
-        "miid u32 7\n",
-        " { \"value\" : 7 , \"kind\" : \"u32\" , \"code\" : \"miid\" } \n",
-    ),
-    (
-        "miid u32 7\n",
-        "{\"code\":\"zzzz\",\"kind\":\"list\",\"value\":{},\"code\":\"m\\u0069id\",\"kind\":\"u32\",\"value\":7}",
-    ),
-    (
-        "minm text \"\u{e9}\"\n",
-        "{\"code\":\"minm\",\"kind\":\"text\",\"value\":\"\\u00e9\"}",
     ),
 ];
 
@@ -177,10 +130,6 @@ fn refusal(alloc: Global, table: &CodeTable, text: &str) -> Option<JsonError> {
 #[test]
 fn tags_of_each_kind_go_there_and_back(rt: HostRuntime) -> Result<(), Fail> {
     let alloc = rt.alloc();
-    let table = standard(alloc)?;
-    all_are_written(&rt, alloc, &table, &STANDARD)?;
-    all_are_read(&rt, alloc, &table, &STANDARD)?;
-    all_are_read(&rt, alloc, &table, &OTHER_TEXTS)?;
     let table = learned(alloc)?;
     all_are_written(&rt, alloc, &table, &LEARNED)?;
     all_are_read(&rt, alloc, &table, &LEARNED)

@@ -1,10 +1,10 @@
-//! `dmap_show`: tags with the lines that show them, and texts with the line at which they are refused.
+//! `dmap_show`: tags of a learned table with the lines that show them, and texts with the line at which they are refused.
 
-use crate::tables::{learned, standard};
+use crate::tables::learned;
 use code_table::CodeTable;
-use dmap_show::{ShowError, read_show, show, show_code, show_event};
-use dmap_stream::{Event, Limits, read_tag};
-use dmap_tags::{Code, Text, Value, encode_into};
+use dmap_show::{ShowError, read_show, show};
+use dmap_stream::{Limits, read_tag};
+use dmap_tags::{Text, encode_into};
 use std::alloc::Global;
 use std::process::Abort;
 use std::test::Fail;
@@ -56,19 +56,6 @@ const OF_EACH_KIND: [(&str, &[u8]); 12] = [
     ),
 ];
 
-/// Texts of tags of the standard table, with the bytes of the tags: opaque payloads, and the listing of one item with
-/// id 7 and name `A`, at revision 3.
-const STANDARD: [(&str, &[u8]); 5] = [
-    ("miid opaque #000001\n", b"miid\0\0\0\x03\0\0\x01"),
-    ("minm opaque #ff\n", b"minm\0\0\0\x01\xff"),
-    ("zzzz opaque #0102\n", b"zzzz\0\0\0\x02\x01\x02"),
-    ("xff0001ab opaque #\n", b"\xff\0\x01\xab\0\0\0\0"),
-    (
-        "adbs list\n  mstt u32 200\n  muty u8 0\n  musr u32 3\n  mtco u32 1\n  mrco u32 1\n  mlcl list\n    mlit list\n      miid u32 7\n      minm text \"A\"\n",
-        b"adbs\0\0\0\x5emstt\0\0\0\x04\0\0\0\xc8muty\0\0\0\x01\0musr\0\0\0\x04\0\0\0\x03mtco\0\0\0\x04\0\0\0\x01mrco\0\0\0\x04\0\0\0\x01mlcl\0\0\0\x1dmlit\0\0\0\x15miid\0\0\0\x04\0\0\0\x07minm\0\0\0\x01A",
-    ),
-];
-
 /// Checks that bytes are shown as these texts, and that the texts are read back as the bytes.
 fn go_there_and_back(
     rt: &impl Abort,
@@ -88,53 +75,13 @@ fn go_there_and_back(
 #[test]
 fn tags_are_shown_and_read_back(rt: HostRuntime) -> Result<(), Fail> {
     let alloc = rt.alloc();
-    go_there_and_back(&rt, alloc, &learned(alloc)?, &OF_EACH_KIND)?;
-    go_there_and_back(&rt, alloc, &standard(alloc)?, &STANDARD)
-}
-
-#[test]
-fn a_code_with_other_bytes_is_shown_in_hex(rt: HostRuntime) -> Result<(), Fail> {
-    let mut out = Vec::from_slice(rt.alloc(), b"code ")?;
-    show_code(Code(*b"abc\x7f"), &mut out)?;
-    assert_eq!(rt; out.as_slice(), b"code x6162637f".as_slice());
-    Ok(())
-}
-
-#[test]
-fn an_event_s_line_is_added_at_its_level(rt: HostRuntime) -> Result<(), Fail> {
-    let mut out = Vec::from_slice(rt.alloc(), b"mlit list\n")?;
-    let value = Event::Leaf {
-        code: Code(*b"miid"),
-        value: Value::U32(7),
-        at: 8,
-    };
-    show_event(&value, 1, &mut out)?;
-    assert_eq!(rt; out.as_slice(), b"mlit list\n  miid u32 7\n".as_slice());
-    Ok(())
+    go_there_and_back(&rt, alloc, &learned(alloc)?, &OF_EACH_KIND)
 }
 
 /// Returns the error of a text.
 fn refusal(alloc: Global, text: &str, table: &CodeTable) -> Option<ShowError> {
     read_show(alloc, text, table).err()
 }
-
-/// Texts that are refused, with the line.
-const UNREADABLE: [(&str, u64); 14] = [
-    ("mstt u32 200", 1),
-    ("zzzz opaque #0A\n", 1),
-    ("mlcl list\n    miid u32 7\n", 2),
-    ("muty u8 0\nmuty u8 256\n", 2),
-    ("mstt u32 0200\n", 1),
-    ("mstt u16 200\n", 1),
-    ("miid opaque #00000007\n", 1),
-    ("mlcl list\n  mlit text \"A\"\n", 2),
-    ("minm text \"a\"b\"\n", 1),
-    ("minm text \"\\x41\"\n", 1),
-    ("mstt u32 200\n\n", 2),
-    ("adbs list\n  mstt u32 200\n  muty u8 0", 3),
-    ("x6d6c636c list\n", 1),
-    ("mpro version 2.256.0\n", 1),
-];
 
 /// Texts that are refused under the learned table, with the line.
 const UNREADABLE_AS_LEARNED: [(&str, u64); 4] = [
@@ -160,6 +107,5 @@ fn are_refused(
 #[test]
 fn a_text_is_refused_at_its_first_bad_line(rt: HostRuntime) -> Result<(), Fail> {
     let alloc = rt.alloc();
-    are_refused(&rt, alloc, &standard(alloc)?, &UNREADABLE)?;
     are_refused(&rt, alloc, &learned(alloc)?, &UNREADABLE_AS_LEARNED)
 }
