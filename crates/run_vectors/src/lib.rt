@@ -1,4 +1,4 @@
-//! Tests of whole runs of commands, each with its arguments. Other crates do not use this one.
+//! Tests of whole runs over sockets. Other crates do not use this one.
 #![tactic(auto)]
 
 #[cfg(test)]
