@@ -2,13 +2,13 @@
 //! (`specs/Table.antt`), over any input, output, files and network.
 #![tactic(auto)]
 
+mod dispatch;
 pub mod laws;
 mod local;
 mod outcome;
 mod over_net;
-mod run;
 mod usage;
 
+pub use dispatch::run;
 pub use outcome::Outcome;
-pub use run::run;
 pub use usage::UsageFault;

@@ -12,7 +12,7 @@ use Rattle.command_runs.specs.Table.{leaves_files, meaning_of, IsRun}
 use Rattle.command_runs.specs.Usage.{usage_meaning}
 use Rattle.command_runs.proofs.Idle.{idle_run}
 use Rattle.command_runs.proofs.Senses.{usage_sense}
-use Rattle.command_runs.proofs.run.run.Goals as goal
+use Rattle.command_runs.proofs.dispatch.run.Goals as goal
 
 pub returns-in-Ok-Local-clause-answered : goal.returns-in-Ok-Local-clause-answered
 returns-in-Ok-Local-clause-answered g c =
