@@ -1,8 +1,12 @@
-//! Tests that cross crates: whole requests with a share's answers, and whole connections. Nothing here is for other crates.
+//! Tests of whole connections, and of requests at the limits of a share. Nothing here is for other crates.
 #![tactic(auto)]
 
 #[cfg(test)]
+mod connections;
+#[cfg(test)]
 mod hostile;
+#[cfg(test)]
+mod keepers;
 #[cfg(test)]
 mod limits;
 #[cfg(test)]

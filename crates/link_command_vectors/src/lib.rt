@@ -1,4 +1,4 @@
-//! Tests of the commands that use the network. Nothing here is for other crates.
+//! Tests of the commands that use the network, in memory and over sockets. Nothing here is for other crates.
 #![tactic(auto)]
 
 #[cfg(test)]
@@ -10,8 +10,12 @@ mod kept_shares;
 #[cfg(test)]
 mod known;
 #[cfg(test)]
+mod loopback;
+#[cfg(test)]
 mod nets;
 #[cfg(test)]
 mod relays;
+#[cfg(test)]
+mod runs;
 #[cfg(test)]
 mod shares;
