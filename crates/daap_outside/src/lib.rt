@@ -27,5 +27,6 @@ pub use outside_disks::{
 pub use reading::{ReadError, read_within};
 pub use sink::{Sink, put_all};
 pub use source::Source;
+pub use tcp::accepting::{Remedy, remedy_of};
 pub use tcp::link::{READ_SECONDS, TcpLink, WRITE_SECONDS};
 pub use tcp::{HELD_SECONDS, TcpDoor, TcpNet};

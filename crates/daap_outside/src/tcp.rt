@@ -2,10 +2,8 @@
 //! are unknown to contracts; only the error counters and the number of open objects are known.
 ghost use Rattle.std.specs.Prelude.{◌≡◌, All, None, IfOk, length};
 
-mod accepting;
+pub mod accepting;
 pub mod link;
-#[cfg(test)]
-mod tests;
 
 use crate::net::{Door, Net, NetError};
 use crate::tcp::accepting::next_stream;

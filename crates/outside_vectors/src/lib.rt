@@ -9,6 +9,8 @@ mod places;
 #[cfg(test)]
 mod probes;
 #[cfg(test)]
+mod remedies;
+#[cfg(test)]
 mod runtimes;
 #[cfg(test)]
 mod sockets;

@@ -1,6 +1,7 @@
 //! Reads and writes over sockets that wait too long, on this machine's loopback.
 
 use crate::runtimes::Chosen;
+use crate::sockets::{free_place, met};
 use daap_outside::{Net, Reading, Sink, Source, TcpNet, put_all};
 use std::alloc::{AllocError, Global};
 use std::net::{Shutdown, TcpListener, TcpStream};
@@ -55,6 +56,16 @@ fn a_link_waits_no_longer_than_it_may(rt: HostRuntime) -> Result<(), Fail> {
     };
     let mut net = TcpNet::new(&chosen, rt.alloc());
     assert!(rt; is_made(&far, &mut net)?);
+    Ok(())
+}
+
+#[test]
+fn an_accepted_link_waits_no_longer_than_it_may(rt: HostRuntime) -> Result<(), Fail> {
+    let place = free_place(&rt, rt.alloc())?;
+    let mut net = TcpNet::new(&rt, rt.alloc());
+    let meeting = met(&mut net, place.as_str())?;
+    let seconds = |n| Some(Duration::from_secs(n));
+    assert_eq!(rt; meeting.near.timeouts()?, (seconds(1_800), seconds(60)));
     Ok(())
 }
 

@@ -18,15 +18,19 @@ static LINK_ERRORS: [i32; 13] = [1, 4, 64, 71, 92, 95, 100, 101, 103, 104, 110, 
 // Those for a lack of memory, descriptors or buffers: ENOMEM, ENFILE, EMFILE, ENOBUFS.
 static WANTS: [i32; 4] = [12, 23, 24, 105];
 
-// What to do after an error of `accept`.
+/// What a listener does after an error of `accept`.
 #[derive(Clone, Copy, Debug, PartialEq, Eq)]
-pub(super) enum Remedy {
+pub enum Remedy {
+    /// It waits for the next connection at once: the error was one connection's.
     TryAgain,
+    /// It pauses for a second: the system lacks memory, descriptors or buffers.
     PauseFirst,
+    /// It fails.
     GiveUp,
 }
 
-pub(super) fn remedy_of(error: &io::Error) -> Remedy {
+/// Returns what a listener does after an error of `accept`, by the error's number in Linux.
+pub fn remedy_of(error: &io::Error) -> Remedy {
     match error.raw_os_error() {
         Some(number) if LINK_ERRORS.contains(&number) => Remedy::TryAgain,
         Some(number) if WANTS.contains(&number) => Remedy::PauseFirst,

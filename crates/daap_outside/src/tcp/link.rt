@@ -62,6 +62,14 @@ impl<R> TcpLink<R> {
             faults: 0,
         }
     }
+
+    /// Returns how long a read and a write wait for the peer; `None` is without a limit.
+    ///
+    /// # Errors
+    /// Returns an error if the system does not know the connection any more.
+    pub fn timeouts(&self) -> io::Result<(Option<Duration>, Option<Duration>)> {
+        Ok((self.stream.read_timeout()?, self.stream.write_timeout()?))
+    }
 }
 
 // Sends what is written at once, so that the body of a reply never waits until its head is acknowledged. A connection
