@@ -1,4 +1,5 @@
 use Rattle.std.proofs.Common.{sym, ◌∙◌, refl, inl, inr, arith}
+use Rattle.share_workers.proofs.Keepers.{keeping_as}
 use Rattle.share_workers.proofs.OneMore.{more_at, fails, stops, spends, goes_on}
 use Rattle.share_workers.proofs.working.serve_accepted.Goals as goal
 use Rattle.share_workers.proofs.working.serve_accepted.Goals.{then-budget-eq0-via-then-budget-eq0, then-budget-eq0-via-else-budget-eq0+then-len-eq-MOST_LINKS}
@@ -36,3 +37,51 @@ returns-clause-served g c k coming before written under accepts begins =
     c.if-behind.false (sym c.serve_one-behind.ensures.stopped ∙ c.if-behind-2.false)
     (λ full. absurd (omega arith))
     (λ nothing. absurd (omega arith))
+
+pub returns-then-behind-clause-ready : goal.returns-then-behind-clause-ready
+returns-then-behind-clause-ready g c = c.serve_one-behind.ensures.ready
+
+pub returns-then-behind-clause-role : goal.returns-then-behind-clause-role
+returns-then-behind-clause-role g c = c.serve_one-behind.ensures.role
+
+pub returns-then-behind-clause-count : goal.returns-then-behind-clause-count
+returns-then-behind-clause-count g c = c.nudge.ensures.count ∙ c.serve_one-behind.ensures.count
+
+pub returns-then-behind-clause-keeping : goal.returns-then-behind-clause-keeping
+returns-then-behind-clause-keeping g c = keeping_as _ _ _ _ _ _ _ _ _ (sym c.if-behind.true) c.serve_one-behind.ensures.keeping
+
+pub returns-then-behind-2-clause-ready : goal.returns-then-behind-2-clause-ready
+returns-then-behind-2-clause-ready g c = c.serve_one-behind.ensures.ready
+
+pub returns-then-behind-2-clause-role : goal.returns-then-behind-2-clause-role
+returns-then-behind-2-clause-role g c = c.serve_one-behind.ensures.role
+
+pub returns-then-behind-2-clause-count : goal.returns-then-behind-2-clause-count
+returns-then-behind-2-clause-count g c = c.nudge-then-behind-2.ensures.count ∙ c.serve_one-behind.ensures.count
+
+pub returns-then-behind-2-clause-keeping : goal.returns-then-behind-2-clause-keeping
+returns-then-behind-2-clause-keeping g c = keeping_as _ _ _ _ _ _ _ _ _ (sym c.if-behind.false) c.serve_one-behind.ensures.keeping
+
+pub returns-then-budget-eq0-clause-ready : goal.returns-then-budget-eq0-clause-ready
+returns-then-budget-eq0-clause-ready g c = c.serve_one-behind.ensures.ready
+
+pub returns-then-budget-eq0-clause-role : goal.returns-then-budget-eq0-clause-role
+returns-then-budget-eq0-clause-role g c = c.serve_one-behind.ensures.role
+
+pub returns-then-budget-eq0-clause-count : goal.returns-then-budget-eq0-clause-count
+returns-then-budget-eq0-clause-count g c = c.serve_one-behind.ensures.count
+
+pub returns-then-budget-eq0-clause-keeping : goal.returns-then-budget-eq0-clause-keeping
+returns-then-budget-eq0-clause-keeping g c = keeping_as _ _ _ _ _ _ _ _ _ (sym c.if-behind.false) c.serve_one-behind.ensures.keeping
+
+pub returns-clause-ready : goal.returns-clause-ready
+returns-clause-ready g c = c.serve_one-behind.ensures.ready
+
+pub returns-clause-role : goal.returns-clause-role
+returns-clause-role g c = c.serve_one-behind.ensures.role
+
+pub returns-clause-count : goal.returns-clause-count
+returns-clause-count g c = c.serve_one-behind.ensures.count
+
+pub returns-clause-keeping : goal.returns-clause-keeping
+returns-clause-keeping g c = keeping_as _ _ _ _ _ _ _ _ _ (sym c.if-behind.false) c.serve_one-behind.ensures.keeping
