@@ -7,6 +7,7 @@ pub mod WholeFacts
 pub mod BackFacts
 pub mod RuleFacts
 pub mod TickFacts
+pub mod PickFacts
 pub mod PruneFacts
 pub mod NoteFacts
 pub mod MemberFacts
