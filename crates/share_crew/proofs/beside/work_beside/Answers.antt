@@ -2,6 +2,7 @@ use denote.Exit.{no}
 use denote.Param.{param}
 use denote.Param.Send.{IsSend, Quiet-if}
 use mir.Syntax.{of_param}
+use Rattle.std.proofs.Common.{rules}
 use Rattle.share_crew.proofs.Crossing.{taken_send}
 use Rattle.share_crew.proofs.beside.work_beside.Goals as goal
 
@@ -13,3 +14,7 @@ join_mut-requires-send-F g c κs within =
       owned = λ x vs. taken.owned (x.0, (x.1, (x.2, (x.3, (x.4, tt))))) vs;
       leaving = λ k. Quiet-if (k (of_param 1)) _ _ (λ x w. taken.leaving no (x.0, (x.1, (x.2, (x.3, (x.4, tt))))) w) (λ x w. tt);
     }
+
+-- One search proves all clauses of the return. A search for each clause, as without an answer, takes far longer.
+pub returns : goal.returns
+returns g c = search rules
