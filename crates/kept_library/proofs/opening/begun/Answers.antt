@@ -1,4 +1,4 @@
-use Rattle.std.proofs.Common.{◌≢◌, ◌++◌, ◌∷◌, [], List, sym, ap, ◌∙◌, subst}
+use Rattle.std.proofs.Common.{◌≢◌, ◌++◌, ◌∷◌, [], List, sym, ap, ◌∙◌, subst, rules}
 use Rattle.std.proofs.lemmas.List.Elements.{All-push}
 use Rattle.std.specs.Prelude.{All}
 use Rattle.item_model.specs.declared.changes.Edit.{Edit}
@@ -34,3 +34,13 @@ returns-in-Ok-clause-keeps g c has =
     subst (λ (bs : List (List Edit)). HasBatches g.D.Disk c.append.new.self bs)
     (ap (λ frame. c.args.batches.items ++ frame ∷ []) c.in_ok-frame.ensures ∙ ap (λ last. c.args.batches.items ++ last) (sym (filled_is c.args.first some)))
     (c.in-Ok.ensures.acknowledged c.args.batches.items has)
+
+-- One search proves all clauses of a return. A search for each clause, as without an answer, takes far longer.
+pub returns-in_err-frame : goal.returns-in_err-frame
+returns-in_err-frame g c = search rules
+
+pub returns-in_err-batches : goal.returns-in_err-batches
+returns-in_err-batches g c = search rules
+
+pub returns-in-Err : goal.returns-in-Err
+returns-in-Err g c = search rules
