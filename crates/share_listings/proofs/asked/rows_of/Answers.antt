@@ -1,5 +1,4 @@
 use Rattle.std.proofs.Common.{◌++◌, ◌∷◌, [], get_or, option_copied, sym, ap, ◌∙◌, arith, rules}
-use Rattle.std.proofs.lemmas.Result.{IfOk-from_err}
 use Rattle.share_history.specs.Histories.{edits}
 use Rattle.share_history.specs.Keyed.{pairs_at}
 use Rattle.share_history.specs.Rows.{row_at}
@@ -19,15 +18,3 @@ loop-member-preserved g c = record {
   members = search rules;
   cost = omega (arith, c.in_ok-push_member.ensures.cost, c.loop-member.invariant.cost);
 }
-
-pub returns-in_err-push_member-clause-rows : goal.returns-in_err-push_member-clause-rows
-returns-in_err-push_member-clause-rows g c = IfOk-from_err _ _ c.from_residual.ensures.0
-
-pub returns-in_err-push_member-clause-members : goal.returns-in_err-push_member-clause-members
-returns-in_err-push_member-clause-members g c = IfOk-from_err _ _ c.from_residual.ensures.0
-
-pub returns-in_err-push_member-clause-cost : goal.returns-in_err-push_member-clause-cost
-returns-in_err-push_member-clause-cost g c = omega (arith, c.in_err-push_member.ensures.cost, c.loop-member.invariant.cost, c.loop-member-test.true)
-
-pub returns-clause-members : goal.returns-clause-members
-returns-clause-members g c = c.loop-member.invariant.members

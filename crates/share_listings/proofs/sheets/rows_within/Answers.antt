@@ -1,5 +1,4 @@
 use Rattle.std.proofs.Common.{◌≡◌, ap, ◌∙◌, rules}
-use Rattle.std.proofs.lemmas.Result.{IfOk-from_err}
 use Rattle.listing_plan.specs.Plans.{keyed}
 use Rattle.row_sheets.specs.Spelled.{Spelled}
 use Rattle.row_sheets.specs.Sheets.{by_id, rows_on, rows_in}
@@ -21,15 +20,3 @@ loop-sheet-preserved c =
           (search rules) c.sheet-item.is on c.past-left.ensures.from c.past-left.ensures.to c.in_ok-push_within.ensures.rows c.loop-sheet.invariant.rows;
       members = search rules;
     }
-
-pub returns-then-left-eq0-clause-members : goal.returns-then-left-eq0-clause-members
-returns-then-left-eq0-clause-members c = c.loop-sheet.invariant.members
-
-pub returns-in_err-push_within-clause-rows : goal.returns-in_err-push_within-clause-rows
-returns-in_err-push_within-clause-rows c = IfOk-from_err _ _ c.from_residual.ensures.0
-
-pub returns-in_err-push_within-clause-members : goal.returns-in_err-push_within-clause-members
-returns-in_err-push_within-clause-members c = IfOk-from_err _ _ c.from_residual.ensures.0
-
-pub returns-clause-members : goal.returns-clause-members
-returns-clause-members c = c.loop-sheet.invariant.members
