@@ -85,6 +85,7 @@ fn push_tag(level: u64, code: Code, value: &Value, out: &mut Vec<u8>) -> Result<
             let below = level.checked_add(1).ok_or(AllocError)?;
             push_tags(below, tags.as_slice(), out)
         }
+        // Only a list has members.
         _ => Ok(()),
     }
 }

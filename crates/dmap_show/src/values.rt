@@ -59,7 +59,7 @@ fn push_version(n: u32, out: &mut Vec<u8>) -> Result<(), AllocError>
     push_number(version % 256, out)
 }
 
-/// Appends a part of a version and the point behind it.
+/// Appends a part of a version and a dot.
 fn push_part(n: u64, out: &mut Vec<u8>) -> Result<(), AllocError>
     ensures shown { OnOk result (out.new.items ≡ out.old.items ++ decimal n ++ 46 ∷ []) }
     ensures text { is_utf8 out.old.items ≡ true → OnOk result (is_utf8 out.new.items ≡ true) }

@@ -165,16 +165,16 @@ where
     status_of(rt, alloc, &mut TcpNet::new(rt, alloc), words, input, output)
 }
 
-/// Sends `change` to the share at `place`. Returns whether the output of `edit` is `told`.
+/// Sends `change` to the share at `place`. Returns whether the output of `edit` is `lines`.
 pub fn takes<R: Threads + Wait + Clock + Sync, N: Net>(
     rt: &R,
     alloc: Global,
     net: &mut N,
     place: &str,
     change: &[u8],
-    told: &[u8],
+    lines: &[u8],
 ) -> bool {
-    ends(rt, alloc, net, &["edit", place], change, 0, told)
+    ends(rt, alloc, net, &["edit", place], change, 0, lines)
 }
 
 /// Stops the share at `place`. Returns whether it was stopped.

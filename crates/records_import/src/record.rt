@@ -150,6 +150,7 @@ fn name_in(alloc: Global, item: &Item) -> Result<Text, AllocError>
     Text::of(alloc, text_in(item.get(Property::Minm)))
 }
 
+// Returns the text of a value, which is empty if the value is none.
 fn text_in(value: Option<&PropValue>) -> &str
     ensures { result.now ≡ name_text (option_copied value.entry) }
 {

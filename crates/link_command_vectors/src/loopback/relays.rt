@@ -63,9 +63,10 @@ fn keeps_up<R: Threads + Wait + Clock + Sync, N: Net>(
     let Some(mut link) = player(net, relay, 1, BEFORE_FIRST) else {
         return false;
     };
-    let told = sends_both(rt, alloc, net, &mut link, edit);
+    let is_sent = sends_both(rt, alloc, net, &mut link, edit);
     net.hang_up(link);
-    told && ends(rt, alloc, net, &["follow", relay, "1"], b"", 0, FOLLOWED)
+    is_sent
+        && ends(rt, alloc, net, &["follow", relay, "1"], b"", 0, FOLLOWED)
         && takes(rt, alloc, net, edit, LAST_CHANGE, b"revision 5\n")
 }
 
