@@ -6,7 +6,7 @@ use dmap_tags::{Code, Kind, Text};
 use std::alloc::AllocError;
 
 /// A content code, with its name and the kind of its values.
-#[derive(Debug, Drop)]
+#[derive(Drop)]
 pub struct CodeRow {
     pub code: Code,
     /// The name in `/content-codes`, as `dmap.itemname`.

@@ -14,7 +14,7 @@ use std::collections::BTreeMap;
 use std::marker::Model;
 
 /// Content codes with their kinds and names. No code has two rows.
-#[derive(Debug, Drop)]
+#[derive(Drop)]
 pub struct CodeTable {
     rows: Vec<CodeRow>,
     /// The kinds by code.

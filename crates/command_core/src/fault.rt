@@ -7,7 +7,7 @@ use daap_outside::{Failed, ReadError};
 use std::alloc::{AllocError, Global};
 
 /// What ended a command early: one of its own errors, or what may end any command.
-#[derive(Debug, Drop)]
+#[derive(Drop)]
 pub enum Fault<E> {
     Own(E),
     /// The input could not be read.

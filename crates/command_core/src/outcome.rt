@@ -10,7 +10,7 @@ use item_model::Entries;
 use std::alloc::Global;
 
 /// What a run leaves: the status of the program, and the history of the share, if it opened one.
-#[derive(Debug, Drop)]
+#[derive(Drop)]
 pub struct Outcome {
     pub status: u8,
     pub history: Option<Entries>,

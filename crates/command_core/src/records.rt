@@ -16,7 +16,7 @@ use std::alloc::Global;
 const RECORDS_LIMIT: u64 = 4_194_304;
 
 /// Why the input is not a batch. Out of memory is `Fault::Memory`, and a read that failed is `Fault::Read`.
-#[derive(Debug, Drop)]
+#[derive(Drop)]
 pub enum InputFault {
     /// The input has more than `RECORDS_LIMIT` bytes.
     TooLong,

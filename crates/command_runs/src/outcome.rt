@@ -10,7 +10,7 @@ use std::alloc::Global;
 
 /// The status of the program, the history of the share, if one was opened, and the reports of the connections that were
 /// served, worker by worker.
-#[derive(Debug, Drop)]
+#[derive(Drop)]
 pub struct Outcome {
     pub status: u8,
     pub history: Option<Entries>,

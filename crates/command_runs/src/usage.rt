@@ -8,7 +8,7 @@ use daapshare_words::usage_text;
 use std::alloc::{AllocError, Global};
 
 /// Why no command is run.
-#[derive(Debug, Drop)]
+#[derive(Drop)]
 pub enum UsageFault {
     /// The arguments are not a command's.
     NoCommand,

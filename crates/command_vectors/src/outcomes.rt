@@ -6,7 +6,7 @@ use std::alloc::{AllocError, Global};
 use std::test::Fail;
 
 /// An error with its own line.
-#[derive(Debug, Drop)]
+#[derive(Drop)]
 struct Torn;
 
 impl Refusal for Torn {

@@ -3,9 +3,9 @@
 ghost use Rattle.std.specs.Prelude.{IfOk};
 ghost use Rattle.share_lock.specs.Passes.{lock_id, IsReady};
 
+use crate::shares;
 use daap_outside::{MemLink, MemSink, MemSource};
 use edit_keeping::Unkept;
-use item_model::{Batch, Edits};
 use share_asks::{Ask, BodyForm, Role, Want};
 use share_core::Share;
 use share_lock::{Bell, Pass, ShareLock};
@@ -38,12 +38,7 @@ pub fn edits<'a>(input: &'a str) -> Trial<'a> {
 pub fn opened(alloc: Global) -> Result<(ShareLock<Share>, Pass<Share>), AllocError>
     ensures { IfOk result (λ r. IsReady (lock_id r.0) r.1) }
 {
-    let first = Batch {
-        edits: Edits::new(alloc),
-    };
-    let Ok(share) = Share::open(alloc, "Demo", 16, first) else {
-        return Err(AllocError);
-    };
+    let share = shares::opened(alloc)?;
     ShareLock::open(alloc, share, 2)
 }
 
@@ -54,6 +49,27 @@ pub fn coming(alloc: Global, trial: &Trial<'_>) -> Result<MemLink, AllocError> {
     MemLink::with_failing_probes(alloc, input, output, trial.failing_probes)
 }
 
+/// Serves a connection of a new share. Returns its report.
+pub fn serve_new<R: Wait + Clock>(
+    rt: &R,
+    alloc: Global,
+    link: &mut MemLink,
+    role: Role,
+    budget: u32,
+) -> Result<LinkReport, AllocError> {
+    let (lock, mut pass) = opened(alloc)?;
+    Ok(serve_link(
+        rt,
+        alloc,
+        &lock,
+        &Bell::new(),
+        &mut pass,
+        link,
+        role,
+        budget,
+    ))
+}
+
 /// Serves the connection. Returns its report and what it took.
 fn tried<R: Wait + Clock>(
     rt: &R,
@@ -61,17 +77,7 @@ fn tried<R: Wait + Clock>(
     trial: &Trial<'_>,
 ) -> Result<(LinkReport, MemLink), AllocError> {
     let mut link = coming(alloc, trial)?;
-    let (lock, mut pass) = opened(alloc)?;
-    let report = serve_link(
-        rt,
-        alloc,
-        &lock,
-        &Bell::new(),
-        &mut pass,
-        &mut link,
-        Role::Edit,
-        trial.budget,
-    );
+    let report = serve_new(rt, alloc, &mut link, Role::Edit, trial.budget)?;
     Ok((report, link))
 }
 

@@ -1,18 +1,15 @@
 //! What a hostile peer may send, and how each connection ends: by a refusal at its offset, by the end of its input, or
 //! served like any other. The expected ends follow the protocol's rules for requests.
 
-ghost use Rattle.std.specs.Prelude.{◌<◌, IfOk};
-ghost use Rattle.share_lock.specs.Passes.{lock_id, IsReady};
+ghost use Rattle.std.specs.Prelude.{◌<◌};
 
 mod inputs;
 
+use crate::connections::serve_new;
 use crate::hostile::inputs::{CONNECTIONS, Coming, NO_REQUESTS, ODD_REQUESTS};
 use daap_outside::{MemLink, MemSink, MemSource};
-use item_model::{Batch, Edits};
 use share_asks::Role;
-use share_core::Share;
-use share_lock::{Bell, Pass, ShareLock};
-use share_server::{LinkEnd, LinkReport, serve_link};
+use share_server::{LinkEnd, LinkReport};
 use std::alloc::{AllocError, Global};
 use std::sync::Wait;
 use std::test::Fail;
@@ -36,19 +33,6 @@ fn joined(alloc: Global, coming: &Coming) -> Result<Vec<u8>, AllocError> {
     Ok(input)
 }
 
-// Opens a share without items, for one lock handle.
-fn opened(alloc: Global) -> Result<(ShareLock<Share>, Pass<Share>), AllocError>
-    ensures { IfOk result (λ r. IsReady (lock_id r.0) r.1) }
-{
-    let first = Batch {
-        edits: Edits::new(alloc),
-    };
-    let Ok(share) = Share::open(alloc, "S", 16, first) else {
-        return Err(AllocError);
-    };
-    ShareLock::open(alloc, share, 1)
-}
-
 fn link(alloc: Global, visit: &Visit<'_>) -> Result<MemLink, AllocError>
     requires { 0 < visit.now.piece }
 {
@@ -58,7 +42,7 @@ fn link(alloc: Global, visit: &Visit<'_>) -> Result<MemLink, AllocError>
 }
 
 /// Serves a connection of a new share. Returns its report and what it took.
-fn tried<R: Wait + Clock>(
+fn visited<R: Wait + Clock>(
     rt: &R,
     alloc: Global,
     visit: &Visit<'_>,
@@ -66,17 +50,7 @@ fn tried<R: Wait + Clock>(
     requires { 0 < visit.now.piece }
 {
     let mut link = link(alloc, visit)?;
-    let (lock, mut pass) = opened(alloc)?;
-    let report = serve_link(
-        rt,
-        alloc,
-        &lock,
-        &Bell::new(),
-        &mut pass,
-        &mut link,
-        visit.role,
-        65_536,
-    );
+    let report = serve_new(rt, alloc, &mut link, visit.role, 65_536)?;
     Ok((report, link))
 }
 
@@ -126,7 +100,7 @@ fn ends<R: Wait + Clock>(
 ) -> Result<bool, AllocError>
     requires { 0 < visit.now.piece }
 {
-    let (report, link) = tried(rt, alloc, visit)?;
+    let (report, link) = visited(rt, alloc, visit)?;
     Ok(is_ended(&report, count, end) && has_last_words(&link, end))
 }
 
@@ -234,7 +208,7 @@ fn have_their_status<R: Wait + Clock>(
         input: input.as_slice(),
         piece,
     };
-    let (report, _) = tried(rt, alloc, &player)?;
+    let (report, _) = visited(rt, alloc, &player)?;
     Ok(have_statuses(&report, rows))
 }
 

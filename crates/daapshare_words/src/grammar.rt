@@ -10,7 +10,7 @@ use dmap_tags::Text;
 use std::alloc::{AllocError, Global};
 
 /// The kind of an argument of a command.
-#[derive(Clone, Copy, Debug, PartialEq, Eq)]
+#[derive(Clone, Copy, PartialEq, Eq)]
 pub enum Part {
     /// A positional argument, which is required.
     Place,

@@ -3,6 +3,7 @@ pub mod Once
 pub mod EventLines
 pub mod Pushed
 pub mod Alone
+pub mod Members
 pub mod TextLengths
 pub mod Taken
 pub mod Remaining

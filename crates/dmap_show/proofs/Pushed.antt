@@ -24,3 +24,7 @@ begins_added front old added new put begins = begins_more front old new begins (
 pub on_any_err : {T E P : Type 0} (r : Result T E) → P → OnErr r P
 on_any_err (Ok x) p = tt
 on_any_err (Err e) p = p
+
+-- what begins with a buffer that got more begins with what the buffer had
+pub begins_then : (old added new last : List ℕ) → new ≡ old ++ added → Begins new last → Begins old last
+begins_then old added new last put more = begins_more old new last (begins_added old old added new put (begins_same old)) more

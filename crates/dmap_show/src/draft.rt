@@ -12,7 +12,7 @@ use std::marker::Model;
 const MOST_LEVELS: u64 = 32;
 
 /// A list to which further lines may add.
-#[derive(Debug, Drop)]
+#[derive(Drop)]
 pub(crate) struct OpenList {
     pub(crate) code: Code,
     /// The members before it in the list around it.
@@ -34,7 +34,7 @@ impl OpenList {
 }
 
 /// The lists around a line, which contracts see from the innermost to the outermost.
-#[derive(Debug, Drop)]
+#[derive(Drop)]
 pub(crate) struct Around {
     outermost_first: Vec<OpenList>,
 }
@@ -98,7 +98,7 @@ impl Around {
 }
 
 /// Tags of which the last may still get members.
-#[derive(Debug, Drop)]
+#[derive(Drop)]
 pub(crate) struct Draft {
     pub(crate) around: Around,
     pub(crate) here: Tags,

@@ -4,6 +4,7 @@ ghost use Rattle.std.specs.Prelude.{◌≡◌, ◌<◌, ◌≤◌, ◌+◌, ◌^
 ghost use Rattle.std.specs.Char.{digit_char};
 ghost use Rattle.std.specs.Fmt.{signed_decimal};
 ghost use Rattle.std.specs.Int.{w64};
+ghost use Rattle.std.specs.Str.{bytes_eq};
 ghost use Rattle.std.specs.Int.RustNames.{FitsSigned};
 ghost use Rattle.dmap_tags.specs.Codes.{Four};
 ghost use Rattle.dmap_show.specs.Shown.{hex, escaped, shown_code};
@@ -55,33 +56,40 @@ pub(crate) fn split_indent(bytes: &[u8]) -> (u64, &[u8])
 pub(crate) fn kind_named(word: &[u8]) -> Kind
     ensures { result ≡ kind_named word.now }
 {
-    if word == b"u8".as_slice() {
+    if is_word(word, "u8") {
         Kind::U8
-    } else if word == b"i8".as_slice() {
+    } else if is_word(word, "i8") {
         Kind::I8
-    } else if word == b"u16".as_slice() {
+    } else if is_word(word, "u16") {
         Kind::U16
-    } else if word == b"i16".as_slice() {
+    } else if is_word(word, "i16") {
         Kind::I16
-    } else if word == b"u32".as_slice() {
+    } else if is_word(word, "u32") {
         Kind::U32
-    } else if word == b"i32".as_slice() {
+    } else if is_word(word, "i32") {
         Kind::I32
-    } else if word == b"u64".as_slice() {
+    } else if is_word(word, "u64") {
         Kind::U64
-    } else if word == b"i64".as_slice() {
+    } else if is_word(word, "i64") {
         Kind::I64
-    } else if word == b"text".as_slice() {
+    } else if is_word(word, "text") {
         Kind::Text
-    } else if word == b"date".as_slice() {
+    } else if is_word(word, "date") {
         Kind::Date
-    } else if word == b"version".as_slice() {
+    } else if is_word(word, "version") {
         Kind::Version
-    } else if word == b"list".as_slice() {
+    } else if is_word(word, "list") {
         Kind::List
     } else {
         Kind::Opaque
     }
+}
+
+/// Returns whether the bytes are that word.
+fn is_word(bytes: &[u8], word: &str) -> bool
+    ensures { result ≡ bytes_eq bytes.now word.now }
+{
+    bytes == word.as_bytes()
 }
 
 /// Returns the number whose decimal the bytes are.
@@ -155,8 +163,20 @@ pub(crate) fn first_quoted(bytes: &[u8]) -> Option<(u8, &[u8])>
     ensures shorter { IfSome result (λ r. length r.1.now < length bytes.now) }
 {
     match bytes {
-        [b'\\', b'x', digits @ ..] => first_hex(digits),
-        [b'\\', byte, rest @ ..] => Some((*byte, rest)),
+        [b'\\', rest @ ..] => first_escaped(rest),
+        [byte, rest @ ..] => Some((*byte, rest)),
+        [] => None,
+    }
+}
+
+/// Returns the byte that is shown after a backslash, and what follows it.
+fn first_escaped(bytes: &[u8]) -> Option<(u8, &[u8])>
+    ensures shown { (b : ℕ) (more : List ℕ) → b < 256 → 92 ∷ bytes.now ≡ escaped b ++ more → IfSome result (λ r. (r.0 ≡ b) × (r.1.now ≡ more)) }
+    ensures there { (b : ℕ) (more : List ℕ) → 92 ∷ bytes.now ≡ escaped b ++ more → result ≢ None }
+    ensures shorter { IfSome result (λ r. length r.1.now < length bytes.now) }
+{
+    match bytes {
+        [b'x', digits @ ..] => first_hex(digits),
         [byte, rest @ ..] => Some((*byte, rest)),
         [] => None,
     }

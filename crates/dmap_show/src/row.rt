@@ -16,7 +16,7 @@ use dmap_tags::{Code, Tag, Value};
 use std::alloc::{AllocError, Global};
 
 /// A tag without members, and its level.
-#[derive(Debug, Drop)]
+#[derive(Drop)]
 pub(crate) struct Row {
     pub(crate) level: u64,
     pub(crate) code: Code,

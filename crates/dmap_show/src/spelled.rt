@@ -14,7 +14,7 @@ use dmap_tags::{Bytes, Kind, Tags, Text, Value};
 use std::alloc::{AllocError, Global};
 
 /// How bytes are shown: in quotes with escapes, or in hex.
-#[derive(Clone, Copy, Debug)]
+#[derive(Clone, Copy)]
 pub(crate) enum Form {
     Quoted,
     Hex,

@@ -9,7 +9,7 @@ use std::alloc::{AllocError, Global};
 use std::marker::Model;
 
 /// A list whose head was read.
-#[derive(Clone, Copy, Debug)]
+#[derive(Clone, Copy)]
 pub struct Container {
     pub code: Code,
     /// The offset of its head.
@@ -19,7 +19,7 @@ pub struct Container {
 }
 
 /// The lists around a place, which contracts see from the innermost to the outermost.
-#[derive(Debug, Drop)]
+#[derive(Drop)]
 pub struct Containers {
     outermost_first: Vec<Container>,
 }

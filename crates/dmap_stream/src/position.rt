@@ -19,7 +19,7 @@ use std::alloc::Global;
 type Taken = Result<usize, StreamError>;
 
 /// What the reader takes next.
-#[derive(Clone, Copy, Debug)]
+#[derive(Clone, Copy)]
 pub enum Phase {
     /// The eight bytes of a head.
     Head,
@@ -28,7 +28,7 @@ pub enum Phase {
 }
 
 /// The last place that was reached, and what has come since.
-#[derive(Debug, Drop)]
+#[derive(Drop)]
 pub struct Position {
     /// The place's offset.
     pub start: u64,

@@ -13,14 +13,14 @@ use std::alloc::{AllocError, Global};
 use std::marker::Model;
 
 /// What a reader accepts.
-#[derive(Clone, Copy, Debug)]
+#[derive(Clone, Copy)]
 pub struct Limits {
     /// The maximum payload length of a top tag.
     pub top: u32,
 }
 
 /// Reads tags out of bytes that come in chunks.
-#[derive(Debug, Drop)]
+#[derive(Drop)]
 pub struct DmapReader {
     alloc: Global,
     table: CodeTable,

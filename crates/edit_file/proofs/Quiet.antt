@@ -1,5 +1,5 @@
 -- Calls that change nothing: one after another, and within a run.
-use Rattle.std.proofs.Common.{◌≡◌, ℕ, List, Option, Some, None, IfSome, inl, inr, sym, ◌∙◌, subst, le_refl, refl, arith}
+use Rattle.std.proofs.Common.{◌≡◌, ℕ, List, Option, Some, None, IfSome, Ok, Err, inl, inr, sym, ◌∙◌, subst, le_refl, refl, arith}
 use Rattle.outside_disks.specs.declared.disk.Disk.{Ghosts}
 use Rattle.outside_disks.specs.Disks.{Elapses, NoMore}
 use Rattle.edit_file.specs.Moments.{IsQuiet, LeavesOnly, Holds}
@@ -12,6 +12,9 @@ if_told (Some b) P here = here b refl
 
 pub told_of : (o : Option (List ℕ)) (P : List ℕ → Type 0) (b : List ℕ) → o ≡ Some b → IfSome o P → P b
 told_of o P b e here = subst (λ (x : Option (List ℕ)). IfSome x P) e here
+
+pub ok_is_no_err : {T E : Type 0} (x : T) (e : E) → Ok x ≡ Err e → ⊥
+ok_is_no_err x e same = absurd (cc)
 
 module _ {D : Type 0} (g : Ghosts D) where
   pub quiet_self : (disk : D) → IsQuiet g disk disk

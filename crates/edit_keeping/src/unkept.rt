@@ -6,7 +6,7 @@ use item_model::Batch;
 use std::alloc::{AllocError, Global};
 
 /// Keeps nothing, and so never fails.
-#[derive(Clone, Copy, Debug)]
+#[derive(Clone, Copy)]
 pub struct Unkept;
 
 impl Keeps for Unkept {

@@ -7,7 +7,7 @@ use std::alloc::{AllocError, Global};
 use std::marker::Model;
 
 /// The entries of a history, oldest first, with spare capacity.
-#[derive(Debug, Drop)]
+#[derive(Drop)]
 pub struct EditLog {
     entries: Vec<Entry>,
     revision: u32,

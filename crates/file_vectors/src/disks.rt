@@ -5,7 +5,6 @@ ghost use Rattle.outside_disks.specs.Disks.{Only};
 
 use outside_disks::{Disk, DiskOp, Failed, FileDisk, Files, MemDisk, MemFiles, SystemFiles};
 use std::alloc::{AllocError, Global};
-use std::process::Abort;
 use std::string::String;
 use std::test::Fail;
 use std::{env, fs};
@@ -37,22 +36,43 @@ fn own_path(rt: &HostRuntime, alloc: Global) -> Result<String, Fail> {
     Ok(path)
 }
 
+// Truncates and writes, the second time too far. Returns whether that one fails.
+fn is_cut_and_grown(disk: &mut FileDisk) -> Result<bool, Failed> {
+    disk.cut(2)?;
+    disk.write_at(2, b"d")?;
+    Ok(disk.write_at(u64::MAX - 9, b"far").is_err())
+}
+
+// Whether an empty disk does all that a disk does.
+fn is_an_empty_disk(disk: &mut FileDisk) -> Result<bool, Failed> {
+    Ok(disk.len()? == 0 && is_a_disk(disk)? && is_cut_and_grown(disk)?)
+}
+
+// Whether the file at a path has these bytes.
+fn has_bytes(rt: &HostRuntime, path: &str, bytes: &[u8]) -> Result<bool, Fail> {
+    Ok(fs::read(rt, path)?.as_slice() == bytes)
+}
+
+// Whether the file at a path is a disk when it is opened, and a path without a folder is none.
+fn are_files<F: Files>(files: &mut F, path: &str) -> Result<bool, Failed> {
+    let mut disk = files.open(path)?;
+    let is_disk = is_a_disk(&mut disk);
+    files.close(disk);
+    Ok(is_disk? && files.open("/no folder/no file").is_err())
+}
+
+// Whether a missing file is a disk once it is opened, and once more while it is open.
+fn is_a_file(rt: &HostRuntime, path: &str) -> Result<bool, Fail> {
+    let mut disk = FileDisk::open(rt, path)?;
+    let is_disk = is_an_empty_disk(&mut disk)? && has_bytes(rt, path, b"abd")?;
+    Ok(is_disk && are_files(&mut SystemFiles::new(rt), path)?)
+}
+
 #[test]
 fn a_file_is_a_disk(rt: HostRuntime) -> Result<(), Fail> {
     let path = own_path(&rt, rt.alloc())?;
     let _absent = fs::remove_file(&rt, path.as_str());
-    let mut disk = FileDisk::open(&rt, path.as_str())?;
-    assert_eq!(rt; disk.len()?, 0);
-    assert!(rt; is_a_disk(&mut disk)?);
-    disk.cut(2)?;
-    disk.write_at(2, b"d")?;
-    assert!(rt; disk.write_at(u64::MAX - 9, b"far").is_err());
-    assert_eq!(rt; fs::read(&rt, path.as_str())?.as_slice(), b"abd".as_slice());
-    let mut files = SystemFiles::new(&rt);
-    let mut again = files.open(path.as_str())?;
-    assert!(rt; is_a_disk(&mut again)?);
-    files.close(again);
-    assert!(rt; files.open("/no folder/no file").is_err());
+    assert!(rt; is_a_file(&rt, path.as_str())?);
     fs::remove_file(&rt, path.as_str())?;
     Ok(())
 }
@@ -87,26 +107,49 @@ const CALLS: [Call; 6] = [
     (DiskOp::WriteAt, 2, "12345", true, "aX12345"),
 ];
 
-fn are_made(rt: &impl Abort, disk: &mut MemDisk, calls: &[Call]) {
-    for (op, at, piece, done, bytes) in calls {
-        assert_eq!(rt; call(disk, *op, *at, piece.as_bytes()), *done);
-        assert_eq!(rt; disk.bytes(), bytes.as_bytes());
-        assert_eq!(rt; last_call(disk), Some((*op, *at, *done)));
+// Whether a call succeeds as it should, leaves the bytes that it should, and is recorded.
+fn is_made(disk: &mut MemDisk, row: &Call) -> bool {
+    let (op, at, piece, done, bytes) = *row;
+    call(disk, op, at, piece.as_bytes()) == done
+        && disk.bytes() == bytes.as_bytes()
+        && last_call(disk) == Some((op, at, done))
+}
+
+fn are_made(disk: &mut MemDisk, calls: &[Call]) -> bool {
+    for row in calls {
+        if !is_made(disk, row) {
+            return false;
+        }
     }
+    true
+}
+
+// Whether all calls of the table are recorded, and one more, for which there is no capacity, is not made.
+fn are_recorded(disk: &mut MemDisk) -> bool {
+    are_made(disk, &CALLS)
+        && !call(disk, DiskOp::Len, 0, b"")
+        && disk.calls().len() == 6
+        && disk.pieces() == b"XYZ12345".as_slice()
 }
 
 #[test]
 fn a_disk_records_its_calls_and_fails_where_it_is_set_to(rt: HostRuntime) -> Result<(), Fail> {
     let mut disk = MemDisk::new(rt.alloc(), b"abc", 8, 6, 8, &[3])?;
-    are_made(&rt, &mut disk, &CALLS);
-    assert!(rt; !call(&mut disk, DiskOp::Len, 0, b""));
-    assert_eq!(rt;
-        (disk.calls().len(), disk.pieces()),
-        (6, b"XYZ12345".as_slice())
-    );
-    let mut full = MemDisk::new(rt.alloc(), b"abc", 8, 6, 8, &[])?;
-    assert!(rt; !call(&mut full, DiskOp::WriteAt, 3, b"012345"));
-    assert_eq!(rt; (full.bytes(), full.calls().len()), (b"abc".as_slice(), 0));
+    assert!(rt; are_recorded(&mut disk));
+    Ok(())
+}
+
+// Whether a write for which there is no capacity does nothing.
+fn refuses_a_write(disk: &mut MemDisk) -> bool {
+    !call(disk, DiskOp::WriteAt, 3, b"012345")
+        && disk.bytes() == b"abc".as_slice()
+        && disk.calls().is_empty()
+}
+
+#[test]
+fn a_write_past_the_capacity_of_a_disk_does_nothing(rt: HostRuntime) -> Result<(), Fail> {
+    let mut disk = MemDisk::new(rt.alloc(), b"abc", 8, 6, 8, &[])?;
+    assert!(rt; refuses_a_write(&mut disk));
     Ok(())
 }
 
@@ -119,24 +162,27 @@ fn files_with(alloc: Global, rooms: &[usize], opens: usize) -> Result<MemFiles, 
     MemFiles::with_disks(alloc, disks, opens)
 }
 
-// Opens a file that has these bytes, and writes a piece at offset 0, unless it is empty.
-fn opened(
-    rt: &impl Abort,
-    files: &mut MemFiles,
-    name: &str,
-    found: &str,
-    piece: &str,
-) -> Result<MemDisk, Fail> {
-    let mut disk = files.open(name)?;
-    assert_eq!(rt; disk.bytes(), found.as_bytes());
-    if !piece.is_empty() {
-        disk.write_at(0, piece.as_bytes())?;
-    }
-    Ok(disk)
-}
-
 // A file's name, the bytes that it has when opened, and what is written at offset 0.
 type Turn = (&'static str, &'static str, &'static str);
+
+// Takes a turn of a disk, which fails if the disk does not have the bytes that it should.
+fn take_turn(disk: &mut MemDisk, turn: &Turn) -> Result<(), Failed> {
+    let (_name, found, piece) = *turn;
+    if disk.bytes() != found.as_bytes() {
+        return Err(Failed);
+    }
+    if piece.is_empty() {
+        return Ok(());
+    }
+    disk.write_at(0, piece.as_bytes())
+}
+
+// Opens the turn's file, and takes the turn.
+fn opened(files: &mut MemFiles, turn: &Turn) -> Result<MemDisk, Failed> {
+    let mut disk = files.open(turn.0)?;
+    take_turn(&mut disk, turn)?;
+    Ok(disk)
+}
 
 const WRITTEN: [Turn; 3] = [
     ("edits", "", "one"),
@@ -144,9 +190,9 @@ const WRITTEN: [Turn; 3] = [
     ("edits", "one", "more"),
 ];
 
-fn are_written(rt: &impl Abort, files: &mut MemFiles, turns: &[Turn]) -> Result<(), Fail> {
-    for (name, found, piece) in turns {
-        let disk = opened(rt, files, name, found, piece)?;
+fn are_written(files: &mut MemFiles, turns: &[Turn]) -> Result<(), Failed> {
+    for turn in turns {
+        let disk = opened(files, turn)?;
         files.close(disk);
     }
     Ok(())
@@ -159,14 +205,9 @@ const LENT: [Turn; 3] = [
     ("edits", "", "more"),
 ];
 
-fn are_lent(
-    rt: &impl Abort,
-    lender: &mut MemFiles,
-    keeper: &mut MemFiles,
-    turns: &[Turn],
-) -> Result<(), Fail> {
-    for (name, found, piece) in turns {
-        keeper.close(opened(rt, lender, name, found, piece)?);
+fn are_lent(lender: &mut MemFiles, keeper: &mut MemFiles, turns: &[Turn]) -> Result<(), Failed> {
+    for turn in turns {
+        keeper.close(opened(lender, turn)?);
     }
     Ok(())
 }
@@ -177,21 +218,33 @@ const KEPT: [Turn; 3] = [
     ("", "new", ""),
 ];
 
+fn opens(files: &mut MemFiles) -> bool {
+    files.open("edits").is_ok()
+}
+
+// Whether files keep what was closed, and open no more of them than there is capacity for.
+fn are_kept(files: &mut MemFiles) -> Result<bool, Failed> {
+    are_written(files, &WRITTEN)?;
+    Ok(!opens(files) && !opens(files))
+}
+
 #[test]
 fn files_keep_what_was_closed_last(rt: HostRuntime) -> Result<(), Fail> {
     let mut files = files_with(rt.alloc(), &[4, 4, 4, 2], 4)?;
-    are_written(&rt, &mut files, &WRITTEN)?;
-    assert!(rt; files.open("edits").is_err());
-    assert!(rt; files.open("edits").is_err());
-    assert!(rt; MemFiles::new().open("edits").is_err());
+    assert!(rt; are_kept(&mut files)? && !opens(&mut MemFiles::new()));
     Ok(())
+}
+
+// Lets one keep the disks of the other, and another disk.
+fn are_kept_by(alloc: Global, lender: &mut MemFiles, keeper: &mut MemFiles) -> Result<(), Fail> {
+    are_lent(lender, keeper, &LENT)?;
+    keeper.close(MemDisk::new(alloc, b"new", 4, 0, 0, &[])?);
+    Ok(are_written(keeper, &KEPT)?)
 }
 
 #[test]
 fn files_keep_the_disks_of_other_files(rt: HostRuntime) -> Result<(), Fail> {
     let mut lender = files_with(rt.alloc(), &[4, 4, 4], 3)?;
     let mut keeper = files_with(rt.alloc(), &[4, 4, 4], 0)?;
-    are_lent(&rt, &mut lender, &mut keeper, &LENT)?;
-    keeper.close(MemDisk::new(rt.alloc(), b"new", 4, 0, 0, &[])?);
-    are_written(&rt, &mut keeper, &KEPT)
+    are_kept_by(rt.alloc(), &mut lender, &mut keeper)
 }

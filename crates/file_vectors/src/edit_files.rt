@@ -1,9 +1,11 @@
 //! `edit_file`: files as a table, each disk call failing in turn, and every image that a crash may leave.
 
-ghost use Rattle.std.specs.Prelude.{◌≡◌, false};
+ghost use Rattle.std.specs.Prelude.{◌≡◌, ◌≢◌, [], false};
+ghost use Rattle.records_import.specs.Written.{IsReadable};
 
 use edit_file::{EditFile, FileError, Frame};
 use edit_keeping::Keeps;
+use item_model::Batch;
 use outside_disks::{DiskCall, DiskOp, Failed, MemDisk};
 use records_import::{read_batch, write_batch};
 use std::alloc::Global;
@@ -129,24 +131,40 @@ fn batches_in(alloc: Global, bytes: &[u8]) -> Result<usize, Fail> {
     }
 }
 
+// Whether the records of a batch are where a file with one batch has them.
+fn has_records(alloc: Global, whole: &[u8], batch: &Batch) -> Result<bool, Fail>
+    requires { IsReadable batch.now }
+{
+    let records = write_batch(alloc, batch)?;
+    Ok(whole.get(14..556) == Some(records.as_slice()))
+}
+
+// The same for the batch that is appended.
+fn has_one_item(alloc: Global, whole: &[u8]) -> Result<bool, Fail> {
+    let batch = read_batch(alloc, ONE_ITEM)?;
+    has_records(alloc, whole, &batch)
+}
+
+// Whether the bytes have the batch that is appended, and open as they should: whole, without their end, and with the
+// first closing byte again.
+fn is_as_the_format_says(alloc: Global, whole: &[u8]) -> Result<bool, Fail> {
+    let closed = overlaid(alloc, whole, 9, b"\x7f")?;
+    let files = [
+        (whole, "1 batches, 557 bytes"),
+        (whole.get(..300).unwrap_or(whole), "refused at 9"),
+        (closed.as_slice(), "0 batches, 10 bytes"),
+    ];
+    Ok(
+        first_not_opened(alloc, &files)?.is_none()
+            && has_one_item(alloc, whole)?
+            && whole.starts_with(b"\x01DAAPEDIT\x01\0\0\x02\x1e".as_slice()),
+    )
+}
+
 #[test]
 fn a_batch_is_appended_as_the_format_says(rt: HostRuntime) -> Result<(), Fail> {
-    let alloc = rt.alloc();
-    let whole = one_batch(alloc)?;
-    let whole = whole.as_slice();
-    let records = write_batch(alloc, &read_batch(alloc, ONE_ITEM)?)?;
-    assert!(rt; whole.starts_with(b"\x01DAAPEDIT\x01\0\0\x02\x1e".as_slice()));
-    assert_eq!(rt; whole.get(14..556), Some(records.as_slice()));
-    assert_eq!(rt; opened(alloc, whole)?.as_str(), "1 batches, 557 bytes");
-    assert_eq!(rt;
-        opened(alloc, whole.get(..300).unwrap_or(whole))?.as_str(),
-        "refused at 9"
-    );
-    let closed = overlaid(alloc, whole, 9, b"\x7f")?;
-    assert_eq!(rt;
-        opened(alloc, closed.as_slice())?.as_str(),
-        "0 batches, 10 bytes"
-    );
+    let whole = one_batch(rt.alloc())?;
+    assert!(rt; is_as_the_format_says(rt.alloc(), whole.as_slice())?);
     Ok(())
 }
 
@@ -273,6 +291,25 @@ fn all_open(
     Ok(true)
 }
 
+// Whether every image of the first calls opens to the batches of before, and every image of the others to these, or
+// to these and one more.
+fn both_open(
+    alloc: Global,
+    disk: &mut Replay,
+    calls: &[DiskCall],
+    opening: usize,
+    before: usize,
+) -> Result<bool, Fail> {
+    let (opens, appends) = (
+        calls.get(..opening).unwrap_or(calls),
+        calls.get(opening..).unwrap_or(calls),
+    );
+    Ok(
+        all_open(alloc, disk, opens, before, before)?
+            && all_open(alloc, disk, appends, before, before.saturating_add(1))?,
+    )
+}
+
 // Whether every image of opening the bytes has their batches, and every image of an append these, or these and one
 // more. Another run has shown it for the first `known` calls.
 fn images_open(
@@ -283,41 +320,30 @@ fn images_open(
     known: usize,
 ) -> Result<bool, Fail> {
     let before = batches_in(alloc, start)?;
-    let calls = disk.calls();
     let mut replayed = Replay {
         bytes: Vec::from_slice(alloc, start)?,
         pieces: disk.pieces(),
         is_pending: false,
         known,
     };
-    let opens = all_open(
-        alloc,
-        &mut replayed,
-        calls.get(..opening).unwrap_or(calls),
-        before,
-        before,
-    )?;
-    let appends = all_open(
-        alloc,
-        &mut replayed,
-        calls.get(opening..).unwrap_or(calls),
-        before,
-        before.saturating_add(1),
-    )?;
-    Ok(opens && appends)
+    both_open(alloc, &mut replayed, disk.calls(), opening, before)
+}
+
+// Whether one batch was added.
+fn has_one_more(alloc: Global, start: &[u8], bytes: &[u8]) -> Result<bool, Fail> {
+    Ok(batches_in(alloc, bytes)? == batches_in(alloc, start)?.saturating_add(1))
 }
 
 // Makes a run of which one call is set to fail. Checks that all its images open, and that an acknowledged batch is in
 // them. Returns the number of calls, and whether all succeeded.
 fn run(alloc: Global, start: &[u8], failing: &[u64], known: usize) -> Result<(usize, bool), Fail> {
-    let (disk, done) = grown(alloc, start, failing)?;
     let opening = opening_calls(alloc, start, failing)?;
-    let acknowledged = !done
-        || batches_in(alloc, disk.bytes())? == batches_in(alloc, start)?.saturating_add(1);
-    if !acknowledged || !images_open(alloc, start, &disk, opening, known)? {
-        return Err(Fail::from(Failed));
+    let (disk, done) = grown(alloc, start, failing)?;
+    let acknowledged = !done || has_one_more(alloc, start, disk.bytes())?;
+    if acknowledged && images_open(alloc, start, &disk, opening, known)? {
+        return Ok((disk.calls().len(), done));
     }
-    Ok((disk.calls().len(), done))
+    Err(Fail::from(Failed))
 }
 
 // Each call fails in turn. Returns the number of calls; 0 if one of them was not the last.
@@ -350,6 +376,16 @@ fn every_image_of_an_old_file_opens(rt: HostRuntime) -> Result<(), Fail> {
 }
 
 // Keeps a batch with a keeper of any kind.
+fn keep<K: Keeps>(alloc: Global, keeper: &mut K, batch: &Batch) -> Result<(), Fail>
+    requires going { K.is_lost keeper.old ≡ false }
+    requires some { batch.now ≢ [] }
+    requires readable { IsReadable batch.now }
+{
+    let ready = keeper.ready(alloc, batch)?;
+    keeper.keep(ready)?;
+    Ok(())
+}
+
 fn keep_one<K: Keeps>(alloc: Global, keeper: &mut K) -> Result<(), Fail>
     requires { K.is_lost keeper.old ≡ false }
 {
@@ -357,9 +393,7 @@ fn keep_one<K: Keeps>(alloc: Global, keeper: &mut K) -> Result<(), Fail>
     if batch.edits.as_slice().is_empty() {
         return Err(Fail::from(Failed));
     }
-    let ready = keeper.ready(alloc, &batch)?;
-    keeper.keep(ready)?;
-    Ok(())
+    keep(alloc, keeper, &batch)
 }
 
 #[test]

@@ -1,6 +1,6 @@
 //! The text of a client's request.
 
-ghost use Rattle.std.specs.Prelude.{◌≡◌, [], ◌∷◌, ◌++◌, None, IfOk, OnOk, codes};
+ghost use Rattle.std.specs.Prelude.{◌≡◌, [], ◌∷◌, ◌++◌, None, IfOk, IfErr, OnOk, codes};
 ghost use Rattle.http_front.specs.Readings.{IsReading, reading};
 ghost use Rattle.http_front.specs.ReplyHeads.{field};
 ghost use Rattle.http_front.specs.Routes.{verb_text};
@@ -38,7 +38,6 @@ pub fn post(alloc: Global, path: &str, host: &str, body: &[u8]) -> Result<Bytes,
     Ok(Bytes::from(text))
 }
 
-#[tactic(auto, unfolding(crate::specs::Requests::request_text, crate::specs::Requests::message_text))]
 fn text_of(alloc: Global, want: &Want, host: &str) -> Result<Bytes, AllocError>
     requires { CanSend want.now }
     ensures text { IfOk result (λ b. b ≡ request_text want.now host.now) }
@@ -47,10 +46,26 @@ fn text_of(alloc: Global, want: &Want, host: &str) -> Result<Bytes, AllocError>
 {
     let form = form_of(alloc, want)?;
     let body = body_of(alloc, want)?;
+    message_of(alloc, want, host, form.as_bytes(), body.as_slice())
+}
+
+// Returns the request `want`, whose parameters are `form`.
+#[tactic(auto, unfolding(crate::specs::Requests::request_text, crate::specs::Requests::message_text))]
+fn message_of(
+    alloc: Global,
+    want: &Want,
+    host: &str,
+    form: &[u8],
+    body: &[u8],
+) -> Result<Bytes, AllocError>
+    requires form { form.now ≡ form_text want.now }
+    requires body { body.now ≡ sent_body want.now }
+    ensures { IfOk result (λ b. b ≡ request_text want.now host.now) }
+{
     let mut text = Vec::new(alloc);
     push_method(&mut text, verb_for(want))?;
-    push_target(&mut text, want, form.as_bytes())?;
-    push_rest(&mut text, verb_for(want), host, body.as_slice())?;
+    push_target(&mut text, want, form)?;
+    push_rest(&mut text, verb_for(want), host, body)?;
     Ok(Bytes::from(text))
 }
 
@@ -178,19 +193,30 @@ fn push_form(text: &mut Vec<u8>, form: &[u8]) -> Result<(), AllocError>
 fn push_path(text: &mut Vec<u8>, want: &Want) -> Result<(), AllocError>
     ensures { OnOk result (text.new.items ≡ text.old.items ++ path_to want.now) }
 {
+    match fixed_path(want) {
+        Ok(path) => text.extend_from_slice(path.as_bytes()),
+        Err(target) => push_rows_path(text, target),
+    }
+}
+
+// Returns the path of `want`, or the target of its rows, whose path may name a list.
+fn fixed_path(want: &Want) -> Result<&'static str, Target>
+    ensures fixed { IfOk result (λ path. path.now ≡ path_to want.now) }
+    ensures rows { IfErr result (λ target. rows_path target ≡ path_to want.now) }
+{
     match want {
-        Want::ServerInfo => text.extend_from_slice(b"/server-info"),
-        Want::Codes => text.extend_from_slice(b"/content-codes"),
-        Want::Login => text.extend_from_slice(b"/login"),
-        Want::Logout { .. } => text.extend_from_slice(b"/logout"),
-        Want::Update { .. } => text.extend_from_slice(b"/update"),
-        Want::Databases { .. } => text.extend_from_slice(b"/databases"),
-        Want::Rows { target, .. } => push_rows_path(text, *target),
-        Want::Lists { .. } => text.extend_from_slice(b"/databases/1/containers"),
-        Want::Values { browse, .. } => text.extend_from_slice(values_path(*browse).as_bytes()),
-        Want::Edit { .. } => text.extend_from_slice(b"/edit"),
-        Want::Stop => text.extend_from_slice(b"/stop"),
-        Want::Bad(_) => Ok(()),
+        Want::ServerInfo => Ok("/server-info"),
+        Want::Codes => Ok("/content-codes"),
+        Want::Login => Ok("/login"),
+        Want::Logout { .. } => Ok("/logout"),
+        Want::Update { .. } => Ok("/update"),
+        Want::Databases { .. } => Ok("/databases"),
+        Want::Rows { target, .. } => Err(*target),
+        Want::Lists { .. } => Ok("/databases/1/containers"),
+        Want::Values { browse, .. } => Ok(values_path(*browse)),
+        Want::Edit { .. } => Ok("/edit"),
+        Want::Stop => Ok("/stop"),
+        Want::Bad(_) => Ok(""),
     }
 }
 

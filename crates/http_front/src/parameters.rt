@@ -17,7 +17,7 @@ use share_asks::AskError;
 use std::alloc::{AllocError, Global};
 
 /// Errors of parameters.
-#[derive(Debug, Drop)]
+#[derive(Drop)]
 pub enum Flaw {
     Bad(AskError),
     Memory,

@@ -91,12 +91,12 @@ impl HeadReader {
             piece,
         ) {
             Ok((taken, ready)) => {
-                put_ask(&mut self.ready, ready);
+                put(&mut self.ready, ready);
                 Ok(taken)
             }
             Err(error) => {
                 self.requests.clear();
-                put_error(&mut self.error, error.copy());
+                put(&mut self.error, Some(error.copy()));
                 Err(error)
             }
         }
@@ -156,14 +156,9 @@ fn gather(
     Ok((taken, Some(ask)))
 }
 
-fn put_ask(place: &mut Option<Ask>, ask: Option<Ask>)
-    ensures { place.new ≡ ask }
+// Puts `new` in place of the value that was there.
+fn put<T: Drop>(place: &mut Option<T>, new: Option<T>)
+    ensures { place.new ≡ new }
 {
-    *place = ask;
-}
-
-fn put_error(place: &mut Option<HeadError>, error: HeadError)
-    ensures { place.new ≡ Some error }
-{
-    *place = Some(error);
+    *place = new;
 }

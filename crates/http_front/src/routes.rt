@@ -12,7 +12,7 @@ use share_asks::{Role, Verb};
 use std::alloc::{AllocError, Global};
 
 /// What the router finds for a path.
-#[derive(Clone, Copy, Debug, PartialEq, Eq)]
+#[derive(Clone, Copy, PartialEq, Eq)]
 pub enum Route {
     ServerInfo,
     Codes,
@@ -30,7 +30,7 @@ pub enum Route {
 }
 
 /// The resource that a path names.
-#[derive(Clone, Copy, Debug, PartialEq, Eq)]
+#[derive(Clone, Copy, PartialEq, Eq)]
 pub enum Resource {
     ServerInfo,
     Codes,

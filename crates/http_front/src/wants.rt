@@ -15,7 +15,7 @@ use share_asks::{AskError, Role, Want};
 use std::alloc::{AllocError, Global};
 
 /// The parts of a complete request.
-#[derive(Clone, Copy, Debug)]
+#[derive(Clone, Copy)]
 pub struct Request<'b> {
     pub method: &'b [u8],
     pub path: &'b [u8],
@@ -140,15 +140,16 @@ fn asked_rows(
     ensures { Gives (AskedRows query.now session target look) result }
 {
     match asked(alloc, query) {
-        Ok(asked) => {
-            let look = Look {
-                query: asked,
-                ..look
-            };
-            rows_in_range(alloc, query, session, target, look)
-        }
+        Ok(asked) => rows_in_range(alloc, query, session, target, look_for(asked, look)),
         Err(flaw) => Err(flaw),
     }
+}
+
+// Returns the look at the rows that a query asks for.
+fn look_for(query: Option<Query>, look: Look) -> Look
+    ensures { result ≡ record look { query = query } }
+{
+    Look { query, ..look }
 }
 
 fn asked(alloc: Global, query: &[u8]) -> Result<Option<Query>, Flaw>

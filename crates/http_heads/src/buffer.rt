@@ -7,7 +7,7 @@ use std::marker::Model;
 use std::mem;
 
 /// Bytes that came. The buffer never grows by a length that was only announced.
-#[derive(Debug, Drop)]
+#[derive(Drop)]
 pub struct Buffer {
     bytes: Vec<u8>,
 }

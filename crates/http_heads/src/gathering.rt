@@ -19,7 +19,7 @@ use std::alloc::Global;
 use std::marker::Model;
 
 /// How much of a message has come.
-#[derive(Clone, Copy, Debug, PartialEq, Eq)]
+#[derive(Clone, Copy, PartialEq, Eq)]
 pub enum Phase {
     /// A part of its head; `scan` searches for the end.
     Frame { scan: Scan },
@@ -29,7 +29,7 @@ pub enum Phase {
 }
 
 /// Gathers messages of one kind, one after another. Each byte of a head is scanned once for the head's end.
-#[derive(Debug, Drop)]
+#[derive(Drop)]
 pub struct Gatherer {
     kind: Kind,
     head: Buffer,

@@ -15,7 +15,7 @@ use httparse::Status;
 use httparse::spans::{EMPTY_HEADER_SPAN, HeaderSpan, RequestSpans, parse_request};
 
 /// The contents of a request's head.
-#[derive(Debug, Drop)]
+#[derive(Drop)]
 pub struct Head<'b> {
     pub method: &'b [u8],
     pub target: &'b [u8],

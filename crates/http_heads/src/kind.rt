@@ -1,7 +1,7 @@
 //! The kinds of messages.
 
 /// A server reads requests, a client replies.
-#[derive(Clone, Copy, Debug, PartialEq, Eq)]
+#[derive(Clone, Copy, PartialEq, Eq)]
 pub enum Kind {
     Request,
     Reply,

@@ -11,7 +11,7 @@ use httparse::Status;
 use httparse::spans::{EMPTY_HEADER_SPAN, HeaderSpan, ResponseSpans, parse_response};
 
 /// The contents of a reply's head.
-#[derive(Debug, Drop)]
+#[derive(Drop)]
 pub struct ReplyHead {
     pub status: u16,
     /// The length of the body.

@@ -4,7 +4,7 @@ ghost use Rattle.std.specs.Prelude.{◌≡◌, ◌≢◌, ◌<◌, ◌≤◌, �
 ghost use Rattle.http_heads.specs.Scanning.{start, begun_with, at_line_end, after_byte, after};
 
 /// What the current line has so far.
-#[derive(Clone, Copy, Debug, PartialEq, Eq)]
+#[derive(Clone, Copy, PartialEq, Eq)]
 pub enum Begun {
     Nothing,
     /// Only a carriage return.
@@ -14,7 +14,7 @@ pub enum Begun {
 }
 
 /// The number of complete nonempty lines, and the start of the next line.
-#[derive(Clone, Copy, Debug, PartialEq, Eq)]
+#[derive(Clone, Copy, PartialEq, Eq)]
 pub struct Scan {
     pub full: u64,
     pub begun: Begun,

@@ -9,7 +9,7 @@ use std::alloc::{AllocError, Global};
 use std::marker::Model;
 
 /// One change of the library or of its lists. Ids of items and members are at least 1, ids of lists at least 2.
-#[derive(Debug, Drop)]
+#[derive(Drop)]
 pub enum Edit {
     PutItem { row: SharedRow },
     DropItem { id: u32 },
@@ -53,7 +53,7 @@ impl Edit {
 }
 
 /// A list of edits.
-#[derive(Debug, Drop)]
+#[derive(Drop)]
 pub struct Edits {
     items: Vec<Edit>,
 }
@@ -130,7 +130,7 @@ fn copies(alloc: Global, edits: &[Edit]) -> Result<Vec<Edit>, AllocError>
 }
 
 /// Edits that are made together or not at all.
-#[derive(Debug, Drop)]
+#[derive(Drop)]
 pub struct Batch {
     pub edits: Edits,
 }
@@ -160,7 +160,7 @@ impl Batch {
 }
 
 /// An entry of a share's history, added by the handle or connection with number `by`.
-#[derive(Debug, Drop)]
+#[derive(Drop)]
 pub enum Entry {
     Edits { by: u32, batch: Batch },
     Login { by: u32, id: u32 },
@@ -169,7 +169,7 @@ pub enum Entry {
 }
 
 /// A list of entries, oldest first.
-#[derive(Debug, Drop)]
+#[derive(Drop)]
 pub struct Entries {
     items: Vec<Entry>,
 }

@@ -10,7 +10,7 @@ use std::alloc::{AllocError, Global};
 use std::marker::Model;
 
 /// The operator of a condition.
-#[derive(Clone, Copy, Debug, PartialEq, Eq)]
+#[derive(Clone, Copy, PartialEq, Eq)]
 pub enum Op {
     /// The property matches the pattern.
     Is,
@@ -24,7 +24,7 @@ pub enum Op {
 
 /// The literal parts of a condition's value, one or more, with a wildcard between each two. The folded parts are
 /// stored too.
-#[derive(Debug, Drop)]
+#[derive(Drop)]
 pub struct Pattern {
     pieces: Vec<Text>,
     folds: Vec<Text>,
@@ -42,7 +42,7 @@ impl Model for Pattern {
 }
 
 /// A condition on the property with the name.
-#[derive(Debug, Drop)]
+#[derive(Drop)]
 pub struct Cond {
     pub name: Text,
     pub op: Op,

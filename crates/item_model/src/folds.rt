@@ -12,7 +12,7 @@ use dmap_tags::Text;
 use std::alloc::{AllocError, Global};
 
 /// The value of a property that a condition compares.
-#[derive(Clone, Copy, Debug)]
+#[derive(Clone, Copy)]
 pub enum Sought<'a> {
     Number(u64),
     /// A text that equals the property's folded text after its ASCII letters are lowered.

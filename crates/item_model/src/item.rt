@@ -15,14 +15,14 @@ use thiserror::Error;
 pub const TEXT_BYTES: usize = 255;
 
 /// The value of a property.
-#[derive(Debug, Drop)]
+#[derive(Drop)]
 pub enum PropValue {
     Number(u64),
     Text(Text),
 }
 
 /// The properties that an item has, each with its value, and the folded texts that conditions compare.
-#[derive(Debug, Drop)]
+#[derive(Drop)]
 pub struct Item {
     entries: Vec<(Property, PropValue)>,
     // The folded texts, except those that lowering the text's ASCII letters yields.
@@ -45,7 +45,7 @@ impl Model for Item {
 }
 
 /// An item with its id.
-#[derive(Debug, Drop)]
+#[derive(Drop)]
 pub struct Row {
     pub id: u32,
     pub item: Item,

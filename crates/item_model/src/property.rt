@@ -1,10 +1,10 @@
 //! The properties that an item may have.
 
-ghost use Rattle.std.specs.Prelude.{◌≡◌};
+ghost use Rattle.std.specs.Prelude.{◌≡◌, map};
 ghost use Rattle.std.specs.List.{find};
 ghost use Rattle.std.specs.Str.{bytes_eq};
-ghost use Rattle.dmap_tags.specs.Codes.{code_bytes};
-ghost use Rattle.item_model.specs.Properties.{rank_of, property_row, property_code, property_name, property_kind, property_named, property_coded};
+ghost use Rattle.dmap_tags.specs.Codes.{code_bytes, code_of};
+ghost use Rattle.item_model.specs.Properties.{all_properties, rank_of, property_row, property_code, property_name, property_kind, property_named, property_coded};
 
 use dmap_tags::{Code, Kind};
 
@@ -79,6 +79,40 @@ pub const DEFAULT_PROJECTION: [Property; 6] = [
     Property::Astm,
 ];
 
+/// The content code, the name and the kind of a property.
+#[derive(Clone, Copy)]
+struct PropertyRow([u8; 4], &'static str, Kind);
+
+/// The rows of the properties, in the order of listings.
+static ROWS: [PropertyRow; 26] = [
+    PropertyRow(*b"minm", "dmap.itemname", Kind::Text),
+    PropertyRow(*b"mikd", "dmap.itemkind", Kind::U8),
+    PropertyRow(*b"mper", "dmap.persistentid", Kind::U64),
+    PropertyRow(*b"asar", "daap.songartist", Kind::Text),
+    PropertyRow(*b"asal", "daap.songalbum", Kind::Text),
+    PropertyRow(*b"asaa", "daap.songalbumartist", Kind::Text),
+    PropertyRow(*b"asgn", "daap.songgenre", Kind::Text),
+    PropertyRow(*b"ascp", "daap.songcomposer", Kind::Text),
+    PropertyRow(*b"ascm", "daap.songcomment", Kind::Text),
+    PropertyRow(*b"agrp", "daap.songgrouping", Kind::Text),
+    PropertyRow(*b"asfm", "daap.songformat", Kind::Text),
+    PropertyRow(*b"asyr", "daap.songyear", Kind::U16),
+    PropertyRow(*b"astn", "daap.songtracknumber", Kind::U16),
+    PropertyRow(*b"astc", "daap.songtrackcount", Kind::U16),
+    PropertyRow(*b"asdn", "daap.songdiscnumber", Kind::U16),
+    PropertyRow(*b"asdc", "daap.songdisccount", Kind::U16),
+    PropertyRow(*b"asbr", "daap.songbitrate", Kind::U16),
+    PropertyRow(*b"asbt", "daap.songbeatsperminute", Kind::U16),
+    PropertyRow(*b"astm", "daap.songtime", Kind::U32),
+    PropertyRow(*b"assr", "daap.songsamplerate", Kind::U32),
+    PropertyRow(*b"assz", "daap.songsize", Kind::U32),
+    PropertyRow(*b"asur", "daap.songuserrating", Kind::U8),
+    PropertyRow(*b"asco", "daap.songcompilation", Kind::U8),
+    PropertyRow(*b"aeMK", "com.apple.itunes.mediakind", Kind::U8),
+    PropertyRow(*b"asda", "daap.songdateadded", Kind::Date),
+    PropertyRow(*b"asdm", "daap.songdatemodified", Kind::Date),
+];
+
 impl Property {
     /// Returns the property's index in the order of listings, from 0.
     pub fn rank(self) -> usize
@@ -87,45 +121,18 @@ impl Property {
         self as usize
     }
 
-    // Returns the content code, the name and the kind of the property.
-    fn row(self) -> (Code, &'static str, Kind)
-        ensures { (result.0, result.1.now, result.2) ≡ property_row self }
+    /// Returns the property's row.
+    fn row(self) -> PropertyRow
+        ensures { (code_of result.0, result.1.now, result.2) ≡ property_row self }
     {
-        match self {
-            Property::Minm => (Code(*b"minm"), "dmap.itemname", Kind::Text),
-            Property::Mikd => (Code(*b"mikd"), "dmap.itemkind", Kind::U8),
-            Property::Mper => (Code(*b"mper"), "dmap.persistentid", Kind::U64),
-            Property::Asar => (Code(*b"asar"), "daap.songartist", Kind::Text),
-            Property::Asal => (Code(*b"asal"), "daap.songalbum", Kind::Text),
-            Property::Asaa => (Code(*b"asaa"), "daap.songalbumartist", Kind::Text),
-            Property::Asgn => (Code(*b"asgn"), "daap.songgenre", Kind::Text),
-            Property::Ascp => (Code(*b"ascp"), "daap.songcomposer", Kind::Text),
-            Property::Ascm => (Code(*b"ascm"), "daap.songcomment", Kind::Text),
-            Property::Agrp => (Code(*b"agrp"), "daap.songgrouping", Kind::Text),
-            Property::Asfm => (Code(*b"asfm"), "daap.songformat", Kind::Text),
-            Property::Asyr => (Code(*b"asyr"), "daap.songyear", Kind::U16),
-            Property::Astn => (Code(*b"astn"), "daap.songtracknumber", Kind::U16),
-            Property::Astc => (Code(*b"astc"), "daap.songtrackcount", Kind::U16),
-            Property::Asdn => (Code(*b"asdn"), "daap.songdiscnumber", Kind::U16),
-            Property::Asdc => (Code(*b"asdc"), "daap.songdisccount", Kind::U16),
-            Property::Asbr => (Code(*b"asbr"), "daap.songbitrate", Kind::U16),
-            Property::Asbt => (Code(*b"asbt"), "daap.songbeatsperminute", Kind::U16),
-            Property::Astm => (Code(*b"astm"), "daap.songtime", Kind::U32),
-            Property::Assr => (Code(*b"assr"), "daap.songsamplerate", Kind::U32),
-            Property::Assz => (Code(*b"assz"), "daap.songsize", Kind::U32),
-            Property::Asur => (Code(*b"asur"), "daap.songuserrating", Kind::U8),
-            Property::Asco => (Code(*b"asco"), "daap.songcompilation", Kind::U8),
-            Property::Aemk => (Code(*b"aeMK"), "com.apple.itunes.mediakind", Kind::U8),
-            Property::Asda => (Code(*b"asda"), "daap.songdateadded", Kind::Date),
-            Property::Asdm => (Code(*b"asdm"), "daap.songdatemodified", Kind::Date),
-        }
+        row_in(&ROWS, self)
     }
 
     /// Returns the content code of the property's tags.
     pub fn code(self) -> Code
         ensures { result ≡ property_code self }
     {
-        self.row().0
+        Code(self.row().0)
     }
 
     /// Returns the property's name in queries, records and the `meta` parameter.
@@ -155,6 +162,14 @@ impl Property {
     {
         first_coded(&PROPERTIES, code)
     }
+}
+
+/// Returns the row of a property in a table that has the rows of all in order.
+fn row_in(rows: &[PropertyRow], property: Property) -> PropertyRow
+    requires { map (λ row. (code_of row.0, row.1.now, row.2)) rows.now ≡ map property_row all_properties }
+    ensures { (code_of result.0, result.1.now, result.2) ≡ property_row property }
+{
+    rows[property.rank()]
 }
 
 pub(crate) fn property_of_name(name: &[u8]) -> Option<Property>

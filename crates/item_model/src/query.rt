@@ -8,7 +8,7 @@ use std::marker::Model;
 
 /// A condition on rows. `And` and `Or` have two or more members.
 #[cycle(query)]
-#[derive(Debug, Drop)]
+#[derive(Drop)]
 pub enum Query {
     Cond(Cond),
     And(Queries),
@@ -17,7 +17,7 @@ pub enum Query {
 
 /// The members of a query, in order.
 #[cycle(query)]
-#[derive(Debug, Drop)]
+#[derive(Drop)]
 pub struct Queries {
     items: Vec<Query>,
 }

@@ -9,7 +9,7 @@ use std::sync::Arc;
 
 /// A row that may have several owners, in any threads. So a batch, the history with the batch and a store share its
 /// texts. Contracts see the row.
-#[derive(Debug, Drop)]
+#[derive(Drop)]
 pub struct SharedRow {
     row: Arc<Row, Global>,
 }

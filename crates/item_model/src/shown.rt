@@ -8,7 +8,7 @@ use crate::request::Meta;
 use std::marker::Model;
 
 /// The properties that a listing shows, in order, each once. There are 26 at most, so this does not allocate.
-#[derive(Debug, Drop)]
+#[derive(Drop)]
 pub struct ShownProperties {
     room: [Property; 26],
     len: usize,

@@ -22,7 +22,7 @@ use std::marker::Model;
 use std::mem;
 
 /// The items that batches of edits leave, with what they were as far back as is kept.
-#[derive(Debug, Drop)]
+#[derive(Drop)]
 pub struct ItemStore {
     alloc: Global,
     keep: u32,

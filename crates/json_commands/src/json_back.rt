@@ -18,7 +18,7 @@ use fault_lines::push_number;
 use std::alloc::{AllocError, Global};
 
 /// Why an input is refused.
-#[derive(Debug, Drop)]
+#[derive(Drop)]
 pub enum LineFault {
     /// Line number `line`, counted from 1, is the first that does not read as a tag or has no line feed.
     Line { line: u64 },

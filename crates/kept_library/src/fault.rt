@@ -10,7 +10,7 @@ use share_core::OpenError;
 use std::alloc::{AllocError, Global};
 
 /// Errors of a file that keeps the edits of a share. Out of memory is `Fault::Memory`.
-#[derive(Debug, Drop)]
+#[derive(Drop)]
 pub enum FileFault {
     /// The file is not an edit file: its bytes break at the offset `at`.
     NotEditFile { at: u64 },

@@ -1,5 +1,5 @@
 /// A value, or `None`, from a revision on.
-#[derive(Debug, Drop)]
+#[derive(Drop)]
 pub struct Version<T> {
     pub revision: u32,
     pub value: Option<T>,

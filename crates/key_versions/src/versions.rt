@@ -13,7 +13,7 @@ use std::collections::BTreeMap;
 use std::marker::Model;
 
 /// Values under keys, each with its earlier values by revision. A key with one version costs only that version.
-#[derive(Debug, Drop)]
+#[derive(Drop)]
 pub struct Versions<T> {
     alloc: Global,
     newest: Newest<T>,

@@ -152,7 +152,7 @@ fn next_link<D: Door>(door: &mut D) -> Result<D::L, Failed> {
 }
 
 /// Runs a command over sockets. Returns its status.
-pub fn status_over<R>(
+fn status_over<R>(
     rt: &R,
     alloc: Global,
     words: &[&str],
@@ -298,8 +298,8 @@ fn are_of_a_followed_share(lines: &[u8]) -> bool {
         && lines.ends_with(b", requests 14\n")
 }
 
-/// Returns whether a share, two mirrors and an editor end as they should.
-fn is_followed<R>(rt: &R, alloc: Global, places: &Places) -> Result<bool, AllocError>
+/// Runs a share with two workers until it is stopped. Returns its status.
+pub fn serve_by_two<R>(rt: &R, alloc: Global, places: &Places, lines: &mut MemSink) -> Option<u8>
 where
     R: net::Net<Listener = TcpListener, Stream = TcpStream> + Threads + Wait + Clock + Sync,
 {
@@ -309,10 +309,18 @@ where
         places.edit.as_str(),
         "--workers=2",
     ];
+    status_over(rt, alloc, &words, LIBRARY, lines)
+}
+
+/// Returns whether a share, two mirrors and an editor end as they should.
+fn is_followed<R>(rt: &R, alloc: Global, places: &Places) -> Result<bool, AllocError>
+where
+    R: net::Net<Listener = TcpListener, Stream = TcpStream> + Threads + Wait + Clock + Sync,
+{
     let mut lines = MemSink::new(alloc, 256, 256, &[])?;
     let (served, is_well) = thread::join(
         rt,
-        || status_over(rt, alloc, &words, LIBRARY, &mut lines),
+        || serve_by_two(rt, alloc, places, &mut lines),
         || followed_and_edited(rt, alloc, places),
     );
     Ok(served == Some(0) && is_well && are_of_a_followed_share(lines.taken()))
@@ -355,16 +363,10 @@ fn are_freed<R>(rt: &R, alloc: Global, places: &Places) -> Result<bool, AllocErr
 where
     R: net::Net<Listener = TcpListener, Stream = TcpStream> + Threads + Wait + Clock + Sync,
 {
-    let words = [
-        "serve",
-        places.share.as_str(),
-        places.edit.as_str(),
-        "--workers=2",
-    ];
     let mut lines = MemSink::new(alloc, 256, 256, &[])?;
     let (served, is_well) = thread::join(
         rt,
-        || status_over(rt, alloc, &words, LIBRARY, &mut lines),
+        || serve_by_two(rt, alloc, places, &mut lines),
         || third_comes_over(rt, alloc, places),
     );
     Ok(served == Some(0) && is_well && lines.taken().ends_with(b", requests 4\n"))

@@ -15,11 +15,11 @@ use Rattle.mirror_client.specs.declared.refusal.FollowError.TheVariants.{Memory}
 use Rattle.mirror_client.specs.Exchanges.{Exchanged}
 use Rattle.mirror_client.specs.Points.{Point}
 use Rattle.mirror_client.specs.Stages.{Asking, Begun, Holding, Learned, Stage, StopsFrom, UnexpectedAfter, UnexpectedIn, Walks, behind_round, due, listings_in}
-use Rattle.mirror_client.specs.Steps.{FailsToOpen, Known, TellsListing, UnexpectedEnd, UnexpectedListing, all_applied, applied_by, held_after, rows_want, with_listings}
+use Rattle.mirror_client.specs.Steps.{FailsToOpen, Known, Opened, TellsListing, UnexpectedEnd, UnexpectedListing, all_applied, applied_by, held_after, rows_want, with_listings}
 use Rattle.mirror_client.specs.Stopping.{CountsFault, Stops}
 use Rattle.mirror_client.specs.Tellings.{TellsNumber, UnexpectedNumber}
 use Rattle.mirror_client.proofs.ExchangeFacts.{unwritten, went_nowhere}
-use Rattle.mirror_client.proofs.StageFacts.{listed_one, listed_walks, waited_walks, walk_on, walk_one, with_more}
+use Rattle.mirror_client.proofs.StageFacts.{listed_one, listed_walks, opened_walks, waited_walks, walk_on, walk_one, with_more}
 use Rattle.link_commands.specs.declared.rounds.Stop.{Stop}
 use Rattle.link_commands.specs.declared.rounds.Stop.TheVariants.{Output, Link}
 use Rattle.link_commands.specs.FollowShare.{lines_of}
@@ -36,6 +36,23 @@ on_ok P Q (Err e) h more = tt
 pub on_err : {A E : Type 0} (P : A → Type 0) (Q : E → Type 0) {S : E → Type 0} (r : Result A E) → MatchResult r P Q → ((e : E) → Q e → S e) → IfErr r S
 on_err P Q (Ok a) h more = tt
 on_err P Q (Err e) h more = more e h
+
+-- ---- a whole run, so far
+
+pub first_round : (host other : List ℕ) (m : Mirrored) (rounds : ℕ) (known same : Known) (l : Listing) (p mid q : Point) → Opened host p mid known → other ≡ host
+    → same ≡ known → Walks other m rounds (Asking known []) mid (Holding known (l ∷ [])) q → Walks host m rounds Begun p (Holding same (l ∷ [])) q
+first_round host other m rounds known same l p mid q o host_is known_is walks =
+    subst (λ (k : Known). Walks host m rounds Begun p (Holding k (l ∷ [])) q) (sym known_is)
+    (walk_on host m rounds Begun (Asking known []) (Holding known (l ∷ [])) p mid q (opened_walks host m rounds p mid known o)
+    (subst (λ (h : List ℕ). Walks h m rounds (Asking known []) mid (Holding known (l ∷ [])) q) host_is walks))
+
+pub later_round : (host other : List ℕ) (m : Mirrored) (rounds : ℕ) (known same : Known) (ls : List Listing) (l : Listing) (p mid q : Point)
+    → Walks host m rounds Begun p (Holding known ls) mid → other ≡ host → same ≡ known
+    → Walks other m rounds (Holding known ls) mid (Holding known (ls ++ l ∷ [])) q → Walks host m rounds Begun p (Holding same (ls ++ l ∷ [])) q
+later_round host other m rounds known same ls l p mid q before host_is known_is walks =
+    subst (λ (k : Known). Walks host m rounds Begun p (Holding k (ls ++ l ∷ [])) q) (sym known_is)
+    (walk_on host m rounds Begun (Holding known ls) (Holding known (ls ++ l ∷ [])) p mid q before
+    (subst (λ (h : List ℕ). Walks h m rounds (Holding known ls) mid (Holding known (ls ++ l ∷ [])) q) host_is walks))
 
 -- ---- lines
 

@@ -21,7 +21,7 @@ const RECORDS_LIMIT: u64 = 4_194_304;
 const TEXT_LIMIT: usize = 4_096;
 
 /// Errors of `edit`. Out of memory is `Fault::Memory`.
-#[derive(Debug, Drop)]
+#[derive(Drop)]
 pub enum EditFault {
     /// The input has more than `RECORDS_LIMIT` bytes.
     TooLong,

@@ -20,7 +20,7 @@ use mirror_core::Mirror;
 use std::alloc::{AllocError, Global};
 
 /// Errors of `follow`. Out of memory is `Fault::Memory`.
-#[derive(Debug, Drop)]
+#[derive(Drop)]
 pub enum FollowFault {
     /// The query of `--query` is refused.
     Query(QueryError),

@@ -22,7 +22,7 @@ use mirror_core::{Applied, Mirror};
 use std::alloc::Global;
 
 /// Why rounds ended early.
-#[derive(Debug, Drop)]
+#[derive(Drop)]
 pub(crate) enum Stop {
     /// The line of a round could not be written whole.
     Output,

@@ -21,7 +21,7 @@ use item_model::{ShownProperties, Target};
 use row_sheets::RowSheets;
 
 /// Rows in the order in which a listing has them.
-#[derive(Debug, Drop)]
+#[derive(Drop)]
 pub(crate) enum Listed {
     /// One by one, with the length of their tags.
     Each { rows: Vec<PlanRow>, len: u64 },

@@ -29,7 +29,7 @@ use std::marker::Model;
 pub const MAX_ROWS: usize = 262_144;
 
 /// What a reply writes.
-#[derive(Debug, Drop)]
+#[derive(Drop)]
 pub enum Plan {
     Empty,
     Plain(Bytes),
@@ -38,7 +38,7 @@ pub enum Plan {
 }
 
 /// Whether a listing has all rows or only what changed.
-#[derive(Debug, Drop)]
+#[derive(Drop)]
 pub(crate) enum Scope {
     /// All rows in the range; `total` is how many there are before it.
     Full { total: u32 },
@@ -47,7 +47,7 @@ pub(crate) enum Scope {
 }
 
 /// A listing's rows, to be written later. Only `Plan::full`, `Plan::sheets` and `Plan::delta` make one.
-#[derive(Debug, Drop)]
+#[derive(Drop)]
 pub struct RowPlan {
     target: Target,
     revision: u32,

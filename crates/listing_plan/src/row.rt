@@ -3,7 +3,7 @@
 use item_model::SharedRow;
 
 /// A row of a listing, with its key if it is a member of a container.
-#[derive(Debug, Drop)]
+#[derive(Drop)]
 pub struct PlanRow {
     pub member: Option<u32>,
     pub row: SharedRow,

@@ -9,14 +9,14 @@ use row_sheets::index_of;
 use std::marker::Model;
 
 /// Properties that are neighbours on a sheet and are all shown: from the index `from` up to the index `to`.
-#[derive(Clone, Copy, Debug, Drop)]
+#[derive(Clone, Copy, Drop)]
 pub(crate) struct Run {
     pub(crate) from: usize,
     pub(crate) to: usize,
 }
 
 /// The runs of a sheet. It does not allocate, since there are at most 26 properties.
-#[derive(Debug, Drop)]
+#[derive(Drop)]
 pub(crate) struct Runs {
     room: [Run; 26],
     len: usize,

@@ -4,13 +4,24 @@ ghost use Rattle.std.specs.Prelude.{◌≡◌, ◌≤◌, ◌++◌, [], true, le
 ghost use Rattle.std.specs.Int.{w32, to_be_bytes};
 ghost use Rattle.dmap_tags.specs.Codes.{code_bytes};
 ghost use Rattle.dmap_tags.specs.Spelling.{payload, spelling, spellings, longest, is_spellable, are_spellable};
-ghost use Rattle.dmap_tags.specs.Tree.{trees_of};
+ghost use Rattle.dmap_tags.specs.Tree.{trees_of, list, tree_code};
 ghost use Rattle.listing_plan.specs.Limits.{row_limit};
 ghost use Rattle.listing_plan.specs.Pages.{Pushes};
+ghost use Rattle.listing_plan.specs.declared.tags.Payload.TheVariants.{Bytes, Members};
 
 use crate::page::Page;
 use daap_outside::{Failed, Sink, put_all};
 use dmap_tags::{Code, Tag, Value, encoded_len};
+
+/// How many bytes the longest number has.
+const NUMBER_BYTES: usize = 8;
+
+/// What the payload of a tag is made of.
+#[derive(Clone, Copy)]
+enum Payload<'a> {
+    Bytes(&'a [u8]),
+    Members(&'a [Tag]),
+}
 
 /// Returns the encoded length of a tag that can be encoded.
 pub(crate) fn tag_len(tag: &Tag) -> u64
@@ -61,21 +72,43 @@ fn push_payload<W: Sink, const N: usize>(
     ensures pushes { Pushes (payload tag.now) result (W.taken sink.old) (W.taken sink.new) page.old page.new (W.faults sink.old) (W.faults sink.new) }
     ensures beside { W.beside_taken sink.new ≡ W.beside_taken sink.old }
 {
-    match &tag.value {
-        Value::U8(n) => push_bytes(page, sink, &n.to_be_bytes()),
-        Value::I8(n) => push_bytes(page, sink, &n.to_be_bytes()),
-        Value::U16(n) => push_bytes(page, sink, &n.to_be_bytes()),
-        Value::I16(n) => push_bytes(page, sink, &n.to_be_bytes()),
-        Value::U32(n) => push_bytes(page, sink, &n.to_be_bytes()),
-        Value::I32(n) => push_bytes(page, sink, &n.to_be_bytes()),
-        Value::U64(n) => push_bytes(page, sink, &n.to_be_bytes()),
-        Value::I64(n) => push_bytes(page, sink, &n.to_be_bytes()),
-        Value::Text(text) => push_bytes(page, sink, text.as_str().as_bytes()),
-        Value::Date(n) => push_bytes(page, sink, &n.to_be_bytes()),
-        Value::Version(n) => push_bytes(page, sink, &n.to_be_bytes()),
-        Value::List(tags) => push_tags(page, sink, tags.as_slice()),
-        Value::Opaque(bytes) => push_bytes(page, sink, bytes.as_slice()),
+    let mut room = [0; NUMBER_BYTES];
+    match payload_of(tag, &mut room) {
+        Payload::Bytes(bytes) => push_bytes(page, sink, bytes),
+        Payload::Members(tags) => push_tags(page, sink, tags),
     }
+}
+
+/// Returns what the payload of a tag is made of. It puts the bytes of a number into `room`.
+fn payload_of<'a>(tag: &'a Tag, room: &'a mut [u8; NUMBER_BYTES]) -> Payload<'a>
+    ensures bytes { (bytes : _) → result ≡ Bytes bytes → bytes.now ≡ payload tag.now }
+    ensures members { (tags : _) → result ≡ Members tags → tag.now ≡ list (tree_code tag.now) (trees_of tags.now) }
+{
+    match &tag.value {
+        Value::U8(n) => Payload::Bytes(copied_to(room, &n.to_be_bytes())),
+        Value::I8(n) => Payload::Bytes(copied_to(room, &n.to_be_bytes())),
+        Value::U16(n) => Payload::Bytes(copied_to(room, &n.to_be_bytes())),
+        Value::I16(n) => Payload::Bytes(copied_to(room, &n.to_be_bytes())),
+        Value::U32(n) | Value::Date(n) | Value::Version(n) => {
+            Payload::Bytes(copied_to(room, &n.to_be_bytes()))
+        }
+        Value::I32(n) => Payload::Bytes(copied_to(room, &n.to_be_bytes())),
+        Value::U64(n) => Payload::Bytes(copied_to(room, &n.to_be_bytes())),
+        Value::I64(n) => Payload::Bytes(copied_to(room, &n.to_be_bytes())),
+        Value::Text(text) => Payload::Bytes(text.as_str().as_bytes()),
+        Value::List(tags) => Payload::Members(tags.as_slice()),
+        Value::Opaque(bytes) => Payload::Bytes(bytes.as_slice()),
+    }
+}
+
+/// Copies bytes to the front of `room`, and returns the copy.
+fn copied_to<'a>(room: &'a mut [u8; NUMBER_BYTES], bytes: &[u8]) -> &'a [u8]
+    requires { length bytes.now ≤ 8 }
+    ensures { result.now ≡ bytes.now }
+{
+    let (front, _) = room.split_at_mut(bytes.len());
+    front.copy_from_slice(bytes);
+    front
 }
 
 /// Pushes the members of a list.
@@ -123,10 +156,22 @@ fn push_bytes<W: Sink, const N: usize>(
     ensures beside { W.beside_taken sink.new ≡ W.beside_taken sink.old }
 {
     if N < bytes.len() {
-        page.flush(sink)?;
-        return put_all(sink, bytes);
+        return push_past(page, sink, bytes);
     }
     page.make_room(sink, bytes.len())?;
     page.put(bytes);
     Ok(())
+}
+
+/// Pushes bytes straight to the sink, after those that stand on the page.
+fn push_past<W: Sink, const N: usize>(
+    page: &mut Page<N>,
+    sink: &mut W,
+    bytes: &[u8],
+) -> Result<(), Failed>
+    ensures pushes { Pushes bytes.now result (W.taken sink.old) (W.taken sink.new) page.old page.new (W.faults sink.old) (W.faults sink.new) }
+    ensures beside { W.beside_taken sink.new ≡ W.beside_taken sink.old }
+{
+    page.flush(sink)?;
+    put_all(sink, bytes)
 }

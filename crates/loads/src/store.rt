@@ -75,19 +75,40 @@ pub fn step_named(word: &str) -> Option<Step> {
 
 /// Takes a step, and returns how many rows, bytes, ids, texts or revisions it led to.
 pub fn taken(alloc: Global, step: Step, load: Load) -> anyhow::Result<u64> {
-    let Load { songs, times, size } = load;
+    let songs = load.songs;
     match step {
-        Step::Rows => Ok(rows(alloc, songs)?.len() as u64),
-        Step::Plan => Ok(planned(alloc, songs)?.plan_len()),
-        Step::Write => written(planned(alloc, songs)?),
+        Step::Rows => rows_made(alloc, songs),
+        Step::Plan => plan_made(alloc, songs),
+        Step::Write => plan_written(alloc, songs),
         Step::Find(find) => found_in(alloc, songs, find),
-        Step::Matches(letters) => {
-            let searched = named_songs(alloc, songs, letters)?;
-            matched::<Brand>(Blank::new(1), alloc, &searched, times)
-        }
-        Step::Edit(kind) => {
-            revision_after::<Brand>(Blank::new(1), alloc, songs, kind, times, size)
-        }
-        Step::Deltas => deltas_len::<Brand>(Blank::new(1), alloc, songs, times),
+        Step::Matches(letters) => songs_matched(alloc, letters, load),
+        Step::Edit(kind) => share_edited(alloc, kind, load),
+        Step::Deltas => deltas_planned(alloc, load),
     }
+}
+
+fn rows_made(alloc: Global, songs: u32) -> anyhow::Result<u64> {
+    Ok(rows(alloc, songs)?.len() as u64)
+}
+
+fn plan_made(alloc: Global, songs: u32) -> anyhow::Result<u64> {
+    Ok(planned(alloc, songs)?.plan_len())
+}
+
+fn plan_written(alloc: Global, songs: u32) -> anyhow::Result<u64> {
+    written(planned(alloc, songs)?)
+}
+
+fn songs_matched(alloc: Global, letters: Letters, load: Load) -> anyhow::Result<u64> {
+    let searched = named_songs(alloc, load.songs, letters)?;
+    matched::<Brand>(Blank::new(1), alloc, &searched, load.times)
+}
+
+fn share_edited(alloc: Global, kind: Kind, load: Load) -> anyhow::Result<u64> {
+    let Load { songs, times, size } = load;
+    revision_after::<Brand>(Blank::new(1), alloc, songs, kind, times, size)
+}
+
+fn deltas_planned(alloc: Global, load: Load) -> anyhow::Result<u64> {
+    deltas_len::<Brand>(Blank::new(1), alloc, load.songs, load.times)
 }

@@ -2,6 +2,7 @@
 use Rattle.std.proofs.Common.{◌≡◌, ℕ, ◌<◌, ◌==◌, List, [], ◌∷◌, ◌++◌, length, take, Bool, true, false, Option, Some, refl, sym, ap, ◌∙◌, inl, inr, subst, eq-eqb, arith}
 use Rattle.std.proofs.lemmas.Bool.{ne_eqb}
 use Rattle.std.specs.Io.KnownBytes.{Appends}
+use Rattle.std.specs.Prelude.{Result, Ok, Err, IfErr, IfOk, OnOk}
 use Rattle.dmap_tags.specs.Codes.{code}
 use Rattle.share_asks.specs.declared.ask.Want.TheVariants as want
 use Rattle.share_history.specs.Listings.{Listing}
@@ -13,7 +14,7 @@ use Rattle.http_client.specs.Requests.{request_text}
 use Rattle.mirror_client.specs.declared.refusal.FollowError.{FollowError}
 use Rattle.mirror_client.specs.declared.refusal.FollowError.TheVariants.{Memory}
 use Rattle.mirror_client.specs.Exchanges.{Exchange, Exchanged, requests}
-use Rattle.mirror_client.specs.Points.{Point}
+use Rattle.mirror_client.specs.Points.{Point, ReadAhead, place}
 use Rattle.mirror_client.specs.Runs.{Followed}
 use Rattle.mirror_client.specs.Stages.{Asking, Begun, Closed, Holding, Leads, LeadsOn, Learned, Path, Stage, StopsFrom, UnexpectedAfter, UnexpectedIn, Walks, behind_round, due, listings_in}
 use Rattle.mirror_client.specs.Steps.{FailsToOpen, Known, Opened, TellsListing, UnexpectedEnd, UnexpectedListing, applied_by, all_applied, held_after, rows_want, with_listings}
@@ -234,7 +235,7 @@ unwaited_stops host known m old now rounds revision ls p taken e base more is sa
     (subst (λ (r : ℕ). Stops (request_text (want.Update known.session r) host) (UnexpectedNumber (code "musr") known.rows) p taken e) base stops)
 
 -- all rounds were done, and it logged out
-pub followed : (host other : List ℕ) (m now : Mirrored) (rounds : ℕ) (known : Known) (ls : List Listing) (p mid there : Point) (taken : Option (List ℕ))
+followed : (host other : List ℕ) (m now : Mirrored) (rounds : ℕ) (known : Known) (ls : List Listing) (p mid there : Point) (taken : Option (List ℕ))
     (applied : List Applied) → other ≡ host → length ls ≡ rounds → Walks host m rounds Begun p (Holding known ls) mid → now ≡ with_listings m ls → applied ≡ all_applied m.held ls
     → ((answer : Reply) × Exchanged (request_text (want.Logout known.session) other) mid there answer × (answer.0 ≡ 204)) → there.taken ≡ taken
     → Followed host m rounds p taken applied now
@@ -252,7 +253,7 @@ followed host other m now rounds known ls p mid there taken applied host_is all 
   told = told;
 }
 
-pub unclosed : (host other : List ℕ) (m now : Mirrored) (rounds : ℕ) (known : Known) (ls : List Listing) (p mid : Point) (taken : Option (List ℕ)) (e : FollowError)
+unclosed : (host other : List ℕ) (m now : Mirrored) (rounds : ℕ) (known : Known) (ls : List Listing) (p mid : Point) (taken : Option (List ℕ)) (e : FollowError)
     → other ≡ host → length ls ≡ rounds → Walks host m rounds Begun p (Holding known ls) mid → now ≡ with_listings m ls
     → Stops (request_text (want.Logout known.session) other) UnexpectedEnd mid taken e → StopsFrom host m rounds Begun p taken e now
 unclosed host other m now rounds known ls p mid taken e host_is all walks holds stops =
@@ -260,34 +261,49 @@ unclosed host other m now rounds known ls p mid taken e host_is all walks holds 
     (closed_stops host m now rounds known ls mid taken e (eq-eqb (length ls) rounds all) holds
     (subst (λ (h : List ℕ). Stops (request_text (want.Logout known.session) h) UnexpectedEnd mid taken e) host_is stops))
 
+-- the same of what the logout returned
+pub followed_by : {A : Type 0} (host other : List ℕ) (m now : Mirrored) (rounds : ℕ) (known : Known) (ls : List Listing) (p mid : Point) (taken left : Option (List ℕ))
+    (applied : List Applied) (r : Result A FollowError) → other ≡ host → length ls ≡ rounds → Walks host m rounds Begun p (Holding known ls) mid → now ≡ with_listings m ls → applied ≡ all_applied m.held ls
+    → IfOk r (λ _. (answer : Reply) × (ahead : ReadAhead) × Exchanged (request_text (want.Logout known.session) other) mid (place taken left ahead) answer × (answer.0 ≡ 204))
+    → OnOk r (Followed host m rounds p taken applied now)
+followed_by host other m now rounds known ls p mid taken left applied (Ok a) host_is all walks holds told x =
+    followed host other m now rounds known ls p mid (place taken left x.1) taken applied host_is all walks holds told (x.0, x.2, x.3) refl
+followed_by host other m now rounds known ls p mid taken left applied (Err e) host_is all walks holds told x = tt
+
+pub unclosed_by : {A : Type 0} (host other : List ℕ) (m now : Mirrored) (rounds : ℕ) (known : Known) (ls : List Listing) (p mid : Point) (taken : Option (List ℕ)) (r : Result A FollowError)
+    → other ≡ host → length ls ≡ rounds → Walks host m rounds Begun p (Holding known ls) mid → now ≡ with_listings m ls
+    → IfErr r (λ e. Stops (request_text (want.Logout known.session) other) UnexpectedEnd mid taken e) → IfErr r (λ e. StopsFrom host m rounds Begun p taken e now)
+unclosed_by host other m now rounds known ls p mid taken (Ok a) host_is all walks holds stops = tt
+unclosed_by host other m now rounds known ls p mid taken (Err e) host_is all walks holds stops =
+    unclosed host other m now rounds known ls p mid taken e host_is all walks holds stops
+
 -- ---- a whole run, so far
 
-pub first_round : (host other : List ℕ) (m : Mirrored) (rounds : ℕ) (known same : Known) (l : Listing) (p mid q : Point) → Opened host p mid known → other ≡ host
-    → same ≡ known → Walks other m rounds (Asking known []) mid (Holding known (l ∷ [])) q → Walks host m rounds Begun p (Holding same (l ∷ [])) q
-first_round host other m rounds known same l p mid q o host_is known_is walks =
-    subst (λ (k : Known). Walks host m rounds Begun p (Holding k (l ∷ [])) q) (sym known_is)
-    (walk_on host m rounds Begun (Asking known []) (Holding known (l ∷ [])) p mid q (opened_walks host m rounds p mid known o)
-    (subst (λ (h : List ℕ). Walks h m rounds (Asking known []) mid (Holding known (l ∷ [])) q) host_is walks))
+pub whole_run : (host other : List ℕ) (m : Mirrored) (rounds : ℕ) (known last : Known) (ls : List Listing) (p mid q : Point) → Opened host p mid known → other ≡ host
+    → Walks other m rounds (Asking known []) mid (Holding last ls) q → Walks host m rounds Begun p (Holding last ls) q
+whole_run host other m rounds known last ls p mid q o host_is walks =
+    walk_on host m rounds Begun (Asking known []) (Holding last ls) p mid q (opened_walks host m rounds p mid known o)
+    (subst (λ (h : List ℕ). Walks h m rounds (Asking known []) mid (Holding last ls) q) host_is walks)
 
-pub first_stops : (host other : List ℕ) (m now : Mirrored) (rounds : ℕ) (known : Known) (p mid : Point) (taken : Option (List ℕ)) (e : FollowError) → Opened host p mid known
+pub run_stops : (host other : List ℕ) (m now : Mirrored) (rounds : ℕ) (known : Known) (p mid : Point) (taken : Option (List ℕ)) (e : FollowError) → Opened host p mid known
     → other ≡ host → StopsFrom other m rounds (Asking known []) mid taken e now → StopsFrom host m rounds Begun p taken e now
-first_stops host other m now rounds known p mid taken e o host_is stops =
+run_stops host other m now rounds known p mid taken e o host_is stops =
     stops_on host m rounds Begun (Asking known []) p mid taken e now (opened_walks host m rounds p mid known o)
     (subst (λ (h : List ℕ). StopsFrom h m rounds (Asking known []) mid taken e now) host_is stops)
 
-pub later_round : (host other : List ℕ) (m : Mirrored) (rounds : ℕ) (known same : Known) (ls : List Listing) (l : Listing) (p mid q : Point)
-    → Walks host m rounds Begun p (Holding known ls) mid → other ≡ host → same ≡ known
-    → Walks other m rounds (Holding known ls) mid (Holding known (ls ++ l ∷ [])) q → Walks host m rounds Begun p (Holding same (ls ++ l ∷ [])) q
-later_round host other m rounds known same ls l p mid q before host_is known_is walks =
-    subst (λ (k : Known). Walks host m rounds Begun p (Holding k (ls ++ l ∷ [])) q) (sym known_is)
-    (walk_on host m rounds Begun (Holding known ls) (Holding known (ls ++ l ∷ [])) p mid q before
+pub later_round : (host other : List ℕ) (m : Mirrored) (rounds : ℕ) (first known same : Known) (ls : List Listing) (l : Listing) (p mid q : Point)
+    → Walks host m rounds (Asking first []) p (Holding known ls) mid → other ≡ host → same ≡ known
+    → Walks other m rounds (Holding known ls) mid (Holding known (ls ++ l ∷ [])) q → Walks host m rounds (Asking first []) p (Holding same (ls ++ l ∷ [])) q
+later_round host other m rounds first known same ls l p mid q before host_is known_is walks =
+    subst (λ (k : Known). Walks host m rounds (Asking first []) p (Holding k (ls ++ l ∷ [])) q) (sym known_is)
+    (walk_on host m rounds (Asking first []) (Holding known ls) (Holding known (ls ++ l ∷ [])) p mid q before
     (subst (λ (h : List ℕ). Walks h m rounds (Holding known ls) mid (Holding known (ls ++ l ∷ [])) q) host_is walks))
 
-pub later_stops : (host other : List ℕ) (m now : Mirrored) (rounds : ℕ) (known : Known) (ls : List Listing) (p mid : Point) (taken : Option (List ℕ)) (e : FollowError)
-    → Walks host m rounds Begun p (Holding known ls) mid → other ≡ host → StopsFrom other m rounds (Holding known ls) mid taken e now
-    → StopsFrom host m rounds Begun p taken e now
-later_stops host other m now rounds known ls p mid taken e before host_is stops =
-    stops_on host m rounds Begun (Holding known ls) p mid taken e now before
+pub later_stops : (host other : List ℕ) (m now : Mirrored) (rounds : ℕ) (first known : Known) (ls : List Listing) (p mid : Point) (taken : Option (List ℕ)) (e : FollowError)
+    → Walks host m rounds (Asking first []) p (Holding known ls) mid → other ≡ host → StopsFrom other m rounds (Holding known ls) mid taken e now
+    → StopsFrom host m rounds (Asking first []) p taken e now
+later_stops host other m now rounds first known ls p mid taken e before host_is stops =
+    stops_on host m rounds (Asking first []) (Holding known ls) p mid taken e now before
     (subst (λ (h : List ℕ). StopsFrom h m rounds (Holding known ls) mid taken e now) host_is stops)
 
 -- fewer listings than rounds

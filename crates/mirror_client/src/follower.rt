@@ -31,7 +31,7 @@ use std::marker::Model;
 
 /// A client that has learned a share's table and is logged in. It keeps bytes that it read ahead, so every call needs
 /// the connection that it was opened with.
-#[derive(Debug, Drop)]
+#[derive(Drop)]
 pub struct Follower {
     alloc: Global,
     host: Text,
@@ -183,7 +183,6 @@ impl Follower {
     }
 
     /// Logs out.
-    #[tactic(auto, using(crate::proofs::ExchangeFacts::unwritten))]
     pub fn close<K: Link>(self, link: &mut K) -> Result<(), FollowError>
         ensures exchanged { IfOk result (λ _. (answer : Reply) × (ahead : ReadAhead)
             × Exchanged (request_text (want.Logout self.known.session) self.host) (place (K.taken link.old) (K.left link.old) self.ahead) (place (K.taken link.new) (K.left link.new) ahead) answer
@@ -192,15 +191,14 @@ impl Follower {
             (place (K.taken link.old) (K.left link.old) self.ahead) (K.taken link.new) e) }
         ensures count { MatchResult result (λ _. K.faults link.new ≡ K.faults link.old) (λ e. CountsFault (K.faults link.old) (K.faults link.new) e) }
     {
-        let want = Want::Logout {
-            session: self.session,
-        };
-        let request = match request_for(self.alloc, want, self.host.as_str()) {
-            Ok(request) => request,
-            Err(_) => return Err(FollowError::Memory),
-        };
         let mut incoming = self.incoming;
-        log_out(self.alloc, link, &mut incoming, request.as_slice())
+        log_out(
+            self.alloc,
+            link,
+            &mut incoming,
+            self.session,
+            self.host.as_str(),
+        )
     }
 }
 
@@ -315,7 +313,27 @@ fn apply(mirror: &mut Mirror, tag: &Tag) -> Result<Applied, FollowError>
 }
 
 // Ends the session.
+#[tactic(auto, using(crate::proofs::ExchangeFacts::unwritten))]
 fn log_out<K: Link>(
+    alloc: Global,
+    link: &mut K,
+    incoming: &mut Incoming,
+    session: u32,
+    host: &str,
+) -> Result<(), FollowError>
+    requires few { incoming.old.used < 2 ^ 63 }
+    ensures exchanged { IfOk result (λ _. (answer : Reply)
+        × Exchanged (request_text (want.Logout session) host.now) (place (K.taken link.old) (K.left link.old) incoming.old) (place (K.taken link.new) (K.left link.new) incoming.new) answer
+        × (answer.0 ≡ 204)) }
+    ensures stops { IfErr result (λ e. Stops (request_text (want.Logout session) host.now) UnexpectedEnd (place (K.taken link.old) (K.left link.old) incoming.old) (K.taken link.new) e) }
+    ensures count { MatchResult result (λ _. K.faults link.new ≡ K.faults link.old) (λ e. CountsFault (K.faults link.old) (K.faults link.new) e) }
+{
+    let request = request_for(alloc, Want::Logout { session }, host)?;
+    exchange_end(alloc, link, incoming, request.as_slice())
+}
+
+// Sends the request that ends the session, and checks the status of the answer.
+fn exchange_end<K: Link>(
     alloc: Global,
     link: &mut K,
     incoming: &mut Incoming,

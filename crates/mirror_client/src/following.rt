@@ -35,25 +35,71 @@ pub fn follow_link<K: Link>(
     ensures stops { IfErr result (λ e. StopsFrom host.now mirror.old rounds Begun (place (K.taken link.old) (K.left link.old) nothing_read) (K.taken link.new) e mirror.new) }
     ensures count { MatchResult result (λ _. K.faults link.new ≡ K.faults link.old) (λ e. CountsFault (K.faults link.old) (K.faults link.new) e) }
 {
+    let mut applied = Vec::new(alloc);
+    match follow_into(alloc, link, host, mirror, rounds, &mut applied) {
+        Ok(()) => Ok(applied),
+        Err(error) => Err(error),
+    }
+}
+
+// Follows the mirror's listing from the login to the logout.
+fn follow_into<K: Link>(
+    alloc: Global,
+    link: &mut K,
+    host: &str,
+    mirror: &mut Mirror,
+    rounds: u32,
+    applied: &mut Vec<Applied>,
+) -> Result<(), FollowError>
+    requires some { 1 ≤ rounds }
+    requires few { rounds ≤ 16384 }
+    requires asks { MayAsk mirror.old.query }
+    requires none { applied.old.items ≡ [] }
+    ensures followed { OnOk result (Followed host.now mirror.old rounds (place (K.taken link.old) (K.left link.old) nothing_read) (K.taken link.new) applied.new.items mirror.new) }
+    ensures stops { IfErr result (λ e. StopsFrom host.now mirror.old rounds Begun (place (K.taken link.old) (K.left link.old) nothing_read) (K.taken link.new) e mirror.new) }
+    ensures count { MatchResult result (λ _. K.faults link.new ≡ K.faults link.old) (λ e. CountsFault (K.faults link.old) (K.faults link.new) e) }
+{
     let mut follower = match Follower::open(alloc, link, host) {
         Ok(follower) => follower,
         Err(error) => return Err(error),
     };
-    let mut applied = Vec::new(alloc);
-    match listed(&mut follower, link, mirror, &mut applied) {
+    match follow_rounds(&mut follower, link, mirror, rounds, applied) {
+        Ok(()) => follower.close(link),
+        Err(error) => Err(error),
+    }
+}
+
+// Fetches a listing in each round, and waits for another revision between two rounds.
+fn follow_rounds<K: Link>(
+    follower: &mut Follower,
+    link: &mut K,
+    mirror: &mut Mirror,
+    rounds: u32,
+    applied: &mut Vec<Applied>,
+) -> Result<(), FollowError>
+    requires some { 1 ≤ rounds }
+    requires few { rounds ≤ 16384 }
+    requires uncalled { follower.old.calls ≡ 0 }
+    requires asks { MayAsk mirror.old.query }
+    requires none { applied.old.items ≡ [] }
+    ensures walks { OnOk result ((ls : List Listing) × (length ls ≡ rounds) × (mirror.new ≡ with_listings mirror.old ls) × (applied.new.items ≡ all_applied mirror.old.held ls)
+        × Walks follower.old.host mirror.old rounds (Asking follower.old.known []) (place (K.taken link.old) (K.left link.old) follower.old.ahead)
+        (Holding follower.new.known ls) (place (K.taken link.new) (K.left link.new) follower.new.ahead)) }
+    ensures stops { IfErr result (λ e. StopsFrom follower.old.host mirror.old rounds (Asking follower.old.known []) (place (K.taken link.old) (K.left link.old) follower.old.ahead) (K.taken link.new) e mirror.new) }
+    ensures stays { follower.new.host ≡ follower.old.host }
+    ensures count { MatchResult result (λ _. K.faults link.new ≡ K.faults link.old) (λ e. CountsFault (K.faults link.old) (K.faults link.new) e) }
+{
+    match listed(follower, link, mirror, applied) {
         Ok(()) => {}
         Err(error) => return Err(error),
     }
     for round in 1..rounds {
-        match next_round(&mut follower, link, mirror, &mut applied) {
+        match next_round(follower, link, mirror, applied) {
             Ok(()) => {}
             Err(error) => return Err(error),
         }
     }
-    match follower.close(link) {
-        Ok(()) => Ok(applied),
-        Err(error) => Err(error),
-    }
+    Ok(())
 }
 
 // Fetches one more listing. `m` is the mirror at the start.

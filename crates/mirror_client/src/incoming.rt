@@ -14,7 +14,7 @@ use std::marker::Model;
 const PIECE: usize = 8_192;
 
 /// The bytes that were read and not used by a response, and how many bytes responses have used.
-#[derive(Debug, Drop)]
+#[derive(Drop)]
 pub(crate) struct Incoming {
     bytes: Vec<u8>,
     at: usize,

@@ -19,7 +19,7 @@ use http_client::post;
 use std::alloc::Global;
 
 /// The outcome of an edit or a stop.
-#[derive(Debug, Drop)]
+#[derive(Drop)]
 pub enum Pushed {
     /// The edit was applied, and made this revision.
     Revision(u32),

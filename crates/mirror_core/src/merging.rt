@@ -1,6 +1,6 @@
 //! Merging a listing into the held rows.
 
-ghost use Rattle.std.specs.Prelude.{◌≡◌, ◌≤◌, ◌<◌, ◌+◌, ◌++◌, [], ℕ, List, length, vec_len, vec_capacity, fold, map, OnOk, OnErr, if◌then◌else◌};
+ghost use Rattle.std.specs.Prelude.{◌≡◌, ◌≤◌, ◌<◌, ◌+◌, ◌++◌, ◌∷◌, [], ℕ, List, length, vec_len, vec_capacity, fold, map, OnOk, OnErr, if◌then◌else◌};
 ghost use Rattle.dmap_tags.specs.Tree.{Tree};
 ghost use Rattle.share_history.specs.Keyed.{put_in, taken_out, IsAscending};
 ghost use Rattle.mirror_core.specs.Reading.{row_of, key_of};
@@ -88,15 +88,27 @@ fn push_row(out: &mut Vec<(u32, Tag)>, changes: &mut Changes, row: (u32, Tag))
     ensures room { vec_len out.new + length changes.new.entries ≤ vec_len out.old + (length changes.old.entries + 1) }
     ensures capacity { vec_capacity out.new ≡ vec_capacity out.old }
 {
-    let key = row.0;
+    if push_up_to(out, changes, row.0) {
+        return;
+    }
+    out.push_reserved(row);
+}
+
+// Pushes the changes up to a key. Returns whether one of them has the key.
+fn push_up_to(out: &mut Vec<(u32, Tag)>, changes: &mut Changes, key: u32) -> bool
+    requires { vec_len out.old + length changes.old.entries ≤ vec_capacity out.old }
+    ensures rows { (tag : Tree) (rest : List Change → List (ℕ × Tree)) → out.new.items ++ (if result then rest changes.new.entries else (key, tag) ∷ rest changes.new.entries) ≡ out.old.items ++ past_row (key, tag) rest changes.old.entries }
+    ensures room { vec_len out.new + length changes.new.entries ≤ vec_len out.old + length changes.old.entries }
+    ensures capacity { vec_capacity out.new ≡ vec_capacity out.old }
+{
     while order_of_next(changes, key) == Ordering::Less {
         push_next(out, changes);
     }
     if order_of_next(changes, key) == Ordering::Equal {
         push_next(out, changes);
-        return;
+        return true;
     }
-    out.push_reserved(row);
+    false
 }
 
 // Compares the key of the next change to `key`; without a change returns `Greater`.

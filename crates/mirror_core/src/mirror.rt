@@ -15,7 +15,7 @@ use std::marker::Model;
 use thiserror::Error;
 
 /// The contents of a mirror of one listing.
-#[derive(Debug, Drop)]
+#[derive(Drop)]
 pub struct Mirror {
     alloc: Global,
     target: Target,
@@ -44,7 +44,7 @@ impl Model for Mirror {
 }
 
 /// What applying a listing did.
-#[derive(Clone, Copy, Debug, PartialEq, Eq)]
+#[derive(Clone, Copy, PartialEq, Eq)]
 pub struct Applied {
     /// The revision of the listing.
     pub revision: u32,
@@ -104,13 +104,11 @@ impl Mirror {
     pub fn look(&self) -> Result<Look, AllocError>
         ensures { IfOk result (λ look. look ≡ mirror_look self.now.query self.now.meta self.now.held.revision) }
     {
-        let query = match &self.query {
-            Some(query) => Some(query.copy()?),
-            None => None,
-        };
+        let meta = self.meta.copy()?;
+        let query = copy_of(&self.query)?;
         Ok(Look {
             query,
-            meta: self.meta.copy()?,
+            meta,
             base: self.revision,
             range: Range::All,
         })
@@ -163,5 +161,15 @@ impl Mirror {
             dropped: told.gone.len() as u64,
             rows: self.rows.len() as u64,
         })
+    }
+}
+
+// Returns a copy of a query, if there is one.
+fn copy_of(query: &Option<Query>) -> Result<Option<Query>, AllocError>
+    ensures { IfOk result (λ copy. copy ≡ query.now) }
+{
+    match query {
+        Some(query) => Ok(Some(query.copy()?)),
+        None => Ok(None),
     }
 }

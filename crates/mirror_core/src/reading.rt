@@ -3,7 +3,7 @@
 ghost use Rattle.std.specs.Prelude.{◌≡◌, ◌≢◌, ◌≤◌, ◌<◌, ℕ, IfOk, MatchResult, Ok, Err, Option};
 ghost use Rattle.share_history.specs.Listings.{Listing};
 ghost use Rattle.mirror_core.specs.Bodies.{IsListing, IsNoListing};
-ghost use Rattle.mirror_core.specs.Reading.{untold, read_from, read_tag, listing_of};
+ghost use Rattle.mirror_core.specs.Reading.{untold, placed, read_from, read_tag, listing_of};
 ghost use Rattle.mirror_core.specs.ToldSeen.{told_of};
 ghost use Rattle.mirror_core.specs.declared.told.Due.TheVariants.{Status};
 
@@ -45,27 +45,30 @@ fn read(target: Target, base: u32, body: &Tag) -> Result<ToldRef<'_>, Option<u64
     ensures { MatchResult result (λ told. read_tag target base body.now ≡ Ok (told_of told)) (λ index. read_tag target base body.now ≡ Err index) }
 {
     match members_in(body_code(target), body) {
-        Some(members) => match read_members(target, base, members) {
-            Ok(told) => Ok(told),
-            Err(place) => Err(Some(place)),
-        },
+        Some(members) => read_members(target, base, members),
         None => Err(None),
     }
 }
 
-fn read_members<'a>(target: Target, base: u32, members: &'a [Tag]) -> Result<ToldRef<'a>, u64>
-    ensures { MatchResult result (λ told. read_from target base Status untold 0 members.now ≡ Ok (told_of told)) (λ place. read_from target base Status untold 0 members.now ≡ Err place) }
+fn read_members<'a>(
+    target: Target,
+    base: u32,
+    members: &'a [Tag],
+) -> Result<ToldRef<'a>, Option<u64>>
+    ensures { MatchResult result (λ told. placed (read_from target base Status untold 0 members.now) ≡ Ok (told_of told)) (λ index. placed (read_from target base Status untold 0 members.now) ≡ Err index) }
 {
     let mut reached = (Due::Status, ToldRef::new());
-    for (place, member) in members.iter().enumerate() {
+    let mut place = 0;
+    for member in members {
         let Some(next) = passed(target, base, reached.0, reached.1, member) else {
-            return Err(place as u64);
+            return Err(Some(place));
         };
         reached = next;
+        place += 1;
     }
     if reached.0 == Due::Nothing {
         Ok(reached.1)
     } else {
-        Err(members.len() as u64)
+        Err(Some(place))
     }
 }

@@ -10,20 +10,22 @@ use dmap_tags::{Code, Tag, Value};
 use item_model::Target;
 use share_history::key_code;
 
+/// The codes of a listing's members.
+const LISTING_CODES: [Code; 7] = [
+    Code(*b"mstt"),
+    Code(*b"muty"),
+    Code(*b"musr"),
+    Code(*b"mtco"),
+    Code(*b"mrco"),
+    Code(*b"mlcl"),
+    Code(*b"mudl"),
+];
+
 // Returns whether the tag has one of the codes of a listing's members.
 pub(crate) fn is_listings(tag: &Tag) -> bool
     ensures { result ≡ is_listings tag.now }
 {
-    let codes = [
-        Code(*b"mstt"),
-        Code(*b"muty"),
-        Code(*b"musr"),
-        Code(*b"mtco"),
-        Code(*b"mrco"),
-        Code(*b"mlcl"),
-        Code(*b"mudl"),
-    ];
-    is_one_of(tag.code, &codes)
+    is_one_of(tag.code, &LISTING_CODES)
 }
 
 fn is_one_of(code: Code, codes: &[Code]) -> bool

@@ -3,7 +3,7 @@
 use dmap_tags::Tag;
 
 // The next expected member of a listing.
-#[derive(Clone, Copy, Debug, PartialEq, Eq)]
+#[derive(Clone, Copy, PartialEq, Eq)]
 pub(crate) enum Due {
     Status,
     Kind,
@@ -16,7 +16,7 @@ pub(crate) enum Due {
 }
 
 /// The contents of a listing, as read.
-#[derive(Clone, Copy, Debug)]
+#[derive(Clone, Copy)]
 pub struct ToldRef<'a> {
     pub is_delta: bool,
     pub revision: u32,

@@ -41,15 +41,28 @@ fn failing_link(alloc: Global, failing: u64) -> Result<MemLink, AllocError> {
     Ok(MemLink::new(input, output))
 }
 
+/// Whether three reads and three writes fail only at this number.
+fn fails_only_at<L: Link>(link: &mut L, failing: u64) -> bool {
+    for call in 1..4 {
+        let fails = call == failing;
+        if exchanged(link) != (fails, fails) {
+            return false;
+        }
+    }
+    true
+}
+
+/// Whether a connection whose calls with this number fail is returned with what the others wrote.
+fn fails_at(alloc: Global, failing: u64) -> Result<bool, AllocError> {
+    let mut link = failing_link(alloc, failing)?;
+    let fails = fails_only_at(&mut link, failing);
+    Ok(comes_back(alloc, link, b"xyxy", true)? && fails)
+}
+
 #[test]
 fn a_link_fails_at_each_read_and_each_write_in_turn(rt: HostRuntime) -> Result<(), Fail> {
     for failing in 1..4 {
-        let mut link = failing_link(rt.alloc(), failing)?;
-        for call in 1..4 {
-            let fails = call == failing;
-            assert_eq!(rt; exchanged(&mut link), (fails, fails));
-        }
-        assert!(rt; comes_back(rt.alloc(), link, b"xyxy", true)?);
+        assert!(rt; fails_at(rt.alloc(), failing)?);
     }
     Ok(())
 }
@@ -174,37 +187,60 @@ fn is_told_written(net: &MemNet) -> bool {
         if is_back(hello, b"hello", false) && is_back(bye, b"bye", false))
 }
 
+/// Whether a network of two listeners and one connection gives them, and tells what was requested and written.
+fn gives_all(net: &mut MemNet) -> Result<bool, Fail> {
+    let begins = refuses(net) && greets_once(net)?;
+    sent(net, "there", b"bye")?;
+    let is_told = is_told_asked(net) && is_told_written(net);
+    Ok(begins && is_told && net.connect("there").is_err())
+}
+
 #[test]
 fn a_net_gives_what_was_put_there(rt: HostRuntime) -> Result<(), Fail> {
     let mut net = filled(rt.alloc())?;
-    assert!(rt; refuses(&mut net));
-    assert!(rt; greets_once(&mut net)?);
-    sent(&mut net, "there", b"bye")?;
-    assert!(rt; is_told_asked(&net) && is_told_written(&net));
-    assert!(rt; net.connect("there").is_err());
+    assert!(rt; gives_all(&mut net)?);
     Ok(())
+}
+
+/// Whether a listener without capacity tells what was written until a connection is returned to it.
+fn tells_until_written(door: &mut MemDoor) -> bool {
+    door.written().is_some()
+        && matches!(greeted(door, b"lost"), Ok(true))
+        && door.written().is_none()
+}
+
+/// Whether a network with capacity for one address tells what was requested until there are two.
+fn tells_until_asked(net: &mut MemNet) -> bool {
+    net.connect("first").is_err()
+        && net.asked().is_some()
+        && net.connect("second").is_err()
+        && net.asked().is_none()
+}
+
+/// Closes a listener, and returns whether the network tells what was written.
+fn tells_after(net: &mut MemNet, door: MemDoor) -> bool {
+    net.shut(door);
+    net.written().is_some()
 }
 
 #[test]
 fn a_list_without_room_is_told_no_more(rt: HostRuntime) -> Result<(), Fail> {
-    let mut door = some_door(rt.alloc(), 0)?;
-    assert!(rt; door.written().is_some());
-    assert!(rt; matches!(greeted(&mut door, b"lost"), Ok(true)));
-    assert!(rt; door.written().is_none());
     let mut net = MemNet::with_room(rt.alloc(), &[], 1, 1)?;
-    assert!(rt; net.connect("first").is_err());
-    assert!(rt; net.asked().is_some());
-    assert!(rt; net.connect("second").is_err());
-    assert!(rt; net.asked().is_none());
-    net.shut(door);
-    assert!(rt; net.written().is_none());
+    assert!(rt; tells_until_asked(&mut net));
+    let mut door = some_door(rt.alloc(), 0)?;
+    assert!(rt; tells_until_written(&mut door));
+    assert!(rt; !tells_after(&mut net, door));
     Ok(())
+}
+
+/// Whether a network without listeners and connections gives none.
+fn gives_none<N: Net>(net: &mut N) -> bool {
+    matches!(net.listen("127.0.0.1:3689", 2), Err(NetError::Failed))
+        && matches!(sent(net, "127.0.0.1:3689", b"hello"), Err(Failed))
 }
 
 #[test]
 fn nothing_is_reached_where_nothing_is_held(rt: HostRuntime) {
-    let mut net = MemNet::new(rt.alloc());
-    assert!(rt; matches!(net.listen("127.0.0.1:3689", 2), Err(NetError::Failed)));
-    assert!(rt; matches!(sent(&mut net, "127.0.0.1:3689", b"hello"), Err(Failed)));
+    assert!(rt; gives_none(&mut MemNet::new(rt.alloc())));
     assert!(rt; matches!(MemFiles::new().open("edits"), Err(Failed)));
 }

@@ -19,7 +19,7 @@ use item_model::{Entry, Look, Meta, Query, Row, ShownProperties, Target, is_show
 use std::alloc::{AllocError, Global};
 
 /// The contents of a listing of items.
-#[derive(Debug, Drop)]
+#[derive(Drop)]
 pub struct Listing {
     pub is_delta: bool,
     pub revision: u32,

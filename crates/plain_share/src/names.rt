@@ -9,7 +9,7 @@ use crate::revisions::edits_of;
 use item_model::{Edit, Entry};
 
 /// An item, a list as a whole, or a member of a list.
-#[derive(Clone, Copy, Debug, PartialEq, Eq)]
+#[derive(Clone, Copy, PartialEq, Eq)]
 pub enum Named {
     Item(u32),
     List(u32),

@@ -41,6 +41,16 @@ one_of_all {R} same c old new h q =
     (λ other. in_place_to R (at q old) (at q old) (at q new) (h.others q other) (in_place_refl R same (at q old)))
     (cases_Bool (c == q))
 
+-- the newest version of a list was one, and is another
+abbrev pub Becomes : ListVersion → ListVersion → ListVersion → ListVersion → Type 0
+Becomes was is old new = (old ≡ was) × (new ≡ is)
+
+pub became : {R : ListVersion → ListVersion → Type 0} (c : ℕ) (was is : ListVersion) (old new : Lists) → ChangesOne c (Becomes was is) old new → R was is → ChangesOne c R old new
+became {R} c was is old new one now = record {
+  here = in_place_as {R = Becomes was is} {S = R} (λ a b p. subst (λ k. R k b) (sym p.0) (subst (λ k. R was k) (sym p.1) now)) (at c old) (at c new) one.here;
+  others = one.others;
+}
+
 -- ---- the newest, and what is found at a revision
 
 pub on_top : {R : ListVersion → ListVersion → Type 0} (P : Option ListVersion → Option ListVersion → Type 0) → P None None → ((a b : ListVersion) → R a b → P (Some a) (Some b))

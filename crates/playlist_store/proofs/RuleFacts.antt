@@ -15,7 +15,8 @@ use Rattle.item_model.specs.declared.query.Query.{Query}
 use Rattle.key_versions.specs.Held.{Held, at, value_at, is_among}
 use Rattle.playlist_store.specs.declared.kept.ListVersion.{ListVersion}
 use Rattle.playlist_store.specs.Lists.{Lists, top, since_of, has_rule}
-use Rattle.playlist_store.specs.Changes.{InPlace, Everywhere, Sets, LeavesRule, TestsRule, TellsOne, Tells, Taken, tested_ids, ruled_in, puts_rule, now_of}
+use Rattle.playlist_store.specs.Changes.{InPlace, ChangesOne, Everywhere, Sets, LeavesRule, TestsRule, TellsOne, Tells, Taken, tested_ids, ruled_in, puts_rule, now_of}
+use Rattle.playlist_store.proofs.KeptFacts.{Becomes, became}
 use Rattle.playlist_store.proofs.FrameFacts.{leaves_same}
 
 pub rule_leaves_same : (n : ℕ) (ids : List ℕ) (k : ListVersion) → LeavesRule n ids k k
@@ -92,6 +93,13 @@ unlooked_all n es batch ids old mid none no_rule early t c =
 pub no_length : {A : Type 0} (xs : List A) → (length xs == 0) ≡ true → xs ≡ []
 no_length [] h = refl
 no_length (x ∷ xs) h = absurd (let e : length (x ∷ xs) ≡ 0 = eqb-true (length (x ∷ xs)) 0 h in omega (arith, e))
+
+-- a list whose rule was evaluated
+pub list_tested : {E : Type 0} (r : Result ⊤ E) (P : List (List Edit) → Type 0) (n : ℕ) (ids : List ℕ) (c : ℕ) (was is : ListVersion) (old new : Lists) → ChangesOne c (Becomes was is) old new
+    → OnOk r ((bs : List (List Edit)) → P bs → TestsRule n (edits bs) ids was is)
+    → OnOk r ((bs : List (List Edit)) → P bs → ChangesOne c (TestsRule n (edits bs) ids) old new)
+list_tested (Err x) P n ids c was is old new one tests = tt
+list_tested (Ok x) P n ids c was is old new one tests = λ bs h. became c was is old new one (tests bs h)
 
 -- a batch whose rules were evaluated
 pub all_taken : {E : Type 0} (r : Result ⊤ E) (P : List (List Edit) → Type 0) (n : ℕ) (batch : List Edit) (ids : List ℕ) (old mid new : Lists) → ids ≡ named_items batch

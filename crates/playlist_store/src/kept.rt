@@ -5,7 +5,7 @@ use key_versions::Versions;
 use std::collections::{BTreeSet, VecDeque};
 
 /// A list since one of its puts or drops.
-#[derive(Debug, Drop)]
+#[derive(Drop)]
 pub(crate) struct ListVersion {
     // the revision of the put or drop
     pub(crate) since: u32,
@@ -18,7 +18,7 @@ pub(crate) struct ListVersion {
 }
 
 /// A list as it is, and its earlier versions, newest first.
-#[derive(Debug, Drop)]
+#[derive(Drop)]
 pub(crate) struct ListHistory {
     pub(crate) now: ListVersion,
     pub(crate) older: VecDeque<ListVersion>,

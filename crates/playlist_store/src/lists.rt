@@ -1,6 +1,6 @@
 //! Lists by id: putting, dropping and reverting one.
 
-ghost use Rattle.std.specs.Prelude.{◌≡◌, ◌≤◌, ◌<◌, ◌==◌, ℕ, true, false, None, OnOk, OnErr, if◌then◌else◌};
+ghost use Rattle.std.specs.Prelude.{◌≡◌, ◌≤◌, ◌<◌, ◌==◌, ◌∷◌, [], ℕ, true, false, Some, None, OnOk, OnErr, if◌then◌else◌};
 ghost use Rattle.key_versions.specs.Held.{at};
 ghost use Rattle.playlist_store.specs.Changes.{found_in, Puts, PopsOne, Pops};
 
@@ -31,16 +31,33 @@ fn put_over(list: &mut ListHistory, kept: ListVersion) -> Result<(), AllocError>
     ensures left { OnErr result (list.new.now ≡ list.old.now) }
     ensures below { (v : ℕ) → v < kept.since → found_in list.new v ≡ found_in list.old v }
 {
-    if list.now.since == kept.since {
-        list.now = kept;
+    let replaces = list.now.since == kept.since;
+    let ListHistory { now, older } = list;
+    put_newest(now, older, kept, replaces)
+}
+
+// Makes `value` the newest. The newest so far is dropped if `replaces`, and otherwise becomes the first of `older`.
+// It is generic, as `insert`, `pop_newest` and `remove` are: what a version consists of is no concern of theirs.
+fn put_newest<T: Drop>(
+    now: &mut T,
+    older: &mut VecDeque<T>,
+    value: T,
+    replaces: bool,
+) -> Result<(), AllocError>
+    ensures now { OnOk result (now.new ≡ value) }
+    ensures older { OnOk result (older.new.items ≡ (if replaces then older.old.items else now.old ∷ older.old.items)) }
+    ensures left { OnErr result (now.new ≡ now.old) }
+    ensures left_older { OnErr result (older.new.items ≡ older.old.items) }
+{
+    if replaces {
+        *now = value;
         return Ok(());
     }
-    match list.older.reserve(1) {
+    match older.reserve(1) {
         Ok(()) => {}
         Err(error) => return Err(error),
     }
-    let last = mem::replace(&mut list.now, kept);
-    list.older.push_front_reserved(last);
+    older.push_front_reserved(mem::replace(now, value));
     Ok(())
 }
 
@@ -52,7 +69,14 @@ fn put_first(alloc: Global, lists: &mut Lists, id: u32, kept: ListVersion) -> Re
         now: kept,
         older: VecDeque::new(alloc),
     };
-    match lists.insert(id, list) {
+    insert(lists, id, list)
+}
+
+fn insert<T: Drop>(map: &mut BTreeMap<u32, T>, id: u32, value: T) -> Result<(), AllocError>
+    ensures put { OnOk result ((q : ℕ) → at q map.new.entries ≡ (if id == q then Some value else at q map.old.entries)) }
+    ensures left { OnErr result ((q : ℕ) → at q map.new.entries ≡ at q map.old.entries) }
+{
+    match map.insert(id, value) {
         Ok(_) => Ok(()),
         Err(_) => Err(AllocError),
     }
@@ -92,17 +116,31 @@ fn step_back(list: &mut ListHistory, revision: u32) -> bool
     ensures left { result ≡ false → (v : ℕ) → v < revision → found_in list.new v ≡ found_in list.old v }
     ensures since { result ≡ false → list.new.now.since < revision }
 {
-    while revision <= list.now.since {
-        match list.older.pop_front() {
-            Some(kept) => list.now = kept,
-            None => return true,
+    let ListHistory { now, older } = list;
+    while revision <= now.since {
+        if !pop_newest(now, older) {
+            return true;
         }
     }
     false
 }
 
-pub(crate) fn remove(lists: &mut Lists, id: u32)
-    ensures { (q : ℕ) → at q lists.new.entries ≡ (if id == q then None else at q lists.old.entries) }
+// Replaces the newest by the first of `older`, and returns whether there was one.
+fn pop_newest<T: Drop>(now: &mut T, older: &mut VecDeque<T>) -> bool
+    ensures popped { result ≡ true → older.old.items ≡ now.new ∷ older.new.items }
+    ensures last { result ≡ false → older.old.items ≡ [] }
 {
-    lists.remove(&id);
+    match older.pop_front() {
+        Some(value) => {
+            *now = value;
+            true
+        }
+        None => false,
+    }
+}
+
+pub(crate) fn remove<T: Drop>(map: &mut BTreeMap<u32, T>, id: u32)
+    ensures { (q : ℕ) → at q map.new.entries ≡ (if id == q then None else at q map.old.entries) }
+{
+    map.remove(&id);
 }

@@ -3,7 +3,7 @@
 use std::marker::Model;
 
 /// The lists, members and items that a batch names, each kind in order.
-#[derive(Debug, Drop)]
+#[derive(Drop)]
 pub(crate) struct Named {
     pub(crate) lists: Vec<u32>,
     pub(crate) members: Vec<(u32, u32)>,

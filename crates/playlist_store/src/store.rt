@@ -23,7 +23,7 @@ use std::marker::Model;
 use std::sync::ledger::Ledger;
 
 /// The lists after batches of edits, with their earlier versions in the window.
-#[derive(Debug, Drop)]
+#[derive(Drop)]
 pub struct PlaylistStore {
     pub(crate) alloc: Global,
     pub(crate) keep: u32,

@@ -7,7 +7,7 @@ use crate::header::Column;
 use item_model::Property;
 
 /// An operation on a kind of thing.
-#[derive(Clone, Copy, Debug, PartialEq, Eq)]
+#[derive(Clone, Copy, PartialEq, Eq)]
 pub enum Action {
     PutItem,
     DropItem,

@@ -17,7 +17,7 @@ use std::alloc::Global;
 pub const FIRST_COLUMNS: usize = 3;
 
 /// The content of a further column.
-#[derive(Clone, Copy, Debug, PartialEq, Eq)]
+#[derive(Clone, Copy, PartialEq, Eq)]
 pub enum Column {
     Property(Property),
     Query,
@@ -26,7 +26,7 @@ pub enum Column {
 }
 
 /// The columns after the first three, in order.
-#[derive(Debug, Drop)]
+#[derive(Drop)]
 pub struct Header {
     pub columns: Vec<Column>,
 }

@@ -1,7 +1,8 @@
 // Edits, read from records.
 
-ghost use Rattle.std.specs.Prelude.{◌≡◌, ◌≢◌, ◌+◌, drop, length, get_or, [], true, false, Some, None, Ok, Err, IfOk, MatchResult, option_copied};
+ghost use Rattle.std.specs.Prelude.{◌≡◌, ◌≢◌, ◌+◌, drop, length, get_or, [], true, false, Some, None, Ok, Err, IfOk, MatchResult, option_copied, option_map};
 ghost use Rattle.csv.specs.Records.{fields_of};
+ghost use Rattle.item_model.specs.declared.changes.Edit.TheVariants as an_edit;
 ghost use Rattle.records_import.specs.Records.{action_of, name_in, name_text, IsLeftmost, RecordAnswers};
 ghost use Rattle.records_import.specs.Walk.{Walked, edit_from, member_edit, no_values};
 
@@ -98,41 +99,46 @@ fn edit_from(
 ) -> Result<Option<Edit>, AllocError>
     ensures { IfOk result (λ edit. edit ≡ edit_from action id values) }
 {
-    let Values {
-        item,
-        rule,
-        list,
-        entry,
-    } = values;
     match action {
-        Action::PutItem => Ok(Some(Edit::PutItem {
-            row: SharedRow::new(alloc, Row { id, item })?,
-        })),
+        Action::PutItem => put_item(alloc, id, values.into_item()),
         Action::DropItem => Ok(Some(Edit::DropItem { id })),
-        Action::PutList => {
-            let name = name_in(alloc, &item)?;
-            Ok(Some(Edit::PutList { list: id, name }))
-        }
-        Action::PutRule => {
-            let Some(rule) = rule else {
-                return Ok(None);
-            };
-            let name = name_in(alloc, &item)?;
-            Ok(Some(Edit::PutRule {
-                list: id,
-                name,
-                rule,
-            }))
-        }
+        Action::PutList => put_list(alloc, id, values.into_item()),
+        Action::PutRule => put_rule(alloc, id, values),
         Action::DropList => Ok(Some(Edit::DropList { list: id })),
-        Action::PutMember => Ok(member_edit(id, list, entry)),
+        Action::PutMember => {
+            let (list, entry) = values.into_ids();
+            Ok(member_edit(id, list, entry))
+        }
         Action::DropMember => {
-            let Some(list) = list else {
-                return Ok(None);
-            };
-            Ok(Some(Edit::DropMember { list, member: id }))
+            let (list, _) = values.into_ids();
+            Ok(drop_member(id, list))
         }
     }
+}
+
+fn put_item(alloc: Global, id: u32, item: Item) -> Result<Option<Edit>, AllocError>
+    ensures { IfOk result (λ edit. edit ≡ Some (an_edit.PutItem (record { id = id; item = item }))) }
+{
+    let row = SharedRow::new(alloc, Row { id, item })?;
+    Ok(Some(Edit::PutItem { row }))
+}
+
+fn put_list(alloc: Global, list: u32, item: Item) -> Result<Option<Edit>, AllocError>
+    ensures { IfOk result (λ edit. edit ≡ Some (an_edit.PutList list (name_in item))) }
+{
+    let name = name_in(alloc, &item)?;
+    Ok(Some(Edit::PutList { list, name }))
+}
+
+fn put_rule(alloc: Global, list: u32, values: Values) -> Result<Option<Edit>, AllocError>
+    ensures { IfOk result (λ edit. edit ≡ edit_from Action.PutRule list values) }
+{
+    let Values { item, rule, .. } = values;
+    let Some(rule) = rule else {
+        return Ok(None);
+    };
+    let name = name_in(alloc, &item)?;
+    Ok(Some(Edit::PutRule { list, name, rule }))
 }
 
 fn member_edit(member: u32, list: Option<u32>, entry: Option<u32>) -> Option<Edit>
@@ -141,6 +147,13 @@ fn member_edit(member: u32, list: Option<u32>, entry: Option<u32>) -> Option<Edi
     let list = list?;
     let item = entry?;
     Some(Edit::PutMember { list, member, item })
+}
+
+fn drop_member(member: u32, list: Option<u32>) -> Option<Edit>
+    ensures { result ≡ option_map (λ list. an_edit.DropMember list member) list }
+{
+    let list = list?;
+    Some(Edit::DropMember { list, member })
 }
 
 /// Returns the name among an item's properties, or an empty text.

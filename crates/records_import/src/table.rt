@@ -1,6 +1,6 @@
 // Rows of cells, read from comma separated text and written to it.
 
-ghost use Rattle.std.specs.Prelude.{◌≡◌, [], IfOk, get_or, length, map, take};
+ghost use Rattle.std.specs.Prelude.{◌≡◌, ◌++◌, ◌∷◌, [], IfOk, OnOk, get_or, length, map, take};
 ghost use Rattle.csv.specs.Records.{fields_of};
 ghost use Rattle.records_import.specs.Table.{table_of};
 
@@ -20,12 +20,19 @@ pub fn rows_of(alloc: Global, text: &[u8], most: usize) -> Result<Vec<ByteRecord
     let mut rows = Vec::new(alloc);
     'rows: for _ in 0..most {
         match reader.read_byte_record(&mut row) {
-            Ok(true) => rows.push(row.clone()?)?,
+            Ok(true) => push_copy(&mut rows, &row)?,
             Ok(false) => return Ok(rows),
             Err(_) => return Err(AllocError),
         }
     }
     Ok(rows)
+}
+
+fn push_copy(rows: &mut Vec<ByteRecord>, row: &ByteRecord) -> Result<(), AllocError>
+    ensures { OnOk result (rows.new.items ≡ rows.old.items ++ row.now ∷ []) }
+{
+    rows.push(row.clone()?)?;
+    Ok(())
 }
 
 /// Returns the cell of a row at index `place`, or an empty cell if the row is shorter.

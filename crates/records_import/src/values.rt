@@ -19,7 +19,7 @@ use std::alloc::{AllocError, Global};
 use std::str::from_utf8;
 
 /// Errors of a cell.
-#[derive(Debug, Drop)]
+#[derive(Drop)]
 pub enum CellError {
     Refused(RecordWhy),
     Memory,
@@ -48,7 +48,7 @@ impl From<RecordWhy> for CellError {
 }
 
 /// The values for a record's edit from its cells so far.
-#[derive(Debug, Drop)]
+#[derive(Drop)]
 pub struct Values {
     pub item: Item,
     pub rule: Option<Query>,
@@ -89,14 +89,25 @@ impl Values {
         Ok(())
     }
 
+    /// Returns the item.
+    pub fn into_item(self) -> Item
+        ensures { result ≡ self.item }
+    {
+        self.item
+    }
+
+    /// Returns the ids of the list and of the member's item.
+    pub fn into_ids(self) -> (Option<u32>, Option<u32>)
+        ensures { result ≡ (self.list, self.entry) }
+    {
+        (self.list, self.entry)
+    }
+
     fn take_used(&mut self, alloc: Global, column: Column, cell: &[u8]) -> Result<(), CellError>
         ensures { UsedTaken column cell.now self.old self.new result }
     {
         match column {
-            Column::Property(property) => {
-                put_property(alloc, &mut self.item, property, cell)?;
-                Ok(())
-            }
+            Column::Property(property) => put_property(alloc, &mut self.item, property, cell),
             Column::Query => {
                 self.rule = Some(rule_value(alloc, cell)?);
                 Ok(())

@@ -1,20 +1,21 @@
 //! Writes batches of edits as records.
 
-ghost use Rattle.std.specs.Prelude.{◌≡◌, ◌++◌, ◌∷◌, [], IfOk, Ok, OnOk, codes, decimal, if◌then◌else◌, map, option_copied, string_bytes};
+ghost use Rattle.std.specs.Prelude.{◌≡◌, ◌++◌, ◌∷◌, [], IfOk, Ok, OnOk, IsUtf8, List, Some, ℕ, codes, decimal, if◌then◌else◌, map, option_copied, string_bytes};
 ghost use Rattle.csv.specs.Records.{AllText, fields_of};
+ghost use Rattle.csv.specs.Writing.{default_writer, row_text};
 ghost use Rattle.item_model.specs.Proper.{IsProper};
 ghost use Rattle.item_model.specs.QuerySeen.{tree_of};
 ghost use Rattle.item_model.specs.Valid.{IsValid};
 ghost use Rattle.records_import.specs.Actions.{is_item, is_list, is_name, is_rule};
 ghost use Rattle.records_import.specs.Records.{BatchReads};
 ghost use Rattle.records_import.specs.Table.{Cells, table_of, table_text};
-ghost use Rattle.records_import.specs.Writing.{HasCells};
+ghost use Rattle.records_import.specs.Writing.{HasCells, HasWritten};
 ghost use Rattle.records_import.specs.Written.{IsReadable, ReadsOnlyAs, column_name, property_cell, value_cell, written_cell, written_columns, written_id, written_kind, written_op, written_rows};
 ghost use Rattle.song_query.specs.Printing.{printed};
 
 use crate::header::Column;
 use crate::table_text::{table_writer, write_row, written_text};
-use csv::ByteRecord;
+use csv::{ByteRecord, Writer};
 use dmap_tags::Bytes;
 use item_model::{Batch, Edit, Item, PROPERTIES, PropValue, Property, Query};
 use song_query::print;
@@ -28,15 +29,51 @@ pub fn write_batch(alloc: Global, batch: &Batch) -> Result<Bytes, AllocError>
     ensures reads_back { IfOk result (λ b. BatchReads (table_of b) (Ok batch.now)) }
     ensures only { IfOk result (λ b. ReadsOnlyAs (table_of b) batch.now) }
 {
-    let columns = written_columns(alloc)?;
-    let header = header_row(alloc, columns.as_slice())?;
     let mut writer = table_writer(alloc);
-    write_row(&mut writer, &header)?;
-    for edit in batch.edits.as_slice() {
-        let row = edit_row(alloc, columns.as_slice(), edit)?;
-        write_row(&mut writer, &row)?;
-    }
+    write_edits(alloc, &mut writer, batch)?;
     Ok(Bytes::from(written_text(writer)?))
+}
+
+/// Writes the header and a record for each edit. After an error the writer must not be used again.
+fn write_edits(alloc: Global, writer: &mut Writer<Vec<u8>>, batch: &Batch) -> Result<(), AllocError>
+    requires { IsReadable batch.now }
+    ensures written { HasWritten (λ v. Some v.items) writer.old [] → OnOk result (HasWritten (λ v. Some v.items) writer.new (table_text (written_rows batch.now))) }
+    ensures reads_back { OnOk result (BatchReads (table_of (table_text (written_rows batch.now))) (Ok batch.now)) }
+{
+    let columns = written_columns(alloc)?;
+    write_header(alloc, writer, columns.as_slice())?;
+    for edit in batch.edits.as_slice() {
+        write_edit(alloc, writer, columns.as_slice(), edit)?;
+    }
+    Ok(())
+}
+
+fn write_header(
+    alloc: Global,
+    writer: &mut Writer<Vec<u8>>,
+    columns: &[Column],
+) -> Result<(), AllocError>
+    ensures { (text : List ℕ) → HasWritten (λ v. Some v.items) writer.old text
+        → OnOk result (HasWritten (λ v. Some v.items) writer.new (text ++ row_text default_writer (codes "op" ∷ codes "kind" ∷ codes "id" ∷ map column_name columns.now))) }
+{
+    let header = header_row(alloc, columns)?;
+    write_row(writer, &header)
+}
+
+/// Writes the record of an edit.
+fn write_edit(
+    alloc: Global,
+    writer: &mut Writer<Vec<u8>>,
+    columns: &[Column],
+    edit: &Edit,
+) -> Result<(), AllocError>
+    requires { IsValid edit.now }
+    ensures written { (text : List ℕ) → HasWritten (λ v. Some v.items) writer.old text
+        → OnOk result (HasWritten (λ v. Some v.items) writer.new (text ++ row_text default_writer (written_op edit.now ∷ written_kind edit.now ∷ decimal (written_id edit.now) ∷ map (written_cell edit.now) columns.now))) }
+    ensures utf8 { OnOk result (AllText (map (written_cell edit.now) columns.now)) }
+{
+    let row = edit_row(alloc, columns, edit)?;
+    write_row(writer, &row)
 }
 
 /// Returns the columns after the first three, in the order in which they are written.
@@ -76,13 +113,34 @@ fn edit_row(alloc: Global, columns: &[Column], edit: &Edit) -> Result<ByteRecord
     ensures cells { IfOk result (λ row. fields_of row ≡ written_op edit.now ∷ written_kind edit.now ∷ decimal (written_id edit.now) ∷ map (written_cell edit.now) columns.now) }
     ensures utf8 { OnOk result (AllText (map (written_cell edit.now) columns.now)) }
 {
-    let id = id_of(edit).to_string(alloc)?;
-    let mut row = first_cells(alloc, op_of(edit), kind_of(edit), id.as_str())?;
+    let mut row = edit_cells(alloc, edit)?;
     for column in columns {
-        let cell = cell_of(alloc, edit, *column)?;
-        push_cell(&mut row, cell.as_str())?;
+        push_cell_of(alloc, &mut row, edit, *column)?;
     }
     Ok(row)
+}
+
+/// Returns the first three cells of an edit's record.
+fn edit_cells(alloc: Global, edit: &Edit) -> Result<ByteRecord, AllocError>
+    ensures { IfOk result (λ row. HasCells row (written_op edit.now ∷ written_kind edit.now ∷ decimal (written_id edit.now) ∷ [])) }
+{
+    let id = id_of(edit).to_string(alloc)?;
+    first_cells(alloc, op_of(edit), kind_of(edit), id.as_str())
+}
+
+/// Appends an edit's cell in a column.
+fn push_cell_of(
+    alloc: Global,
+    row: &mut ByteRecord,
+    edit: &Edit,
+    column: Column,
+) -> Result<(), AllocError>
+    requires { IsValid edit.now }
+    ensures cells { (cells : Cells) → HasCells row.old cells → OnOk result (HasCells row.new (cells ++ written_cell edit.now column ∷ [])) }
+    ensures utf8 { OnOk result (IsUtf8 (written_cell edit.now column)) }
+{
+    let cell = cell_of(alloc, edit, column)?;
+    push_cell(row, cell.as_str())
 }
 
 fn first_cells(alloc: Global, op: &str, kind: &str, id: &str) -> Result<ByteRecord, AllocError>

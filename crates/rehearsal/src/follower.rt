@@ -17,7 +17,7 @@ use mirror_core::Mirror;
 use std::alloc::{AllocError, Global};
 
 /// A mirror of items with the period of its requests, and how many of them got a full listing or a delta.
-#[derive(Debug, Drop)]
+#[derive(Drop)]
 pub(crate) struct RehearsedMirror {
     mirror: Mirror,
     period: u32,

@@ -2,7 +2,7 @@
 
 /// A rehearsal: the number that starts the generator, the number of batches, the edits in each, and the length of the
 /// share's delta window in revisions.
-#[derive(Clone, Copy, Debug)]
+#[derive(Clone, Copy)]
 pub struct Rehearsal {
     pub number: u32,
     pub batches: u32,

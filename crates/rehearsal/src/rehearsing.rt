@@ -13,18 +13,16 @@ use crate::run::Run;
 use code_table::CodeTable;
 use item_model::Entries;
 use std::alloc::{AllocError, Global};
-use thiserror::Error;
 
 /// The result of a rehearsal: the history of the share, and the summary.
-#[derive(Debug, Drop)]
+#[derive(Drop)]
 pub struct Rehearsed {
     pub history: Entries,
     pub summary: Vec<u8>,
 }
 
 /// An allocation failed in a rehearsal. The history has the batches made before.
-#[derive(Debug, Drop, Error)]
-#[error("out of memory")]
+#[derive(Drop)]
 pub struct BrokenOff {
     pub history: Entries,
 }

@@ -21,7 +21,7 @@ use item_model::{Entries, Entry};
 use item_store::ItemStore;
 use std::alloc::{AllocError, Global};
 
-#[derive(Debug, Drop)]
+#[derive(Drop)]
 pub(crate) struct Run {
     draws: Draws,
     log: EditLog,

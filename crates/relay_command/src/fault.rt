@@ -12,7 +12,7 @@ use share_crew::Verdict;
 use std::alloc::{AllocError, Global};
 
 /// Errors of `relay`. Out of memory is `Fault::Memory`.
-#[derive(Debug, Drop)]
+#[derive(Drop)]
 pub enum RelayFault {
     /// An address was not reached or not opened, a listener failed, or the connection failed.
     Network,

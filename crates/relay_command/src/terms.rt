@@ -3,7 +3,7 @@
 use dmap_tags::Text;
 
 /// The settings of `relay`.
-#[derive(Debug, Drop)]
+#[derive(Drop)]
 pub struct Relaying {
     /// The address of the share that is followed.
     pub upstream: Text,

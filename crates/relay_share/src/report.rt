@@ -6,7 +6,7 @@ ghost use Rattle.relay_share.specs.Ends.{end_of, ending_of};
 use mirror_client::FollowError;
 
 /// A listing that was relayed.
-#[derive(Clone, Copy, Debug, PartialEq, Eq)]
+#[derive(Clone, Copy, PartialEq, Eq)]
 pub struct Relayed {
     /// The revision of the listing.
     pub upstream: u32,
@@ -20,7 +20,7 @@ pub struct Relayed {
 }
 
 /// How a relay ended.
-#[derive(Debug, Drop, PartialEq, Eq)]
+#[derive(Drop, PartialEq, Eq)]
 pub enum RelayEnd {
     /// All rounds were done, and the relay logged out.
     Done,
@@ -37,7 +37,7 @@ pub enum RelayEnd {
 }
 
 /// The report of a relay.
-#[derive(Debug, Drop)]
+#[derive(Drop)]
 pub struct RelayReport {
     /// The listings that were relayed, in order.
     pub rounds: Vec<Relayed>,

@@ -31,7 +31,7 @@ pub(crate) struct OwnShare<'a, R> {
 }
 
 /// The report of a turn: the answer, and the share's revision at its history length.
-#[derive(Clone, Copy, Debug)]
+#[derive(Clone, Copy)]
 pub(crate) struct Told {
     pub(crate) served: Served,
     pub(crate) revision: u32,

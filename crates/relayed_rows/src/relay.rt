@@ -24,7 +24,7 @@ use std::marker::Model;
 
 /// The library in the listings of a share, one after another, and the revision of the last one. The rows are shared
 /// with the batches that put them, so that each text is in memory once.
-#[derive(Debug, Drop)]
+#[derive(Drop)]
 pub struct Relay {
     alloc: Global,
     revision: u32,
@@ -44,7 +44,7 @@ impl Model for Relay {
 }
 
 /// What a listing changed in a relay's library.
-#[derive(Debug, Drop)]
+#[derive(Drop)]
 pub struct Change {
     /// The edits from the library before to the one after. Empty if the two are equal.
     pub batch: Batch,

@@ -10,14 +10,14 @@ use std::alloc::{AllocError, Global};
 
 /// The encoded tags of a row that are neighbours on its sheet: the first `len` of these bytes. The bytes of the cells
 /// after them follow, up to the end of the sheet's buffer, so a copy of a constant size can take more than `len`.
-#[derive(Clone, Copy, Debug)]
+#[derive(Clone, Copy)]
 pub struct RowTags<'a> {
     pub bytes: &'a [u8],
     pub len: usize,
 }
 
 // The cells one after the other, and where each one starts and the last one ends.
-#[derive(Debug, Drop)]
+#[derive(Drop)]
 pub(crate) struct Cells {
     bytes: Vec<u8>,
     starts: Vec<u32>,

@@ -15,7 +15,7 @@ use std::alloc::{AllocError, Global};
 use std::marker::Model;
 
 /// Some rows, at least one, with the encoded tags of their properties.
-#[derive(Debug, Drop)]
+#[derive(Drop)]
 pub struct Sheet {
     rows: Vec<SharedRow>,
     // the ids of the rows: they lie here so that whoever passes a sheet or lists it reads no row

@@ -13,7 +13,7 @@ use std::marker::Model;
 use std::sync::Arc;
 
 /// Rows by their ids, on sheets that several lists may share. Contracts see the rows under their ids, in ascending order.
-#[derive(Debug, Drop)]
+#[derive(Drop)]
 pub struct RowSheets {
     alloc: Global,
     sheets: Vec<Arc<Sheet, Global>>,

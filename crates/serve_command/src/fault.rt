@@ -12,7 +12,7 @@ use std::alloc::{AllocError, Global};
 
 /// Errors of `serve`, before its share is served. Out of memory is `Fault::Memory`, and a read that failed
 /// `Fault::Read`.
-#[derive(Debug, Drop)]
+#[derive(Drop)]
 pub enum ServeFault {
     /// An address could not be opened.
     Network,

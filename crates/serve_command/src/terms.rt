@@ -3,7 +3,7 @@
 use dmap_tags::Text;
 
 /// The settings of `serve`.
-#[derive(Debug, Drop)]
+#[derive(Drop)]
 pub struct Serving {
     /// The address that players connect to.
     pub listen: Text,

@@ -5,7 +5,7 @@ use item_model::{Batch, Browse, Look, Query, QueryError, Target};
 use records_import::RecordError;
 
 /// What a connection may request, by the address at which it arrived.
-#[derive(Clone, Copy, Debug, PartialEq, Eq)]
+#[derive(Clone, Copy, PartialEq, Eq)]
 pub enum Role {
     /// Everything that a player requests.
     Listen,
@@ -14,14 +14,14 @@ pub enum Role {
 }
 
 /// The method of a request.
-#[derive(Clone, Copy, Debug, PartialEq, Eq)]
+#[derive(Clone, Copy, PartialEq, Eq)]
 pub enum Verb {
     Get,
     Post,
 }
 
 /// The error of a complete request.
-#[derive(Debug, Drop)]
+#[derive(Drop)]
 pub enum AskError {
     /// The path is not one of the role.
     Path,
@@ -35,7 +35,7 @@ pub enum AskError {
 
 /// The operation of a request. A session is the id of a login, or 0 if the request has none; a revision is 0 if the
 /// request has none.
-#[derive(Debug, Drop)]
+#[derive(Drop)]
 pub enum Want {
     ServerInfo,
     /// The table of content codes.
@@ -78,7 +78,7 @@ pub enum Want {
 }
 
 /// A complete request.
-#[derive(Debug, Drop)]
+#[derive(Drop)]
 pub struct Ask {
     /// The role of the reader that made it.
     pub role: Role,

@@ -3,7 +3,7 @@
 use crate::ask::Verb;
 
 /// The kind of a reply's body, with what the head states besides the length.
-#[derive(Clone, Copy, Debug, PartialEq, Eq)]
+#[derive(Clone, Copy, PartialEq, Eq)]
 pub enum BodyForm {
     NoBody,
     /// A tag (`application/x-dmap-tagged`).

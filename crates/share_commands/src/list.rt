@@ -23,7 +23,7 @@ use share_listings::{full_target, is_there};
 use std::alloc::{AllocError, Global};
 
 /// Errors of `list`. Out of memory is `Fault::Memory`.
-#[derive(Debug, Drop)]
+#[derive(Drop)]
 pub enum ListFault {
     /// The query of `--query` is refused.
     Query(QueryError),

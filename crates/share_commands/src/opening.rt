@@ -21,7 +21,7 @@ use std::sync::ledger::{Blank, Ledger};
 const KEEP: u32 = 1;
 
 /// An open share: its history, and the items and lists after it.
-#[derive(Debug, Drop)]
+#[derive(Drop)]
 pub struct Opened {
     pub history: Entries,
     pub items: ItemStore,

@@ -12,7 +12,7 @@ use share_history::MAX_EDITS;
 use std::alloc::{AllocError, Global};
 
 /// Errors of `rehearse`.
-#[derive(Debug, Drop)]
+#[derive(Drop)]
 pub enum RehearseFault {
     /// There are more edits than a share's history may have.
     TooMany,

@@ -24,7 +24,7 @@ use std::alloc::{AllocError, Global};
 const SCRIPT_LIMIT: u64 = 67_108_864;
 
 /// Errors of `replay`. Out of memory is `Fault::Memory`.
-#[derive(Debug, Drop)]
+#[derive(Drop)]
 pub enum ReplayFault {
     /// The input has more than `SCRIPT_LIMIT` bytes.
     TooLong,

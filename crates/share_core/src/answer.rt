@@ -4,7 +4,7 @@ use listing_plan::Plan;
 use share_asks::BodyForm;
 
 /// The answer to a parsed request.
-#[derive(Debug, Drop)]
+#[derive(Drop)]
 pub enum Answer {
     Reply(Reply),
     /// The update is pending: the share is at this `revision`, and `point` is the length of its history.
@@ -12,7 +12,7 @@ pub enum Answer {
 }
 
 /// A reply, given at one length of the share's history.
-#[derive(Debug, Drop)]
+#[derive(Drop)]
 pub struct Reply {
     pub content: ReplyContent,
     /// The history length after the reply.
@@ -26,7 +26,7 @@ pub struct Reply {
 }
 
 /// The status and the body of a reply.
-#[derive(Debug, Drop)]
+#[derive(Drop)]
 pub struct ReplyContent {
     pub status: u16,
     pub form: BodyForm,

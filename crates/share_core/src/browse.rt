@@ -1,7 +1,7 @@
 //! Browse listings: the values of a property. The index has those of the whole library. With a query, they are read
 //! from the rows of the items that match.
 
-ghost use Rattle.std.specs.Prelude.{◌≡◌, ◌≤◌, ◌+◌, ◌∷◌, [], ℕ, List, Option, Some, None, map, fold, filter, length, option_copied, option_map, IfOk, IfSome, OnOk};
+ghost use Rattle.std.specs.Prelude.{◌≡◌, ◌≤◌, ◌+◌, ◌++◌, ◌∷◌, [], ℕ, List, Option, Some, None, map, fold, filter, length, option_copied, option_map, IfOk, IfSome, OnOk};
 ghost use Rattle.std.specs.Ordering.{nat_cmp};
 ghost use Rattle.std.specs.Cmp.Lexicographic.{slice_cmp};
 ghost use Rattle.std.specs.BTreeSet.{insert_key};
@@ -81,9 +81,15 @@ fn text_tags(alloc: Global, texts: &[Text]) -> Result<Tags, AllocError>
 {
     let mut tags = Tags::new(alloc);
     for text in texts {
-        tags.push(value_tag(alloc, text.as_str())?)?;
+        push_value(&mut tags, alloc, text.as_str())?;
     }
     Ok(tags)
+}
+
+fn push_value(tags: &mut Tags, alloc: Global, text: &str) -> Result<(), AllocError>
+    ensures { OnOk result (tags.new ≡ tags.old ++ value_tag text.now ∷ []) }
+{
+    tags.push(value_tag(alloc, text)?)
 }
 
 fn value_tag(alloc: Global, text: &str) -> Result<Tag, AllocError>
@@ -115,7 +121,7 @@ fn set_tags(alloc: Global, texts: &BTreeSet<&str>) -> Result<Tags, AllocError>
 {
     let mut tags = Tags::new(alloc);
     for text in texts {
-        tags.push(value_tag(alloc, text)?)?;
+        push_value(&mut tags, alloc, text)?;
     }
     Ok(tags)
 }

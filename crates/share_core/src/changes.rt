@@ -70,9 +70,20 @@ fn rows_of(
 {
     let mut rows = Vec::new(alloc);
     for id in ids {
-        rows.push((*id, items.shared(*id)?))?;
+        push_row(&mut rows, items, *id)?;
     }
     Ok(rows)
+}
+
+fn push_row(
+    rows: &mut Vec<(u32, Option<SharedRow>)>,
+    items: &ItemStore,
+    id: u32,
+) -> Result<(), AllocError>
+    ensures { OnOk result ((bs : List (List Edit)) → StandsFor bs items.now → rows.new.items ≡ rows.old.items ++ (id, item_at (edits bs) id) ∷ []) }
+{
+    rows.push((id, items.shared(id)?))?;
+    Ok(())
 }
 
 fn shared(row: &Option<SharedRow>) -> Result<Option<SharedRow>, AllocError>

@@ -20,7 +20,7 @@ ghost use Rattle.share_core.specs.Entries.{entry_with, entry_at};
 
 use crate::answer::ReplyContent;
 use crate::stores::Stores;
-use crate::tags::{list, number, small_number, text, whole};
+use crate::tags::{list, number, push_number, small_number, text, whole};
 use dmap_tags::{Code, Tag, Tags, Text};
 use playlist_store::{ListHead, Member};
 use share_history::BASE_LIST;
@@ -53,12 +53,17 @@ fn database_entry(
 ) -> Result<Tag, AllocError>
     ensures { IfOk result (λ tag. tag ≡ entry_tag (leaf (code "miid") (U32 1) ∷ leaf (code "minm") (tree.Text name.now) ∷ leaf (code "mimc") (U32 items) ∷ leaf (code "mctc") (U32 containers) ∷ [])) }
 {
-    let mut tags = Tags::new(alloc);
-    tags.push(number(Code(*b"miid"), 1))?;
-    tags.push(text(alloc, Code(*b"minm"), name.as_str())?)?;
-    tags.push(number(Code(*b"mimc"), items))?;
-    tags.push(number(Code(*b"mctc"), containers))?;
-    Ok(list(Code(*b"mlit"), tags))
+    let name = text(alloc, Code(*b"minm"), name.as_str())?;
+    let tags = Vec::from_array(
+        alloc,
+        [
+            number(Code(*b"miid"), 1),
+            name,
+            number(Code(*b"mimc"), items),
+            number(Code(*b"mctc"), containers),
+        ],
+    )?;
+    Ok(list(Code(*b"mlit"), Tags::of(tags)))
 }
 
 /// Returns the listing of the containers.
@@ -94,9 +99,8 @@ fn entries(alloc: Global, name: &Text, stores: &Stores) -> Result<Tags, AllocErr
 fn base_entry(alloc: Global, name: &Text, stores: &Stores) -> Result<Tag, AllocError>
     ensures { IfOk result (λ tag. (h : List Entry) → AreHeld h stores.now → tag ≡ container_tag base_list name.now (leaf (code "abpl") (U8 1) ∷ []) (all_edits h)) }
 {
-    let mark = Some(small_number(Code(*b"abpl"), 1));
     let count = stores.items.count();
-    entry(alloc, BASE_LIST, name, mark, count)
+    entry(alloc, BASE_LIST, name, Some(Code(*b"abpl")), count)
 }
 
 // Appends the entry of list `id`, if it exists.
@@ -122,21 +126,22 @@ fn list_entry(alloc: Global, id: u32, head: &ListHead, count: u32) -> Result<Tag
     entry(alloc, id, &head.name, mark_of(head), count)
 }
 
-// Returns the tag that a list with a rule has.
-fn mark_of(head: &ListHead) -> Option<Tag>
-    ensures { result ≡ option_map (λ _. leaf (code "aeSP") (U8 1)) head.now.rule }
+// Returns the code of the tag that a list with a rule has.
+fn mark_of(head: &ListHead) -> Option<Code>
+    ensures { option_map (λ of. leaf of (U8 1)) result ≡ option_map (λ _. leaf (code "aeSP") (U8 1)) head.now.rule }
 {
     match &head.rule {
-        Some(_) => Some(small_number(Code(*b"aeSP"), 1)),
+        Some(_) => Some(Code(*b"aeSP")),
         None => None,
     }
 }
 
-fn push_mark(tags: &mut Tags, mark: Option<Tag>) -> Result<(), AllocError>
-    ensures { OnOk result (tags.new ≡ tags.old ++ option_to_list mark) }
+// Appends the tag `mark` with the number 1, if there is one.
+fn push_mark(tags: &mut Tags, mark: Option<Code>) -> Result<(), AllocError>
+    ensures { OnOk result (tags.new ≡ tags.old ++ option_to_list (option_map (λ of. leaf of (U8 1)) mark)) }
 {
     match mark {
-        Some(tag) => tags.push(tag),
+        Some(of) => tags.push(small_number(of, 1)),
         None => Ok(()),
     }
 }
@@ -146,16 +151,16 @@ fn entry(
     alloc: Global,
     id: u32,
     name: &Text,
-    mark: Option<Tag>,
+    mark: Option<Code>,
     count: u32,
 ) -> Result<Tag, AllocError>
-    ensures { IfOk result (λ tag. tag ≡ entry_tag (leaf (code "miid") (U32 id) ∷ leaf (code "minm") (tree.Text name.now) ∷ (option_to_list mark ++ leaf (code "mimc") (U32 count) ∷ []))) }
+    ensures { IfOk result (λ tag. tag ≡ entry_tag (leaf (code "miid") (U32 id) ∷ leaf (code "minm") (tree.Text name.now) ∷ (option_to_list (option_map (λ of. leaf of (U8 1)) mark) ++ leaf (code "mimc") (U32 count) ∷ []))) }
 {
-    let mut tags = Tags::new(alloc);
-    tags.push(number(Code(*b"miid"), id))?;
-    tags.push(text(alloc, Code(*b"minm"), name.as_str())?)?;
+    let name = text(alloc, Code(*b"minm"), name.as_str())?;
+    let tags = Vec::from_array(alloc, [number(Code(*b"miid"), id), name])?;
+    let mut tags = Tags::of(tags);
     push_mark(&mut tags, mark)?;
-    tags.push(number(Code(*b"mimc"), count))?;
+    push_number(&mut tags, Code(*b"mimc"), count)?;
     Ok(list(Code(*b"mlit"), tags))
 }
 

@@ -7,7 +7,7 @@ use std::marker::Model;
 
 /// The settings that a share is opened with and never changes: its name, and `keep`, the number of revisions in its
 /// delta window.
-#[derive(Debug, Drop)]
+#[derive(Drop)]
 pub struct Settings {
     name: Text,
     keep: u32,

@@ -554,10 +554,29 @@ fn begun<L: Ledger>(blank: Blank, empty: Share, batches: Vec<Batch>) -> Result<S
 {
     let mut share = empty;
     let mut steps = Steps::<L>::open(blank);
-    for batch in batches {
-        share.begin(batch, &mut steps)?;
-    }
+    begin_all(&mut share, batches, &mut steps)?;
     Ok(share)
+}
+
+// Appends the batches that a share is opened with.
+fn begin_all<L: Ledger>(
+    share: &mut Share,
+    batches: Vec<Batch>,
+    steps: &mut Steps<L>,
+) -> Result<(), OpenError>
+    requires empty { share.old.history ≡ [] }
+    requires filled { All (λ batch. batch ≢ []) batches.items }
+    requires valid { All AreValid batches.items }
+    requires few { length (edits batches.items) ≤ most_edits }
+    ensures opened { OnOk result (share.new ≡ record { settings = share.old.settings; history = opened_with batches.items; marks = share.old.marks }) }
+    ensures fits { OnOk result (LeaveFewLists batches.items) }
+    ensures lists { result ≡ Err OpenError.Lists → LeaveManyLists batches.items }
+    ensures edits { result ≢ Err OpenError.Edits }
+{
+    for batch in batches {
+        share.begin(batch, steps)?;
+    }
+    Ok(())
 }
 
 impl Recorded for Share {

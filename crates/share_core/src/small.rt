@@ -32,20 +32,25 @@ pub(crate) fn server_info(alloc: Global, name: &Text) -> Result<ReplyContent, Al
     requires { length name.now ≤ text_limit }
     ensures { IfOk result (λ content. IsContent (200, Tagged (server_info_body name.now)) content) }
 {
-    let mut tags = Tags::new(alloc);
-    tags.push(number(Code(*b"mstt"), 200))?;
-    tags.push(version(Code(*b"mpro"), 0x0002_0000))?;
-    tags.push(version(Code(*b"apro"), 0x0003_0000))?;
-    tags.push(text(alloc, Code(*b"minm"), name.as_str())?)?;
-    tags.push(small_number(Code(*b"mslr"), 1))?;
-    tags.push(small_number(Code(*b"msau"), 0))?;
-    tags.push(number(Code(*b"mstm"), 1800))?;
-    tags.push(small_number(Code(*b"msup"), 1))?;
-    tags.push(small_number(Code(*b"msix"), 1))?;
-    tags.push(small_number(Code(*b"msbr"), 1))?;
-    tags.push(small_number(Code(*b"msqy"), 1))?;
-    tags.push(number(Code(*b"msdc"), 1))?;
-    Ok(tagged(list(Code(*b"msrv"), tags)))
+    let name = text(alloc, Code(*b"minm"), name.as_str())?;
+    let tags = Vec::from_array(
+        alloc,
+        [
+            number(Code(*b"mstt"), 200),
+            version(Code(*b"mpro"), 0x0002_0000),
+            version(Code(*b"apro"), 0x0003_0000),
+            name,
+            small_number(Code(*b"mslr"), 1),
+            small_number(Code(*b"msau"), 0),
+            number(Code(*b"mstm"), 1800),
+            small_number(Code(*b"msup"), 1),
+            small_number(Code(*b"msix"), 1),
+            small_number(Code(*b"msbr"), 1),
+            small_number(Code(*b"msqy"), 1),
+            number(Code(*b"msdc"), 1),
+        ],
+    )?;
+    Ok(tagged(list(Code(*b"msrv"), Tags::of(tags))))
 }
 
 /// Returns the reply with the table of content codes.

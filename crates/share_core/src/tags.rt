@@ -1,6 +1,6 @@
 //! Tags, and listings of all their entries.
 
-ghost use Rattle.std.specs.Prelude.{◌≡◌, ◌≤◌, true, false, length, IfOk};
+ghost use Rattle.std.specs.Prelude.{◌≡◌, ◌≤◌, ◌++◌, ◌∷◌, [], true, false, length, IfOk, OnOk};
 ghost use Rattle.dmap_tags.specs.Tree.{leaf, list, trees_of, U8, U32, Text as Words};
 ghost use Rattle.share_history.specs.Bodies.{start_tags};
 ghost use Rattle.share_history.specs.Databases.{whole_body, entry_tag};
@@ -29,6 +29,12 @@ pub(crate) fn small_number(of: Code, n: u8) -> Tag
         code: of,
         value: Value::U8(n),
     }
+}
+
+pub(crate) fn push_number(tags: &mut Tags, of: Code, n: u32) -> Result<(), AllocError>
+    ensures { OnOk result (tags.new ≡ tags.old ++ leaf of (U32 n) ∷ []) }
+{
+    tags.push(number(of, n))
 }
 
 pub(crate) fn text(alloc: Global, of: Code, words: &str) -> Result<Tag, AllocError>

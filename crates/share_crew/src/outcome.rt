@@ -9,7 +9,7 @@ use std::alloc::Global;
 use std::marker::Model;
 
 /// The status of the program, the history of the share, if it was put under its lock, and a report of each connection.
-#[derive(Debug, Drop)]
+#[derive(Drop)]
 pub struct Outcome {
     pub status: u8,
     pub history: Option<Entries>,
@@ -33,7 +33,7 @@ impl Outcome {
 }
 
 /// The reports of connections, worker by worker, for each worker in the order in which it accepted them.
-#[derive(Debug, Drop)]
+#[derive(Drop)]
 pub struct LinkReports {
     workers: Vec<Vec<LinkReport>>,
 }

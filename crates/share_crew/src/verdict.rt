@@ -6,7 +6,7 @@ ghost use Rattle.share_crew.specs.Verdicts.{end_number, has_end, verdict_of, ver
 use share_workers::{Worker, WorkerEnd};
 
 /// How all workers ended, by the end that counts most.
-#[derive(Clone, Copy, Debug, PartialEq, Eq)]
+#[derive(Clone, Copy, PartialEq, Eq)]
 pub enum Verdict {
     /// Each served all connections that came, or until the share was stopped.
     Done,

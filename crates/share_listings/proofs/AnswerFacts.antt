@@ -1,5 +1,5 @@
 -- The rows that are asked for, taken one key after another.
-use Rattle.std.proofs.Common.{◌≡◌, ◌<◌, ◌≤◌, ◌+◌, ◌++◌, ◌∷◌, [], ◌==◌, ℕ, suc, List, Bool, true, false, cond, Option, Some, None, is_some, filter, map, take, All, length, get_or, unwrap_or, if◌then◌else◌, refl, sym, subst, ap, ◌∙◌, arith, append-nil}
+use Rattle.std.proofs.Common.{◌≡◌, ◌<◌, ◌≤◌, ◌+◌, ◌*◌, ◌++◌, ◌∷◌, [], ◌==◌, ℕ, suc, List, Bool, true, false, cond, Option, Some, None, is_some, filter, map, take, All, length, get_or, unwrap_or, if◌then◌else◌, refl, sym, subst, ap, ◌∙◌, arith, append-nil}
 use Rattle.std.specs.Option.{option_map, option_and_then}
 use Rattle.std.specs.List.{cons_option}
 use Rattle.std.specs.Map.{keys_of}
@@ -12,23 +12,23 @@ use Rattle.item_model.specs.declared.query.Query.{Query}
 use Rattle.item_model.specs.declared.request.Look.{Look}
 use Rattle.item_model.specs.declared.request.Target.{Target}
 use Rattle.item_model.specs.declared.request.Target.TheVariants.{Items, Container}
-use Rattle.share_history.specs.Histories.{edits, revision, later}
+use Rattle.share_history.specs.Histories.{edits, later}
 use Rattle.share_history.specs.Keyed.{AreAscending, ascending, pairs_at}
-use Rattle.share_history.specs.Kept.{touches, touched}
+use Rattle.share_history.specs.Kept.{is_kept, touches, touched}
 use Rattle.share_history.specs.LastSaid.{Playlist, Plain, Ruled, only_if, item_at, list_at, member_at}
-use Rattle.share_history.specs.Listings.{member_of, full_of, full_listing}
+use Rattle.share_history.specs.Listings.{member_of, listing, full_listing, delta_listing}
 use Rattle.share_history.specs.Named.{named_keys}
 use Rattle.share_history.specs.Numbers.{base_list}
 use Rattle.share_history.specs.Rows.{rows, row_at, library, is_selected, if_selected, in_list, in_target}
 use Rattle.share_history.proofs.KeyedFacts.{has, has-keys_of, at-pairs_at, ascending-pairs_at, sorted-filter, sorted-ascending, few_pairs}
 use Rattle.share_history.proofs.OwnFacts.{item_id, selected_some}
-use Rattle.share_history.proofs.RowFacts.{at-rows, ascending-rows, rows_are, length-rows, folded-longer, few_keys}
+use Rattle.share_history.proofs.RowFacts.{at-rows, ascending-rows, rows_are, folded-longer, few_keys}
 use Rattle.share_history.proofs.RangeFacts.{length-filter}
 use Rattle.listing_plan.specs.declared.row.PlanRow.{PlanRow}
 use Rattle.listing_plan.specs.Plans.{key_of, keyed, AreRowsOf, AreGone}
 use Rattle.playlist_store.specs.Words.{pair_of}
 use Rattle.playlist_store.specs.declared.head.Member.{Member}
-use Rattle.share_listings.specs.Answers.{AreCandidates, is_library}
+use Rattle.share_listings.specs.Answers.{AreCandidates, is_library, looked_at, most_ticks}
 use Rattle.share_listings.specs.Memberships.{AreMembersOf}
 use Rattle.share_listings.proofs.MembershipFacts.{library_rows}
 use Rattle.share_listings.proofs.PlanFacts.{keys_keyed, counted}
@@ -235,12 +235,6 @@ fit_at t f keys found is members sorted few = record {
   few = omega (arith, counted found, few);
 }
 
--- all rows can, as there are no more than edits
-pub full_fit : (es : List Edit) (t : Target) (q : Option Query) (keys : List ℕ) (found : List PlanRow) → Starts es t q keys
-    → keyed found ≡ pairs_at (row_at es t q) keys → All (λ row. row.member ≡ member_of t (key_of row)) found → length es ≤ 262144 → AreRowsOf t found
-full_fit es t q keys found start is members few =
-    fit_at t (row_at es t q) keys found is members start.ascending (omega (arith, ap length (is ∙ rows_from es t q keys start), length-rows es t q, few))
-
 -- rows under touched keys can be planned, whatever is listed under each
 pub delta_fit : (bs : List (List Edit)) (t : Target) (f : ℕ → Option Row) (base : ℕ) (keys : List ℕ) (found : List PlanRow) → keys ≡ touched bs t base
     → keyed found ≡ pairs_at f keys → All (λ row. row.member ≡ member_of t (key_of row)) found → length (edits bs) ≤ 262144 → AreRowsOf t found
@@ -257,8 +251,29 @@ gone_fit bs t p base keys gone all is few = record {
 
 -- ---- the listings
 
-pub full_is : (bs : List (List Edit)) (t : Target) (look : Look) (q : Option Query) (v : ℕ) (keys : List ℕ) (found : List PlanRow) → q ≡ look.query → v ≡ revision bs
-    → Starts (edits bs) t q keys → keyed found ≡ pairs_at (row_at (edits bs) t q) keys → full_of v t look (keyed found) ≡ full_listing bs t look
-full_is bs t look q v keys found asked now start is =
-    let all : keyed found ≡ rows (edits bs) t look.query = is ∙ rows_from (edits bs) t q keys start ∙ ap (rows (edits bs) t) asked in
-    λ i. full_of (now i) t look (all i)
+-- the delta if the base is kept, or else all rows
+pub listing_kept : (keep : ℕ) (bs : List (List Edit)) (t : Target) (look : Look) → is_kept keep bs t look.base ≡ true → delta_listing bs t look look.base ≡ listing keep bs t look
+listing_kept keep bs t look kept = ap (λ b. if b then delta_listing bs t look look.base else full_listing bs t look) (sym kept)
+
+pub listing_lost : (keep : ℕ) (bs : List (List Edit)) (t : Target) (look : Look) → is_kept keep bs t look.base ≡ false → full_listing bs t look ≡ listing keep bs t look
+listing_lost keep bs t look lost = ap (λ b. if b then delta_listing bs t look look.base else full_listing bs t look) (sym lost)
+
+-- ---- what a listing costs
+
+pub ticks_kept : (keep : ℕ) (bs : List (List Edit)) (t : Target) (base : ℕ) (from : Option (List ℕ)) → is_kept keep bs t base ≡ true
+    → most_ticks keep bs t base from ≡ 4 * length (touched bs t base)
+ticks_kept keep bs t base from kept = ap (λ b. if b then 4 * length (touched bs t base) else looked_at (edits bs) t from) kept
+
+pub ticks_lost : (keep : ℕ) (bs : List (List Edit)) (t : Target) (base : ℕ) (from : Option (List ℕ)) → is_kept keep bs t base ≡ false
+    → most_ticks keep bs t base from ≡ looked_at (edits bs) t from
+ticks_lost keep bs t base from lost = ap (λ b. if b then 4 * length (touched bs t base) else looked_at (edits bs) t from) lost
+
+-- from candidates of all items
+pub looked_at-some : (es : List Edit) (t : Target) (ids : List ℕ) (from : Option (List ℕ)) → from ≡ Some ids → is_library t ≡ true → looked_at es t from ≡ length ids
+looked_at-some es t ids from is all = ap (looked_at es t) is ∙ ap (λ b. if b then length ids else length (rows es t None)) all
+
+-- a list is not read from candidates
+pub looked_at-list : (es : List Edit) (t : Target) (list : ℕ) (from : Option (List ℕ)) → t ≡ Container list → (list == base_list) ≡ false
+    → looked_at es t from ≡ looked_at es t None
+looked_at-list es t list None is other = refl
+looked_at-list es t list (Some ids) is other = ap (λ b. if b then length ids else length (rows es t None)) (ap is_library is ∙ other)

@@ -1,18 +1,22 @@
 //! Plans the answers to looks.
 
-ghost use Rattle.std.specs.Prelude.{◌≡◌, ◌≤◌, ◌+◌, ◌*◌, List, true, length, option_copied, IfOk};
+ghost use Rattle.std.specs.Prelude.{◌≡◌, ◌≤◌, ◌+◌, ◌*◌, List, All as AllOf, true, filter, length, option_copied, IfOk};
 ghost use Rattle.item_model.specs.declared.changes.Edit.{Edit};
 ghost use Rattle.item_store.specs.Stands.{StandsFor, floor_of};
+ghost use Rattle.listing_plan.specs.Plans.{key_of, keyed};
 ghost use Rattle.listing_plan.specs.declared.plan.Plan.TheVariants.{Rows};
 ghost use Rattle.playlist_store.specs.Stands as lists_stand;
 ghost use Rattle.share_history.specs.Histories.{edits};
+ghost use Rattle.share_history.specs.Keyed.{pairs_at};
 ghost use Rattle.share_history.specs.Kept.{is_kept, touched};
-ghost use Rattle.share_history.specs.Listings.{listing, full_listing, delta_listing};
+ghost use Rattle.share_history.specs.Listings.{member_of, listing, full_listing, delta_listing};
 ghost use Rattle.share_listings.specs.Answers.{HaveFew, StartFrom, looked_at, most_ticks};
+ghost use Rattle.share_listings.specs.Changes.{TellsSince, listed_at, is_deleted};
 ghost use Rattle.share_listings.specs.Memberships.{Tells, TellsFew};
 
-use crate::changed::changed_at;
+use crate::changed::{Changed, changed_at};
 use crate::membership::{Membership, is_kept, membership_of, touched_keys};
+use crate::plans::delta_plan;
 use crate::whole::full;
 use item_model::{Look, Target};
 use item_store::ItemStore;
@@ -106,21 +110,38 @@ fn delta<L: Ledger>(
         → plan ≡ Rows (record { target = target; listing = delta_listing bs target look look.base })) }
     ensures cost { (bs : List (List Edit)) → Tells bs items.now target membership.entry → steps.new ≤ steps.old + 4 * length (touched bs target look.base) }
 {
+    let changed = changed_since(alloc, items, membership, target, &look, steps)?;
+    Ok(delta_plan(target, items.revision(), look, changed))
+}
+
+/// Returns what became of the touched keys since the base of a look, which is kept.
+fn changed_since<L: Ledger>(
+    alloc: Global,
+    items: &ItemStore,
+    membership: Membership<'_>,
+    target: Target,
+    look: &Look,
+    steps: &mut Steps<L>,
+) -> Result<Changed, AllocError>
+    requires few { TellsFew items.now target membership }
+    requires from { floor_of items.now.keep items.now.revision ≤ look.now.base }
+    requires to { look.now.base ≤ items.now.revision }
+    ensures rows { IfOk result (λ changed. (bs : List (List Edit)) → TellsSince bs items.now target membership.entry look.now.base
+        → keyed changed.rows.items ≡ pairs_at (listed_at bs target look.now) (touched bs target look.now.base)) }
+    ensures gone { IfOk result (λ changed. (bs : List (List Edit)) → TellsSince bs items.now target membership.entry look.now.base
+        → changed.gone.items ≡ filter (is_deleted bs target look.now) (touched bs target look.now.base)) }
+    ensures members { IfOk result (λ changed. AllOf (λ row. row.member ≡ member_of target (key_of row)) changed.rows.items) }
+    ensures cost { (bs : List (List Edit)) → Tells bs items.now target membership.entry
+        → steps.new ≤ steps.old + 2 * length (touched bs target look.now.base) }
+{
     let keys = touched_keys(items, membership, look.base)?;
-    let changed = changed_at(
+    changed_at(
         alloc,
         items,
         membership,
         target,
-        &look,
+        look,
         keys.as_slice(),
         steps,
-    )?;
-    Ok(Plan::delta(
-        target,
-        items.revision(),
-        changed.rows,
-        changed.gone,
-        look.meta,
-    ))
+    )
 }

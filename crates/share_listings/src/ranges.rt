@@ -8,7 +8,7 @@ use item_model::{Range, SharedRow};
 use listing_plan::PlanRow;
 
 /// The rows from the index `from` up to the index `to`, as far as there are any.
-#[derive(Clone, Copy, Debug)]
+#[derive(Clone, Copy)]
 pub(crate) struct Window {
     pub(crate) from: usize,
     pub(crate) to: usize,

@@ -1,26 +1,28 @@
 //! Plans the full listings of targets.
 
-ghost use Rattle.std.specs.Prelude.{◌≡◌, ◌≤◌, ◌+◌, ◌==◌, List, None, true, false, length, map, option_copied, IfOk};
+ghost use Rattle.std.specs.Prelude.{◌≡◌, ◌≤◌, ◌+◌, ◌==◌, List, All as AllOf, None, true, false, map, option_copied, IfOk};
 ghost use Rattle.item_model.specs.declared.changes.Edit.{Edit};
 ghost use Rattle.item_model.specs.declared.request.Target.TheVariants.{Container};
 ghost use Rattle.item_store.specs.Stands.{StandsFor};
+ghost use Rattle.listing_plan.specs.Plans.{key_of, keyed};
 ghost use Rattle.listing_plan.specs.declared.plan.Plan.TheVariants.{Rows};
 ghost use Rattle.playlist_store.specs.Words.{pair_of};
 ghost use Rattle.playlist_store.specs.Stands as lists_stand;
 ghost use Rattle.share_history.specs.Histories.{edits};
-ghost use Rattle.share_history.specs.Listings.{full_listing};
+ghost use Rattle.share_history.specs.Listings.{member_of, full_listing};
 ghost use Rattle.share_history.specs.Numbers.{base_list};
 ghost use Rattle.share_history.specs.Rows.{rows};
-ghost use Rattle.share_listings.specs.Answers.{HasFew, HaveFew, AreCandidates, StartFrom, looked_at, is_library};
-ghost use Rattle.share_listings.specs.Memberships.{Tells, TellsFew};
+ghost use Rattle.share_listings.specs.Answers.{StartFrom, looked_at, is_library};
+ghost use Rattle.share_listings.specs.Memberships.{IsBeside, Tells, TellsFew};
 
 use crate::asked::{rows_at, rows_of};
-use crate::library::full_of_all;
+use crate::library::unselected;
 use crate::membership::Membership;
 use crate::plans::full_plan;
-use item_model::{Look, Target};
+use crate::sheets::rows_asked;
+use item_model::{Look, Query, Target};
 use item_store::ItemStore;
-use listing_plan::Plan;
+use listing_plan::{Plan, PlanRow};
 use playlist_store::{Member, PlaylistStore};
 use song_query::Steps;
 use std::alloc::{AllocError, Global};
@@ -43,62 +45,98 @@ pub(crate) fn full<L: Ledger>(
     ensures cost { (bs : List (List Edit)) → Tells bs items.now target membership.entry → steps.new ≤ steps.old + looked_at (edits bs) target (option_copied candidates.entry) }
 {
     match membership {
-        Membership::Library => match candidates {
-            Some(ids) => full_from(alloc, items, target, look, ids, steps),
-            None => full_of_all(alloc, items, target, look, steps),
-        },
-        Membership::Members { lists, list } => full_of_list(alloc, items, lists, list, look, steps),
+        Membership::Library if look.query.is_none() => unselected(alloc, items, target, look),
+        _ => selected(alloc, items, membership, target, look, candidates, steps),
     }
 }
 
-/// Plans those of the candidates that a look selects, cut to its range.
-fn full_from<L: Ledger>(
+/// Plans those that its query selects.
+fn selected<L: Ledger>(
     alloc: Global,
     items: &ItemStore,
+    membership: Membership<'_>,
     target: Target,
     look: Look,
-    ids: &[u32],
+    candidates: Option<&[u32]>,
     steps: &mut Steps<L>,
 ) -> Result<Plan, AllocError>
-    requires few { HasFew items.now }
-    requires all { is_library target ≡ true }
-    requires start { (bs : List (List Edit)) → StandsFor bs items.now → AreCandidates (edits bs) look.query ids.now }
-    ensures listing { IfOk result (λ plan. (bs : List (List Edit)) → StandsFor bs items.now
+    requires few { TellsFew items.now target membership }
+    requires start { (bs : List (List Edit)) → StandsFor bs items.now → StartFrom (edits bs) look.query (option_copied candidates) }
+    ensures listing { IfOk result (λ plan. (bs : List (List Edit)) → Tells bs items.now target membership.entry
         → plan ≡ Rows (record { target = target; listing = full_listing bs target look })) }
-    ensures cost { steps.new ≤ steps.old + length ids.now }
+    ensures cost { (bs : List (List Edit)) → Tells bs items.now target membership.entry → steps.new ≤ steps.old + looked_at (edits bs) target (option_copied candidates.entry) }
 {
     let query = look.query.as_ref();
-    let rows = rows_at(alloc, items, Membership::Library, target, ids, query, steps)?;
+    let rows = rows_selected(alloc, items, membership, target, query, candidates, steps)?;
     Ok(full_plan(target, items.revision(), look, rows))
 }
 
-/// Plans the members of a list that a look selects, cut to its range.
-fn full_of_list<L: Ledger>(
+/// Returns the rows of a target that a query selects. For all items it may start from candidates.
+fn rows_selected<L: Ledger>(
+    alloc: Global,
+    items: &ItemStore,
+    membership: Membership<'_>,
+    target: Target,
+    query: Option<&Query>,
+    candidates: Option<&[u32]>,
+    steps: &mut Steps<L>,
+) -> Result<Vec<PlanRow>, AllocError>
+    requires beside { IsBeside membership }
+    requires start { (bs : List (List Edit)) → StandsFor bs items.now → StartFrom (edits bs) (option_copied query) (option_copied candidates) }
+    ensures rows { IfOk result (λ found. (bs : List (List Edit)) → Tells bs items.now target membership.entry
+        → keyed found.items ≡ rows (edits bs) target (option_copied query.entry)) }
+    ensures members { IfOk result (λ found. AllOf (λ row. row.member ≡ member_of target (key_of row)) found.items) }
+    ensures cost { (bs : List (List Edit)) → Tells bs items.now target membership.entry → steps.new ≤ steps.old + looked_at (edits bs) target (option_copied candidates.entry) }
+{
+    match membership {
+        Membership::Library => rows_of_all(alloc, items, target, query, candidates, steps),
+        Membership::Members { lists, list } => {
+            rows_of_list(alloc, items, lists, list, target, query, steps)
+        }
+    }
+}
+
+/// Returns the items that a query selects. It may start from candidates.
+fn rows_of_all<L: Ledger>(
+    alloc: Global,
+    items: &ItemStore,
+    target: Target,
+    query: Option<&Query>,
+    candidates: Option<&[u32]>,
+    steps: &mut Steps<L>,
+) -> Result<Vec<PlanRow>, AllocError>
+    requires start { (bs : List (List Edit)) → StandsFor bs items.now → StartFrom (edits bs) (option_copied query) (option_copied candidates) }
+    ensures rows { IfOk result (λ found. (bs : List (List Edit)) → StandsFor bs items.now → is_library target ≡ true
+        → keyed found.items ≡ rows (edits bs) target (option_copied query.entry)) }
+    ensures members { IfOk result (λ found. AllOf (λ row. row.member ≡ member_of target (key_of row)) found.items) }
+    ensures cost { (bs : List (List Edit)) → StandsFor bs items.now → is_library target ≡ true
+        → steps.new ≤ steps.old + looked_at (edits bs) target (option_copied candidates.entry) }
+{
+    match candidates {
+        Some(ids) => rows_at(alloc, items, Membership::Library, target, ids, query, steps),
+        None => rows_asked(alloc, items.rows(), target, query, steps),
+    }
+}
+
+/// Returns the members of a list that a query selects.
+fn rows_of_list<L: Ledger>(
     alloc: Global,
     items: &ItemStore,
     lists: &PlaylistStore,
     list: u32,
-    look: Look,
+    target: Target,
+    query: Option<&Query>,
     steps: &mut Steps<L>,
-) -> Result<Plan, AllocError>
-    requires few { HaveFew items.now lists.now }
+) -> Result<Vec<PlanRow>, AllocError>
     requires beside { (list == base_list) ≡ false }
-    ensures listing { IfOk result (λ plan. (bs : List (List Edit)) → StandsFor bs items.now → lists_stand.StandsFor bs lists.now
-        → plan ≡ Rows (record { target = Container list; listing = full_listing bs (Container list) look })) }
+    ensures rows { IfOk result (λ found. (bs : List (List Edit)) → StandsFor bs items.now → lists_stand.StandsFor bs lists.now
+        → target ≡ Container list → keyed found.items ≡ rows (edits bs) target (option_copied query.entry)) }
+    ensures members { IfOk result (λ found. AllOf (λ row. row.member ≡ member_of target (key_of row)) found.items) }
     ensures cost { (bs : List (List Edit)) → StandsFor bs items.now → lists_stand.StandsFor bs lists.now
-        → steps.new ≤ steps.old + looked_at (edits bs) (Container list) None }
+        → target ≡ Container list → steps.new ≤ steps.old + looked_at (edits bs) target None }
 {
     let members = members_of(alloc, items, lists, list)?;
-    let target = Target::Container(list);
-    let rows = rows_of(
-        alloc,
-        items,
-        target,
-        members.as_slice(),
-        look.query.as_ref(),
-        steps,
-    )?;
-    Ok(full_plan(target, items.revision(), look, rows))
+    rows_of(alloc, items, target, members.as_slice(), query, steps)
 }
 
 /// Returns the members of a list whose items exist. A list that does not exist has none.

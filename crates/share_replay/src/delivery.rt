@@ -4,7 +4,7 @@ use dmap_tags::Bytes;
 use share_asks::Role;
 
 /// A line of a script: what it does to connection `number`.
-#[derive(Debug, Drop)]
+#[derive(Drop)]
 pub enum Delivery {
     /// Opens the connection, in this role.
     Open { number: u32, role: Role },

@@ -1,7 +1,7 @@
 //! Ends of connections.
 
 /// How a connection ends.
-#[derive(Clone, Copy, Debug, PartialEq, Eq)]
+#[derive(Clone, Copy, PartialEq, Eq)]
 pub enum End {
     /// Its input ended between two requests, or its last request closed it.
     Closed,

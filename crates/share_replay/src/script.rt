@@ -46,7 +46,7 @@ impl<T: Drop> From<AllocFailed<T>> for ScriptError {
 }
 
 /// The lines of a script, each of which may follow those before it.
-#[derive(Debug, Drop)]
+#[derive(Drop)]
 pub struct Script {
     lines: Vec<Delivery>,
 }

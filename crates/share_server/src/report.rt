@@ -5,7 +5,7 @@ ghost use Rattle.std.specs.Prelude.{◌≡◌};
 use std::marker::Model;
 
 /// A request that was served.
-#[derive(Clone, Copy, Debug, PartialEq, Eq)]
+#[derive(Clone, Copy, PartialEq, Eq)]
 pub struct Served {
     /// The session that was answered, 0 if none.
     pub session: u32,
@@ -20,7 +20,7 @@ pub struct Served {
 }
 
 /// How a connection ended.
-#[derive(Clone, Copy, Debug, PartialEq, Eq)]
+#[derive(Clone, Copy, PartialEq, Eq)]
 pub enum LinkEnd {
     /// The input ended between two requests, or a request closed the connection.
     Closed,
@@ -41,7 +41,7 @@ pub enum LinkEnd {
 }
 
 /// The requests that were served, in order.
-#[derive(Debug, Drop)]
+#[derive(Drop)]
 pub struct ServedRequests {
     items: Vec<Served>,
 }
@@ -77,7 +77,7 @@ impl ServedRequests {
 }
 
 /// The report of a connection.
-#[derive(Debug, Drop)]
+#[derive(Drop)]
 pub struct LinkReport {
     /// The number of the handle that served it.
     pub number: u32,

@@ -6,7 +6,7 @@ use share_lock::Pass;
 use share_server::LinkReport;
 
 /// How a worker ended.
-#[derive(Clone, Copy, Debug, PartialEq, Eq)]
+#[derive(Clone, Copy, PartialEq, Eq)]
 pub enum WorkerEnd {
     /// It has not ended. Only a worker that has not begun has this end.
     Running,

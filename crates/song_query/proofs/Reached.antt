@@ -169,6 +169,20 @@ ok_answer text place s q h k e m l =
     let last : place ≡ length text = omega (arith, h.within) in
     (l, subst (QueryReads text) (sym m) (accepted text s whole e), subst (IsShallow text) last h.shallow)
 
+-- the whole text was read if nothing is left
+pub whole_ran : (text : List ℕ) (place : ℕ) (s : State) → Reached text place s → length text ≤ place
+    → (run start text ≡ Some s) × IsShallow text (length text)
+whole_ran text place s h k =
+    let last : place ≡ length text = omega (arith, h.within) in
+    (ap (run start) (sym (take_all place text k)) ∙ h.ran, subst (IsShallow text) last h.shallow)
+
+-- a whole text was read up to its end
+pub whole_reached : (text : List ℕ) (place : ℕ) (s : State) → length text ≡ place → run start text ≡ Some s → IsShallow text (length text)
+    → Reached text place s
+whole_reached text place s end ran shallow =
+    let past : length text ≤ place = omega arith in
+    record { within = omega arith; ran = ap (run start) (take_all place text past) ∙ ran; shallow = subst (IsShallow text) end shallow }
+
 -- the error of a refused character, by its first byte
 pub refusal_answer : (text rest : List ℕ) (place c : ℕ) (s t : State) (refusal : Refusal) → Reached text place s → drop place text ≡ encode_utf8 c ++ rest → Taken s c t (Err refusal)
     → length text ≤ query_bytes → Answers text (Err (refused_at place refusal))

@@ -1,11 +1,12 @@
 //! Parses texts as queries.
 
-ghost use Rattle.std.specs.Prelude.{◌≡◌, ◌≤◌, true, IfOk, length};
+ghost use Rattle.std.specs.Prelude.{◌≡◌, ◌≤◌, ℕ, List, true, Some, Err, OnOk, IfOk, IfErr, length};
 ghost use Rattle.item_model.specs.Proper.{is_proper};
 ghost use Rattle.item_model.specs.QuerySeen.{tree_of};
-ghost use Rattle.song_query.specs.Answers.{Answers, IsComplete};
+ghost use Rattle.song_query.specs.Answers.{Answers, IsComplete, IsShallow};
 ghost use Rattle.song_query.specs.Limits.{query_bytes};
-ghost use Rattle.song_query.specs.Seen.{refused_at};
+ghost use Rattle.song_query.specs.Machine.{run, start};
+ghost use Rattle.song_query.specs.Seen.{refused_at, state_of};
 
 use crate::limits::QUERY_BYTES;
 use crate::parts::{Reader, Refusal};
@@ -31,6 +32,18 @@ fn read_short(alloc: Global, text: &str) -> Result<Query, QueryError>
     ensures { Answers text.now result }
 {
     let mut reader = Reader::new(alloc);
+    take_all(&mut reader, text)?;
+    ended(reader, text.len() as u64)
+}
+
+// Reads all characters of a text.
+fn take_all(reader: &mut Reader, text: &str) -> Result<(), QueryError>
+    requires start { state_of reader.old ≡ start }
+    requires short { length text.now ≤ query_bytes }
+    ensures ok { OnOk result (run start text.now ≡ Some (state_of reader.new)) }
+    ensures shallow { OnOk result (IsShallow text.now (length text.now)) }
+    ensures err { IfErr result (λ e. Answers text.now (Err e)) }
+{
     let mut place = 0u64;
     let mut rest = text.chars();
     while let Some(c) = rest.next() {
@@ -39,9 +52,17 @@ fn read_short(alloc: Global, text: &str) -> Result<Query, QueryError>
             Err(refusal) => return Err(refused(refusal, place)),
         }
     }
+    Ok(())
+}
+
+// Returns the query of a text of which all characters were read, if a query may end there.
+fn ended(reader: Reader, end: u64) -> Result<Query, QueryError>
+    ensures { (text : List ℕ) → length text ≡ end → run start text ≡ Some (state_of reader) → IsShallow text (length text)
+        → length text ≤ query_bytes → Answers text result }
+{
     if !reader.is_end() {
         return Err(QueryError::At {
-            place,
+            place: end,
             why: QueryWhy::End,
         });
     }

@@ -25,15 +25,25 @@ fn grown(alloc: Global) -> Result<EditLog, AllocError> {
     Ok(log)
 }
 
+/// Shows an entry: its handle, and the session of a login or the ids that a batch drops.
+fn entry_shown(alloc: Global, entry: Option<&Entry>) -> Result<String, AllocError> {
+    match entry {
+        Some(Entry::Login { by, id }) => format!(in alloc; "login {by} {id}"),
+        Some(Entry::Edits { by, batch }) => match batch.edits.as_slice() {
+            [Edit::DropItem { id }] => format!(in alloc; "edits {by} drop {id}"),
+            _ => format!(in alloc; "edits {by}"),
+        },
+        _ => format!(in alloc; "none"),
+    }
+}
+
 /// Returns the length, the revision, whether there is spare capacity, and the first entries.
 fn shown(alloc: Global, log: &EditLog) -> Result<String, AllocError> {
     let counts = (log.len(), log.revision(), log.spare() >= 1);
-    format!(in alloc;
-        "{counts:?} {:?} {:?} {:?}",
-        log.entry(0),
-        log.entry(1),
-        log.entry(2)
-    )
+    let first = entry_shown(alloc, log.entry(0))?;
+    let second = entry_shown(alloc, log.entry(1))?;
+    let third = entry_shown(alloc, log.entry(2))?;
+    format!(in alloc; "{counts:?}, {first}, {second}, {third}")
 }
 
 fn grown_shown(alloc: Global) -> Result<String, AllocError> {
@@ -45,7 +55,7 @@ fn grown_shown(alloc: Global) -> Result<String, AllocError> {
 fn a_log_keeps_what_is_appended(rt: HostRuntime) -> Result<(), Fail> {
     assert_eq!(rt;
         grown_shown(rt.alloc())?.as_str(),
-        "(2, 3, true) Some(Login { by: 4, id: 1 }) Some(Edits { by: 4, batch: Batch { edits: Edits { items: [DropItem { id: 9 }] } } }) None"
+        "(2, 3, true), login 4 1, edits 4 drop 9, none"
     );
     Ok(())
 }

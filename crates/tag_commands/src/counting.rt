@@ -22,7 +22,7 @@ pub const TAG_LIMIT: u32 = 1_073_741_824;
 pub const PIECE: usize = 65_536;
 
 /// What was read and counted so far.
-#[derive(Debug, Drop)]
+#[derive(Drop)]
 pub struct Counter {
     pub reader: DmapReader,
     pub tops: Tops,

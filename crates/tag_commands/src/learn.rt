@@ -18,7 +18,7 @@ use fault_lines::push_number;
 use std::alloc::{AllocError, Global};
 
 /// Why an input is not accepted as a reply. An allocation failure is not a `LearnFault`.
-#[derive(Debug, Drop)]
+#[derive(Drop)]
 pub enum LearnFault {
     /// It begins with no whole tag.
     Broken(StreamError),
@@ -98,7 +98,7 @@ pub fn learn_codes<I: Source, W: Sink>(alloc: Global, input: &mut I, output: &mu
 }
 
 /// The beginning of a reply: its bytes, and a reader that was fed them and reports a malformed tag as soon as it comes.
-#[derive(Debug, Drop)]
+#[derive(Drop)]
 pub struct Learner {
     pub counter: Counter,
     pub bytes: Vec<u8>,
@@ -131,6 +131,39 @@ impl Learner {
             Err(StreamError::Memory) => Err(Fault::Memory),
             // The malformed tag may be after the first tag.
             Err(_) => judged(alloc, self.bytes.as_slice()),
+        }
+    }
+
+    /// Reads the input to the end of its first tag, and returns the table that the tag states.
+    fn read_reply<I: Source>(
+        &mut self,
+        alloc: Global,
+        input: &mut I,
+    ) -> Result<CodeTable, Fault<LearnFault>>
+        requires { IsLearning [] self.old }
+        ensures told { IfOk result (λ table. (fed : List ℕ) × IsReply table fed × Consumes (I.left input.old) (I.left input.new) fed) }
+        ensures faultless { IfOk result (λ _. I.faults input.new ≡ I.faults input.old) }
+        ensures cause { IfErr result (λ fault. StopsReading
+            (input_seen (I.left input.old) (I.faults input.old))
+            (input_seen (I.left input.new) (I.faults input.new))
+            fault) }
+    {
+        let mut piece = [0; PIECE];
+        loop {
+            let n = match input.read(&mut piece) {
+                Ok(n) => n,
+                Err(Failed) => return Err(Fault::Read),
+            };
+            if n == 0 {
+                let at = self.counter.bytes;
+                return Err(Fault::Own(LearnFault::Broken(StreamError::Truncated { at })));
+            }
+            let (read, _) = piece.split_at(n);
+            match self.take(alloc, read) {
+                Ok(None) => {}
+                Ok(Some(table)) => return Ok(table),
+                Err(fault) => return Err(fault),
+            }
         }
     }
 }
@@ -179,23 +212,7 @@ fn told_table<I: Source>(alloc: Global, input: &mut I) -> Result<CodeTable, Faul
         fault) }
 {
     let mut learner = Learner::new(alloc)?;
-    let mut piece = [0; PIECE];
-    loop {
-        let n = match input.read(&mut piece) {
-            Ok(n) => n,
-            Err(Failed) => return Err(Fault::Read),
-        };
-        if n == 0 {
-            let at = learner.counter.bytes;
-            return Err(Fault::Own(LearnFault::Broken(StreamError::Truncated { at })));
-        }
-        let (read, _) = piece.split_at(n);
-        match learner.take(alloc, read) {
-            Ok(None) => {}
-            Ok(Some(table)) => return Ok(table),
-            Err(fault) => return Err(fault),
-        }
-    }
+    learner.read_reply(alloc, input)
 }
 
 /// Reads the input to its end, and returns the lines of the table that it states.

@@ -1,10 +1,12 @@
 //! The command `show`: tags are read as they come, and their lines are written after each read.
 
 ghost use Rattle.std.specs.Prelude.{◌≡◌, ◌+◌, ◌≤◌, ◌++◌, [], ℕ, List, length, IfOk, IfErr, OnOk};
+ghost use Rattle.std.specs.Io.KnownBytes.{Consumes, IsAtEnd};
 ghost use Rattle.dmap_stream.specs.Reader.{ready};
 ghost use Rattle.command_core.specs.Seen.{Around, input_seen, output_seen, told_beside, no_share};
 ghost use Rattle.command_core.specs.Endings.{IsWritten, IsAnswered};
 ghost use Rattle.tag_commands.specs.TopTags.{tags_limit};
+ghost use Rattle.tag_commands.specs.Counting.{IsCounted, EndsCounted};
 ghost use Rattle.tag_commands.specs.Show.{show_meaning, IsInStep, IsShownWhole};
 ghost use Rattle.tag_commands.specs.Showing.{HasShown, IsShowing, ShowsSome, IsLast, StopsShowing, StepStops, ShowStops};
 
@@ -45,7 +47,7 @@ pub fn show_tags<I: Source, W: Sink>(alloc: Global, input: &mut I, output: &mut 
 }
 
 /// Why showing ended early.
-#[derive(Debug, Drop)]
+#[derive(Drop)]
 pub enum Stop {
     /// An error of the input, or an allocation failure. The lines before it were written.
     Input(Fault<TagsFault>),
@@ -54,7 +56,7 @@ pub enum Stop {
 }
 
 /// What was read so far, and the lines that are not yet written.
-#[derive(Debug, Drop)]
+#[derive(Drop)]
 pub struct Shower {
     pub counter: Counter,
     pub lines: Vec<u8>,
@@ -160,6 +162,50 @@ impl Shower {
         }
         Ok(())
     }
+
+    /// Reads the input to its end, and writes the lines of its events as it reads them.
+    fn show_input<I: Source, W: Sink>(&mut self, input: &mut I, output: &mut W) -> Result<(), Stop>
+        requires first { IsShowing [] [] self.old }
+        requires idle { self.old.lines.items ≡ [] }
+        ensures read { OnOk result ((fed written : List ℕ) × IsShowing fed written self.new × (self.new.lines.items ≡ [])
+            × (length fed ≤ tags_limit) × Consumes (I.left input.old) (I.left input.new) fed × IsAtEnd (I.left input.new)
+            × (I.faults input.new ≡ I.faults input.old)
+            × IsWritten (output_seen (W.taken output.old) (W.faults output.old))
+            (output_seen (W.taken output.new) (W.faults output.new)) written) }
+        ensures stopped { IfErr result (λ stop. ShowStops
+            (input_seen (I.left input.old) (I.faults input.old))
+            (input_seen (I.left input.new) (I.faults input.new))
+            (output_seen (W.taken output.old) (W.faults output.old))
+            (output_seen (W.taken output.new) (W.faults output.new))
+            stop) }
+        ensures in_step { IsInStep
+            (input_seen (I.left input.old) (I.faults input.old))
+            (input_seen (I.left input.new) (I.faults input.new))
+            (output_seen (W.taken output.old) (W.faults output.old))
+            (output_seen (W.taken output.new) (W.faults output.new)) }
+    {
+        let mut piece = [0; PIECE];
+        loop {
+            let n = match input.read(&mut piece) {
+                Ok(n) => n,
+                Err(Failed) => return Err(Stop::Input(Fault::Read)),
+            };
+            if n == 0 {
+                return Ok(());
+            }
+            let (read, _) = piece.split_at(n);
+            if let Err(stop) = self.step(read, output) {
+                return Err(stop);
+            }
+        }
+    }
+
+    /// Ends the bytes. Returns the number of their top tags.
+    fn end(self) -> Result<u64, StreamError>
+        ensures { (fed : List ℕ) → IsCounted fed self.counter → EndsCounted fed result }
+    {
+        self.counter.end()
+    }
 }
 
 /// Reads the input to its end, and writes the lines of its tags as it reads them.
@@ -187,21 +233,11 @@ fn shown<I: Source, W: Sink>(alloc: Global, input: &mut I, output: &mut W) -> Re
         Ok(shower) => shower,
         Err(AllocError) => return Err(Stop::Input(Fault::Memory)),
     };
-    let mut piece = [0; PIECE];
-    loop {
-        let n = match input.read(&mut piece) {
-            Ok(n) => n,
-            Err(Failed) => return Err(Stop::Input(Fault::Read)),
-        };
-        if n == 0 {
-            match shower.counter.end() {
-                Ok(_) => return Ok(()),
-                Err(error) => return Err(Stop::Input(tags_fault(error))),
-            }
-        }
-        let (read, _) = piece.split_at(n);
-        if let Err(stop) = shower.step(read, output) {
-            return Err(stop);
-        }
+    if let Err(stop) = shower.show_input(input, output) {
+        return Err(stop);
+    }
+    match shower.end() {
+        Ok(_) => Ok(()),
+        Err(error) => Err(Stop::Input(tags_fault(error))),
     }
 }

@@ -23,7 +23,7 @@ use std::str;
 const TEXT_LIMIT: u64 = 67_108_864;
 
 /// Why an input is not accepted as shown text.
-#[derive(Debug, Drop)]
+#[derive(Drop)]
 pub enum TextFault {
     /// It is not shown text from this line on, counted from 1.
     Line { line: u64 },
@@ -144,7 +144,6 @@ fn line_at(text: &[u8], place: usize) -> u64
 }
 
 /// Returns the bytes of tags, none of which is too long.
-#[tactic(auto, using(dmap_tags::proofs::Lengths::spellable_at))]
 fn bytes_of(alloc: Global, tags: &[Tag]) -> Result<Vec<u8>, AllocError>
     requires { are_spellable (trees_of tags.now) ≡ true }
     ensures { IfOk result (λ bytes. bytes.items ≡ spellings (trees_of tags.now)) }

@@ -9,7 +9,7 @@ use fault_lines::push_number;
 use std::alloc::{AllocError, Global};
 
 /// Why an input is not accepted as tags.
-#[derive(Debug, Drop)]
+#[derive(Drop)]
 pub enum TagsFault {
     /// Its bytes are not tags. An allocation failure is not one of these errors.
     Broken(StreamError),

@@ -6,7 +6,7 @@ ghost use Rattle.tag_commands.specs.Counting.{after_event, no_tops, with_tag};
 use dmap_stream::Event;
 
 /// How many lists are open, and how many top tags have ended.
-#[derive(Clone, Copy, Debug)]
+#[derive(Clone, Copy)]
 pub struct Tops {
     pub depth: u64,
     pub ended: u64,

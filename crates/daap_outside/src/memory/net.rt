@@ -1,5 +1,5 @@
 //! A network in memory.
-ghost use Rattle.std.specs.Prelude.{◌≡◌, ◌↔◌, ◌⊎◌, ◌∷◌, ◌++◌, ◌-◌, ◌+◌, ◌^◌, ◌<◌, ◌≤◌, ℕ, min, [], Some, None, IfOk, IfSome, IsErr, IsErrOf, OnOk, OnErr, All, Contains, map, length, take, drop, option_and_then};
+ghost use Rattle.std.specs.Prelude.{◌≡◌, ◌↔◌, ◌⊎◌, ◌∷◌, ◌++◌, ◌-◌, ◌+◌, ◌^◌, ◌<◌, ◌≤◌, ℕ, min, [], Some, None, IfOk, IfSome, IsErr, IsErrOf, OnOk, OnErr, All, Contains, map, length, vec_len, take, drop, option_and_then};
 ghost use Rattle.std.specs.Option.{option_copied};
 ghost use Rattle.daap_outside.specs.Counts.{CountsFaults, RisesWith};
 ghost use Rattle.daap_outside.specs.NetCounts.{CountsNetFaults};
@@ -7,7 +7,7 @@ ghost use Rattle.daap_outside.specs.Open.{Opens, Closes};
 ghost use Rattle.daap_outside.specs.Told.{BeginsEmpty, Grows, GrowsByTold};
 ghost use Rattle.daap_outside.specs.Places.{OpensDoors, returned};
 ghost use Rattle.daap_outside.specs.MemLink.{IsNew as is_new_link};
-ghost use Rattle.daap_outside.specs.MemDoor.{IsNew as is_new_door};
+ghost use Rattle.daap_outside.specs.MemDoor.{IsNew as is_new_door, coming_of};
 
 use crate::memory::asked::{Asked, PLACE_ROOM};
 use crate::memory::copied;
@@ -118,6 +118,7 @@ impl MemNet {
     // Counts a call, and records the address. Fails if the call is set to.
     fn ask(&mut self, place: &str, doors: u32) -> Result<(), Failed>
         ensures fails { IsErr result ↔ Contains (failing_calls self.old) (next_call self.old) }
+        ensures asks { Grows (asked_of self.old) (asked_of self.new) ((place.now, doors) ∷ []) }
         ensures told { asked_of self.new ≡ with_place (asked_of self.old) (asked_room self.old) place.now doors }
         ensures asked_room { asked_room self.old ≤ asked_room self.new + 1 }
         ensures called { CountsCall self.old self.new }
@@ -208,9 +209,9 @@ impl Net for MemNet {
         let Some(open_count) = self.open_count.checked_add(u64::from(number)) else {
             return Err(NetError::from(counted(&mut self.faults)));
         };
-        let later = self.doors.split_off(number as usize)?;
+        let doors = take_first(&mut self.doors, number as usize)?;
         self.open_count = open_count;
-        Ok(mem::replace(&mut self.doors, later))
+        Ok(doors)
     }
 
     fn connect(&mut self, place: &str) -> Result<MemLink, Failed>
@@ -283,4 +284,19 @@ impl Net for MemNet {
         }
         self.written.keep(back);
     }
+}
+
+// Removes the first `number` listeners, and returns them.
+fn take_first(doors: &mut Vec<MemDoor>, number: usize) -> Result<Vec<MemDoor>, AllocError>
+    requires { number ≤ vec_len doors.old }
+    ensures as_many { IfOk result (λ first. length first.items ≡ number) }
+    ensures first { IfOk result (λ first. doors.old.items ≡ first.items ++ doors.new.items) }
+    ensures links { IfOk result (λ first. OpensDoors (Some (map coming_of doors.old.items)) (Some (map coming_of doors.new.items))
+        (map (λ d. Some (coming_of d)) first.items)) }
+    ensures new_rest { All is_new_door doors.old.items → All is_new_door doors.new.items }
+    ensures new_first { All is_new_door doors.old.items → IfOk result (λ first. All is_new_door first.items) }
+    ensures err { OnErr result (doors.new.items ≡ doors.old.items) }
+{
+    let later = doors.split_off(number)?;
+    Ok(mem::replace(doors, later))
 }

@@ -19,7 +19,7 @@ static LINK_ERRORS: [i32; 13] = [1, 4, 64, 71, 92, 95, 100, 101, 103, 104, 110, 
 static WANTS: [i32; 4] = [12, 23, 24, 105];
 
 /// What a listener does after an error of `accept`.
-#[derive(Clone, Copy, Debug, PartialEq, Eq)]
+#[derive(Clone, Copy, PartialEq, Eq)]
 pub enum Remedy {
     /// It waits for the next connection at once: the error was one connection's.
     TryAgain,

@@ -2,7 +2,7 @@
 //! player waits for each revision, and a mirror follows the relay.
 
 use crate::loopback::{
-    CHANGE, LIBRARY, Places, await_open, brings, free_places, player, status_over, stops, takes,
+    CHANGE, Places, await_open, brings, free_places, player, serve_by_two, stops, takes,
 };
 use crate::runs::{ends, status_of};
 use daap_outside::{Link, MemSink, Net, TcpNet, put_all};
@@ -125,17 +125,11 @@ fn is_relayed<R>(rt: &R, alloc: Global, places: &Places) -> Result<bool, AllocEr
 where
     R: net::Net<Listener = TcpListener, Stream = TcpStream> + Threads + Wait + Clock + Sync,
 {
-    let words = [
-        "serve",
-        places.share.as_str(),
-        places.edit.as_str(),
-        "--workers=2",
-    ];
     let mut served = MemSink::new(alloc, 256, 256, &[])?;
     let mut lines = MemSink::new(alloc, 256, 256, &[])?;
     let (status, is_well) = thread::join(
         rt,
-        || status_over(rt, alloc, &words, LIBRARY, &mut served),
+        || serve_by_two(rt, alloc, places, &mut served),
         || relayed(rt, alloc, places, &mut lines),
     );
     let is_told = are_of_a_relay(lines.taken()) && served.taken().ends_with(b", requests 11\n");

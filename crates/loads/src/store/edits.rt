@@ -29,7 +29,7 @@ pub enum Kind {
 }
 
 /// Edits of one kind, numbered.
-#[derive(Drop)]
+#[derive(Clone, Copy)]
 pub struct Series {
     kind: Kind,
     songs: u32,
@@ -64,10 +64,7 @@ fn edit(alloc: Global, kind: Kind, songs: u32, number: u32) -> anyhow::Result<Ed
 {
     match kind {
         Kind::Lists if number % 2 == 0 => plain(alloc, number),
-        Kind::Lists => {
-            let rule = format!(in alloc; "'daap.songyear:{}'", year(number / 2))?;
-            ruled(alloc, number, rule.as_str())
-        }
+        Kind::Lists => of_year(alloc, number),
         Kind::Songs => put_song(alloc, songs, number),
         Kind::Members => put_member(songs, number),
         Kind::Rules => ruled(alloc, LISTS.saturating_add(number), "'dmap.itemkind:2'"),
@@ -80,6 +77,14 @@ fn plain(alloc: Global, number: u32) -> anyhow::Result<Edit>
     let list = number.saturating_add(FIRST_LIST);
     let name = Text::of(alloc, "Plain")?;
     Ok(Edit::PutList { list, name })
+}
+
+/// Returns a list of the songs of a year.
+fn of_year(alloc: Global, number: u32) -> anyhow::Result<Edit>
+    ensures { IfOk result (λ edit. IsValid edit) }
+{
+    let rule = format!(in alloc; "'daap.songyear:{}'", year(number / 2))?;
+    ruled(alloc, number, rule.as_str())
 }
 
 fn ruled(alloc: Global, number: u32, rule: &str) -> anyhow::Result<Edit>

@@ -33,38 +33,56 @@ pub struct LookUps {
 fn index_of(alloc: Global, songs: u32) -> anyhow::Result<PropIndex> {
     let mut index = PropIndex::new(alloc);
     for id in 0..songs {
-        index.apply(None, Some(&song(alloc, id)?))?;
+        add_song(alloc, &mut index, id)?;
     }
     Ok(index)
 }
 
+fn add_song(alloc: Global, index: &mut PropIndex, id: u32) -> anyhow::Result<()> {
+    let song = song(alloc, id)?;
+    index.apply(None, Some(&song))?;
+    Ok(())
+}
+
 /// Returns an index of the first songs, and what is to be looked up in it.
 fn look_ups(alloc: Global, songs: u32) -> anyhow::Result<LookUps> {
+    let mut made = LookUps {
+        index: index_of(alloc, songs)?,
+        names: Vec::new(alloc),
+        queries: Vec::new(alloc),
+    };
     let artists = (songs / SONGS_EACH).max(1);
-    let mut names = Vec::new(alloc);
-    let mut queries = Vec::new(alloc);
+    add_look_ups(alloc, &mut made, artists)?;
+    Ok(made)
+}
+
+fn add_look_ups(alloc: Global, look_ups: &mut LookUps, artists: u32) -> anyhow::Result<()> {
     for look_up in 0..LOOK_UPS {
         // Spread the names over the index.
         let name = artist(alloc, look_up * 7919 % artists)?;
-        let query = format!(in alloc; "'daap.songartist:{name}'")?;
-        queries.push(read(alloc, query.as_str())?)?;
-        names.push(name)?;
+        look_ups.queries.push(query_of(alloc, name.as_str())?)?;
+        look_ups.names.push(name)?;
     }
-    Ok(LookUps {
-        index: index_of(alloc, songs)?,
-        names,
-        queries,
-    })
+    Ok(())
+}
+
+fn query_of(alloc: Global, name: &str) -> anyhow::Result<Query> {
+    let text = format!(in alloc; "'daap.songartist:{name}'")?;
+    Ok(read(alloc, text.as_str())?)
 }
 
 /// Makes an index of the first songs, and returns how many ids or texts are found in it.
 pub fn found_in(alloc: Global, songs: u32, find: Find) -> anyhow::Result<u64> {
     let made = look_ups(alloc, songs)?;
+    found_by(&made, find)
+}
+
+fn found_by(look_ups: &LookUps, find: Find) -> anyhow::Result<u64> {
     match find {
-        Find::Nothing => Ok(made.names.len() as u64),
-        Find::Ids => ids_found(&made),
-        Find::Candidates => candidates_found(&made),
-        Find::Values => values_found(&made),
+        Find::Nothing => Ok(look_ups.names.len() as u64),
+        Find::Ids => ids_found(look_ups),
+        Find::Candidates => candidates_found(look_ups),
+        Find::Values => values_found(look_ups),
     }
 }
 

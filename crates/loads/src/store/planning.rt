@@ -1,6 +1,6 @@
 //! A plan of many rows, and a sink for it.
 
-ghost use Rattle.std.specs.Prelude.{IfOk};
+ghost use Rattle.std.specs.Prelude.{◌≡◌, None, IfOk};
 ghost use Rattle.item_model.specs.declared.request.Target.TheVariants.{Items};
 ghost use Rattle.listing_plan.specs.Plans.{AreRowsOf, IsWritable};
 
@@ -32,12 +32,19 @@ pub fn rows(alloc: Global, songs: u32) -> anyhow::Result<Vec<PlanRow>>
     ensure!(songs as usize <= MAX_ROWS, "too many songs");
     let mut rows = Vec::new(alloc);
     for id in 0..songs {
-        rows.push(PlanRow {
-            member: None,
-            row: SharedRow::new(alloc, song(alloc, id)?)?,
-        })?;
+        rows.push(row(alloc, id)?)?;
     }
     Ok(rows)
+}
+
+fn row(alloc: Global, id: u32) -> anyhow::Result<PlanRow>
+    ensures alone { IfOk result (λ row. row.member ≡ None) }
+    ensures id { IfOk result (λ row. row.row.id ≡ id) }
+{
+    Ok(PlanRow {
+        member: None,
+        row: SharedRow::new(alloc, song(alloc, id)?)?,
+    })
 }
 
 /// Returns the plan of the full listing of the first songs, with its sink.

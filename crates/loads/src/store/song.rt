@@ -50,25 +50,40 @@ pub fn song(alloc: Global, id: u32) -> anyhow::Result<Row>
 pub fn song_in(alloc: Global, id: u32, number: u32, words: Words) -> anyhow::Result<Row>
     ensures { IfOk result (λ row. row.id ≡ id) }
 {
+    Ok(Row {
+        id,
+        item: item_of(alloc, number, words)?,
+    })
+}
+
+// Without clauses, like what it calls, so that the proof of a song unfolds no call of `put`.
+fn item_of(alloc: Global, number: u32, words: Words) -> anyhow::Result<Item> {
     let mut item = Item::new(alloc);
-    put_text(alloc, &mut item, Property::Minm, words.song, number)?;
+    put_texts(alloc, &mut item, number, words)?;
+    put_numbers(&mut item, number)?;
+    Ok(item)
+}
+
+fn put_texts(alloc: Global, item: &mut Item, number: u32, words: Words) -> anyhow::Result<()> {
+    put_text(alloc, item, Property::Minm, words.song, number)?;
     put_text(
         alloc,
-        &mut item,
+        item,
         Property::Asar,
         words.artist,
         number / SONGS_EACH,
     )?;
-    put_text(alloc, &mut item, Property::Asal, words.album, number / 12)?;
-    put_text(alloc, &mut item, Property::Asgn, words.genre, number % 20)?;
-    put_number(&mut item, Property::Mikd, 2)?;
-    put_number(&mut item, Property::Asyr, year(number))?;
-    put_number(&mut item, Property::Astn, 1 + number % 12)?;
-    put_number(&mut item, Property::Astm, 60_000 + number % 300_000)?;
-    Ok(Row { id, item })
+    put_text(alloc, item, Property::Asal, words.album, number / 12)?;
+    put_text(alloc, item, Property::Asgn, words.genre, number % 20)
 }
 
-// Without clauses, so that the proof of a song unfolds no call of `put`.
+fn put_numbers(item: &mut Item, number: u32) -> anyhow::Result<()> {
+    put_number(item, Property::Mikd, 2)?;
+    put_number(item, Property::Asyr, year(number))?;
+    put_number(item, Property::Astn, 1 + number % 12)?;
+    put_number(item, Property::Astm, 60_000 + number % 300_000)
+}
+
 fn put_text(
     alloc: Global,
     item: &mut Item,

@@ -1,6 +1,6 @@
 //! The stores of a share.
 
-ghost use Rattle.std.specs.Prelude.{◌≡◌, ◌+◌, length, IfOk};
+ghost use Rattle.std.specs.Prelude.{◌≡◌, ◌+◌, length, IfOk, OnOk};
 ghost use Rattle.item_model.specs.Valid.{AreValid};
 ghost use Rattle.share_listings.specs.Answers.{HaveEdits};
 
@@ -48,14 +48,14 @@ fn edits_with(edits: usize, batch: &[Edit]) -> anyhow::Result<usize>
 }
 
 /// Applies a batch to both stores.
-pub fn next<L: Ledger>(
-    mut stores: Stores,
+pub fn apply_next<L: Ledger>(
+    stores: &mut Stores,
     batch: &[Edit],
     steps: &mut Steps<L>,
-) -> anyhow::Result<Stores>
-    requires few { HaveEdits stores.edits stores.items stores.lists }
+) -> anyhow::Result<()>
+    requires few { HaveEdits stores.old.edits stores.old.items stores.old.lists }
     requires valid { AreValid batch.now }
-    ensures { IfOk result (λ s. HaveEdits s.edits s.items s.lists) }
+    ensures { OnOk result (HaveEdits stores.new.edits stores.new.items stores.new.lists) }
 {
     let Some(revision) = stores.items.revision().checked_add(1) else {
         bail!("too many batches");
@@ -64,7 +64,7 @@ pub fn next<L: Ledger>(
     stores.items.apply(batch, revision)?;
     stores.lists.apply(batch, revision, &stores.items, steps)?;
     stores.edits = edits;
-    Ok(stores)
+    Ok(())
 }
 
 /// Returns how many bytes the delta of a list has, from the least base on.

@@ -15,7 +15,7 @@ use std::snapshot::Snapshot;
 pub(crate) const NAME_ROOM: usize = 255;
 
 /// An operation of a disk.
-#[derive(Clone, Copy, Debug, PartialEq, Eq)]
+#[derive(Clone, Copy, PartialEq, Eq)]
 pub enum DiskOp {
     Len,
     ReadAt,

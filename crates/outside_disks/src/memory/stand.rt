@@ -5,7 +5,7 @@ ghost use Rattle.outside_disks.specs.Disks.{overlaid};
 use std::alloc::{AllocError, Global};
 
 /// A change that is not safe from a crash yet.
-#[derive(Clone, Copy, Debug, PartialEq, Eq)]
+#[derive(Clone, Copy, PartialEq, Eq)]
 pub enum Change {
     /// Bytes were written.
     Write {

@@ -1,6 +1,9 @@
 //! Reads requests off a connection.
 
 ghost use Rattle.std.specs.Prelude.{◌≡◌, ◌≢◌, ◌≤◌, ◌<◌, ℕ, List, [], None, Some, false, length, Option, IfOk, IfErr, MatchResult};
+ghost use Rattle.http_front.specs.Readable.{IsReadableWant};
+ghost use Rattle.share_asks.specs.Valid.{IsValidWant};
+ghost use Rattle.share_asks.specs.declared.ask.Ask.{Ask as AskSeen};
 ghost use Rattle.share_asks.specs.declared.ask.Role.{Role as RoleSeen};
 ghost use Rattle.share_lock.specs.Passes.{lock_id, known, IsReady};
 ghost use Rattle.share_server.specs.Passes.{Pass as PassSeen};
@@ -8,7 +11,7 @@ ghost use Rattle.share_server.specs.Losses.{is_loss, is_loss_if, is_loss_in};
 ghost use Rattle.share_server.specs.Kept.{Keeping};
 ghost use Rattle.share_server.specs.Serving.{CountsEnd};
 ghost use Rattle.share_server.specs.Written.{CountsMaybe, IsCalm};
-ghost use Rattle.share_server.specs.Steps.{Midway, Steps, Feeds, Underway, Pumps, EndsInput};
+ghost use Rattle.share_server.specs.Steps.{Goes, Exchanges, Midway, Steps, Feeds, Underway, Pumps, EndsInput};
 
 use crate::link::ending::end_on_head_error;
 use crate::link::exchanging::{Service, exchange};
@@ -16,6 +19,7 @@ use crate::report::{LinkEnd, Served};
 use daap_outside::{Failed, Link};
 use edit_keeping::Keeps;
 use http_front::HeadReader;
+use share_asks::Ask;
 use share_core::Share;
 use share_lock::Pass;
 use std::sync::Wait;
@@ -138,8 +142,34 @@ fn step<K: Link, F: Keeps, R: Wait + Clock>(
     let Some(ask) = serving.reader.next() else {
         return Ok(taken);
     };
-    match exchange(service, pass, link, keeper, &mut serving.served, &ask) {
+    match serve_ask(service, pass, link, keeper, &mut serving.served, ask) {
         None => Ok(taken),
         Some(end) => Err(end),
     }
+}
+
+// Serves a request that was read.
+fn serve_ask<K: Link, F: Keeps, R: Wait + Clock>(
+    service: &Service<'_, R>,
+    pass: &mut Pass<Share>,
+    link: &mut K,
+    keeper: &mut F,
+    served: &mut Vec<Served>,
+    ask: Ask,
+) -> Option<LinkEnd>
+    requires ready { IsReady (lock_id service.now.lock.now) pass.old }
+    requires valid { IsValidWant ask.want }
+    requires readable { IsReadableWant ask.want }
+    requires going { F.is_lost keeper.old ≡ false }
+    ensures ready { IsReady (lock_id service.now.lock.now) pass.new }
+    ensures keeping { Keeping (F.keeps keeper.old) (F.keeps keeper.new) (F.is_lost keeper.new) (F.faults keeper.old) (F.faults keeper.new) (known pass.old) (known pass.new) (is_loss_if result) }
+    ensures exchanges { (k : PassSeen) (taken : Option (List ℕ)) (asks : List AskSeen) → Goes service.now.limit k (known pass.old) taken (K.taken link.old) asks served.old.items
+        → Exchanges service.now.limit k (known pass.new) taken (K.taken link.new) asks ask served.new.items result }
+    ensures beside { K.beside_taken link.new ≡ K.beside_taken link.old }
+    ensures count { CountsMaybe (K.faults link.old) (K.faults link.new) result }
+{
+    let end = exchange(service, pass, link, keeper, served, &ask);
+    // A call drops the request, so that the end of this function drops nothing.
+    drop(ask);
+    end
 }

@@ -1,13 +1,16 @@
 //! Serves one connection.
 
-ghost use Rattle.std.specs.Prelude.{◌≡◌, ◌++◌, List, false};
+ghost use Rattle.std.specs.Prelude.{◌≡◌, ◌++◌, ℕ, List, Option, None, false};
 ghost use Rattle.item_model.specs.declared.changes.Edit.{Edit};
 ghost use Rattle.share_history.specs.Histories.{batches};
+ghost use Rattle.share_asks.specs.declared.ask.Role.{Role as RoleSeen};
 ghost use Rattle.share_lock.specs.Passes.{lock_id, known, IsReady};
+ghost use Rattle.share_server.specs.Passes.{Pass as PassSeen};
 ghost use Rattle.share_server.specs.Served.{added_entries};
 ghost use Rattle.share_server.specs.Losses.{is_loss};
 ghost use Rattle.share_server.specs.Kept.{Keeping};
 ghost use Rattle.share_server.specs.Links.{LinkEnded};
+ghost use Rattle.share_server.specs.Steps.{Underway};
 ghost use Rattle.share_server.specs.Serving.{LinkServed, CountsEnd, limit_of};
 
 use crate::link::ending::end_out_of_memory;
@@ -109,11 +112,34 @@ fn serve_to_end<K: Link, F: Keeps, R: Wait + Clock>(
         return (served, end_out_of_memory(link));
     };
     let mut serving = Serving { reader, served };
+    let end = pump_to_end(service, pass, link, keeper, &mut serving);
+    // A call drops the reader, so that the end of this function drops nothing.
+    drop(serving.reader);
+    (serving.served, end)
+}
+
+// Reads and serves until the connection ends. Returns its end.
+fn pump_to_end<K: Link, F: Keeps, R: Wait + Clock>(
+    service: &Service<'_, R>,
+    pass: &mut Pass<Share>,
+    link: &mut K,
+    keeper: &mut F,
+    serving: &mut Serving,
+) -> LinkEnd
+    requires ready { IsReady (lock_id service.now.lock.now) pass.old }
+    requires idle { serving.old.reader.ready ≡ None }
+    requires going { F.is_lost keeper.old ≡ false }
+    ensures ready { IsReady (lock_id service.now.lock.now) pass.new }
+    ensures ended { (role : RoleSeen) (k : PassSeen) (left taken : Option (List ℕ)) → Underway role service.now.limit k (known pass.old) left (K.left link.old) taken (K.taken link.old) serving.old.reader serving.old.served.items 0
+        → LinkEnded role service.now.limit k (known pass.new) left taken (K.taken link.new) serving.new.served.items result }
+    ensures keeping { Keeping (F.keeps keeper.old) (F.keeps keeper.new) (F.is_lost keeper.new) (F.faults keeper.old) (F.faults keeper.new) (known pass.old) (known pass.new) (is_loss result) }
+    ensures count { CountsEnd (K.faults link.old) (K.faults link.new) result }
+{
     let mut consumed = 0;
     for _ in service.rt.forever() {
-        match pump(service, pass, link, keeper, &mut serving, &mut consumed) {
+        match pump(service, pass, link, keeper, serving, &mut consumed) {
             None => {}
-            Some(end) => return (serving.served, end),
+            Some(end) => return end,
         }
     }
     unreachable!()

@@ -36,9 +36,12 @@ pub(crate) fn reply<K: Link>(
 {
     match said {
         None => failure(link, due),
-        Some(ReplyContent { status, form, plan }) => whole(
-            alloc, link, status, form, plan, added, due,
-        ),
+        Some(ReplyContent { status, form, plan }) => {
+            let end = whole(alloc, link, status, form, &plan, added, due);
+            // A call drops the plan, so that the end of this function drops nothing.
+            drop(plan);
+            end
+        }
     }
 }
 
@@ -61,20 +64,20 @@ fn whole<K: Link>(
     link: &mut K,
     status: u16,
     form: BodyForm,
-    plan: Plan,
+    plan: &Plan,
     added: bool,
     due: Option<LinkEnd>,
 ) -> Option<LinkEnd>
     requires reason { HasReason status }
-    requires writable { IsWritable plan }
+    requires writable { IsWritable plan.now }
     requires calm { IsCalm due }
     requires goes_on { is_loss_if due ≡ false }
-    ensures written { WasWritten (with_head status form (plan_bytes plan) (is_some due)) added due (K.taken link.old) (K.taken link.new) result }
+    ensures written { WasWritten (with_head status form (plan_bytes plan.now) (is_some due)) added due (K.taken link.old) (K.taken link.new) result }
     ensures beside { K.beside_taken link.new ≡ K.beside_taken link.old }
     ensures count { CountsMaybe (K.faults link.old) (K.faults link.new) result }
     ensures goes_on { is_loss_if result ≡ false }
 {
-    match write_reply(alloc, status, form, &plan, due.is_some(), link) {
+    match write_reply(alloc, status, form, plan, due.is_some(), link) {
         Ok(()) => due,
         Err(ReplyError::Failed) => Some(LinkEnd::LinkFault),
         Err(ReplyError::Memory) => Some(end_without_head(link, added)),

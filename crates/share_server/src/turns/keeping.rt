@@ -51,6 +51,8 @@ pub(crate) fn ask_share<L: Ledger, F: Keeps>(
     if keeper.keep(ready).is_ok() {
         return outcome;
     }
+    // A call drops what was answered, so that the end of this function does not.
+    drop(outcome);
     stop(share, by, &mut steps);
     TurnOutcome::Lost { point: share.len() }
 }
@@ -81,7 +83,9 @@ fn stop<L: Ledger>(share: &mut Share, by: u32, steps: &mut Steps<L>)
         close: false,
         want: Want::Stop,
     };
-    let _ = share.answer(by, &ask, steps);
+    // Calls drop the answer and the request, so that the end of this function drops nothing.
+    drop(share.answer(by, &ask, steps));
+    drop(ask);
 }
 
 /// Returns the outcome of a turn: the reply, or a 500 at history length `end`. `revision` is the share's.

@@ -7,7 +7,7 @@ use crate::report::Served;
 use share_core::ReplyContent;
 
 /// A request that was served, and what is to be written for it.
-#[derive(Debug, Drop)]
+#[derive(Drop)]
 pub struct Answered {
     pub served: Served,
     /// Status and body, which can be written later without the share. `None` if allocating the answer failed; the
@@ -20,7 +20,7 @@ pub struct Answered {
 }
 
 /// Why a request was not answered.
-#[derive(Debug, Drop)]
+#[derive(Drop)]
 pub enum Unanswered {
     /// Its peer left while the update was pending.
     Gone,
@@ -29,7 +29,7 @@ pub enum Unanswered {
 }
 
 /// The outcome of one turn.
-#[derive(Debug, Drop)]
+#[derive(Drop)]
 pub(crate) enum TurnOutcome {
     Answered(Answered),
     /// The request is pending until the history has more than `point` entries.

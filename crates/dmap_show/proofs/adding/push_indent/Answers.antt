@@ -3,8 +3,17 @@ use Rattle.std.proofs.Common.{◌≡◌, ◌+◌, ◌-◌, ◌++◌, ℕ, List, 
 use Rattle.dmap_tags.specs.Begins.{Begins}
 use Rattle.dmap_tags.proofs.Fronts.{begins_more, begins_append}
 use Rattle.dmap_show.specs.Shown.{indent}
+use Rattle.std.proofs.lemmas.Result.{IfOk-from_err}
+use Rattle.dmap_show.proofs.Pushed.{on_any_err}
 use Rattle.dmap_show.proofs.EventLines.{indent_sum}
 use Rattle.dmap_show.proofs.adding.push_indent.Goals as goal
+
+pub returns-in_err-push_ascii : goal.returns-in_err-push_ascii
+returns-in_err-push_ascii c = record {
+  shown = IfOk-from_err _ _ c.from_residual.ensures.0;
+  text = λ h. IfOk-from_err _ _ c.from_residual.ensures.0;
+  front = on_any_err _ (begins_more _ _ _ c.loop-left.invariant.kept c.in_err-push_ascii.ensures.front);
+}
 
 pub loop-left-preserved : goal.loop-left-preserved
 loop-left-preserved c =

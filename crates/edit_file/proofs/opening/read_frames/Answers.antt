@@ -1,5 +1,6 @@
 -- One frame more was read, or the closing byte, or neither is there.
 use Rattle.std.proofs.Common.{rules, ◌≢◌, ℕ, List, ◌+◌, [], ◌∷◌, ◌++◌, drop, refl, ◌∙◌, subst, arith}
+use Rattle.std.proofs.lemmas.Result.{IfOk-from_err}
 use Rattle.std.proofs.lemmas.Grind.{common_steps}
 use Rattle.std.proofs.lemmas.List.Elements.{All-nil, All-push}
 use Rattle.std.specs.Prelude.{All}
@@ -8,7 +9,7 @@ use Rattle.item_model.specs.Valid.{AreValid}
 use Rattle.edit_file.specs.Opening.{HasRead}
 use Rattle.edit_file.specs.Reading.{IsFound, IsUsable}
 use Rattle.edit_file.specs.Standing.{IsNoFrame}
-use Rattle.edit_file.proofs.Quiet.{told_of, quiet_self, quiet_then}
+use Rattle.edit_file.proofs.Quiet.{told_of, ok_is_no_err, quiet_self, quiet_then}
 use Rattle.edit_file.proofs.Settled.{none_read, more_read, closed_read, broken_read}
 use Rattle.edit_file.proofs.opening.read_frames.Goals as goal
 
@@ -65,3 +66,43 @@ returns-in-Broken-clause-breaks g c b rest at size told e same =
     (broken_read b c.frames.at c.frames.batches.items (c.frames.invariant.read b rest size told e)
     (subst (λ f. IsFound (drop c.frames.at b) f) c.in-Broken.is
     (told_of _ _ b (c.frames.invariant.bytes ∙ told) c.in_ok-batch.ensures.exact size)))
+
+pub returns-in-Closed-clause-near : goal.returns-in-Closed-clause-near
+returns-in-Closed-clause-near g c = c.frames.invariant.near
+
+pub returns-in-Closed-clause-filled : goal.returns-in-Closed-clause-filled
+returns-in-Closed-clause-filled g c = c.frames.invariant.filled
+
+pub returns-in-Closed-clause-valid : goal.returns-in-Closed-clause-valid
+returns-in-Closed-clause-valid g c = c.frames.invariant.valid
+
+pub returns-in-Closed-clause-breaks : goal.returns-in-Closed-clause-breaks
+returns-in-Closed-clause-breaks g c b rest at size told e same = absurd (ok_is_no_err _ _ same)
+
+pub returns-in-Closed-clause-unchanged : goal.returns-in-Closed-clause-unchanged
+returns-in-Closed-clause-unchanged g c error e other = absurd (ok_is_no_err _ error e)
+
+pub returns-in-Closed-clause-stays : goal.returns-in-Closed-clause-stays
+returns-in-Closed-clause-stays g c = record {
+  bytes_stay = c.in_ok-batch.ensures.stays.bytes_stay ∙ c.frames.invariant.bytes;
+  quiet = quiet_then g.D.Disk _ _ _ c.frames.invariant.quiet c.read_frame.ensures.stays.quiet;
+  named = record {
+    told_stays = c.read_frame.ensures.stays.named.told_stays ∙ c.frames.invariant.told;
+    name_stays = c.read_frame.ensures.stays.named.name_stays ∙ c.frames.invariant.name;
+  };
+}
+
+pub returns-in-Closed-clause-count : goal.returns-in-Closed-clause-count
+returns-in-Closed-clause-count g c = c.in_ok-batch.ensures.count ∙ c.frames.invariant.faultless
+
+pub returns-in_err-batch-clause-found : goal.returns-in_err-batch-clause-found
+returns-in_err-batch-clause-found g c b rest size told e = IfOk-from_err _ _ c.from_residual.ensures.0
+
+pub returns-in_err-batch-clause-near : goal.returns-in_err-batch-clause-near
+returns-in_err-batch-clause-near g c = IfOk-from_err _ _ c.from_residual.ensures.0
+
+pub returns-in_err-batch-clause-filled : goal.returns-in_err-batch-clause-filled
+returns-in_err-batch-clause-filled g c = IfOk-from_err _ _ c.from_residual.ensures.0
+
+pub returns-in_err-batch-clause-valid : goal.returns-in_err-batch-clause-valid
+returns-in_err-batch-clause-valid g c = IfOk-from_err _ _ c.from_residual.ensures.0

@@ -1,5 +1,6 @@
 -- Each way through a finished file changes nothing, or truncates it after the closing byte.
 use Rattle.std.proofs.Common.{rules, ◌≡◌, ◌+◌, ◌≤◌, length, Err, true, false, sym, ◌∙◌, inl, inr}
+use Rattle.std.proofs.lemmas.Result.{IfOk-from_err}
 use Rattle.edit_file.specs.Standing.{FileStands}
 use Rattle.edit_file.proofs.Opened.{head_is, head_is_wrong, closes_with, cut_leaves, cut_is_rest}
 use Rattle.edit_file.proofs.Quiet.{if_told, told_of, quiet_then, quiet_run}
@@ -63,3 +64,83 @@ returns-clause-rests g c b held =
     (λ rest e. c.in_ok-closing.ensures.found b rest (told_of _ _ b held.told c.requires.known) (c.in_ok-has_head.ensures.stays.bytes_stay ∙ held.told) e) in
     cut_is_rest g.D.Disk _ _ b c.in_ok-closing.closing c.in_ok-closing.batches.items closes
     (c.in_ok-closing.ensures.stays.bytes_stay ∙ c.in_ok-has_head.ensures.stays.bytes_stay ∙ held.told) c.in_ok-cut_safely.ensures.shorter c.in_ok-cut_safely.ensures.safe
+
+pub returns-in_err-has_head-clause-stands : goal.returns-in_err-has_head-clause-stands
+returns-in_err-has_head-clause-stands g c b held = IfOk-from_err _ _ c.from_residual.ensures.0
+
+pub returns-in_err-has_head-clause-rests : goal.returns-in_err-has_head-clause-rests
+returns-in_err-has_head-clause-rests g c b held = IfOk-from_err _ _ c.from_residual.ensures.0
+
+pub returns-in_err-has_head-clause-near : goal.returns-in_err-has_head-clause-near
+returns-in_err-has_head-clause-near g c = IfOk-from_err _ _ c.from_residual.ensures.0
+
+pub returns-in_err-has_head-clause-filled : goal.returns-in_err-has_head-clause-filled
+returns-in_err-has_head-clause-filled g c = IfOk-from_err _ _ c.from_residual.ensures.0
+
+pub returns-in_err-has_head-clause-valid : goal.returns-in_err-has_head-clause-valid
+returns-in_err-has_head-clause-valid g c = IfOk-from_err _ _ c.from_residual.ensures.0
+
+pub returns-in_err-closing-clause-stands : goal.returns-in_err-closing-clause-stands
+returns-in_err-closing-clause-stands g c b held = IfOk-from_err _ _ c.from_residual-in_err-closing.ensures.0
+
+pub returns-in_err-closing-clause-rests : goal.returns-in_err-closing-clause-rests
+returns-in_err-closing-clause-rests g c b held = IfOk-from_err _ _ c.from_residual-in_err-closing.ensures.0
+
+pub returns-in_err-closing-clause-near : goal.returns-in_err-closing-clause-near
+returns-in_err-closing-clause-near g c = IfOk-from_err _ _ c.from_residual-in_err-closing.ensures.0
+
+pub returns-in_err-closing-clause-filled : goal.returns-in_err-closing-clause-filled
+returns-in_err-closing-clause-filled g c = IfOk-from_err _ _ c.from_residual-in_err-closing.ensures.0
+
+pub returns-in_err-closing-clause-valid : goal.returns-in_err-closing-clause-valid
+returns-in_err-closing-clause-valid g c = IfOk-from_err _ _ c.from_residual-in_err-closing.ensures.0
+
+pub returns-in_err-cut_safely-clause-stands : goal.returns-in_err-cut_safely-clause-stands
+returns-in_err-cut_safely-clause-stands g c b held = IfOk-from_err _ _ c.from_residual-in_err-cut_safely.ensures.0
+
+pub returns-in_err-cut_safely-clause-rests : goal.returns-in_err-cut_safely-clause-rests
+returns-in_err-cut_safely-clause-rests g c b held = IfOk-from_err _ _ c.from_residual-in_err-cut_safely.ensures.0
+
+pub returns-in_err-cut_safely-clause-near : goal.returns-in_err-cut_safely-clause-near
+returns-in_err-cut_safely-clause-near g c = IfOk-from_err _ _ c.from_residual-in_err-cut_safely.ensures.0
+
+pub returns-in_err-cut_safely-clause-filled : goal.returns-in_err-cut_safely-clause-filled
+returns-in_err-cut_safely-clause-filled g c = IfOk-from_err _ _ c.from_residual-in_err-cut_safely.ensures.0
+
+pub returns-in_err-cut_safely-clause-valid : goal.returns-in_err-cut_safely-clause-valid
+returns-in_err-cut_safely-clause-valid g c = IfOk-from_err _ _ c.from_residual-in_err-cut_safely.ensures.0
+
+pub returns-in_err-closing-clause-named : goal.returns-in_err-closing-clause-named
+returns-in_err-closing-clause-named g c = record {
+  told_stays = c.read_frames.ensures.stays.named.told_stays ∙ c.has_head.ensures.stays.named.told_stays;
+  name_stays = c.read_frames.ensures.stays.named.name_stays ∙ c.has_head.ensures.stays.named.name_stays;
+}
+
+pub returns-in_err-cut_safely-clause-named : goal.returns-in_err-cut_safely-clause-named
+returns-in_err-cut_safely-clause-named g c = record {
+  told_stays = c.cut_safely.ensures.named.told_stays ∙ c.read_frames.ensures.stays.named.told_stays ∙ c.has_head.ensures.stays.named.told_stays;
+  name_stays = c.cut_safely.ensures.named.name_stays ∙ c.read_frames.ensures.stays.named.name_stays ∙ c.has_head.ensures.stays.named.name_stays;
+}
+
+pub returns-in_err-has_head-clause-crash : goal.returns-in_err-has_head-clause-crash
+returns-in_err-has_head-clause-crash g c b batches stands held =
+    quiet_run g.D.Disk g.met.D.Disk.now_alone _ _ b (λ image. FileStands image batches) held stands c.has_head.ensures.stays.quiet
+
+pub returns-then-not-branch-clause-crash : goal.returns-then-not-branch-clause-crash
+returns-then-not-branch-clause-crash g c b batches stands held =
+    quiet_run g.D.Disk g.met.D.Disk.now_alone _ _ b (λ image. FileStands image batches) held stands c.has_head.ensures.stays.quiet
+
+pub returns-clause-named : goal.returns-clause-named
+returns-clause-named g c = record {
+  told_stays = c.cut_safely.ensures.named.told_stays ∙ c.read_frames.ensures.stays.named.told_stays ∙ c.has_head.ensures.stays.named.told_stays;
+  name_stays = c.cut_safely.ensures.named.name_stays ∙ c.read_frames.ensures.stays.named.name_stays ∙ c.has_head.ensures.stays.named.name_stays;
+}
+
+pub returns-clause-near : goal.returns-clause-near
+returns-clause-near g c = c.in_ok-closing.ensures.near
+
+pub returns-clause-filled : goal.returns-clause-filled
+returns-clause-filled g c = c.in_ok-closing.ensures.filled
+
+pub returns-clause-valid : goal.returns-clause-valid
+returns-clause-valid g c = c.in_ok-closing.ensures.valid

@@ -1,15 +1,15 @@
-use Rattle.std.proofs.Common.{◌≡◌, ◌<◌, ◌++◌, ◌∷◌, [], ℕ, length, length-append, refl, subst, ◌∙◌, arith, eq-eqb}
+use Rattle.std.proofs.Common.{◌≡◌, ◌<◌, ◌++◌, ◌∷◌, [], ℕ, length, length-append, refl, subst, ◌∙◌, arith, eq-eqb, Ok}
 use Rattle.command_core.specs.Seen.{OutputSeen, output_seen}
 use Rattle.command_core.proofs.Appending.{none_written}
 use Rattle.mirror_client.specs.Points.{Point, nothing_read, place}
 use Rattle.mirror_client.specs.Stages.{Asking, Holding}
 use Rattle.mirror_client.specs.Steps.{all_applied}
 use Rattle.mirror_client.specs.Stopping.{CountsFault}
-use Rattle.mirror_client.proofs.StageFacts.{first_round, followed, later_round, not_last, opened_walks}
+use Rattle.mirror_client.proofs.StageFacts.{followed_by, not_last, opened_walks}
 use Rattle.link_commands.specs.Linked.{LinkSeen, link_seen}
 use Rattle.link_commands.specs.Rounds.{CountsStop}
 use Rattle.link_commands.specs.declared.rounds.Stop.TheVariants.{Link}
-use Rattle.link_commands.proofs.RoundFacts.{closing_ends, line_written, opening_ends, round_ends, round_on}
+use Rattle.link_commands.proofs.RoundFacts.{closing_ends, first_round, later_round, line_written, opening_ends, round_ends, round_on}
 use Rattle.link_commands.proofs.rounds.follow_rounds.Goals as goal
 
 -- the table was not learned, or the login failed
@@ -104,10 +104,10 @@ returns-in-Ok-close-clause-followed g c =
       all_applied c.args.mirror.now.held inv.listings,
       record {
         followed =
-            followed c.args.host.now c.loop-round.follower.host c.args.mirror.now c.loop-round.mirror c.args.rounds c.loop-round.follower.known inv.listings
+            followed_by {A = Unit} c.args.host.now c.loop-round.follower.host c.args.mirror.now c.loop-round.mirror c.args.rounds c.loop-round.follower.known inv.listings
             (place (g.K.Sink.taken c.args.link.now) (g.K.Source.left c.args.link.now) nothing_read)
-            (place (g.K.Sink.taken c.loop-round.link) (g.K.Source.left c.loop-round.link) c.loop-round.follower.ahead) (place (g.K.Sink.taken c.close.new.link) (g.K.Source.left c.close.new.link) x.1)
-            (g.K.Sink.taken c.close.new.link) (all_applied c.args.mirror.now.held inv.listings) inv.host all inv.walks inv.holds refl (x.0, x.2, x.3) refl;
+            (place (g.K.Sink.taken c.loop-round.link) (g.K.Source.left c.loop-round.link) c.loop-round.follower.ahead) (g.K.Sink.taken c.close.new.link) (g.K.Source.left c.close.new.link)
+            (all_applied c.args.mirror.now.held inv.listings) (Ok tt) inv.host all inv.walks inv.holds refl x;
         some = c.requires.some;
         faultless = c.in-Ok-close.ensures.count ∙ inv.faultless ∙ c.requires.fresh;
       },

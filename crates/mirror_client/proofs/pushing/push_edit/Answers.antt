@@ -1,7 +1,7 @@
-use Rattle.std.proofs.Common.{ℕ, Some, refl, subst, ◌∙◌}
+use Rattle.std.proofs.Common.{ℕ, Some, refl, subst, ◌∙◌, rules}
 use Rattle.mirror_client.specs.Points.{nothing_read, place}
 use Rattle.mirror_client.specs.Pushes.{UnexpectedEdit, push_text}
-use Rattle.mirror_client.proofs.ExchangeFacts.{unexpected_stops}
+use Rattle.mirror_client.proofs.ExchangeFacts.{unexpected_stops, unwritten}
 use Rattle.mirror_client.proofs.PushFacts.{asked_as, stopped_as}
 use Rattle.mirror_client.proofs.pushing.push_edit.Goals as goal
 
@@ -35,3 +35,9 @@ unfolding push_text
 returns-clause-stops g c =
     stopped_as c.as_slice.result.now (push_text (Some c.args.records.now) c.args.host.now) UnexpectedEdit (g.K.Sink.taken c.args.link.now) (g.K.Source.left c.args.link.now) (g.K.Sink.taken c.exchange.new.link)
     c.new-incoming.result c.in-Err.error (c.as_slice.ensures ∙ c.in_ok-request.ensures) c.new-incoming.ensures c.in-Err.ensures.stops
+
+pub returns-in_err-request : goal.returns-in_err-request
+returns-in_err-request g c = search (rules, unwritten)
+
+pub returns-in_err-table : goal.returns-in_err-table
+returns-in_err-table g c = search (rules, unwritten)

@@ -1,6 +1,7 @@
-use Rattle.std.proofs.Common.{None, refl, ◌∙◌}
+use Rattle.std.proofs.Common.{None, refl, ◌∙◌, rules}
 use Rattle.mirror_client.specs.Points.{place}
 use Rattle.mirror_client.specs.Pushes.{UnexpectedPush, push_text}
+use Rattle.mirror_client.proofs.ExchangeFacts.{unwritten}
 use Rattle.mirror_client.proofs.PushFacts.{asked_as, stopped_as}
 use Rattle.mirror_client.proofs.pushing.push_stop.Goals as goal
 
@@ -22,3 +23,6 @@ unfolding push_text
 returns-clause-stops g c =
     stopped_as c.as_slice.result.now (push_text None c.args.host.now) (UnexpectedPush None) (g.K.Sink.taken c.args.link.now) (g.K.Source.left c.args.link.now) (g.K.Sink.taken c.exchange.new.link)
     c.new-incoming.result c.in-Err.error (c.as_slice.ensures ∙ c.in_ok-request.ensures) c.new-incoming.ensures c.in-Err.ensures.stops
+
+pub returns-in_err-request : goal.returns-in_err-request
+returns-in_err-request g c = search (rules, unwritten)

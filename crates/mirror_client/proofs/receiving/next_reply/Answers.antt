@@ -1,4 +1,4 @@
-use Rattle.std.proofs.Common.{◌≡◌, ◌≢◌, ◌+◌, ℕ, [], Bool, Option, refl, sym, ◌∙◌, subst}
+use Rattle.std.proofs.Common.{◌≡◌, ◌≢◌, ◌+◌, ℕ, [], Bool, Option, refl, sym, ◌∙◌, subst, arith}
 use Rattle.std.specs.Prelude.{IfSome, MatchBool}
 use Rattle.std.specs.Io.KnownBytes.{IsAtEnd, prepend_known}
 use Rattle.http_client.specs.Replies.{Reply}
@@ -56,3 +56,29 @@ returns-in-Err-advance-clause-count g c =
     subst (λ (n : ℕ). CountsFault (g.K.Faulted.faults c.args.link.now) n c.in-Err-advance.error)
     (sym (c.in-Ok-true.ensures.count ∙ c.loop-incoming.invariant.faultless))
     (c.in-Err-advance.ensures.count (g.K.Faulted.faults c.args.link.now))
+
+pub returns-in-Ok-false-clause-grows : goal.returns-in-Ok-false-clause-grows
+returns-in-Ok-false-clause-grows g c = omega arith
+
+pub returns-in-Ok-false-clause-taken : goal.returns-in-Ok-false-clause-taken
+returns-in-Ok-false-clause-taken g c =
+    sym (g.met.K.Link.read_leaves_taken c.refill.new.source) ∙ c.refill.ensures.beside ∙ g.met.K.Link.read_leaves_taken c.loop-incoming.link
+    ∙ c.loop-incoming.invariant.taken
+
+pub returns-in-Err-clause-grows : goal.returns-in-Err-clause-grows
+returns-in-Err-clause-grows g c = omega arith
+
+pub returns-in-Err-clause-taken : goal.returns-in-Err-clause-taken
+returns-in-Err-clause-taken g c =
+    sym (g.met.K.Link.read_leaves_taken c.refill.new.source) ∙ c.refill.ensures.beside ∙ g.met.K.Link.read_leaves_taken c.loop-incoming.link
+    ∙ c.loop-incoming.invariant.taken
+
+pub returns-in-Ok-Some-clause-taken : goal.returns-in-Ok-Some-clause-taken
+returns-in-Ok-Some-clause-taken g c =
+    sym (g.met.K.Link.read_leaves_taken c.refill.new.source) ∙ c.refill.ensures.beside ∙ g.met.K.Link.read_leaves_taken c.loop-incoming.link
+    ∙ c.loop-incoming.invariant.taken
+
+pub returns-in-Err-advance-clause-taken : goal.returns-in-Err-advance-clause-taken
+returns-in-Err-advance-clause-taken g c =
+    sym (g.met.K.Link.read_leaves_taken c.refill.new.source) ∙ c.refill.ensures.beside ∙ g.met.K.Link.read_leaves_taken c.loop-incoming.link
+    ∙ c.loop-incoming.invariant.taken

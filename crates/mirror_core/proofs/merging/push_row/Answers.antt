@@ -1,17 +1,5 @@
--- A change whose key is below the row's key comes before the row.
-use Rattle.std.proofs.Common.{◌≡◌, ◌++◌, Less, rules, sym, ap, ◌∙◌, arith}
-use Rattle.mirror_core.specs.Changes.{past_row, next_order}
-use Rattle.mirror_core.proofs.MergeFacts.{less_next}
+-- A change that has the row's key takes its place.
 use Rattle.mirror_core.proofs.merging.push_row.Goals as goal
 
-pub loop-out-preserved : goal.loop-out-preserved
-loop-out-preserved c =
-    let is : next_order c.args.row.0 c.loop-out.changes.entries ≡ Less = search rules in
-    record {
-      rows = λ rest.
-          c.push_next.ensures.rows (past_row c.args.row rest)
-          ∙ ap (λ rows. c.loop-out.out.items ++ rows) (sym (less_next c.args.row rest c.loop-out.changes.entries is))
-          ∙ c.loop-out.invariant.rows rest;
-      room = omega arith;
-      capacity = c.push_next.ensures.capacity ∙ c.loop-out.invariant.capacity;
-    }
+pub returns-then-push_up_to-clause-rows : goal.returns-then-push_up_to-clause-rows
+returns-then-push_up_to-clause-rows c = λ rest. rw c.if-push_up_to.true at (c.push_up_to.ensures.rows c.args.row.1 rest)

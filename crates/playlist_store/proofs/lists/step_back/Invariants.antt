@@ -1,9 +1,11 @@
-use Rattle.std.proofs.Common.{◌≡◌, ◌<◌, ℕ, length}
+use Rattle.std.proofs.Common.{◌≡◌, ◌<◌, ◌∷◌, ℕ, length}
+use Rattle.std.specs.Prelude.{nat_le}
+use Rattle.std.specs.List.{find}
 use Rattle.playlist_store.specs.Changes.{found_in}
 use Rattle.playlist_store.proofs.lists.step_back.Given as goal
 
-abbrev pub invariant-loop-list : goal.invariant-loop-list
-invariant-loop-list l = (v : ℕ) → v < l.revision → found_in l.list v ≡ found_in l.fn.list v
+abbrev pub invariant-loop-now : goal.invariant-loop-now
+invariant-loop-now l = (v : ℕ) → v < l.revision → find (λ kept. nat_le kept.since v) (l.now ∷ l.older.items) ≡ found_in l.fn.list v
 
-abbrev pub decreases-loop-list : goal.decreases-loop-list
-decreases-loop-list l = length l.list.older.items
+abbrev pub decreases-loop-now : goal.decreases-loop-now
+decreases-loop-now l = length l.older.items

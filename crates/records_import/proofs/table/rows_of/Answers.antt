@@ -28,16 +28,15 @@ rows-preserved c =
     let inv = c.rows.invariant in
     let read = rw c.in-Ok-true.field-0-test at (c.in-Ok-true.ensures.reads inv.0 inv.1) in
     let more = rows-more (λ (s : Bor (List ℕ)). Some s.now) c.rows.reader c.read_byte_record.new.self (fields_of c.read_byte_record.new.row) default_config st.StartRecord (strip_bom c.args.text.now) inv.4 (map fields_of c.rows.rows.items) inv.2 inv.5 inv.6 read in
-    let copy = c.in_ok-clone-in-Ok-true.ensures.cases in
-    let items = c.in_ok-push-in-Ok-true.ensures.items in
-    let count : length c.push.new.self.items ≡ c.rows.counter + 1 = rw items (omega (arith, length-append c.rows.rows.items (c.in_ok-clone-in-Ok-true.field-0 ∷ []), inv.3)) in (
+    let items = c.in_ok-push_copy-in-Ok-true.ensures in
+    let count : length c.push_copy.new.rows.items ≡ c.rows.counter + 1 = rw items (omega (arith, length-append c.rows.rows.items (c.read_byte_record.new.row ∷ []), inv.3)) in (
       read.3 ∙ inv.0,
       inl (c.in-Ok-true.ensures.ready inv.0),
       read.2 ∙ inv.2,
       count,
       more.0,
       more.1,
-      rw (items, copy, map-append fields_of c.rows.rows.items (c.read_byte_record.new.row ∷ [])) more.2,
+      rw (items, map-append fields_of c.rows.rows.items (c.read_byte_record.new.row ∷ [])) more.2,
     )
 
 -- the text has no more

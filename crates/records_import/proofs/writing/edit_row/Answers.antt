@@ -1,4 +1,4 @@
-use Rattle.std.proofs.Common.{◌<◌, ◌∷◌, ◌∙◌, decimal, length, map, take, arith}
+use Rattle.std.proofs.Common.{◌<◌, ◌∷◌, decimal, length, map, take, arith}
 use Rattle.std.proofs.lemmas.List.{map_more}
 use Rattle.csv.specs.Records.{AllText}
 use Rattle.item_model.specs.declared.property.Property.TheVariants.{Minm}
@@ -9,10 +9,7 @@ use Rattle.records_import.proofs.writing.edit_row.Goals as goal
 
 pub loop-column-init : goal.loop-column-init
 unfolding AllText
-loop-column-init c = record {
-  cells = rw (c.op_of.ensures, c.kind_of.ensures, c.as_str.ensures.value, c.in_ok-id.ensures.ok, c.id_of.ensures) at c.in_ok-row.ensures;
-  utf8 = tt;
-}
+loop-column-init c = record { cells = c.in_ok-row.ensures; utf8 = tt }
 
 -- one more cell
 pub loop-column-preserved : goal.loop-column-preserved
@@ -22,10 +19,8 @@ loop-column-preserved c =
     let i = c.loop-column.column-index in
     let inside : i < length columns = omega arith in
     let before = map (written_cell edit) (take i columns) in
-    let cell = c.as_str-in-loop-column.ensures.value ∙ c.in_ok-cell.ensures in
-    let told = rw cell at (c.in_ok-push_cell.ensures (written_op edit ∷ written_kind edit ∷ decimal (written_id edit) ∷ before) c.loop-column.invariant.cells) in
-    let utf8 = rw cell at c.as_str-in-loop-column.utf8 in
+    let told = c.in_ok-push_cell_of.ensures.cells (written_op edit ∷ written_kind edit ∷ decimal (written_id edit) ∷ before) c.loop-column.invariant.cells in
     record {
       cells = rw (map_more (written_cell edit) columns i (holds.Property Minm) inside) told;
-      utf8 = rw (map_more (written_cell edit) columns i (holds.Property Minm) inside) (text_behind before _ c.loop-column.invariant.utf8 utf8);
+      utf8 = rw (map_more (written_cell edit) columns i (holds.Property Minm) inside) (text_behind before _ c.loop-column.invariant.utf8 c.in_ok-push_cell_of.ensures.utf8);
     }

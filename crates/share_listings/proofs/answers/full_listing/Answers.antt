@@ -17,3 +17,20 @@ returns-clause-cost g c = λ bs items lists. c.full.ensures.cost bs (record {
   stands = items;
   members = subst (λ keep. IsMembership keep bs c.args.target c.membership_of-membership.result) c.requires.few.keep (c.membership_of-membership.ensures bs lists);
 })
+
+pub full-requires : goal.full-requires
+full-requires g c =
+    let few = c.requires.few in
+    record {
+      few =
+          record {
+            bs = few.bs;
+            tells =
+                record {
+                  stands = few.of_items;
+                  members = subst (λ keep. IsMembership keep few.bs c.args.target c.membership_of-membership.result) few.keep (c.membership_of-membership.ensures few.bs few.of_lists);
+                };
+            few = few.few;
+          };
+      start = c.requires.start;
+    }

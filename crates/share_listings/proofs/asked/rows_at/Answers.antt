@@ -1,4 +1,5 @@
 use Rattle.std.proofs.Common.{◌++◌, ◌∷◌, [], get_or, option_copied, sym, ap, ◌∙◌, arith, rules}
+use Rattle.std.proofs.lemmas.Result.{IfOk-from_err}
 use Rattle.share_history.specs.Histories.{edits}
 use Rattle.share_history.specs.Keyed.{pairs_at}
 use Rattle.share_history.specs.Rows.{row_at}
@@ -15,4 +16,11 @@ loop-key-preserved g c = record {
       ∙ sym (pairs_more f keys c.loop-key.key-index key (search rules) (search rules));
   members = search rules;
   cost = omega (arith, c.in_ok-push_key.ensures.cost, c.loop-key.invariant.cost);
+}
+
+pub returns-in_err-push_key : goal.returns-in_err-push_key
+returns-in_err-push_key g c = record {
+  rows = IfOk-from_err c.from_residual.result _ c.from_residual.ensures.0;
+  members = IfOk-from_err c.from_residual.result _ c.from_residual.ensures.0;
+  cost = omega (arith, c.push_key.ensures.cost, c.loop-key.invariant.cost, c.loop-key-test.true);
 }

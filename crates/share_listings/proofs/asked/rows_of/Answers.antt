@@ -1,4 +1,5 @@
 use Rattle.std.proofs.Common.{◌++◌, ◌∷◌, [], get_or, option_copied, sym, ap, ◌∙◌, arith, rules}
+use Rattle.std.proofs.lemmas.Result.{IfOk-from_err}
 use Rattle.share_history.specs.Histories.{edits}
 use Rattle.share_history.specs.Keyed.{pairs_at}
 use Rattle.share_history.specs.Rows.{row_at}
@@ -17,4 +18,11 @@ loop-member-preserved g c = record {
       ∙ ap (λ l. l ++ pairs_at f (member.key ∷ [])) (c.loop-member.invariant.rows bs stands are) ∙ sym (members_more f members i member (search rules) (search rules));
   members = search rules;
   cost = omega (arith, c.in_ok-push_member.ensures.cost, c.loop-member.invariant.cost);
+}
+
+pub returns-in_err-push_member : goal.returns-in_err-push_member
+returns-in_err-push_member g c = record {
+  rows = IfOk-from_err c.from_residual.result _ c.from_residual.ensures.0;
+  members = IfOk-from_err c.from_residual.result _ c.from_residual.ensures.0;
+  cost = omega (arith, c.push_member.ensures.cost, c.loop-member.invariant.cost, c.loop-member-test.true);
 }

@@ -1,4 +1,5 @@
 use Rattle.std.proofs.Common.{◌≡◌, ap, ◌∙◌, rules}
+use Rattle.std.proofs.lemmas.Result.{IfOk-from_err}
 use Rattle.listing_plan.specs.Plans.{keyed}
 use Rattle.row_sheets.specs.Spelled.{Spelled}
 use Rattle.row_sheets.specs.Sheets.{by_id, rows_on, rows_in}
@@ -20,3 +21,6 @@ loop-sheet-preserved c =
           (search rules) c.sheet-item.is on c.past-left.ensures.from c.past-left.ensures.to c.in_ok-push_within.ensures.rows c.loop-sheet.invariant.rows;
       members = search rules;
     }
+
+pub returns-in_err-push_within : goal.returns-in_err-push_within
+returns-in_err-push_within c = record { rows = IfOk-from_err c.from_residual.result _ c.from_residual.ensures.0; members = IfOk-from_err c.from_residual.result _ c.from_residual.ensures.0 }

@@ -1,158 +1,54 @@
-use Rattle.std.proofs.Common.{rules, ◌≡◌, ◌<◌, ◌≤◌, ◌++◌, ℕ, List, [], length, sym, subst, ◌∙◌, arith, length-append}
-use Rattle.std.specs.Io.KnownBytes.{Consumes, IsAtEnd}
-use Rattle.std.proofs.KnownBytes.{Consumes-trans, Consumes-kept}
-use Rattle.daap_outside.specs.Counts.{Rose}
-use Rattle.command_core.specs.Seen.{InputSeen}
-use Rattle.command_core.specs.Causes.{piece_limit}
-use Rattle.command_core.proofs.Appending.{written_more, none_written}
-use Rattle.tag_commands.proofs.InStep.{consumes_none, step_none, step_shown, step_stopped}
-use Rattle.tag_commands.proofs.Showing.{is_counted, show_nothing, show_failed, show_read, on_shown, step_stops, written_text, ended_whole, ended_inside}
+use Rattle.std.proofs.Common.{[]}
+use Rattle.command_core.specs.Seen.{InputSeen, OutputSeen}
+use Rattle.command_core.proofs.Appending.{none_written}
+use Rattle.tag_commands.proofs.InStep.{step_none}
+use Rattle.tag_commands.proofs.Showing.{is_counted, show_nothing, ended_whole, ended_inside}
 use Rattle.tag_commands.proofs.show.shown.Goals as goal
 
-pub returns-in-Err-clause-stopped : goal.returns-in-Err-clause-stopped
-returns-in-Err-clause-stopped g c = (
-  tt,
-  (
-    [],
-    show_nothing (record { left = g.I.Source.left c.args.input.now; faults = g.I.Faulted.faults c.args.input.now }),
-    none_written (record { taken = g.W.Sink.taken c.args.output.now; faults = g.W.Faulted.faults c.args.output.now }),
-  ),
-)
-
-pub returns-in-Err-read-clause-stopped : goal.returns-in-Err-read-clause-stopped
-returns-in-Err-read-clause-stopped g c =
-    let now = c.loop-n.invariant in (
-      show_failed (record { left = g.I.Source.left c.args.input.now; faults = g.I.Faulted.faults c.args.input.now })
-          (record { left = g.I.Source.left c.read.new.self; faults = g.I.Faulted.faults c.read.new.self }) now.fed now.written c.loop-n.shower now.showing
-          (Consumes-kept _ _ _ now.fed now.read c.in-Err-read.ensures.moved) now.within
-          (subst (λ (n : ℕ). Rose n (g.I.Faulted.faults c.read.new.self)) now.faultless c.in-Err-read.ensures.count),
-      (
-        now.written,
-        show_read (record { left = g.I.Source.left c.args.input.now; faults = g.I.Faulted.faults c.args.input.now })
-            (record { left = g.I.Source.left c.read.new.self; faults = g.I.Faulted.faults c.read.new.self }) now.fed now.written c.loop-n.shower now.showing now.idle
-            now.within (Consumes-kept _ _ _ now.fed now.read c.in-Err-read.ensures.moved),
-        now.told,
-      ),
-    )
-
-pub returns-in-Err-step-clause-stopped : goal.returns-in-Err-step-clause-stopped
-returns-in-Err-step-clause-stopped g c =
-    let now = c.loop-n.invariant in
-    let piece = c.split_at.result.0.now in
-    let stopped = c.in-Err-step.ensures.stopped now.fed now.written now.showing in
-    let before : InputSeen = record { left = g.I.Source.left c.args.input.now; faults = g.I.Faulted.faults c.args.input.now } in
-    let after : InputSeen = record { left = g.I.Source.left c.read.new.self; faults = g.I.Faulted.faults c.read.new.self } in
-    let read =
-    subst (λ (bytes : List ℕ). Consumes (g.I.Source.left c.args.input.now) (g.I.Source.left c.read.new.self) (now.fed ++ bytes)) (sym c.split_at.ensures.front)
-    (Consumes-trans _ _ _ _ _ now.read c.in-Ok-read.ensures.moved.0) in
-    let short : length piece ≤ piece_limit = search rules in
-    step_stops before after
-    (record { taken = g.W.Sink.taken c.args.output.now; faults = g.W.Faulted.faults c.args.output.now })
-    (record { taken = g.W.Sink.taken c.loop-n.output; faults = g.W.Faulted.faults c.loop-n.output })
-    (record { taken = g.W.Sink.taken c.step.new.output; faults = g.W.Faulted.faults c.step.new.output }) (now.fed ++ piece) now.written stopped.0 c.in-Err-step.stop read
-    (c.in-Ok-read.ensures.count ∙ now.faultless) (on_shown before after now.fed piece now.written c.loop-n.shower read short now.showing now.within) now.told stopped.1
-
-pub loop-n-smaller : goal.loop-n-smaller
-loop-n-smaller g c =
-    let now = c.loop-n.invariant in
-    let went = c.in_default.ensures.went now.fed now.written now.showing in
-    let some : 0 < c.in-Ok-read.n = search rules in
-    omega (arith, went.1.bytes, went.2, now.showing.bytes, some, c.split_at.ensures.front_len, length-append now.fed c.split_at.result.0.now)
-
-pub loop-n-preserved : goal.loop-n-preserved
-loop-n-preserved g c =
-    let now = c.loop-n.invariant in
-    let went = c.in_default.ensures.went now.fed now.written now.showing in
+pub returns-in-Err : goal.returns-in-Err
+returns-in-Err g c =
+    let input : InputSeen = record { left = g.I.Source.left c.args.input.now; faults = g.I.Faulted.faults c.args.input.now } in
+    let output : OutputSeen = record { taken = g.W.Sink.taken c.args.output.now; faults = g.W.Faulted.faults c.args.output.now } in
     record {
-      fed = now.fed ++ c.split_at.result.0.now;
-      written = now.written ++ went.0;
-      showing = went.1;
-      idle = c.in_default.ensures.idle;
-      within = went.2;
-      read =
-          subst (λ (bytes : List ℕ). Consumes (g.I.Source.left c.args.input.now) (g.I.Source.left c.read.new.self) (now.fed ++ bytes)) (sym c.split_at.ensures.front)
-          (Consumes-trans _ _ _ _ _ now.read c.in-Ok-read.ensures.moved.0);
-      faultless = c.in-Ok-read.ensures.count ∙ now.faultless;
-      told =
-          written_more (record { taken = g.W.Sink.taken c.args.output.now; faults = g.W.Faulted.faults c.args.output.now })
-          (record { taken = g.W.Sink.taken c.loop-n.output; faults = g.W.Faulted.faults c.loop-n.output })
-          (record { taken = g.W.Sink.taken c.step.new.output; faults = g.W.Faulted.faults c.step.new.output }) now.written went.0 now.told went.3;
+      shown = tt;
+      stopped = (tt, ([], show_nothing input, none_written output));
+      in_step = step_none input output;
     }
 
-pub returns-in-Err-clause-in_step : goal.returns-in-Err-clause-in_step
-returns-in-Err-clause-in_step g c =
-    step_none (record { left = g.I.Source.left c.args.input.now; faults = g.I.Faulted.faults c.args.input.now })
-    (record { taken = g.W.Sink.taken c.args.output.now; faults = g.W.Faulted.faults c.args.output.now })
-
-pub returns-in-Err-read-clause-in_step : goal.returns-in-Err-read-clause-in_step
-returns-in-Err-read-clause-in_step g c =
-    let now = c.loop-n.invariant in
-    step_shown (record { left = g.I.Source.left c.args.input.now; faults = g.I.Faulted.faults c.args.input.now })
-    (record { left = g.I.Source.left c.read.new.self; faults = g.I.Faulted.faults c.read.new.self })
-    (record { taken = g.W.Sink.taken c.args.output.now; faults = g.W.Faulted.faults c.args.output.now })
-    (record { taken = g.W.Sink.taken c.loop-n.output; faults = g.W.Faulted.faults c.loop-n.output }) now.fed now.written
-    (written_text now.fed now.written c.loop-n.shower now.showing now.idle now.within) (Consumes-kept _ _ _ now.fed now.read c.in-Err-read.ensures.moved) now.told.taken
-
-pub returns-in-Err-step-clause-in_step : goal.returns-in-Err-step-clause-in_step
-returns-in-Err-step-clause-in_step g c =
-    let now = c.loop-n.invariant in
-    let piece = c.split_at.result.0.now in
-    let stopped = c.in-Err-step.ensures.stopped now.fed now.written now.showing in
-    let read =
-    subst (λ (bytes : List ℕ). Consumes (g.I.Source.left c.args.input.now) (g.I.Source.left c.read.new.self) (now.fed ++ bytes)) (sym c.split_at.ensures.front)
-    (Consumes-trans _ _ _ _ _ now.read c.in-Ok-read.ensures.moved.0) in
-    let short : length piece ≤ piece_limit = search rules in
-    step_stopped (record { left = g.I.Source.left c.args.input.now; faults = g.I.Faulted.faults c.args.input.now })
-    (record { left = g.I.Source.left c.read.new.self; faults = g.I.Faulted.faults c.read.new.self })
-    (record { taken = g.W.Sink.taken c.args.output.now; faults = g.W.Faulted.faults c.args.output.now })
-    (record { taken = g.W.Sink.taken c.loop-n.output; faults = g.W.Faulted.faults c.loop-n.output })
-    (record { taken = g.W.Sink.taken c.step.new.output; faults = g.W.Faulted.faults c.step.new.output }) now.fed piece now.written (now.written ++ stopped.0) stopped.0 c.in-Err-step.stop
-    (written_text now.fed now.written c.loop-n.shower now.showing now.idle now.within) read short (c.in-Ok-read.ensures.count ∙ now.faultless) now.told.taken stopped.1
+pub returns-in-Err-show_input : goal.returns-in-Err-show_input
+returns-in-Err-show_input g c = record {
+  shown = tt;
+  stopped = c.in-Err-show_input.ensures.stopped;
+  in_step = c.show_input.ensures.in_step;
+}
 
 -- the end of the input
-pub returns-in-Ok-end-clause-shown : goal.returns-in-Ok-end-clause-shown
-returns-in-Ok-end-clause-shown g c =
-    let now = c.loop-n.invariant in
-    let none : c.in-Ok-read.n ≡ 0 = omega (arith, c.if-n-eq0.true) in
-    let end : IsAtEnd (g.I.Source.left c.read.new.self) = search rules in (
-      now.written,
-      ended_whole (record { left = g.I.Source.left c.args.input.now; faults = g.I.Faulted.faults c.args.input.now })
-          (record { left = g.I.Source.left c.read.new.self; faults = g.I.Faulted.faults c.read.new.self }) now.fed now.written c.loop-n.shower c.in-Ok-end.field-0
-          now.showing now.idle now.within (consumes_none _ _ _ now.fed _ c.in-Ok-read.n none now.read c.in-Ok-read.ensures.moved.0) end
-          (c.in-Ok-read.ensures.count ∙ now.faultless) (c.in-Ok-end.ensures now.fed (is_counted now.fed now.written c.loop-n.shower now.showing)),
-      now.told,
-    )
+pub returns-in-Ok-end : goal.returns-in-Ok-end
+returns-in-Ok-end g c =
+    let now = c.in_default.ensures.read in
+    record {
+      shown = (
+        now.1,
+        ended_whole (record { left = g.I.Source.left c.args.input.now; faults = g.I.Faulted.faults c.args.input.now })
+            (record { left = g.I.Source.left c.show_input.new.input; faults = g.I.Faulted.faults c.show_input.new.input }) now.0 now.1
+            c.show_input.new.self c.in-Ok-end.field-0 now.2 now.3 now.4 now.5 now.6 now.7
+            (c.in-Ok-end.ensures now.0 (is_counted now.0 now.1 c.show_input.new.self now.2)),
+        now.8,
+      );
+      stopped = tt;
+      in_step = c.show_input.ensures.in_step;
+    }
 
-pub returns-in-Err-end-clause-stopped : goal.returns-in-Err-end-clause-stopped
-returns-in-Err-end-clause-stopped g c =
-    let now = c.loop-n.invariant in
-    let none : c.in-Ok-read.n ≡ 0 = omega (arith, c.if-n-eq0.true) in
-    let end : IsAtEnd (g.I.Source.left c.read.new.self) = search rules in
+pub returns-in-Err-end : goal.returns-in-Err-end
+returns-in-Err-end g c =
+    let now = c.in_default.ensures.read in
     let ended =
     ended_inside (record { left = g.I.Source.left c.args.input.now; faults = g.I.Faulted.faults c.args.input.now })
-    (record { left = g.I.Source.left c.read.new.self; faults = g.I.Faulted.faults c.read.new.self }) now.fed now.written c.loop-n.shower c.in-Err-end.error
-    c.tags_fault.result now.showing now.idle now.within (consumes_none _ _ _ now.fed _ c.in-Ok-read.n none now.read c.in-Ok-read.ensures.moved.0) end
-    (c.in-Ok-read.ensures.count ∙ now.faultless) (c.in-Err-end.ensures now.fed (is_counted now.fed now.written c.loop-n.shower now.showing)) c.tags_fault.ensures in
-    (ended.0, (now.written, ended.1, now.told))
-
-pub returns-in-Ok-end-clause-in_step : goal.returns-in-Ok-end-clause-in_step
-returns-in-Ok-end-clause-in_step g c =
-    let now = c.loop-n.invariant in
-    let end : c.in-Ok-read.n ≡ 0 = omega (arith, c.if-n-eq0.true) in
-    step_shown (record { left = g.I.Source.left c.args.input.now; faults = g.I.Faulted.faults c.args.input.now })
-    (record { left = g.I.Source.left c.read.new.self; faults = g.I.Faulted.faults c.read.new.self })
-    (record { taken = g.W.Sink.taken c.args.output.now; faults = g.W.Faulted.faults c.args.output.now })
-    (record { taken = g.W.Sink.taken c.loop-n.output; faults = g.W.Faulted.faults c.loop-n.output }) now.fed now.written
-    (written_text now.fed now.written c.loop-n.shower now.showing now.idle now.within) (consumes_none _ _ _ now.fed _ c.in-Ok-read.n end now.read c.in-Ok-read.ensures.moved.0)
-    now.told.taken
-
-pub returns-in-Err-end-clause-in_step : goal.returns-in-Err-end-clause-in_step
-returns-in-Err-end-clause-in_step g c =
-    let now = c.loop-n.invariant in
-    let end : c.in-Ok-read.n ≡ 0 = omega (arith, c.if-n-eq0.true) in
-    step_shown (record { left = g.I.Source.left c.args.input.now; faults = g.I.Faulted.faults c.args.input.now })
-    (record { left = g.I.Source.left c.read.new.self; faults = g.I.Faulted.faults c.read.new.self })
-    (record { taken = g.W.Sink.taken c.args.output.now; faults = g.W.Faulted.faults c.args.output.now })
-    (record { taken = g.W.Sink.taken c.loop-n.output; faults = g.W.Faulted.faults c.loop-n.output }) now.fed now.written
-    (written_text now.fed now.written c.loop-n.shower now.showing now.idle now.within) (consumes_none _ _ _ now.fed _ c.in-Ok-read.n end now.read c.in-Ok-read.ensures.moved.0)
-    now.told.taken
+    (record { left = g.I.Source.left c.show_input.new.input; faults = g.I.Faulted.faults c.show_input.new.input }) now.0 now.1
+    c.show_input.new.self c.in-Err-end.error c.tags_fault.result now.2 now.3 now.4 now.5 now.6 now.7
+    (c.in-Err-end.ensures now.0 (is_counted now.0 now.1 c.show_input.new.self now.2)) c.tags_fault.ensures in
+    record {
+      shown = tt;
+      stopped = (ended.0, (now.1, ended.1, now.8));
+      in_step = c.show_input.ensures.in_step;
+    }

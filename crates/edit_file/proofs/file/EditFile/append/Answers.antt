@@ -30,3 +30,48 @@ returns-clause-acknowledged g c batches has =
     (IfSome (g.D.Disk.bytes c.add_behind.new.disk) (λ _. (image : List ℕ) → g.D.Disk.images c.add_behind.new.disk image → StandsForOrOneMore (batches ++ c.args.frame ∷ []) image))
     (IfSome (g.D.Disk.bytes c.add_behind.new.disk) (λ bytes. AtRest bytes (c.args.self.now.closing + length c.as_slice-text.result.now) (batches ++ c.args.frame ∷ []) × Holds g.D.Disk c.add_behind.new.disk bytes)))
     (sym c.if-self.false) whole
+
+pub returns-then-is_err-clause-acknowledged : goal.returns-then-is_err-clause-acknowledged
+returns-then-is_err-clause-acknowledged g c = search rules
+
+pub returns-then-is_err-clause-broken : goal.returns-then-is_err-clause-broken
+returns-then-is_err-clause-broken g c = search rules
+
+pub returns-then-is_err-clause-unchanged : goal.returns-then-is_err-clause-unchanged
+returns-then-is_err-clause-unchanged g c = search rules
+
+pub returns-then-is_err-clause-breaks : goal.returns-then-is_err-clause-breaks
+returns-then-is_err-clause-breaks g c = search rules
+
+pub returns-then-is_err-clause-told_stays : goal.returns-then-is_err-clause-told_stays
+returns-then-is_err-clause-told_stays g c = search rules
+
+pub returns-then-is_err-clause-name_stays : goal.returns-then-is_err-clause-name_stays
+returns-then-is_err-clause-name_stays g c = search rules
+
+pub returns-then-is_err-clause-count : goal.returns-then-is_err-clause-count
+returns-then-is_err-clause-count g c = search rules
+
+pub returns-clause-kept : goal.returns-clause-kept
+returns-clause-kept g c = search rules
+
+pub returns-clause-broken : goal.returns-clause-broken
+returns-clause-broken g c = search rules
+
+pub returns-clause-unchanged : goal.returns-clause-unchanged
+returns-clause-unchanged g c = search rules
+
+pub returns-clause-breaks : goal.returns-clause-breaks
+returns-clause-breaks g c = search rules
+
+pub returns-clause-told_stays : goal.returns-clause-told_stays
+returns-clause-told_stays g c = search rules
+
+pub returns-clause-name_stays : goal.returns-clause-name_stays
+returns-clause-name_stays g c = search rules
+
+pub returns-clause-count : goal.returns-clause-count
+returns-clause-count g c = search rules
+
+pub returns-then-self : goal.returns-then-self
+returns-then-self g c = search rules

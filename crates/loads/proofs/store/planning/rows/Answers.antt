@@ -1,5 +1,4 @@
-use Rattle.std.proofs.Common.{◌+◌, None, refl, sym, subst, ap, ◌∙◌}
-use Rattle.item_model.specs.declared.item.Row.{Row}
+use Rattle.std.proofs.Common.{◌+◌, sym, subst}
 use Rattle.loads.proofs.FirstRows.{AreFirst, no_rows, row_more}
 use Rattle.loads.proofs.store.planning.rows.Goals as goal
 
@@ -9,5 +8,4 @@ loop-id-init c = subst (AreFirst 0) (sym c.new-rows.ensures.items) no_rows
 pub loop-id-preserved : goal.loop-id-preserved
 loop-id-preserved c =
     subst (AreFirst (c.loop-id.id + 1)) (sym c.in_ok-push.ensures.items)
-    (row_more c.loop-id.id c.loop-id.rows.items (record { member = None; row = c.in_ok-new.field-0 }) refl
-    (ap (λ (row : Row). row.id) c.in_ok-new.ensures ∙ c.in_ok-song.ensures) c.loop-id.invariant)
+    (row_more c.loop-id.id c.loop-id.rows.items c.in_ok-row.field-0 c.in_ok-row.ensures.alone c.in_ok-row.ensures.id c.loop-id.invariant)

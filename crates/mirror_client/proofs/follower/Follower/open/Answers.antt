@@ -1,4 +1,4 @@
-use Rattle.std.proofs.Common.{refl, subst}
+use Rattle.std.proofs.Common.{refl, rules, subst}
 use Rattle.share_asks.specs.declared.ask.Want.TheVariants as want
 use Rattle.http_client.specs.Replies.{Reply}
 use Rattle.http_client.specs.Requests.{request_text}
@@ -6,6 +6,7 @@ use Rattle.mirror_client.specs.Exchanges.{Exchanged}
 use Rattle.mirror_client.specs.Points.{ReadAhead, nothing_read, place}
 use Rattle.mirror_client.specs.Steps.{TellsTable, UnexpectedTable}
 use Rattle.mirror_client.specs.Stopping.{Stops}
+use Rattle.mirror_client.proofs.ExchangeFacts.{unwritten}
 use Rattle.mirror_client.proofs.StepFacts.{fails_first, fails_second, opened}
 use Rattle.mirror_client.proofs.follower.Follower.open.Goals as goal
 
@@ -40,3 +41,6 @@ returns-clause-opened g c = (
   c.in_ok-name.ensures,
   refl,
 )
+
+pub returns-in_err-name : goal.returns-in_err-name
+returns-in_err-name g c = search (rules, unwritten)

@@ -1,4 +1,4 @@
-use Rattle.std.proofs.Common.{◌≡◌, ◌≤◌, ◌+◌, ◌∷◌, [], ◌++◌, List, ap, subst, sym, ◌∙◌, refl, arith}
+use Rattle.std.proofs.Common.{◌≡◌, ◌≤◌, ◌+◌, ◌∷◌, [], ◌++◌, List, ap, subst, sym, ◌∙◌, refl, arith, rules}
 use Rattle.std.specs.List.{AllByRecursion}
 use Rattle.item_model.specs.declared.changes.Edit.{Edit}
 use Rattle.item_model.specs.declared.changes.Entry.TheVariants.{Edits}
@@ -40,3 +40,9 @@ invariant_of-self-2 g c =
     (edits_whole c.args.batch.now c.requires.valid (subst (AllByRecursion PutsWhole) edits c.rows_are_whole.ensures))
     (subst (λ (es : List Edit). StandFor (bs ++ es ∷ []) c.apply.new.self) edits (c.in_ok-apply.ensures.stand bs c.self.invariant.held.stand))
     c.in_ok-apply.ensures.items_keep c.in_ok-apply.ensures.lists_keep c.self.invariant
+
+pub returns-in_err-own : goal.returns-in_err-own
+returns-in_err-own g c = search rules
+
+pub returns-in_err-reserve : goal.returns-in_err-reserve
+returns-in_err-reserve g c = search rules

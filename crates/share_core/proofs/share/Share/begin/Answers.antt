@@ -1,4 +1,4 @@
-use Rattle.std.proofs.Common.{◌∷◌, [], ◌++◌, length, List, ap, subst, ◌∙◌, arith}
+use Rattle.std.proofs.Common.{◌∷◌, [], ◌++◌, length, List, ap, subst, ◌∙◌, arith, rules}
 use Rattle.std.specs.List.{AllByRecursion}
 use Rattle.item_model.specs.declared.changes.Edit.{Edit}
 use Rattle.item_model.specs.declared.changes.Entry.TheVariants.{Edits}
@@ -39,3 +39,12 @@ invariant_of-self-2 g c =
     (edits_whole c.args.batch c.requires.valid (subst (AllByRecursion PutsWhole) edits c.rows_are_whole.ensures))
     (subst (λ (es : List Edit). StandFor (bs ++ es ∷ []) c.apply.new.self) edits (c.in_ok-apply.ensures.stand bs c.self.invariant.held.stand))
     c.apply.ensures.items_keep c.apply.ensures.lists_keep c.self.invariant
+
+pub returns-in_err-count_after : goal.returns-in_err-count_after
+returns-in_err-count_after g c = search rules
+
+pub returns-in_err-reserve : goal.returns-in_err-reserve
+returns-in_err-reserve g c = search rules
+
+pub returns-in_err-apply : goal.returns-in_err-apply
+returns-in_err-apply g c = search rules

@@ -23,16 +23,16 @@ pub returns-in-None-clause-steps : goal.returns-in-None-clause-steps
 returns-in-None-clause-steps g c = λ role bytes k taken midway.
     took_one role bytes c.args.piece.now c.in-Ok.taken c.args.service.now.limit k (known c.args.pass.now) taken (g.K.Sink.taken c.args.link.now)
     c.args.serving.now.reader c.feed.new.self c.next.new.self c.args.serving.now.served.items c.next.result midway c.in-Ok.ensures.role c.in-Ok.ensures.error
-    c.in-Ok.ensures.read c.next.ensures.result c.next.ensures.rest c.next.ensures.read c.in-Some.ask (known c.exchange.new.pass) (g.K.Sink.taken c.exchange.new.link)
-    c.exchange.new.served.items c.in-Some.is c.in-None.ensures.exchanges
+    c.in-Ok.ensures.read c.next.ensures.result c.next.ensures.rest c.next.ensures.read c.in-Some.ask (known c.serve_ask.new.pass) (g.K.Sink.taken c.serve_ask.new.link)
+    c.serve_ask.new.served.items c.in-Some.is c.in-None.ensures.exchanges
 
 -- it ended at one
-pub returns-clause-steps : goal.returns-clause-steps
-returns-clause-steps g c = λ role bytes k taken midway.
+pub returns-in-Some-serve_ask-clause-steps : goal.returns-in-Some-serve_ask-clause-steps
+returns-in-Some-serve_ask-clause-steps g c = λ role bytes k taken midway.
     ended_at_one role bytes c.args.piece.now c.in-Ok.taken c.args.service.now.limit k (known c.args.pass.now) taken (g.K.Sink.taken c.args.link.now)
     c.args.serving.now.reader c.feed.new.self c.next.new.self c.args.serving.now.served.items c.next.result midway c.in-Ok.ensures.role c.in-Ok.ensures.error
-    c.in-Ok.ensures.read c.next.ensures.result c.next.ensures.rest c.next.ensures.read c.in-Some.ask (known c.exchange.new.pass) (g.K.Sink.taken c.exchange.new.link)
-    c.exchange.new.served.items c.in-Some-exchange.end c.in-Some.is c.in-Some-exchange.ensures.exchanges
+    c.in-Ok.ensures.read c.next.ensures.result c.next.ensures.rest c.next.ensures.read c.in-Some.ask (known c.serve_ask.new.pass) (g.K.Sink.taken c.serve_ask.new.link)
+    c.serve_ask.new.served.items c.in-Some-serve_ask.end c.in-Some.is c.in-Some-serve_ask.ensures.exchanges
 
 pub returns-in-Err-clause-keeping : goal.returns-in-Err-clause-keeping
 returns-in-Err-clause-keeping g c =

@@ -12,11 +12,11 @@ returns-in-Ok-clause-count g c =
     (c.requires.calm (g.K.Faulted.faults c.args.link.now))
 
 -- nothing of the reply was written
-pub returns-clause-written : goal.returns-clause-written
-returns-clause-written g c =
+pub returns-in-Err-Memory-clause-written : goal.returns-in-Err-Memory-clause-written
+returns-in-Err-Memory-clause-written g c =
     let is : c.in-Err-Memory.field-0 ≡ Memory = c.in-Err-Memory.field-0-is in
     let same : c.write_reply.new.sink ≡ c.args.link.now = c.in-Err-Memory.ensures.unchanged (cc) in
-    let bytes : List ℕ = with_head c.args.status c.args.form (plan_bytes c.args.plan) (is_some c.args.due) in
+    let bytes : List ℕ = with_head c.args.status c.args.form (plan_bytes c.args.plan.now) (is_some c.args.due) in
     subst
     (λ (taken : Option (List ℕ)). WasWritten bytes c.args.added c.args.due taken (g.K.Sink.taken c.end_without_head.new.link) (Some c.end_without_head.result))
     (ap g.K.Sink.taken same)

@@ -57,3 +57,21 @@ returns-in-Lost-clause-keeping g c =
 pub returns-in-Lost-clause-outcome : goal.returns-in-Lost-clause-outcome
 returns-in-Lost-clause-outcome g c =
     loses_behind (known c.args.pass.now) (known c.loop.pass) (known c.turn.new.pass) c.args.ask.now c.loop.invariant.quiet c.in-Lost.ensures.looked
+
+pub returns-in-Answered-clause-taken : goal.returns-in-Answered-clause-taken
+returns-in-Answered-clause-taken g c = c.loop.invariant.taken
+
+pub returns-in-Answered-clause-beside : goal.returns-in-Answered-clause-beside
+returns-in-Answered-clause-beside g c = c.loop.invariant.beside
+
+pub returns-then-is_err-clause-taken : goal.returns-then-is_err-clause-taken
+returns-then-is_err-clause-taken g c = c.probe.ensures.taken ∙ c.loop.invariant.taken
+
+pub returns-then-is_err-clause-beside : goal.returns-then-is_err-clause-beside
+returns-then-is_err-clause-beside g c = c.probe.ensures.beside ∙ c.loop.invariant.beside
+
+pub returns-in-Lost-clause-taken : goal.returns-in-Lost-clause-taken
+returns-in-Lost-clause-taken g c = c.loop.invariant.taken
+
+pub returns-in-Lost-clause-beside : goal.returns-in-Lost-clause-beside
+returns-in-Lost-clause-beside g c = c.loop.invariant.beside

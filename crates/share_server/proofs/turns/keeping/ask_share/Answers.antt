@@ -6,6 +6,19 @@ use Rattle.share_server.specs.Kept.{IsReadyFor, edits_wanted}
 use Rattle.share_server.proofs.Kept.{goes_on_behind, grows_twice, is_lost_in_turn, kept_in_turn, lost_in_turn, unready_in_turn}
 use Rattle.share_server.proofs.turns.keeping.ask_share.Goals as goal
 
+-- what was answered is returned
+pub returns-in_default-clause-grows : goal.returns-in_default-clause-grows
+returns-in_default-clause-grows g c = c.answer_ask-outcome.ensures.grows
+
+pub returns-in_default-clause-looked : goal.returns-in_default-clause-looked
+returns-in_default-clause-looked g c = c.answer_ask-outcome.ensures.looked
+
+pub returns-then-is_ok-clause-grows : goal.returns-then-is_ok-clause-grows
+returns-then-is_ok-clause-grows g c = c.answer_ask-outcome.ensures.grows
+
+pub returns-then-is_ok-clause-looked : goal.returns-then-is_ok-clause-looked
+returns-then-is_ok-clause-looked g c = c.answer_ask-outcome.ensures.looked
+
 -- it brings no edits
 pub returns-in_default-clause-keeping : goal.returns-in_default-clause-keeping
 returns-in_default-clause-keeping g c = λ k own found.

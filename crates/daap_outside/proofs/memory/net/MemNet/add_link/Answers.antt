@@ -1,4 +1,6 @@
 use Rattle.std.proofs.Common.{rules}
+use Rattle.daap_outside.specs.MemLink.{IsNew}
+use Rattle.daap_outside.proofs.Opening.{All-pushed}
 use Rattle.daap_outside.proofs.memory.net.MemNet.add_link.Goals as goal
 
 -- One search proves all clauses of a return. A search for each clause, as without an answer, takes far longer.
@@ -7,3 +9,10 @@ returns-in_err-push_back c = search rules
 
 pub returns : goal.returns
 returns c = search rules
+
+-- the other connections are new, and so is this one
+pub invariant_of-self : goal.invariant_of-self
+invariant_of-self c = record {
+  new_doors = c.args.self.now.new_doors;
+  new_links = All-pushed IsNew _ _ _ _ c.push_back.ensures.items c.args.self.now.new_links c.requires;
+}

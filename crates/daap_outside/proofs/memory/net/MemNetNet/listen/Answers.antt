@@ -1,22 +1,33 @@
-use Rattle.std.proofs.Common.{arith, rules}
-use Rattle.std.proofs.lemmas.Grind.{common_steps}
-use Rattle.daap_outside.specs.MemNet.{doors_of}
-use Rattle.daap_outside.specs.MemDoor.{coming_of}
-use Rattle.daap_outside.proofs.Opening.{opens_first}
+use Rattle.std.proofs.Common.{rules}
 use Rattle.daap_outside.proofs.memory.net.MemNetNet.listen.Goals as goal
 
 -- One search proves all clauses of a return. A search for each clause, as without an answer, takes far longer.
 pub returns-in_err-ask : goal.returns-in_err-ask
 returns-in_err-ask c = search rules
 
+pub invariant_of-self : goal.invariant_of-self
+invariant_of-self c = record { new_doors = c.ask.new.self.new_doors; new_links = c.ask.new.self.new_links }
+
 pub returns-then-len-number : goal.returns-then-len-number
 returns-then-len-number c = search rules
+
+pub invariant_of-self-in_default : goal.invariant_of-self-in_default
+invariant_of-self-in_default c = record { new_doors = c.ask.new.self.new_doors; new_links = c.ask.new.self.new_links }
 
 pub returns-in_default : goal.returns-in_default
 returns-in_default c = search rules
 
-pub returns-in_err-later : goal.returns-in_err-later
-returns-in_err-later c = search rules
+pub invariant_of-self-in-Break-branch-2 : goal.invariant_of-self-in-Break-branch-2
+invariant_of-self-in-Break-branch-2 c =
+    record { new_doors = c.take_first.ensures.new_rest c.ask.new.self.new_doors; new_links = c.ask.new.self.new_links }
 
-pub returns-clause-links : goal.returns-clause-links
-returns-clause-links c = let told = opens_first coming_of c.args.number (doors_of c.args.self.now) in grind (arith, common_steps)
+pub returns-in_err-doors : goal.returns-in_err-doors
+returns-in_err-doors c = search rules
+
+pub invariant_of-self-2 : goal.invariant_of-self-2
+invariant_of-self-2 c =
+    record { new_doors = c.take_first.ensures.new_rest c.ask.new.self.new_doors; new_links = c.ask.new.self.new_links }
+
+-- the listeners that are returned are new ones
+pub returns : goal.returns
+returns c = let opened = c.in_ok-doors.ensures.new_first c.ask.new.self.new_doors in search rules

@@ -1,0 +1,9 @@
+use Rattle.std.proofs.Common.{rules}
+use Rattle.mirror_client.proofs.ExchangeFacts.{unwritten}
+use Rattle.mirror_client.proofs.follower.learn_table.Goals as goal
+
+pub returns-in_err-request : goal.returns-in_err-request
+returns-in_err-request g c = search (rules, unwritten)
+
+pub returns-in_err-table : goal.returns-in_err-table
+returns-in_err-table g c = search (rules, unwritten)
