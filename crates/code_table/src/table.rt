@@ -14,7 +14,6 @@ use std::collections::BTreeMap;
 use std::marker::Model;
 
 /// Content codes with their kinds and names. No code has two rows.
-#[derive(Drop)]
 pub struct CodeTable {
     rows: Vec<CodeRow>,
     /// The kinds by code.
@@ -22,6 +21,16 @@ pub struct CodeTable {
     /// The index at which the row of a code may be, by the code's slot. A reader needs a kind at each tag, and tries
     /// this row first.
     hints: Vec<usize>,
+}
+
+impl Drop for CodeTable {
+    fn drop(self) {
+        let CodeTable {
+            rows: _,
+            kinds: _,
+            hints: _,
+        } = self;
+    }
 }
 
 impl Model for CodeTable {

@@ -12,7 +12,7 @@ use std::alloc::Global;
 pub const USAGE: &str = "codes [--learn]";
 
 /// The arguments of `codes`: `learn` if the table is to be read from the input, instead of the standard one.
-#[derive(Drop)]
+#[derive(Debug, Drop)]
 pub struct CodesWords {
     pub learn: bool,
 }

@@ -20,7 +20,7 @@ use std::alloc::{AllocError, Global};
 use thiserror::Error;
 
 /// A command, with its arguments.
-#[derive(Drop)]
+#[derive(Debug, Drop)]
 pub enum Command {
     /// A command over standard input and output only.
     Local(LocalCommand),
@@ -29,7 +29,7 @@ pub enum Command {
 }
 
 /// A command over standard input and output only.
-#[derive(Drop)]
+#[derive(Debug, Drop)]
 pub enum LocalCommand {
     /// Writes the full listing of the records on the input.
     List(ListWords),
@@ -48,7 +48,7 @@ pub enum LocalCommand {
 }
 
 /// A command over the network.
-#[derive(Drop)]
+#[derive(Debug, Drop)]
 pub enum NetCommand {
     /// Serves a share to players and editors.
     Serve(ServeWords),

@@ -14,7 +14,7 @@ use std::alloc::Global;
 pub const USAGE: &str = "edit PLACE [--stop]";
 
 /// The arguments of `edit`: a share's address for editors, of 1 to 255 bytes, and whether to `stop` the share.
-#[derive(Drop)]
+#[derive(Debug, Drop)]
 pub struct EditWords {
     pub place: Text,
     pub stop: bool,

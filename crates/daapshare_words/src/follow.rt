@@ -18,7 +18,7 @@ pub const USAGE: &str = "follow PLACE ROUNDS [--query Q] [--meta M] [--list ID]"
 
 /// The arguments of `follow`: a share's address for players, of 1 to 255 bytes; the number of rounds, 1 to 16,384; and
 /// what is listed. The texts are as given, and not yet read. `list` is the id of a container, at least 1.
-#[derive(Drop)]
+#[derive(Debug, Drop)]
 pub struct FollowWords {
     pub place: Text,
     pub rounds: u32,

@@ -12,7 +12,7 @@ use std::alloc::Global;
 pub const USAGE: &str = "json [--back]";
 
 /// The arguments of `json`: `back` if tags are to be read from JSON.
-#[derive(Drop)]
+#[derive(Debug, Drop)]
 pub struct JsonWords {
     pub back: bool,
 }

@@ -16,7 +16,7 @@ use std::alloc::Global;
 pub const USAGE: &str = "list [--query Q] [--meta M] [--list ID]";
 
 /// The arguments of `list`. The texts are as given, and not yet read. `list` is the id of a container, at least 1.
-#[derive(Drop)]
+#[derive(Debug, Drop)]
 pub struct ListWords {
     pub query: Option<Text>,
     pub meta: Option<Text>,

@@ -16,7 +16,7 @@ pub const USAGE: &str = "rehearse NUMBER BATCHES SIZE [--keep K]";
 
 /// The arguments of `rehearse`: the number, at most 2,147,483,647, from which batches are made up; 1 to 65,536 batches
 /// of 1 to 256 edits each; and the delta window, 1 to 65,536 revisions, 256 without `--keep`.
-#[derive(Drop)]
+#[derive(Debug, Drop)]
 pub struct RehearseWords {
     pub number: u32,
     pub batches: u32,

@@ -19,7 +19,7 @@ pub const USAGE: &str = "relay UPSTREAM LISTEN ROUNDS [--name N] [--keep K] [--w
 /// The arguments of `relay`: the addresses where the followed share and the relay listen for players, each of 1 to 255
 /// bytes; the number of rounds, 1 to 16,384; the relay's name, of at most 255 bytes; its delta window, 1 to 65,536
 /// revisions; and how many threads, 1 to 64, serve the connections of players, one connection at a time.
-#[derive(Drop)]
+#[derive(Debug, Drop)]
 pub struct RelayWords {
     pub upstream: Text,
     pub listen: Text,

@@ -15,7 +15,7 @@ use std::alloc::Global;
 pub const USAGE: &str = "replay [--keep K] [--name N]";
 
 /// The arguments of `replay`: the share's name, of at most 255 bytes, and its delta window, 1 to 65,536 revisions.
-#[derive(Drop)]
+#[derive(Debug, Drop)]
 pub struct ReplayWords {
     pub keep: u32,
     pub name: Text,

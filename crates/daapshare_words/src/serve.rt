@@ -20,7 +20,7 @@ pub const USAGE: &str =
 /// The arguments of `serve`: the addresses where it listens for players and for editors, each of 1 to 255 bytes; its
 /// name, of at most 255 bytes; its delta window, 1 to 65,536 revisions; and how many threads serve the connections of
 /// each address, one connection at a time: 1 to 64 for players, and for editors 1 to 8, or 1 if a file keeps the edits.
-#[derive(Drop)]
+#[derive(Debug, Drop)]
 pub struct ServeWords {
     pub listen: Text,
     pub edit: Text,

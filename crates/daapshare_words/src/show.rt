@@ -12,7 +12,7 @@ use std::alloc::Global;
 pub const USAGE: &str = "show [--back]";
 
 /// The arguments of `show`: `back` if tags are to be read from text.
-#[derive(Drop)]
+#[derive(Debug, Drop)]
 pub struct ShowWords {
     pub back: bool,
 }

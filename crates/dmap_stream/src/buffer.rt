@@ -10,9 +10,14 @@ use std::alloc::{AllocError, Global};
 use std::marker::Model;
 
 /// Bytes that grow as they come, never by a length that was only announced.
-#[derive(Drop)]
 pub struct Buffer {
     bytes: Vec<u8>,
+}
+
+impl Drop for Buffer {
+    fn drop(self) {
+        let Buffer { bytes: _ } = self;
+    }
 }
 
 impl Model for Buffer {

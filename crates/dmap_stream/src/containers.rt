@@ -19,9 +19,14 @@ pub struct Container {
 }
 
 /// The lists around a place, which contracts see from the innermost to the outermost.
-#[derive(Drop)]
 pub struct Containers {
     outermost_first: Vec<Container>,
+}
+
+impl Drop for Containers {
+    fn drop(self) {
+        let Containers { outermost_first: _ } = self;
+    }
 }
 
 impl Model for Containers {

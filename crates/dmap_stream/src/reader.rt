@@ -20,13 +20,24 @@ pub struct Limits {
 }
 
 /// Reads tags out of bytes that come in chunks.
-#[derive(Drop)]
 pub struct DmapReader {
     alloc: Global,
     table: CodeTable,
     limits: Limits,
     position: Position,
     error: Option<StreamError>,
+}
+
+impl Drop for DmapReader {
+    fn drop(self) {
+        let DmapReader {
+            alloc: _,
+            table: _,
+            limits: _,
+            position: _,
+            error: _,
+        } = self;
+    }
 }
 
 impl Model for DmapReader {

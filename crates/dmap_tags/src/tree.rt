@@ -38,9 +38,16 @@ pub struct Tag {
 
 /// The tags of a list, in order.
 #[cycle(tag)]
-#[derive(Debug, Drop)]
+#[derive(Debug)]
 pub struct Tags {
     items: Vec<Tag>,
+}
+
+impl Drop for Tags {
+    #[cycle(letting_go)]
+    fn drop(self) {
+        let Tags { items: _ } = self;
+    }
 }
 
 impl Model for Tag {
@@ -158,7 +165,8 @@ impl Tags {
     pub fn into_vec(self) -> Vec<Tag>
         ensures { result.items ≡ self }
     {
-        self.items
+        let Tags { items } = self;
+        items
     }
 
     /// Appends a tag. If it fails, the tags are unchanged.

@@ -7,10 +7,18 @@ use std::alloc::{AllocError, Global};
 use std::marker::Model;
 
 /// The entries of a history, oldest first, with spare capacity.
-#[derive(Drop)]
 pub struct EditLog {
     entries: Vec<Entry>,
     revision: u32,
+}
+
+impl Drop for EditLog {
+    fn drop(self) {
+        let EditLog {
+            entries: _,
+            revision: _,
+        } = self;
+    }
 }
 
 impl Model for EditLog {
@@ -97,6 +105,10 @@ impl EditLog {
     pub fn into_entries(self) -> Vec<Entry>
         ensures { result.items ≡ self.entries }
     {
-        self.entries
+        let EditLog {
+            entries,
+            revision: _,
+        } = self;
+        entries
     }
 }

@@ -14,12 +14,22 @@ use std::alloc::Global;
 use std::marker::Model;
 
 /// Reads replies from bytes as they come.
-#[derive(Drop)]
 pub struct ReplyReader {
     replies: Gatherer,
     ready: Option<(u16, Bytes)>,
     error: Option<ReplyError>,
     taken: u64,
+}
+
+impl Drop for ReplyReader {
+    fn drop(self) {
+        let ReplyReader {
+            replies: _,
+            ready: _,
+            error: _,
+            taken: _,
+        } = self;
+    }
 }
 
 impl Model for ReplyReader {

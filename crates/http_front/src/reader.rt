@@ -17,7 +17,6 @@ use std::alloc::{AllocError, Global};
 use std::marker::Model;
 
 /// Reads requests from bytes as they come.
-#[derive(Drop)]
 pub struct HeadReader {
     alloc: Global,
     role: Role,
@@ -25,6 +24,19 @@ pub struct HeadReader {
     requests: Gatherer,
     ready: Option<Ask>,
     error: Option<HeadError>,
+}
+
+impl Drop for HeadReader {
+    fn drop(self) {
+        let HeadReader {
+            alloc: _,
+            role: _,
+            router: _,
+            requests: _,
+            ready: _,
+            error: _,
+        } = self;
+    }
 }
 
 impl Model for HeadReader {

@@ -7,9 +7,14 @@ use std::marker::Model;
 use std::mem;
 
 /// Bytes that came. The buffer never grows by a length that was only announced.
-#[derive(Drop)]
 pub struct Buffer {
     bytes: Vec<u8>,
+}
+
+impl Drop for Buffer {
+    fn drop(self) {
+        let Buffer { bytes: _ } = self;
+    }
 }
 
 impl Model for Buffer {

@@ -29,12 +29,22 @@ pub enum Phase {
 }
 
 /// Gathers messages of one kind, one after another. Each byte of a head is scanned once for the head's end.
-#[derive(Drop)]
 pub struct Gatherer {
     kind: Kind,
     head: Buffer,
     body: Buffer,
     phase: Phase,
+}
+
+impl Drop for Gatherer {
+    fn drop(self) {
+        let Gatherer {
+            kind: _,
+            head: _,
+            body: _,
+            phase: _,
+        } = self;
+    }
 }
 
 impl Model for Gatherer {

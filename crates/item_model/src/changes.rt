@@ -9,7 +9,7 @@ use std::alloc::{AllocError, Global};
 use std::marker::Model;
 
 /// One change of the library or of its lists. Ids of items and members are at least 1, ids of lists at least 2.
-#[derive(Drop)]
+#[derive(Debug, Drop)]
 pub enum Edit {
     PutItem { row: SharedRow },
     DropItem { id: u32 },
@@ -53,9 +53,15 @@ impl Edit {
 }
 
 /// A list of edits.
-#[derive(Drop)]
+#[derive(Debug)]
 pub struct Edits {
     items: Vec<Edit>,
+}
+
+impl Drop for Edits {
+    fn drop(self) {
+        let Edits { items: _ } = self;
+    }
 }
 
 impl Model for Edits {
@@ -98,7 +104,8 @@ impl Edits {
     pub fn into_vec(self) -> Vec<Edit>
         ensures { result.items ≡ self }
     {
-        self.items
+        let Edits { items } = self;
+        items
     }
 
     /// Appends an edit. If it fails, the edits are unchanged.
@@ -130,7 +137,7 @@ fn copies(alloc: Global, edits: &[Edit]) -> Result<Vec<Edit>, AllocError>
 }
 
 /// Edits that are made together or not at all.
-#[derive(Drop)]
+#[derive(Debug, Drop)]
 pub struct Batch {
     pub edits: Edits,
 }
@@ -169,9 +176,14 @@ pub enum Entry {
 }
 
 /// A list of entries, oldest first.
-#[derive(Drop)]
 pub struct Entries {
     items: Vec<Entry>,
+}
+
+impl Drop for Entries {
+    fn drop(self) {
+        let Entries { items: _ } = self;
+    }
 }
 
 impl Model for Entries {
@@ -214,7 +226,8 @@ impl Entries {
     pub fn into_vec(self) -> Vec<Entry>
         ensures { result.items ≡ self }
     {
-        self.items
+        let Entries { items } = self;
+        items
     }
 
     /// Appends an entry. If it fails, the entries are unchanged.

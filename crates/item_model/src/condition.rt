@@ -10,7 +10,7 @@ use std::alloc::{AllocError, Global};
 use std::marker::Model;
 
 /// The operator of a condition.
-#[derive(Clone, Copy, PartialEq, Eq)]
+#[derive(Clone, Copy, Debug, PartialEq, Eq)]
 pub enum Op {
     /// The property matches the pattern.
     Is,
@@ -24,10 +24,19 @@ pub enum Op {
 
 /// The literal parts of a condition's value, one or more, with a wildcard between each two. The folded parts are
 /// stored too.
-#[derive(Drop)]
+#[derive(Debug)]
 pub struct Pattern {
     pieces: Vec<Text>,
     folds: Vec<Text>,
+}
+
+impl Drop for Pattern {
+    fn drop(self) {
+        let Pattern {
+            pieces: _,
+            folds: _,
+        } = self;
+    }
 }
 
 impl Model for Pattern {
@@ -42,7 +51,7 @@ impl Model for Pattern {
 }
 
 /// A condition on the property with the name.
-#[derive(Drop)]
+#[derive(Debug, Drop)]
 pub struct Cond {
     pub name: Text,
     pub op: Op,

@@ -15,18 +15,27 @@ use thiserror::Error;
 pub const TEXT_BYTES: usize = 255;
 
 /// The value of a property.
-#[derive(Drop)]
+#[derive(Debug, Drop)]
 pub enum PropValue {
     Number(u64),
     Text(Text),
 }
 
 /// The properties that an item has, each with its value, and the folded texts that conditions compare.
-#[derive(Drop)]
+#[derive(Debug)]
 pub struct Item {
     entries: Vec<(Property, PropValue)>,
     // The folded texts, except those that lowering the text's ASCII letters yields.
     folds: Vec<(Property, Text)>,
+}
+
+impl Drop for Item {
+    fn drop(self) {
+        let Item {
+            entries: _,
+            folds: _,
+        } = self;
+    }
 }
 
 impl Model for Item {
@@ -45,7 +54,7 @@ impl Model for Item {
 }
 
 /// An item with its id.
-#[derive(Drop)]
+#[derive(Debug, Drop)]
 pub struct Row {
     pub id: u32,
     pub item: Item,

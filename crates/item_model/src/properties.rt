@@ -7,9 +7,15 @@ use std::alloc::{AllocError, Global};
 use std::marker::Model;
 
 /// A list of properties, in the order in which a request names them.
-#[derive(Debug, Drop)]
+#[derive(Debug)]
 pub struct Properties {
     items: Vec<Property>,
+}
+
+impl Drop for Properties {
+    fn drop(self) {
+        let Properties { items: _ } = self;
+    }
 }
 
 impl Model for Properties {
@@ -48,7 +54,8 @@ impl Properties {
     pub fn into_vec(self) -> Vec<Property>
         ensures { result.items ≡ self }
     {
-        self.items
+        let Properties { items } = self;
+        items
     }
 
     /// Appends a property. If it fails, the properties are unchanged.

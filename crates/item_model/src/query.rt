@@ -8,7 +8,7 @@ use std::marker::Model;
 
 /// A condition on rows. `And` and `Or` have two or more members.
 #[cycle(query)]
-#[derive(Drop)]
+#[derive(Debug, Drop)]
 pub enum Query {
     Cond(Cond),
     And(Queries),
@@ -17,9 +17,16 @@ pub enum Query {
 
 /// The members of a query, in order.
 #[cycle(query)]
-#[derive(Drop)]
+#[derive(Debug)]
 pub struct Queries {
     items: Vec<Query>,
+}
+
+impl Drop for Queries {
+    #[cycle(letting_go)]
+    fn drop(self) {
+        let Queries { items: _ } = self;
+    }
 }
 
 impl Model for Queries {
@@ -73,7 +80,8 @@ impl Queries {
     pub fn into_vec(self) -> Vec<Query>
         ensures { map tree_of result.items ≡ self }
     {
-        self.items
+        let Queries { items } = self;
+        items
     }
 
     /// Appends a query. If it fails, the queries are unchanged.
@@ -89,7 +97,7 @@ impl Queries {
     pub fn single(self) -> Result<Query, Queries>
         ensures { MatchResult result (λ query. self ≡ tree_of query ∷ []) (λ queries. (queries ≡ self) × (length self ≢ 1)) }
     {
-        let mut items = self.items;
+        let Queries { mut items } = self;
         if items.len() != 1 {
             return Err(Queries { items });
         }

@@ -20,14 +20,14 @@ pub enum Meta {
 }
 
 /// What is listed: the items of the library, or the members of a container.
-#[derive(Clone, Copy, PartialEq, Eq)]
+#[derive(Clone, Copy, Debug, PartialEq, Eq)]
 pub enum Target {
     Items,
     Container(u32),
 }
 
 /// Which rows of a full listing are shown, by their indices from 0.
-#[derive(Clone, Copy, PartialEq, Eq)]
+#[derive(Clone, Copy, Debug, PartialEq, Eq)]
 pub enum Range {
     All,
     One { at: u32 },
@@ -39,7 +39,7 @@ pub enum Range {
 }
 
 /// The parameters of a listing. `base` is a revision, 0 for a full listing.
-#[derive(Drop)]
+#[derive(Debug, Drop)]
 pub struct Look {
     pub query: Option<Query>,
     pub meta: Meta,
@@ -48,7 +48,7 @@ pub struct Look {
 }
 
 /// The property whose values are browsed.
-#[derive(Clone, Copy, PartialEq, Eq)]
+#[derive(Clone, Copy, Debug, PartialEq, Eq)]
 pub enum Browse {
     Artists,
     Albums,

@@ -9,9 +9,15 @@ use std::sync::Arc;
 
 /// A row that may have several owners, in any threads. So a batch, the history with the batch and a store share its
 /// texts. Contracts see the row.
-#[derive(Drop)]
+#[derive(Debug)]
 pub struct SharedRow {
     row: Arc<Row, Global>,
+}
+
+impl Drop for SharedRow {
+    fn drop(self) {
+        let SharedRow { row: _ } = self;
+    }
 }
 
 impl Model for SharedRow {

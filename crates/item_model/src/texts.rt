@@ -7,9 +7,14 @@ use std::alloc::{AllocError, Global};
 use std::marker::Model;
 
 /// A list of texts.
-#[derive(Drop)]
 pub struct Texts {
     items: Vec<Text>,
+}
+
+impl Drop for Texts {
+    fn drop(self) {
+        let Texts { items: _ } = self;
+    }
 }
 
 impl Model for Texts {
@@ -47,7 +52,8 @@ impl Texts {
     pub fn into_vec(self) -> Vec<Text>
         ensures { result.items ≡ self }
     {
-        self.items
+        let Texts { items } = self;
+        items
     }
 
     /// Appends a text. If it fails, the texts are unchanged.

@@ -22,7 +22,6 @@ use std::marker::Model;
 use std::mem;
 
 /// The items that batches of edits leave, with what they were as far back as is kept.
-#[derive(Drop)]
 pub struct ItemStore {
     alloc: Global,
     keep: u32,
@@ -38,6 +37,24 @@ pub struct ItemStore {
     // the rows of all items, and what they were before the last batch
     present: RowSheets,
     before: RowSheets,
+}
+
+impl Drop for ItemStore {
+    fn drop(self) {
+        let ItemStore {
+            alloc: _,
+            keep: _,
+            revision: _,
+            low: _,
+            can_undo: _,
+            count: _,
+            count_before: _,
+            named: _,
+            held: _,
+            present: _,
+            before: _,
+        } = self;
+    }
 }
 
 impl Model for ItemStore {

@@ -13,11 +13,20 @@ use std::collections::BTreeMap;
 use std::marker::Model;
 
 /// Values under keys, each with its earlier values by revision. A key with one version costs only that version.
-#[derive(Drop)]
 pub struct Versions<T> {
     alloc: Global,
     newest: Newest<T>,
     older: Older<T>,
+}
+
+impl<T: Drop> Drop for Versions<T> {
+    fn drop(self) {
+        let Versions {
+            alloc: _,
+            newest: _,
+            older: _,
+        } = self;
+    }
 }
 
 impl<T> Model for Versions<T> {

@@ -47,13 +47,24 @@ pub(crate) enum Scope {
 }
 
 /// A listing's rows, to be written later. Only `Plan::full`, `Plan::sheets` and `Plan::delta` make one.
-#[derive(Drop)]
 pub struct RowPlan {
     target: Target,
     revision: u32,
     scope: Scope,
     rows: Listed,
     shown: ShownProperties,
+}
+
+impl Drop for RowPlan {
+    fn drop(self) {
+        let RowPlan {
+            target: _,
+            revision: _,
+            scope: _,
+            rows: _,
+            shown: _,
+        } = self;
+    }
 }
 
 impl Model for RowPlan {

@@ -31,7 +31,6 @@ use std::marker::Model;
 
 /// A client that has learned a share's table and is logged in. It keeps bytes that it read ahead, so every call needs
 /// the connection that it was opened with.
-#[derive(Drop)]
 pub struct Follower {
     alloc: Global,
     host: Text,
@@ -39,6 +38,19 @@ pub struct Follower {
     table: CodeTable,
     incoming: Incoming,
     calls: u32,
+}
+
+impl Drop for Follower {
+    fn drop(self) {
+        let Follower {
+            alloc: _,
+            host: _,
+            session: _,
+            table: _,
+            incoming: _,
+            calls: _,
+        } = self;
+    }
 }
 
 impl Model for Follower {
@@ -191,14 +203,15 @@ impl Follower {
             (place (K.taken link.old) (K.left link.old) self.ahead) (K.taken link.new) e) }
         ensures count { MatchResult result (λ _. K.faults link.new ≡ K.faults link.old) (λ e. CountsFault (K.faults link.old) (K.faults link.new) e) }
     {
-        let mut incoming = self.incoming;
-        log_out(
-            self.alloc,
-            link,
-            &mut incoming,
-            self.session,
-            self.host.as_str(),
-        )
+        let Follower {
+            alloc,
+            host,
+            session,
+            table: _,
+            mut incoming,
+            calls: _,
+        } = self;
+        log_out(alloc, link, &mut incoming, session, host.as_str())
     }
 }
 

@@ -14,11 +14,20 @@ use std::marker::Model;
 const PIECE: usize = 8_192;
 
 /// The bytes that were read and not used by a response, and how many bytes responses have used.
-#[derive(Drop)]
 pub(crate) struct Incoming {
     bytes: Vec<u8>,
     at: usize,
     used: u64,
+}
+
+impl Drop for Incoming {
+    fn drop(self) {
+        let Incoming {
+            bytes: _,
+            at: _,
+            used: _,
+        } = self;
+    }
 }
 
 impl Model for Incoming {

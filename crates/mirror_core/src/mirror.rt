@@ -15,7 +15,6 @@ use std::marker::Model;
 use thiserror::Error;
 
 /// The contents of a mirror of one listing.
-#[derive(Drop)]
 pub struct Mirror {
     alloc: Global,
     target: Target,
@@ -24,6 +23,19 @@ pub struct Mirror {
     revision: u32,
     // ascending by key
     rows: Vec<(u32, Tag)>,
+}
+
+impl Drop for Mirror {
+    fn drop(self) {
+        let Mirror {
+            alloc: _,
+            target: _,
+            query: _,
+            meta: _,
+            revision: _,
+            rows: _,
+        } = self;
+    }
 }
 
 impl Model for Mirror {
@@ -44,7 +56,7 @@ impl Model for Mirror {
 }
 
 /// What applying a listing did.
-#[derive(Clone, Copy, PartialEq, Eq)]
+#[derive(Clone, Copy, Debug, PartialEq, Eq)]
 pub struct Applied {
     /// The revision of the listing.
     pub revision: u32,

@@ -23,7 +23,6 @@ use std::marker::Model;
 use std::sync::ledger::Ledger;
 
 /// The lists after batches of edits, with their earlier versions in the window.
-#[derive(Drop)]
 pub struct PlaylistStore {
     pub(crate) alloc: Global,
     pub(crate) keep: u32,
@@ -34,6 +33,20 @@ pub struct PlaylistStore {
     // what each batch after `low` names, in order
     pub(crate) named: VecDeque<Named>,
     pub(crate) lists: BTreeMap<u32, ListHistory>,
+}
+
+impl Drop for PlaylistStore {
+    fn drop(self) {
+        let PlaylistStore {
+            alloc: _,
+            keep: _,
+            revision: _,
+            low: _,
+            can_undo: _,
+            named: _,
+            lists: _,
+        } = self;
+    }
 }
 
 impl Model for PlaylistStore {

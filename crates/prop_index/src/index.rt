@@ -25,13 +25,24 @@ use std::alloc::{AllocError, Global};
 use std::collections::BTreeMap;
 
 /// The ids of a library's items by their artist, album, genre and composer.
-#[derive(Drop)]
 pub struct PropIndex {
     alloc: Global,
     artists: FormIds,
     albums: FormIds,
     genres: FormIds,
     composers: FormIds,
+}
+
+impl Drop for PropIndex {
+    fn drop(self) {
+        let PropIndex {
+            alloc: _,
+            artists: _,
+            albums: _,
+            genres: _,
+            composers: _,
+        } = self;
+    }
 }
 
 impl PropIndex {

@@ -24,11 +24,20 @@ use std::marker::Model;
 
 /// The library in the listings of a share, one after another, and the revision of the last one. The rows are shared
 /// with the batches that put them, so that each text is in memory once.
-#[derive(Drop)]
 pub struct Relay {
     alloc: Global,
     revision: u32,
     rows: Rows,
+}
+
+impl Drop for Relay {
+    fn drop(self) {
+        let Relay {
+            alloc: _,
+            revision: _,
+            rows: _,
+        } = self;
+    }
 }
 
 impl Model for Relay {

@@ -17,10 +17,18 @@ pub struct RowTags<'a> {
 }
 
 // The cells one after the other, and where each one starts and the last one ends.
-#[derive(Drop)]
 pub(crate) struct Cells {
     bytes: Vec<u8>,
     starts: Vec<u32>,
+}
+
+impl Drop for Cells {
+    fn drop(self) {
+        let Cells {
+            bytes: _,
+            starts: _,
+        } = self;
+    }
 }
 
 impl Cells {

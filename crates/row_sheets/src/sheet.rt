@@ -15,7 +15,6 @@ use std::alloc::{AllocError, Global};
 use std::marker::Model;
 
 /// Some rows, at least one, with the encoded tags of their properties.
-#[derive(Drop)]
 pub struct Sheet {
     rows: Vec<SharedRow>,
     // the ids of the rows: they lie here so that whoever passes a sheet or lists it reads no row
@@ -24,6 +23,18 @@ pub struct Sheet {
     cells: Cells,
     // how many bytes the rows have of each property
     column_lens: Vec<u32>,
+}
+
+impl Drop for Sheet {
+    fn drop(self) {
+        let Sheet {
+            rows: _,
+            ids: _,
+            properties: _,
+            cells: _,
+            column_lens: _,
+        } = self;
+    }
 }
 
 impl Model for Sheet {

@@ -13,12 +13,21 @@ use std::marker::Model;
 use std::sync::Arc;
 
 /// Rows by their ids, on sheets that several lists may share. Contracts see the rows under their ids, in ascending order.
-#[derive(Drop)]
 pub struct RowSheets {
     alloc: Global,
     sheets: Vec<Arc<Sheet, Global>>,
     // how many rows there are
     count: u32,
+}
+
+impl Drop for RowSheets {
+    fn drop(self) {
+        let RowSheets {
+            alloc: _,
+            sheets: _,
+            count: _,
+        } = self;
+    }
 }
 
 impl Model for RowSheets {

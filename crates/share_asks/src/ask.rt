@@ -14,14 +14,14 @@ pub enum Role {
 }
 
 /// The method of a request.
-#[derive(Clone, Copy, PartialEq, Eq)]
+#[derive(Clone, Copy, Debug, PartialEq, Eq)]
 pub enum Verb {
     Get,
     Post,
 }
 
 /// The error of a complete request.
-#[derive(Drop)]
+#[derive(Debug, Drop)]
 pub enum AskError {
     /// The path is not one of the role.
     Path,
@@ -35,7 +35,7 @@ pub enum AskError {
 
 /// The operation of a request. A session is the id of a login, or 0 if the request has none; a revision is 0 if the
 /// request has none.
-#[derive(Drop)]
+#[derive(Debug, Drop)]
 pub enum Want {
     ServerInfo,
     /// The table of content codes.

@@ -7,10 +7,15 @@ use std::marker::Model;
 
 /// The settings that a share is opened with and never changes: its name, and `keep`, the number of revisions in its
 /// delta window.
-#[derive(Drop)]
 pub struct Settings {
     name: Text,
     keep: u32,
+}
+
+impl Drop for Settings {
+    fn drop(self) {
+        let Settings { name: _, keep: _ } = self;
+    }
 }
 
 impl Model for Settings {

@@ -71,12 +71,22 @@ impl From<AllocError> for OpenError {
 }
 
 /// A share of items and lists, with its history. Its settings never change.
-#[derive(Drop)]
 pub struct Share {
     alloc: Global,
     settings: Settings,
     register: Register,
     stores: Stores,
+}
+
+impl Drop for Share {
+    fn drop(self) {
+        let Share {
+            alloc: _,
+            settings: _,
+            register: _,
+            stores: _,
+        } = self;
+    }
 }
 
 impl Model for Share {
@@ -244,7 +254,13 @@ impl Share {
         ensures history { result.items ≡ self.history }
         ensures whole { IsWhole result.items }
     {
-        self.register.into_history()
+        let Share {
+            alloc: _,
+            settings: _,
+            register,
+            stores: _,
+        } = self;
+        register.into_history()
     }
 
     // Returns a reply that adds no entry.

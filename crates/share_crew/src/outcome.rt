@@ -33,9 +33,14 @@ impl Outcome {
 }
 
 /// The reports of connections, worker by worker, for each worker in the order in which it accepted them.
-#[derive(Drop)]
 pub struct LinkReports {
     workers: Vec<Vec<LinkReport>>,
+}
+
+impl Drop for LinkReports {
+    fn drop(self) {
+        let LinkReports { workers: _ } = self;
+    }
 }
 
 impl Model for LinkReports {
@@ -73,6 +78,7 @@ impl LinkReports {
     pub fn into_vec(self) -> Vec<Vec<LinkReport>>
         ensures { map (λ links. links.items) result.items ≡ self }
     {
-        self.workers
+        let LinkReports { workers } = self;
+        workers
     }
 }

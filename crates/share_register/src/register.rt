@@ -32,7 +32,6 @@ fn begin(log: &mut EditLog, first: Batch) -> u32
 }
 
 /// The history of a share, the last-answered lengths of its live sessions, and counts.
-#[derive(Drop)]
 pub struct Register {
     log: EditLog,
     limited_entries: u32,
@@ -40,6 +39,19 @@ pub struct Register {
     logins: u32,
     is_stopped: bool,
     marks: BTreeMap<u32, u64>,
+}
+
+impl Drop for Register {
+    fn drop(self) {
+        let Register {
+            log: _,
+            limited_entries: _,
+            edits: _,
+            logins: _,
+            is_stopped: _,
+            marks: _,
+        } = self;
+    }
 }
 
 impl Model for Register {
@@ -234,6 +246,14 @@ impl Register {
     pub fn into_history(self) -> Vec<Entry>
         ensures { result.items ≡ self.history }
     {
-        self.log.into_entries()
+        let Register {
+            log,
+            limited_entries: _,
+            edits: _,
+            logins: _,
+            is_stopped: _,
+            marks: _,
+        } = self;
+        log.into_entries()
     }
 }

@@ -46,9 +46,14 @@ impl<T: Drop> From<AllocFailed<T>> for ScriptError {
 }
 
 /// The lines of a script, each of which may follow those before it.
-#[derive(Drop)]
 pub struct Script {
     lines: Vec<Delivery>,
+}
+
+impl Drop for Script {
+    fn drop(self) {
+        let Script { lines: _ } = self;
+    }
 }
 
 impl Model for Script {

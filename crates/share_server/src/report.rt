@@ -41,9 +41,14 @@ pub enum LinkEnd {
 }
 
 /// The requests that were served, in order.
-#[derive(Drop)]
 pub struct ServedRequests {
     items: Vec<Served>,
+}
+
+impl Drop for ServedRequests {
+    fn drop(self) {
+        let ServedRequests { items: _ } = self;
+    }
 }
 
 impl Model for ServedRequests {
@@ -72,7 +77,8 @@ impl ServedRequests {
     pub fn into_vec(self) -> Vec<Served>
         ensures { result.items ≡ self }
     {
-        self.items
+        let ServedRequests { items } = self;
+        items
     }
 }
 

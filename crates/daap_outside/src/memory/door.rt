@@ -18,7 +18,6 @@ use std::collections::VecDeque;
 ///
 /// It knows the returned connections up to its capacity. Some of its waits may be set to fail; the first wait has the
 /// number 1.
-#[derive(Drop)]
 pub struct MemDoor {
     coming: VecDeque<MemLink>,
     failing: Vec<u64>,
@@ -26,6 +25,18 @@ pub struct MemDoor {
     written: BoundedLog<Returned>,
     faults: u64,
     ghost new_links: { All IsNew coming.items },
+}
+
+impl Drop for MemDoor {
+    fn drop(self) {
+        let MemDoor {
+            coming: _,
+            failing: _,
+            calls: _,
+            written: _,
+            faults: _,
+        } = self;
+    }
 }
 
 impl MemDoor {
@@ -82,7 +93,14 @@ impl MemDoor {
     pub(crate) fn into_written(self) -> BoundedLog<Returned>
         ensures { result ≡ self.written }
     {
-        self.written
+        let MemDoor {
+            coming: _,
+            failing: _,
+            calls: _,
+            written,
+            faults: _,
+        } = self;
+        written
     }
 }
 

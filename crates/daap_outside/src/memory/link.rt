@@ -17,13 +17,24 @@ use std::marker::Model;
 
 /// Reads from a source, and writes to a sink; the bytes of both are known. Source and sink say which reads and which
 /// writes fail, and the connection has a list of the probes that fail. The first probe has the number 1.
-#[derive(Drop)]
 pub struct MemLink {
     input: MemSource,
     output: MemSink,
     failing: Option<Vec<u64>>,
     probes: u64,
     faults: u64,
+}
+
+impl Drop for MemLink {
+    fn drop(self) {
+        let MemLink {
+            input: _,
+            output: _,
+            failing: _,
+            probes: _,
+            faults: _,
+        } = self;
+    }
 }
 
 impl MemLink {
@@ -85,9 +96,16 @@ impl MemLink {
     pub(crate) fn returned(self) -> Returned
         ensures { result ≡ returned_link self }
     {
+        let MemLink {
+            input: _,
+            output,
+            failing: _,
+            probes: _,
+            faults,
+        } = self;
         Returned {
-            faulted: self.faults > 0,
-            bytes: self.output.into_taken(),
+            faulted: faults > 0,
+            bytes: output.into_taken(),
         }
     }
 }

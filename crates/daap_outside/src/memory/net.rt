@@ -25,7 +25,6 @@ use std::mem;
 ///
 /// It knows the requested addresses and the returned connections up to its capacity. Some of its calls of `listen`
 /// and `connect` may be set to fail; the first has the number 1.
-#[derive(Drop)]
 pub struct MemNet {
     doors: Vec<MemDoor>,
     links: VecDeque<MemLink>,
@@ -37,6 +36,21 @@ pub struct MemNet {
     faults: u64,
     ghost new_doors: { All is_new_door doors.items },
     ghost new_links: { All is_new_link links.items },
+}
+
+impl Drop for MemNet {
+    fn drop(self) {
+        let MemNet {
+            doors: _,
+            links: _,
+            failing: _,
+            calls: _,
+            asked: _,
+            written: _,
+            open_count: _,
+            faults: _,
+        } = self;
+    }
 }
 
 impl MemNet {

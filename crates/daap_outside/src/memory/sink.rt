@@ -10,7 +10,6 @@ use std::alloc::{AllocError, Global};
 
 /// Writes bytes to a buffer that was allocated when the sink was made, and knows them. Some of its calls may be set
 /// to fail; the first call has the number 1.
-#[derive(Drop)]
 pub struct MemSink {
     taken: Vec<u8>,
     room: usize,
@@ -21,6 +20,19 @@ pub struct MemSink {
     ghost fits: { vec_len taken ≤ room },
     ghost has_room: { room ≤ vec_capacity taken },
     ghost moves: { 0 < per_call },
+}
+
+impl Drop for MemSink {
+    fn drop(self) {
+        let MemSink {
+            taken: _,
+            room: _,
+            per_call: _,
+            failing: _,
+            calls: _,
+            faults: _,
+        } = self;
+    }
 }
 
 impl MemSink {
@@ -65,7 +77,15 @@ impl MemSink {
     pub fn into_taken(self) -> Vec<u8>
         ensures { Some result.items ≡ ⟦<MemSink as Sink>⟧.taken self }
     {
-        self.taken
+        let MemSink {
+            taken,
+            room: _,
+            per_call: _,
+            failing: _,
+            calls: _,
+            faults: _,
+        } = self;
+        taken
     }
 }
 

@@ -12,7 +12,6 @@ use std::alloc::{AllocError, Global};
 
 /// Reads the bytes that it was made with, and knows those that are left. Some of its calls may be set to fail; the
 /// first call has the number 1.
-#[derive(Drop)]
 pub struct MemSource {
     bytes: Vec<u8>,
     given: usize,
@@ -22,6 +21,19 @@ pub struct MemSource {
     faults: u64,
     ghost in_range: { given ≤ vec_len bytes },
     ghost moves: { 0 < per_call },
+}
+
+impl Drop for MemSource {
+    fn drop(self) {
+        let MemSource {
+            bytes: _,
+            given: _,
+            per_call: _,
+            failing: _,
+            calls: _,
+            faults: _,
+        } = self;
+    }
 }
 
 impl MemSource {

@@ -42,7 +42,6 @@ pub struct DiskCall {
 ///
 /// Some of its calls may be set to fail; the first recorded call has the number 1. A write or a truncation that is
 /// set to fail leaves the bytes, but a crash may then leave it done or half done.
-#[derive(Drop)]
 pub struct MemDisk {
     name: Vec<u8>,
     stand: Stand,
@@ -53,6 +52,20 @@ pub struct MemDisk {
     // The memory that files need to keep it once it is closed.
     closed_room: Box<ClosedFiles>,
     ghost has_name_room: { 255 ≤ vec_capacity name },
+}
+
+impl Drop for MemDisk {
+    fn drop(self) {
+        let MemDisk {
+            name: _,
+            stand: _,
+            calls: _,
+            pieces: _,
+            failing: _,
+            faults: _,
+            closed_room: _,
+        } = self;
+    }
 }
 
 impl MemDisk {
@@ -137,8 +150,11 @@ impl MemDisk {
         let MemDisk {
             name,
             stand,
+            calls: _,
+            pieces: _,
+            failing: _,
+            faults: _,
             closed_room,
-            ..
         } = self;
         let Stand { bytes, .. } = stand;
         closed.push(name, bytes, closed_room);

@@ -12,10 +12,18 @@ use std::alloc::{AllocError, Global};
 /// that were closed under that name last. If no disk is left with the capacity for them, the call fails.
 ///
 /// The bytes of each name are always known, and the requested names up to their capacity.
-#[derive(Drop)]
 pub struct MemFiles {
     shelf: Option<Shelf>,
     faults: u64,
+}
+
+impl Drop for MemFiles {
+    fn drop(self) {
+        let MemFiles {
+            shelf: _,
+            faults: _,
+        } = self;
+    }
 }
 
 impl MemFiles {
