@@ -51,12 +51,12 @@ fn look_ups(alloc: Global, songs: u32) -> anyhow::Result<LookUps> {
         names: Vec::new(alloc),
         queries: Vec::new(alloc),
     };
-    let artists = (songs / SONGS_EACH).max(1);
-    add_look_ups(alloc, &mut made, artists)?;
+    add_look_ups(alloc, &mut made, songs)?;
     Ok(made)
 }
 
-fn add_look_ups(alloc: Global, look_ups: &mut LookUps, artists: u32) -> anyhow::Result<()> {
+fn add_look_ups(alloc: Global, look_ups: &mut LookUps, songs: u32) -> anyhow::Result<()> {
+    let artists = (songs / SONGS_EACH).max(1);
     for look_up in 0..LOOK_UPS {
         // Spread the names over the index.
         let name = artist(alloc, look_up * 7919 % artists)?;
