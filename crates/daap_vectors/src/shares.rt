@@ -1,6 +1,6 @@
 //! A share, and requests to it, one after another.
 
-ghost use Rattle.std.specs.Prelude.{◌≡◌, ◌<◌, IfOk};
+ghost use Rattle.std.specs.Prelude.{◌≡◌, ◌<◌, [], IfOk};
 ghost use Rattle.share_asks.specs.Valid.{IsValidWant};
 
 use http_front::HeadReader;
@@ -20,7 +20,9 @@ pub(crate) enum Request {
 }
 
 /// Opens a share without records.
-pub(crate) fn opened(alloc: Global) -> Result<Share, AllocError> {
+pub(crate) fn opened(alloc: Global) -> Result<Share, AllocError>
+    ensures { IfOk result (λ share. share.history ≡ []) }
+{
     let first = Batch {
         edits: Edits::new(alloc),
     };
