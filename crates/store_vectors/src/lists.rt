@@ -65,6 +65,7 @@ fn since(alloc: Global, stores: &Stores, list: u32, bases: (u32, u32)) -> Result
     format!(in alloc; "{members} {first} {second}")
 }
 
+#[tactic(auto, using(crate::proofs::Few::same_window))]
 fn since_after(
     alloc: Global,
     first: &[&'static str],

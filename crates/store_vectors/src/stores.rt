@@ -1,7 +1,8 @@
 //! The stores of a share's items and lists after a few batches.
 
-ghost use Rattle.std.specs.Prelude.{◌≡◌, ◌<◌, true, IfOk, OnOk};
+ghost use Rattle.std.specs.Prelude.{◌≡◌, ◌<◌, ◌≤◌, ◌+◌, length, true, IfOk};
 ghost use Rattle.item_model.specs.Valid.{AreValid};
+ghost use Rattle.share_listings.specs.Answers.{HaveEdits, HaveFew};
 
 use crate::batches::batch_of;
 use item_model::Edit;
@@ -12,77 +13,83 @@ use std::alloc::{AllocError, Global};
 use std::marker::Brand;
 use std::sync::ledger::{Blank, Ledger};
 
-/// Both have the same delta window.
 #[derive(Drop)]
 pub(crate) struct Stores {
     pub(crate) items: ItemStore,
     pub(crate) lists: PlaylistStore,
 }
 
-/// Applies edits to both as the next revision.
-fn take_in_by<L: Ledger>(
+#[tactic(auto, using(share_listings::proofs::Samples::none_in_both))]
+fn opened(alloc: Global, keep: u32) -> Stores
+    requires some { 1 ≤ keep }
+    requires few { keep ≤ 65536 }
+    ensures { HaveEdits 0 result.items result.lists }
+{
+    Stores {
+        items: ItemStore::open(alloc, keep),
+        lists: PlaylistStore::open(alloc, keep),
+    }
+}
+
+/// Applies a batch of at most six edits to both stores, as the next revision.
+fn next_by<L: Ledger>(
     blank: Blank,
-    stores: &mut Stores,
+    mut stores: Stores,
+    most: usize,
     edits: &[Edit],
-) -> Result<(), AllocError>
+) -> Result<Stores, AllocError>
     requires name { blank.name ≡ L.name }
     requires parts { blank.parts ≡ L.parts }
     requires any { 0 < blank.parts }
+    requires few { HaveEdits most stores.items stores.lists }
     requires valid { AreValid edits.now }
-    ensures keep_items { stores.new.items.keep ≡ stores.old.items.keep }
-    ensures keep_lists { stores.new.lists.keep ≡ stores.old.lists.keep }
-    ensures undo_items { OnOk result (stores.new.items.can_undo ≡ true) }
-    ensures undo_lists { OnOk result (stores.new.lists.can_undo ≡ true) }
-{
-    let revision = stores.items.revision();
-    if stores.lists.revision() != revision || revision == u32::MAX {
-        return Err(AllocError);
-    }
-    stores.items.apply(edits, revision + 1)?;
-    let mut steps = Steps::<L>::open(blank);
-    stores
-        .lists
-        .apply(edits, revision + 1, &stores.items, &mut steps)
-}
-
-fn take_in(alloc: Global, stores: &mut Stores, records: &str) -> Result<(), AllocError>
-    ensures keep_items { stores.new.items.keep ≡ stores.old.items.keep }
-    ensures keep_lists { stores.new.lists.keep ≡ stores.old.lists.keep }
-    ensures undo_items { OnOk result (stores.new.items.can_undo ≡ true) }
-    ensures undo_lists { OnOk result (stores.new.lists.can_undo ≡ true) }
-{
-    let batch = batch_of(alloc, records)?;
-    take_in_by::<Brand>(Blank::new(1), stores, batch.edits.as_slice())
-}
-
-fn take_in_all(
-    alloc: Global,
-    stores: &mut Stores,
-    batches: &[&'static str],
-) -> Result<(), AllocError>
-    ensures keep_items { stores.new.items.keep ≡ stores.old.items.keep }
-    ensures keep_lists { stores.new.lists.keep ≡ stores.old.lists.keep }
-{
-    for records in batches {
-        take_in(alloc, stores, records)?;
-    }
-    Ok(())
-}
-
-/// Returns the stores after `first`, a batch from each text of records, and then `last`, which can be undone. Their
-/// window is 16.
-pub(crate) fn after(alloc: Global, first: &[&'static str], last: &str) -> Result<Stores, AllocError>
-    ensures keep { IfOk result (λ stores. stores.items.keep ≡ stores.lists.keep) }
+    requires six { length edits.now ≤ 6 }
+    ensures few { IfOk result (λ stores. HaveEdits (most + 6) stores.items stores.lists) }
     ensures undo_items { IfOk result (λ stores. stores.items.can_undo ≡ true) }
     ensures undo_lists { IfOk result (λ stores. stores.lists.can_undo ≡ true) }
 {
-    let mut stores = Stores {
-        items: ItemStore::open(alloc, 16),
-        lists: PlaylistStore::open(alloc, 16),
+    let Some(revision) = stores.items.revision().checked_add(1) else {
+        return Err(AllocError);
     };
-    take_in_all(alloc, &mut stores, first)?;
-    take_in(alloc, &mut stores, last)?;
+    let mut steps = Steps::<L>::open(blank);
+    stores.items.apply(edits, revision)?;
+    stores
+        .lists
+        .apply(edits, revision, &stores.items, &mut steps)?;
     Ok(stores)
+}
+
+fn next(alloc: Global, stores: Stores, most: usize, records: &str) -> Result<Stores, AllocError>
+    requires few { HaveEdits most stores.items stores.lists }
+    ensures few { IfOk result (λ stores. HaveEdits (most + 6) stores.items stores.lists) }
+    ensures undo_items { IfOk result (λ stores. stores.items.can_undo ≡ true) }
+    ensures undo_lists { IfOk result (λ stores. stores.lists.can_undo ≡ true) }
+{
+    let batch = batch_of(alloc, records)?;
+    let edits = batch.edits.as_slice();
+    if edits.len() > 6 {
+        return Err(AllocError);
+    }
+    next_by::<Brand>(Blank::new(1), stores, most, edits)
+}
+
+/// Returns the stores after records, a batch each, and a last batch, which can be undone. They keep 16 revisions.
+#[tactic(auto, using(share_listings::proofs::Samples::still_few_in_both))]
+pub(crate) fn after(alloc: Global, first: &[&'static str], last: &str) -> Result<Stores, AllocError>
+    ensures few { IfOk result (λ stores. HaveFew stores.items stores.lists) }
+    ensures undo_items { IfOk result (λ stores. stores.items.can_undo ≡ true) }
+    ensures undo_lists { IfOk result (λ stores. stores.lists.can_undo ≡ true) }
+{
+    let mut stores = opened(alloc, 16);
+    let mut most: usize = 0;
+    for records in first {
+        if most > 60 {
+            return Err(AllocError);
+        }
+        stores = next(alloc, stores, most, records)?;
+        most += 6;
+    }
+    next(alloc, stores, most, last)
 }
 
 /// Takes the last batch back.

@@ -1,6 +1,6 @@
 //! `relayed_rows`: a row that is read back, and listings that a relay applies, with the number of edits of each.
 
-use crate::bodies::{Told, body, row};
+use crate::listing_bodies::{Told, body, row};
 use dmap_tags::Tag;
 use item_model::Target;
 use mirror_core::{MirrorError, ToldRef, told_by};

@@ -1,6 +1,8 @@
 //! Listings of known histories: their bytes, rows and ranges.
 
-use crate::histories::{DROP_1, SIX_SONGS, WITH_ALBUM, bytes_of, history_of, is_small, query_of};
+use crate::history::histories::{
+    DROP_1, SIX_SONGS, WITH_ALBUM, bytes_of, history_of, is_small, query_of,
+};
 use dmap_tags::Tag;
 use item_model::{Entry, Look, Meta, Range, Target};
 use plain_share::{

@@ -2,7 +2,7 @@
 //!
 //! Results are compared as they are shown, by one helper: a proof of a test need not follow what a mirror stores.
 
-use crate::bodies::{Told, body};
+use crate::listing_bodies::{Told, body};
 use dmap_tags::Tag;
 use item_model::{Look, Meta, Target};
 use mirror_core::{Applied, Mirror, MirrorError};

@@ -1,6 +1,6 @@
 -- Each batch counts for the limit on entries, which is small.
 use Rattle.plain_share.proofs.LoginFacts.{few_revisions, few_edits}
-use Rattle.history_vectors.proofs.histories.is_small.Goals as goal
+use Rattle.store_vectors.proofs.history.histories.is_small.Goals as goal
 
 pub returns : goal.returns
 returns c = record {

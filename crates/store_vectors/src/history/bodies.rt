@@ -1,6 +1,6 @@
 //! Bodies of browse listings, of databases and of containers, byte by byte.
 
-use crate::histories::{SIX_SONGS, WITH_ALBUM, bytes_of, history_of, is_small, query_of};
+use crate::history::histories::{SIX_SONGS, WITH_ALBUM, bytes_of, history_of, is_small, query_of};
 use dmap_tags::{Tag, Text};
 use item_model::{Browse, Entry};
 use plain_share::{browse_body, browse_values, containers_body, databases_body, playlists};

@@ -1,7 +1,7 @@
 use Rattle.std.proofs.Common.{◌∙◌}
 use Rattle.share_history.specs.Histories.{edits}
 use Rattle.share_listings.proofs.AnswerFacts.{library_starts}
-use Rattle.listing_vectors.proofs.listings.from_stores.Goals as goal
+use Rattle.store_vectors.proofs.listings.from_stores.Goals as goal
 
 pub listing-requires-clause-start : goal.listing-requires-clause-start
 listing-requires-clause-start g c = λ bs stands.
