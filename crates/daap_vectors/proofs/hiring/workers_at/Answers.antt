@@ -2,7 +2,7 @@ use Rattle.std.proofs.Common.{◌≡◌, [], All, sym, subst}
 use Rattle.std.proofs.lemmas.List.Elements.{All-push}
 use Rattle.share_lock.specs.Passes.{lock_id, IsReady}
 use Rattle.share_workers.specs.declared.worker.WorkerEnd.{WorkerEnd}
-use Rattle.worker_vectors.proofs.hiring.workers_at.Goals as goal
+use Rattle.daap_vectors.proofs.hiring.workers_at.Goals as goal
 
 pub loop-post-preserved : goal.loop-post-preserved
 loop-post-preserved g c =

@@ -1,7 +1,7 @@
 use Rattle.std.proofs.Common.{◌≡◌, [], All}
 use Rattle.share_lock.specs.Passes.{lock_id, IsReady}
 use Rattle.share_workers.specs.declared.worker.WorkerEnd.{WorkerEnd}
-use Rattle.worker_vectors.proofs.hiring.workers_at.Given as goal
+use Rattle.daap_vectors.proofs.hiring.workers_at.Given as goal
 
 abbrev pub invariant-loop-post : goal.invariant-loop-post
 invariant-loop-post g l = record {
