@@ -3,12 +3,14 @@
 use crate::runtimes::Chosen;
 use crate::sockets::{Meeting, free_place, met, next_link};
 use daap_outside::{Door, Failed, HELD_SECONDS, Link, Net, Sink, Source, TcpNet, put_all};
+use std::alloc::Global;
+use std::net::{TcpListener, TcpStream};
 use std::sync::Wait;
 use std::sync::atomic::{AtomicU64, Ordering};
 use std::test::Fail;
-use std::thread;
 use std::thread::Threads;
 use std::time::{Clock, Duration};
+use std::{net, thread};
 
 /// Whether the next read of one byte returns `byte`.
 fn brings<I: Source>(input: &mut I, byte: u8) -> bool {
@@ -45,11 +47,18 @@ fn tells<C: Clock, N: Net>(clock: &C, net: &mut N, place: &str) -> Result<bool, 
     Ok(leaves && await_probe(clock, &mut near, false))
 }
 
+/// The same over sockets.
+fn tells_over_sockets<R>(rt: R, alloc: Global) -> Result<bool, Fail>
+where
+    R: net::Net<Listener = TcpListener, Stream = TcpStream> + Clock + Copy + Send,
+{
+    let place = free_place(&rt, alloc)?;
+    Ok(tells(&rt, &mut TcpNet::new(rt, alloc), place.as_str())?)
+}
+
 #[test]
 fn a_probe_tells_a_peer_that_has_gone(rt: HostRuntime) -> Result<(), Fail> {
-    let place = free_place(&rt, rt.alloc())?;
-    let mut net = TcpNet::new(&rt, rt.alloc());
-    assert!(rt; tells(&rt, &mut net, place.as_str())?);
+    assert!(rt; tells_over_sockets(&rt, rt.alloc())?);
     Ok(())
 }
 
@@ -59,14 +68,20 @@ fn is_there_after<L: Link>(seconds: u64, ahead: &AtomicU64, link: &mut L) -> boo
     link.probe().is_ok()
 }
 
+/// Whether a byte is written, and a probe then succeeds.
+fn is_written<L: Link>(link: &mut L) -> bool {
+    link.write(b"x").is_ok() && link.probe().is_ok()
+}
+
 /// Whether a connection that is held for its limit fails where no listener of its address waits, and not before. A
 /// byte that is written begins the time anew.
 fn is_freed<L: Link>(ahead: &AtomicU64, near: &mut L) -> bool {
     let most = HELD_SECONDS / 2;
-    let began = near.probe().is_ok();
-    let stayed = is_there_after(most, ahead, near) && near.write(b"x").is_ok();
-    let again = near.probe().is_ok() && is_there_after(most, ahead, near);
-    began && stayed && again && !is_there_after(most, ahead, near)
+    is_there_after(0, ahead, near)
+        && is_there_after(most, ahead, near)
+        && is_written(near)
+        && is_there_after(most, ahead, near)
+        && !is_there_after(most, ahead, near)
 }
 
 /// Waits until a probe succeeds, as it does once a listener of the connection's address waits, and then lets a
@@ -80,8 +95,8 @@ fn stays_held<C: Clock, L: Link, N: Net>(
     await_probe(clock, near, true) && net.connect(place).is_ok()
 }
 
-/// Whether a connection that was held for its limit is there as long as a listener of its address waits.
-fn stays<R, D, L, N>(rt: &R, door: &mut D, near: &mut L, net: &mut N, place: &str) -> bool
+/// Whether a connection that was held for its limit is there once a listener of its address waits.
+fn is_back<R, D, L, N>(rt: &R, door: &mut D, near: &mut L, net: &mut N, place: &str) -> bool
 where
     R: Threads + Wait + Clock + Sync,
     D: Door + Send,
@@ -93,7 +108,18 @@ where
         || next_link(door).is_ok(),
         || stays_held(rt, near, net, place),
     );
-    came && stayed && near.probe().is_err()
+    came && stayed
+}
+
+/// Whether it is there as long as that listener waits.
+fn stays<R, D, L, N>(rt: &R, door: &mut D, near: &mut L, net: &mut N, place: &str) -> bool
+where
+    R: Threads + Wait + Clock + Sync,
+    D: Door + Send,
+    L: Link + Send,
+    N: Net + Send,
+{
+    is_back(rt, door, near, net, place) && near.probe().is_err()
 }
 
 /// Whether a connection that is held for its limit fails, except while a listener of its address waits.
@@ -115,17 +141,34 @@ where
     Ok(is_freed(ahead, &mut near) && stays(rt, &mut door, &mut near, net, place))
 }
 
+/// The same over the sockets of `later`, whose clock is `ahead` seconds ahead.
+fn is_held_by<R, C>(rt: &R, alloc: Global, ahead: &AtomicU64, later: C) -> Result<bool, Fail>
+where
+    R: Threads + Wait + Clock + Sync,
+    C: net::Net<Listener = TcpListener, Stream = TcpStream> + Clock + Copy + Send,
+{
+    let place = free_place(&later, alloc)?;
+    let mut net = TcpNet::new(later, alloc);
+    Ok(is_held_by_waiting(rt, ahead, &mut net, place.as_str())?)
+}
+
+/// The same over the sockets of `rt`.
+fn is_held_over_sockets<R>(rt: &R, alloc: Global) -> Result<bool, Fail>
+where
+    R: net::Net<Listener = TcpListener, Stream = TcpStream> + Threads + Wait + Clock + Sync,
+{
+    let chosen = Chosen {
+        rt,
+        ahead: AtomicU64::new(0),
+        stream: None,
+    };
+    is_held_by(rt, alloc, &chosen.ahead, &chosen)
+}
+
 #[test]
 fn a_link_that_is_held_too_long_frees_its_worker_where_no_door_waits(
     rt: HostRuntime,
 ) -> Result<(), Fail> {
-    let place = free_place(&rt, rt.alloc())?;
-    let chosen = Chosen {
-        rt: &rt,
-        ahead: AtomicU64::new(0),
-        stream: None,
-    };
-    let mut net = TcpNet::new(&chosen, rt.alloc());
-    assert!(rt; is_held_by_waiting(&rt, &chosen.ahead, &mut net, place.as_str())?);
+    assert!(rt; is_held_over_sockets(&rt, rt.alloc())?);
     Ok(())
 }

@@ -7,15 +7,21 @@ use std::string::String;
 use std::sync::Wait;
 use std::test::Fail;
 use std::thread::Threads;
+use std::time::Clock;
 use std::{io, net, thread};
+
+/// A port of this machine without a listener.
+fn free_port<R: net::Net<Listener = TcpListener, Stream = TcpStream>>(rt: &R) -> io::Result<u16> {
+    let listener = TcpListener::bind(rt, "127.0.0.1:0")?;
+    Ok(listener.local_addr()?.port())
+}
 
 /// An address of this machine without a listener.
 pub fn free_place<R: net::Net<Listener = TcpListener, Stream = TcpStream>>(
     rt: &R,
     alloc: Global,
 ) -> io::Result<String> {
-    let listener = TcpListener::bind(rt, "127.0.0.1:0")?;
-    let port = listener.local_addr()?.port();
+    let port = free_port(rt)?;
     Ok(format!(in alloc; "127.0.0.1:{port}")?)
 }
 
@@ -35,14 +41,17 @@ pub struct Meeting<D, L> {
     pub near: L,
 }
 
+/// Listens at an address.
+pub fn opened<N: Net>(net: &mut N, place: &str) -> Result<N::D, Failed> {
+    match net.listen(place, 1) {
+        Ok(mut doors) => doors.pop().ok_or(Failed),
+        Err(_) => Err(Failed),
+    }
+}
+
 /// Listens at an address, and connects to it.
 pub fn met<N: Net>(net: &mut N, place: &str) -> Result<Meeting<N::D, N::L>, Failed> {
-    let Ok(mut doors) = net.listen(place, 1) else {
-        return Err(Failed);
-    };
-    let Some(mut door) = doors.pop() else {
-        return Err(Failed);
-    };
+    let mut door = opened(net, place)?;
     let far = net.connect(place)?;
     let near = next_link(&mut door)?;
     Ok(Meeting { door, far, near })
@@ -144,13 +153,31 @@ fn reads_refusal<R: Threads + Wait + Sync, D: Door + Send, L: Link + Send>(
     Ok(refused && sent && is_read && far.read(&mut room)? == 0)
 }
 
+/// The same of a listener and a client of one network.
+fn reads_refusal_over<R: Threads + Wait + Sync, N: Net>(
+    rt: &R,
+    alloc: Global,
+    net: &mut N,
+    place: &str,
+) -> Result<bool, Fail> {
+    let mut door = opened(net, place)?;
+    let mut far = net.connect(place)?;
+    reads_refusal(rt, alloc, &mut door, &mut far)
+}
+
+/// The same over sockets.
+fn reads_refusal_over_sockets<R>(rt: R, alloc: Global) -> Result<bool, Fail>
+where
+    R: net::Net<Listener = TcpListener, Stream = TcpStream> + Clock + Copy + Send,
+    R: Threads + Wait + Sync,
+{
+    let place = free_place(&rt, alloc)?;
+    reads_refusal_over(&rt, alloc, &mut TcpNet::new(rt, alloc), place.as_str())
+}
+
 #[test]
 fn a_client_that_is_still_sending_reads_its_refusal(rt: HostRuntime) -> Result<(), Fail> {
-    let place = free_place(&rt, rt.alloc())?;
-    let mut net = TcpNet::new(&rt, rt.alloc());
-    let mut doors = net.listen(place.as_str(), 1)?;
-    let mut far = net.connect(place.as_str())?;
-    assert!(rt; reads_refusal(&rt, rt.alloc(), &mut doors[0], &mut far)?);
+    assert!(rt; reads_refusal_over_sockets(&rt, rt.alloc())?);
     Ok(())
 }
 
@@ -194,10 +221,17 @@ fn first_wrong<N: Net>(net: &mut N, place: &str) -> Option<&'static str> {
     None
 }
 
+/// The same over sockets.
+fn first_wrong_of_sockets<R>(rt: R, alloc: Global) -> io::Result<Option<&'static str>>
+where
+    R: net::Net<Listener = TcpListener, Stream = TcpStream> + Clock + Copy + Send,
+{
+    let place = free_place(&rt, alloc)?;
+    Ok(first_wrong(&mut TcpNet::new(rt, alloc), place.as_str()))
+}
+
 #[test]
 fn sockets_do_what_nets_do(rt: HostRuntime) -> Result<(), Fail> {
-    let place = free_place(&rt, rt.alloc())?;
-    let mut net = TcpNet::new(&rt, rt.alloc());
-    assert_eq!(rt; first_wrong(&mut net, place.as_str()), None);
+    assert_eq!(rt; first_wrong_of_sockets(&rt, rt.alloc())?, None);
     Ok(())
 }

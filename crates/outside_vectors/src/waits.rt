@@ -46,26 +46,60 @@ fn is_made<N: Net>(stream: &TcpStream, net: &mut N) -> io::Result<bool> {
     Ok(options_of(stream)? == (true, None, minute) && waits_no_longer(stream, &mut link)?)
 }
 
+/// The same of a network over the sockets of `rt`.
+fn is_made_by<R>(rt: R, alloc: Global, stream: &TcpStream) -> io::Result<bool>
+where
+    R: net::Net<Listener = TcpListener, Stream = TcpStream> + Clock + Copy + Send,
+{
+    is_made(stream, &mut TcpNet::new(rt, alloc))
+}
+
+/// The same of a runtime whose connections are all over `stream`.
+fn is_made_over<'a, R>(rt: &'a R, alloc: Global, stream: &'a TcpStream) -> io::Result<bool>
+where
+    R: net::Net<Listener = TcpListener, Stream = TcpStream> + Clock + Sync,
+{
+    let chosen = Chosen {
+        rt,
+        ahead: AtomicU64::new(0),
+        stream: Some(stream),
+    };
+    is_made_by(&chosen, alloc, stream)
+}
+
+/// The same over a socket of this machine.
+fn is_made_over_sockets<R>(rt: &R, alloc: Global) -> io::Result<bool>
+where
+    R: net::Net<Listener = TcpListener, Stream = TcpStream> + Clock + Sync,
+{
+    let (far, _near) = pair(rt)?;
+    is_made_over(rt, alloc, &far)
+}
+
 #[test]
 fn a_link_waits_no_longer_than_it_may(rt: HostRuntime) -> Result<(), Fail> {
-    let (far, _near) = pair(&rt)?;
-    let chosen = Chosen {
-        rt: &rt,
-        ahead: AtomicU64::new(0),
-        stream: Some(&far),
-    };
-    let mut net = TcpNet::new(&chosen, rt.alloc());
-    assert!(rt; is_made(&far, &mut net)?);
+    assert!(rt; is_made_over_sockets(&rt, rt.alloc())?);
     Ok(())
+}
+
+/// How long an accepted connection over sockets waits to read and to write.
+fn accepted_timeouts<R>(rt: R, alloc: Global) -> Result<(Option<Duration>, Option<Duration>), Fail>
+where
+    R: net::Net<Listener = TcpListener, Stream = TcpStream> + Clock + Copy + Send,
+{
+    let place = free_place(&rt, alloc)?;
+    let meeting = met(&mut TcpNet::new(rt, alloc), place.as_str())?;
+    Ok(meeting.near.timeouts()?)
+}
+
+/// Whether these are half an hour and a minute.
+fn are_as_long_as_they_may((reads, writes): (Option<Duration>, Option<Duration>)) -> bool {
+    reads == Some(Duration::from_secs(1_800)) && writes == Some(Duration::from_secs(60))
 }
 
 #[test]
 fn an_accepted_link_waits_no_longer_than_it_may(rt: HostRuntime) -> Result<(), Fail> {
-    let place = free_place(&rt, rt.alloc())?;
-    let mut net = TcpNet::new(&rt, rt.alloc());
-    let meeting = met(&mut net, place.as_str())?;
-    let seconds = |n| Some(Duration::from_secs(n));
-    assert_eq!(rt; meeting.near.timeouts()?, (seconds(1_800), seconds(60)));
+    assert!(rt; are_as_long_as_they_may(accepted_timeouts(&rt, rt.alloc())?));
     Ok(())
 }
 
@@ -94,18 +128,23 @@ fn read_changing<C: Clock, I: Source>(clock: &C, input: &mut I) -> Option<usize>
 
 /// Writes all to a connection over `stream`, in two calls or more, and returns how many bytes the first one wrote
 /// while nobody read.
-fn write_cut<N: Net>(stream: &TcpStream, net: &mut N, bytes: &[u8]) -> Option<usize> {
+fn write_cut<W: Sink>(stream: &TcpStream, link: &mut W, bytes: &[u8]) -> Option<usize> {
     if bytes.is_empty() {
         return None;
     }
-    let mut link = net.connect("127.0.0.1:1").ok()?;
     let short = Some(Duration::from_millis(100));
     stream.set_write_timeout(short).ok()?;
     let n = link.write(bytes).ok()?;
     stream.set_write_timeout(None).ok()?;
-    put_all(&mut link, &bytes[n..]).ok()?;
+    put_all(link, &bytes[n..]).ok()?;
     stream.shutdown(Shutdown::Write).ok()?;
     Some(n)
+}
+
+/// Does so over a connection that the network makes.
+fn connect_and_write<N: Net>(stream: &TcpStream, net: &mut N, bytes: &[u8]) -> Option<usize> {
+    let mut link = net.connect("127.0.0.1:1").ok()?;
+    write_cut(stream, &mut link, bytes)
 }
 
 /// `LONG` bytes that change.
@@ -132,7 +171,7 @@ where
 {
     thread::join(
         rt,
-        || write_cut(stream, net, bytes),
+        || connect_and_write(stream, net, bytes),
         || read_changing(rt, input),
     )
 }
@@ -155,15 +194,50 @@ where
     Ok(matches!(first, Some(n) if n < LONG) && read == Some(LONG))
 }
 
+/// The same of a network over the sockets of `made_by`.
+fn goes_on_by<R, C>(
+    rt: &R,
+    alloc: Global,
+    stream: &TcpStream,
+    made_by: C,
+    near: TcpStream,
+) -> Result<bool, AllocError>
+where
+    R: Threads + Wait + Clock + Sync,
+    C: net::Net<Listener = TcpListener, Stream = TcpStream> + Clock + Copy + Send,
+{
+    goes_on(rt, alloc, stream, &mut TcpNet::new(made_by, alloc), near)
+}
+
+/// The same of a runtime whose connections are all over `stream`.
+fn goes_on_over<'a, R>(
+    rt: &'a R,
+    alloc: Global,
+    stream: &'a TcpStream,
+    near: TcpStream,
+) -> Result<bool, AllocError>
+where
+    R: net::Net<Listener = TcpListener, Stream = TcpStream> + Threads + Wait + Clock + Sync,
+{
+    let chosen = Chosen {
+        rt,
+        ahead: AtomicU64::new(0),
+        stream: Some(stream),
+    };
+    goes_on_by(rt, alloc, stream, &chosen, near)
+}
+
+/// The same over a socket of this machine.
+fn goes_on_over_sockets<R>(rt: &R, alloc: Global) -> Result<bool, Fail>
+where
+    R: net::Net<Listener = TcpListener, Stream = TcpStream> + Threads + Wait + Clock + Sync,
+{
+    let (far, near) = pair(rt)?;
+    Ok(goes_on_over(rt, alloc, &far, near)?)
+}
+
 #[test]
 fn a_write_that_is_cut_short_goes_on(rt: HostRuntime) -> Result<(), Fail> {
-    let (far, near) = pair(&rt)?;
-    let chosen = Chosen {
-        rt: &rt,
-        ahead: AtomicU64::new(0),
-        stream: Some(&far),
-    };
-    let mut net = TcpNet::new(&chosen, rt.alloc());
-    assert!(rt; goes_on(&rt, rt.alloc(), &far, &mut net, near)?);
+    assert!(rt; goes_on_over_sockets(&rt, rt.alloc())?);
     Ok(())
 }
