@@ -1,9 +1,13 @@
-//! Tests of the outside: streams, connections, listeners and networks, in memory and over sockets. Other crates do
-//! not use this one.
+//! Tests of the outside: streams, connections, listeners and networks, in memory and over sockets; disks, and files of
+//! batches on them. Other crates do not use this one.
 #![tactic(auto)]
 
 #[cfg(test)]
 mod callers;
+#[cfg(test)]
+mod disks;
+#[cfg(test)]
+mod edit_files;
 #[cfg(test)]
 mod places;
 #[cfg(test)]
