@@ -120,6 +120,19 @@ fn queries_that_need_a_text_have_candidates(rt: HostRuntime) -> Result<(), Fail>
     finds(&rt, rt.alloc(), &index, &FOUND)
 }
 
+const BLANK_FIRST: [Song; 1] = [(8, " gro\u{df}", "")];
+
+const BLANK_FOUND: [(&str, &str); 2] = [
+    ("'daap.songartist: GROSS'", "Some([8])"),
+    ("'daap.songartist:GROSS'", "Some([])"),
+];
+
+#[test]
+fn a_blank_at_the_start_is_compared(rt: HostRuntime) -> Result<(), Fail> {
+    let index = indexed(rt.alloc(), &BLANK_FIRST)?;
+    finds(&rt, rt.alloc(), &index, &BLANK_FOUND)
+}
+
 /// Changes of items, each from an item to another with its id. One without an artist does not exist.
 const TURNS: [(Song, Song); 4] = [
     ((6, "ann", "two"), (6, "Bob", "two")),
