@@ -39,8 +39,8 @@ pub fn runs_meet()
     serve_and_follow::laws::runs_meet();
 }
 
-/// If nothing outside fails, arguments and input decide how a run of `serve` ends, except for out of memory and for
-/// workers at their limit.
+/// If nothing outside fails, a run of `serve` whose input (and file) a share may begin with ends with 0, except for out
+/// of memory and for a worker at its limit.
 pub fn runs_of_serve_are_decided()
     ensures { RunsAreDecided }
 {

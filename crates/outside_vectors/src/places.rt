@@ -195,7 +195,7 @@ fn is_told_written(net: &MemNet) -> bool {
         if is_back(hello, b"hello", false) && is_back(bye, b"bye", false))
 }
 
-/// Whether a network of two listeners and one connection gives them, and tells what was requested and written.
+/// Whether a network of two listeners and one connection gives them, and states what was requested and written.
 fn gives_all(net: &mut MemNet) -> Result<bool, Fail> {
     let begins = refuses(net) && greets_once(net)?;
     sent(net, "there", b"bye")?;
@@ -210,14 +210,14 @@ fn a_net_gives_what_was_put_there(rt: HostRuntime) -> Result<(), Fail> {
     Ok(())
 }
 
-/// Whether a listener without capacity tells what was written until a connection is returned to it.
+/// Whether a listener without capacity states what was written until a connection is returned to it.
 fn tells_until_written(door: &mut MemDoor) -> bool {
     door.written().is_some()
         && matches!(greeted(door, b"lost"), Ok(true))
         && door.written().is_none()
 }
 
-/// Whether a network with capacity for one address tells what was requested until there are two.
+/// Whether a network with capacity for one address states what was requested until there are two.
 fn tells_until_asked(net: &mut MemNet) -> bool {
     net.connect("first").is_err()
         && net.asked().is_some()
@@ -225,7 +225,7 @@ fn tells_until_asked(net: &mut MemNet) -> bool {
         && net.asked().is_none()
 }
 
-/// Closes a listener, and returns whether the network tells what was written.
+/// Closes a listener, and returns whether the network states what was written.
 fn tells_after(net: &mut MemNet, door: MemDoor) -> bool {
     net.shut(door);
     net.written().is_some()

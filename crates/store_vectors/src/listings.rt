@@ -137,7 +137,7 @@ fn shows(sink: &MemSink, bytes: &[u8]) -> bool {
     sink.taken() == bytes
 }
 
-/// Returns whether a plan writes these bytes, as many as it tells.
+/// Returns whether a plan writes these bytes, as many as it states.
 fn writes(alloc: Global, plan: &Plan, bytes: &[u8]) -> Result<bool, AllocError>
     requires { IsWritable plan.now }
 {

@@ -88,7 +88,7 @@ fn written(alloc: Global, plan: &Plan) -> anyhow::Result<u64>
     Ok(sink.taken().len() as u64)
 }
 
-/// Returns the reply to a want.
+/// Returns the reply to a request.
 fn reply_to<L: Ledger>(share: &mut Share, want: Want, steps: &mut Steps<L>) -> anyhow::Result<Reply>
     requires { IsValidWant want }
     ensures { IfOk result (λ reply. IsWritable reply.content.plan) }
