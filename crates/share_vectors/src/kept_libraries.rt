@@ -3,9 +3,11 @@
 
 use command_core::Fault;
 use edit_file::Frame;
+use item_model::Entry;
 use kept_library::{FileFault, KeptLibrary, close_file, open_library};
 use outside_disks::{Disk, Failed, Files, MemDisk, MemFiles};
 use records_import::read_batch;
+use share_core::Share;
 use std::alloc::{AllocError, Global};
 use std::process::Abort;
 use std::string::String;
@@ -88,6 +90,26 @@ fn has_turns(
 fn a_share_is_opened_with_what_its_file_kept(rt: HostRuntime) -> Result<(), Fail> {
     let mut files = files_with(rt.alloc(), &[&[], &[], &[], &[], &[]])?;
     has_turns(&rt, rt.alloc(), &mut files, &TURNS)
+}
+
+/// Returns whether the first entry is a batch of handle 0, which is the one of batches with which a share is opened.
+fn begins_with_its_first_batch(share: &Share) -> bool {
+    match share.entry(0) {
+        Some(Entry::Edits { by, .. }) => *by == 0,
+        _ => false,
+    }
+}
+
+#[test]
+fn the_first_batch_is_of_handle_0(rt: HostRuntime) -> Result<(), Fail> {
+    let mut files = files_with(rt.alloc(), &[&[]])?;
+    let Ok(kept) = opened(rt.alloc(), &mut files, SONG)? else {
+        return Err(Fail::from(Failed));
+    };
+    let begins = begins_with_its_first_batch(&kept.share);
+    close_file(&mut files, kept.file)?;
+    assert!(rt; begins);
+    Ok(())
 }
 
 /// Opens a new file with an input, the call with the number `failing` fails, and then opens the file again.

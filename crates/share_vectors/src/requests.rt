@@ -114,7 +114,7 @@ const BOTH: &str =
 
 /// Targets of a player, and the requests: paths, parameters that are left out or given twice, the rows of a listing,
 /// refusals in their order, and forms.
-const TARGETS: [(&str, &str); 28] = [
+const TARGETS: [(&str, &str); 29] = [
     ("/server-info", "ServerInfo;"),
     ("/content-codes?session-id=x", "Codes;"),
     ("/login", "Login;"),
@@ -144,6 +144,7 @@ const TARGETS: [(&str, &str); 28] = [
     ("/databases/1/containers//items", "Bad(Path);"),
     ("/databases/1/containers/4294967296/items", "Bad(Path);"),
     ("/edit", "Bad(Path);"),
+    ("/nothing?session-id=x", "Bad(Path);"),
     ("daap://share.local/login", "Login;"),
     ("HTTP://share.local/login", "Bad(Path);"),
     (
