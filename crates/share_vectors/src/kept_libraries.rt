@@ -1,5 +1,5 @@
-//! `kept_library`: a file that keeps the edits of a share is opened again and again; each of its calls fails in turn;
-//! files that are not edit files, or whose batches pass a limit, are refused.
+//! `kept_library`: a file that keeps the edits of a share is opened again and again; the first batch is of handle 0; each
+//! call of a file fails in turn; files that are not edit files, or whose batches pass a limit, are refused.
 
 use command_core::Fault;
 use edit_file::Frame;

@@ -1,4 +1,4 @@
-//! `prop_index`: seven items with the queries that find them, and changes in order.
+//! `prop_index`: seven items with the queries that find them, an artist that begins with a blank, and changes in order.
 
 use dmap_tags::Text;
 use item_model::{Browse, Item, ItemError, PropValue, Property, Row, SharedRow, Texts};

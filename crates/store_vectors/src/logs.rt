@@ -25,15 +25,14 @@ fn grown(alloc: Global) -> Result<EditLog, AllocError> {
     Ok(log)
 }
 
-/// Shows an entry: its handle, and the session of a login or the ids that a batch drops.
+/// Shows an entry: its handle, and the batch or the session.
 fn entry_shown(alloc: Global, entry: Option<&Entry>) -> Result<String, AllocError> {
     match entry {
+        None => format!(in alloc; "none"),
+        Some(Entry::Edits { by, batch }) => format!(in alloc; "edits {by} {batch:?}"),
         Some(Entry::Login { by, id }) => format!(in alloc; "login {by} {id}"),
-        Some(Entry::Edits { by, batch }) => match batch.edits.as_slice() {
-            [Edit::DropItem { id }] => format!(in alloc; "edits {by} drop {id}"),
-            _ => format!(in alloc; "edits {by}"),
-        },
-        _ => format!(in alloc; "none"),
+        Some(Entry::Logout { by, id }) => format!(in alloc; "logout {by} {id}"),
+        Some(Entry::Stop { by }) => format!(in alloc; "stop {by}"),
     }
 }
 
@@ -55,7 +54,7 @@ fn grown_shown(alloc: Global) -> Result<String, AllocError> {
 fn a_log_keeps_what_is_appended(rt: HostRuntime) -> Result<(), Fail> {
     assert_eq!(rt;
         grown_shown(rt.alloc())?.as_str(),
-        "(2, 3, true), login 4 1, edits 4 drop 9, none"
+        "(2, 3, true), login 4 1, edits 4 Batch { edits: Edits { items: [DropItem { id: 9 }] } }, none"
     );
     Ok(())
 }
